@@ -1,0 +1,326 @@
+// A constraint on the value of one name.
+ghost use Rattle.std.specs.Prelude.{◌≡◌, IfOk, MatchResult};
+ghost use Rattle.std.specs.Option.{option_copied};
+
+use crate::bytes::{does_begin, does_finish, does_hold, is_less, is_same};
+use crate::normal::{IntSet, Normal};
+use crate::op::Op;
+use crate::order::{kind_order, op_order, operand_order};
+use ev_values::{Kind, Name, NoMemory, Value};
+use std::alloc::Global;
+use std::cmp::Ordering;
+use std::marker::Model;
+
+/// Why there is no such constraint.
+#[derive(Clone, Copy, Debug, PartialEq, Eq)]
+pub enum BadConstraint {
+    BadOp,
+    Operand,
+    WrongKind,
+    EmptyPattern,
+}
+
+/// A name, a kind, an operator and, except for `Any`, an operand.
+#[derive(Drop)]
+pub struct Constraint {
+    name: Name,
+    kind: Kind,
+    op: Op,
+    operand: Option<Value>,
+}
+
+impl Model for Constraint {
+    ghost use Rattle.ev_constraint.specs.Constraint.{ConstraintParts, IsTest};
+
+    ghost Value = { ConstraintParts };
+
+    ghost view = { λ c. record { name = c.name; kind = c.kind; op = c.op; operand = c.operand } };
+
+    ghost invariant = { λ c. IsTest c.kind c.op c.operand };
+}
+
+impl Constraint {
+    ghost use Rattle.ev_constraint.specs.Faults.{fault_of};
+    ghost use Rattle.ev_constraint.specs.Constraint.{ConstraintParts, IsTest, IsConstraint, same_subject, satisfies, constraint_covers, compatible, form_of};
+    ghost use Rattle.ev_constraint.specs.Normal.{form_seen, IsOfKind};
+
+    /// The constraint of these parts.
+    pub fn make(
+        name: Name,
+        kind: Kind,
+        op: Op,
+        operand: Option<Value>,
+    ) -> Result<Constraint, BadConstraint>
+        ensures value { IfOk result (λ c. c ≡ record { name = name; kind = kind; op = op; operand = operand }) }
+        ensures answer { MatchResult result (λ _. fault_of kind op operand ≡ None) (λ e. fault_of kind op operand ≡ Some e) }
+    {
+        if !has_op(kind, op) {
+            return Err(BadConstraint::BadOp);
+        }
+        if operand.is_none() != (op == Op::Any) {
+            return Err(BadConstraint::Operand);
+        }
+        if let Some(u) = &operand {
+            if !u.kind().is(kind) {
+                return Err(BadConstraint::WrongKind);
+            }
+            if is_pattern(op) && is_empty_text(u) {
+                return Err(BadConstraint::EmptyPattern);
+            }
+        }
+        Ok(Constraint {
+            name,
+            kind,
+            op,
+            operand,
+        })
+    }
+
+    /// An equal constraint.
+    pub fn copy(&self, alloc: Global) -> Result<Constraint, NoMemory>
+        ensures { IfOk result (λ c. c ≡ self.now) }
+    {
+        let name = self.name.copy(alloc)?;
+        let operand = match &self.operand {
+            None => None,
+            Some(u) => Some(u.copy(alloc)?),
+        };
+        Ok(Constraint {
+            name,
+            kind: self.kind,
+            op: self.op,
+            operand,
+        })
+    }
+
+    pub fn operand(&self) -> Option<&Value>
+        ensures { option_copied result ≡ self.now.operand }
+    {
+        self.operand.as_ref()
+    }
+
+    pub fn op(&self) -> Op
+        ensures op { result ≡ self.now.op }
+        ensures whole { IsConstraint self.now }
+    {
+        self.op
+    }
+
+    pub fn name(&self) -> &Name
+        ensures { result.now ≡ self.now.name }
+    {
+        &self.name
+    }
+
+    /// Whether another constraint is on the same name and kind.
+    pub fn same_subject(&self, other: &Constraint) -> bool
+        ensures { result ≡ same_subject self.now other.now }
+    {
+        self.name.equals(&other.name) && self.kind.is(other.kind)
+    }
+
+    pub fn kind(&self) -> Kind
+        ensures { result ≡ self.now.kind }
+    {
+        self.kind
+    }
+
+    /// Whether a value satisfies the constraint.
+    #[tactic(auto, unfolding(crate::specs::Constraint::satisfies))]
+    pub fn satisfied(&self, value: &Value) -> bool
+        ensures { result ≡ satisfies self.now value.now }
+    {
+        match (&self.operand, value) {
+            (None, _) => self.kind == value.kind(),
+            (Some(Value::Bool(u)), Value::Bool(x)) => (*u == *x) == (self.op == Op::Eq),
+            (Some(Value::Int(u)), Value::Int(x)) => stands_int(self.op, *x, *u),
+            (Some(Value::Str(u)), Value::Str(x)) => crate::normal::stands(
+                self.op,
+                x.bytes(),
+                u.bytes(),
+            ),
+            _ => false,
+        }
+    }
+
+    /// The normal form.
+    pub fn normal(&self) -> Normal<'_>
+        ensures kind { IsOfKind self.now.kind result }
+        ensures form { form_seen self.now.kind result ≡ form_of self.now.kind self.now.op self.now.operand }
+    {
+        match &self.operand {
+            None => Normal::All,
+            Some(Value::Bool(u)) => Normal::Bool(*u == (self.op == Op::Eq)),
+            Some(Value::Int(u)) => normal_int(self.op, *u),
+            Some(Value::Str(u)) => match (self.op, u.bytes().is_empty()) {
+                (Op::Ge, true) => Normal::All,
+                (Op::Lt, true) => Normal::Empty,
+                (Op::Le, true) => Normal::Str(Op::Eq, u),
+                (Op::Gt, true) => Normal::Str(Op::Ne, u),
+                (op, _) => Normal::Str(op, u),
+            },
+        }
+    }
+
+    /// Whether each value that satisfies the other is sure to satisfy this one.
+    #[tactic(auto, unfolding(crate::specs::Constraint::constraint_covers))]
+    pub fn covers(&self, other: &Constraint) -> bool
+        ensures { result ≡ constraint_covers self.now other.now }
+    {
+        self.name.equals(&other.name)
+            && self.kind.is(other.kind)
+            && self.normal().covers(&other.normal())
+    }
+
+    /// Whether the table finds no reason against a value that satisfies both.
+    #[tactic(auto, unfolding(crate::specs::Constraint::compatible))]
+    pub fn compatible(&self, other: &Constraint) -> bool
+        ensures { result ≡ compatible self.now other.now }
+    {
+        self.name.equals(&other.name)
+            && self.kind.is(other.kind)
+            && self.normal().compatible(&other.normal())
+    }
+}
+
+ghost use Rattle.ev_constraint.specs.Faults.{has_op, is_pattern, is_empty_text};
+ghost use Rattle.ev_constraint.specs.Numbers.{number_stands, number_form};
+ghost use Rattle.ev_constraint.specs.Constraint.{least, greatest, form_of, IsNumberOp, Form};
+ghost use Rattle.ev_constraint.specs.Constraint.Form.{number};
+ghost use Rattle.ev_constraint.specs.Normal.{form_seen, IsOfKind};
+ghost use Rattle.ev_values.specs.declared.value.Kind.{Kind};
+
+impl PartialEq for Constraint {
+    ghost use Rattle.std.specs.Ordering.{eq_by_cmp};
+    ghost use Rattle.std.specs.Cmp.{partial_equiv_from_equiv};
+    ghost use Rattle.std.specs.Cmp.{eq_by_cmp_equiv};
+    ghost use Rattle.ev_constraint.specs.Order.{constraint_cmp};
+    ghost use Rattle.ev_constraint.specs.OrderTotal.{constraint_total};
+
+    ghost eq = { eq_by_cmp constraint_cmp };
+
+    ghost laws = { partial_equiv_from_equiv (eq_by_cmp_equiv constraint_total) };
+
+    fn eq(&self, other: &Constraint) -> bool {
+        match self.cmp(other) {
+            Ordering::Equal => true,
+            _ => false,
+        }
+    }
+}
+
+impl Eq for Constraint {
+    ghost use Rattle.std.specs.Cmp.{eq_by_cmp_equiv};
+    ghost use Rattle.ev_constraint.specs.OrderTotal.{constraint_total};
+
+    ghost laws = { eq_by_cmp_equiv constraint_total };
+}
+
+impl PartialOrd for Constraint {
+    ghost use Rattle.std.specs.Ordering.{as_partial_cmp};
+    ghost use Rattle.std.specs.Prelude.{refl};
+    ghost use Rattle.std.specs.Cmp.{partial_order_from_agreeing_total};
+    ghost use Rattle.ev_constraint.specs.Order.{constraint_cmp};
+    ghost use Rattle.ev_constraint.specs.OrderTotal.{constraint_total};
+
+    ghost partial_cmp = { as_partial_cmp constraint_cmp };
+
+    ghost laws = { partial_order_from_agreeing_total constraint_cmp constraint_total (λ x y. refl) (λ x y. refl) };
+
+    fn partial_cmp(&self, other: &Constraint) -> Option<Ordering> {
+        Some(self.cmp(other))
+    }
+}
+
+impl Ord for Constraint {
+    ghost use Rattle.std.specs.Prelude.{refl};
+    ghost use Rattle.ev_constraint.specs.Order.{constraint_cmp};
+    ghost use Rattle.ev_constraint.specs.OrderTotal.{constraint_total};
+
+    ghost cmp = { constraint_cmp };
+
+    ghost total = { constraint_total };
+
+    ghost matches_partial_cmp = { λ x y. refl };
+
+    ghost matches_eq = { λ x y. refl };
+
+    fn cmp(&self, other: &Constraint) -> Ordering {
+        self.name
+            .bytes()
+            .cmp(other.name.bytes())
+            .then(kind_order(self.kind, other.kind))
+            .then(op_order(self.op, other.op))
+            .then(operand_order(&self.operand, &other.operand))
+    }
+}
+
+fn has_op(kind: Kind, op: Op) -> bool
+    ensures { result ≡ has_op kind op }
+{
+    match (kind, op) {
+        (_, Op::Any | Op::Eq | Op::Ne) => true,
+        (Kind::Bool, _) => false,
+        (Kind::Int, Op::Contains | Op::Prefix | Op::Suffix) => false,
+        _ => true,
+    }
+}
+
+fn is_pattern(op: Op) -> bool
+    ensures { result ≡ is_pattern op }
+{
+    match op {
+        Op::Contains | Op::Prefix | Op::Suffix => true,
+        _ => false,
+    }
+}
+
+fn is_empty_text(v: &Value) -> bool
+    ensures { result ≡ is_empty_text v.now }
+{
+    match v {
+        Value::Str(t) => t.bytes().is_empty(),
+        _ => false,
+    }
+}
+
+fn stands_int(op: Op, x: i64, u: i64) -> bool
+    ensures { result ≡ number_stands op x u }
+{
+    match op {
+        Op::Any => true,
+        Op::Eq => x == u,
+        Op::Ne => x != u,
+        Op::Lt => x < u,
+        Op::Le => x <= u,
+        Op::Gt => x > u,
+        Op::Ge => x >= u,
+        Op::Prefix | Op::Suffix | Op::Contains => false,
+    }
+}
+
+fn normal_int<'a>(op: Op, u: i64) -> Normal<'a>
+    requires { IsNumberOp op }
+    ensures kind { IsOfKind Kind.Int result }
+    ensures form { form_seen Kind.Int result ≡ number (number_form least greatest op u) }
+{
+    match op {
+        Op::Eq => Normal::Int(IntSet::Eq(u)),
+        Op::Ne if u == i64::MIN => Normal::Int(IntSet::Ge(i64::MIN + 1)),
+        Op::Ne if u == i64::MAX => Normal::Int(IntSet::Le(i64::MAX - 1)),
+        Op::Ne => Normal::Int(IntSet::Ne(u)),
+        Op::Le if u == i64::MAX => Normal::All,
+        Op::Le if u == i64::MIN => Normal::Int(IntSet::Eq(i64::MIN)),
+        Op::Le => Normal::Int(IntSet::Le(u)),
+        Op::Lt if u == i64::MIN => Normal::Empty,
+        Op::Lt if u == i64::MIN + 1 => Normal::Int(IntSet::Eq(i64::MIN)),
+        Op::Lt => Normal::Int(IntSet::Le(u - 1)),
+        Op::Ge if u == i64::MIN => Normal::All,
+        Op::Ge if u == i64::MAX => Normal::Int(IntSet::Eq(i64::MAX)),
+        Op::Ge => Normal::Int(IntSet::Ge(u)),
+        Op::Gt if u == i64::MAX => Normal::Empty,
+        Op::Gt if u == i64::MAX - 1 => Normal::Int(IntSet::Eq(i64::MAX)),
+        Op::Gt => Normal::Int(IntSet::Ge(u + 1)),
+        Op::Any | Op::Prefix | Op::Suffix | Op::Contains => Normal::All,
+    }
+}

@@ -1,0 +1,122 @@
+// Texts: the bytes of a str value.
+ghost use Rattle.std.specs.Prelude.{◌≡◌, ◌<◌, ◌≤◌, ◌↔◌, ℕ, length, IfOk, OnOk, IfNone, IsErrOf, MatchOption, position, not, true, false};
+ghost use Rattle.std.specs.Str.Lossy.{utf8_valid_len};
+ghost use Rattle.std.specs.Str.{is_utf8};
+ghost use Rattle.std.specs.List.{list_all};
+ghost use Rattle.ev_values.specs.Text.{IsText, IsBadUtf8, IsFirstControl, is_open_byte};
+
+use ev_memory::NoMemory;
+use std::alloc::{AllocError, Global};
+use std::marker::Model;
+
+/// Why bytes are no text.
+#[derive(Clone, Copy, Debug, PartialEq, Eq)]
+pub enum TextFault {
+    TooLong,
+    BadUtf8(usize),
+    Control(usize),
+    NoMemory,
+}
+
+impl From<AllocError> for TextFault {
+    ghost use Rattle.std.specs.Prelude.{◌≡◌};
+    ghost use Rattle.ev_values.specs.declared.text.TextFault.TheVariants.{NoMemory};
+
+    ghost from_gives = { λ _ e. e ≡ NoMemory };
+
+    fn from(_: AllocError) -> Self {
+        TextFault::NoMemory
+    }
+}
+
+const MAX_LEN: usize = 1024;
+
+fn is_open(b: u8) -> bool
+    ensures { result ≡ is_open_byte b }
+{
+    match b {
+        b'\t' | b'\n' => true,
+        0..=31 | 127 => false,
+        _ => true,
+    }
+}
+
+// The length of the longest prefix that is UTF-8, where the whole is not.
+fn bad_utf8(bytes: &[u8]) -> Option<usize>
+    ensures { MatchOption result (is_utf8 bytes.now ≡ true) (λ i. (is_utf8 bytes.now ≡ false) × (i ≡ utf8_valid_len bytes.now)) }
+{
+    match std::str::from_utf8(bytes) {
+        Ok(_) => None,
+        Err(e) => Some(e.valid_up_to()),
+    }
+}
+
+fn first_control(bytes: &[u8]) -> Option<usize>
+    ensures { result ≡ position (λ b. not (is_open_byte b)) bytes.now }
+{
+    bytes.iter().position(|b| !is_open(*b))
+}
+
+// The first place of a byte that no text has.
+fn control(bytes: &[u8]) -> Option<usize>
+    ensures value { result ≡ position (λ b. not (is_open_byte b)) bytes.now }
+    ensures none { IfNone result (list_all is_open_byte bytes.now ≡ true) }
+{
+    first_control(bytes)
+}
+
+/// A text: UTF-8 of at most 1,024 bytes without control bytes other than tab and newline.
+#[derive(Drop)]
+pub struct Text {
+    bytes: Vec<u8>,
+}
+
+impl Model for Text {
+    ghost use Rattle.std.specs.Prelude.{List, ℕ};
+    ghost use Rattle.ev_values.specs.Text.{IsText};
+
+    ghost Value = { List ℕ };
+
+    ghost view = { λ text. text.bytes.items };
+
+    ghost invariant = { λ text. IsText text.bytes.items };
+}
+
+impl Text {
+    pub fn bytes(&self) -> &[u8]
+        ensures bytes { result.now ≡ self.now }
+        ensures text { IsText self.now }
+    {
+        &self.bytes
+    }
+
+    /// The text of these bytes.
+    pub fn read(alloc: Global, bytes: &[u8]) -> Result<Text, TextFault>
+        ensures value { IfOk result (λ text. text ≡ bytes.now) }
+        ensures ok { OnOk result (IsText bytes.now) }
+        ensures too_long { IsErrOf result TextFault.TooLong ↔ (1024 < length bytes.now) }
+        ensures bad_utf8 { (i : ℕ) → IsErrOf result (TextFault.BadUtf8 i) ↔ IsBadUtf8 bytes.now i }
+        ensures control { (i : ℕ) → IsErrOf result (TextFault.Control i) ↔ IsFirstControl bytes.now i }
+        ensures memory { IsErrOf result TextFault.NoMemory → IsText bytes.now }
+    {
+        if bytes.len() > MAX_LEN {
+            return Err(TextFault::TooLong);
+        }
+        if let Some(i) = bad_utf8(bytes) {
+            return Err(TextFault::BadUtf8(i));
+        }
+        if let Some(i) = control(bytes) {
+            return Err(TextFault::Control(i));
+        }
+        let bytes = bytes.to_vec(alloc)?;
+        Ok(Text { bytes })
+    }
+
+    /// An equal text.
+    pub fn copy(&self, alloc: Global) -> Result<Text, NoMemory>
+        ensures { IfOk result (λ text. text ≡ self.now) }
+    {
+        let bytes = self.bytes.to_vec(alloc)?;
+        Ok(Text { bytes })
+    }
+}
