@@ -10,7 +10,8 @@ use Rattle.ev_values.specs.declared.value.Value.{Value}
 use Rattle.ev_values.specs.declared.value.Value.TheVariants as values
 use Rattle.ev_constraint.specs.declared.op.Op.{Op}
 use Rattle.ev_constraint.specs.Constraint.{ConstraintParts}
-use Rattle.ev_constraint.specs.Order.{kind_rank, op_rank, value_cmp, constraint_cmp, list_cmp}
+use Rattle.ev_values.specs.Order.{kind_rank, kind_cmp, value_cmp}
+use Rattle.ev_constraint.specs.Order.{op_rank, op_cmp, constraint_cmp, list_cmp}
 
 tied : (o p : Ordering) → ordering_then o p ≡ Equal → (o ≡ Equal) × (p ≡ Equal)
 tied Less p h = cc
@@ -60,8 +61,8 @@ op-tied k l h = grind arith
 pub parts-tied : (c d : ConstraintParts) → constraint_cmp c d ≡ Equal → c ≡ d
 parts-tied c d h =
     let a = tied (slice_cmp nat_cmp c.name d.name) _ h in
-    let b = tied (nat_cmp (kind_rank c.kind) (kind_rank d.kind)) _ a.1 in
-    let e = tied (nat_cmp (op_rank c.op) (op_rank d.op)) _ b.1 in
+    let b = tied (kind_cmp c.kind d.kind) _ a.1 in
+    let e = tied (op_cmp c.op d.op) _ b.1 in
     let n = list-tied nat_cmp nat-tied c.name d.name a.0 in
     let k = kind-tied c.kind d.kind (nat-tied (kind_rank c.kind) (kind_rank d.kind) b.0) in
     let o = op-tied c.op d.op (nat-tied (op_rank c.op) (op_rank d.op) e.0) in

@@ -2,10 +2,10 @@
 ghost use Rattle.std.specs.Prelude.{◌≡◌, IfOk, MatchResult};
 ghost use Rattle.std.specs.Option.{option_copied};
 
-use crate::bytes::{does_begin, does_finish, does_hold, is_less, is_same};
+use crate::bytes::{has_part, has_prefix, has_suffix, is_less, is_same};
 use crate::normal::{IntSet, Normal};
 use crate::op::Op;
-use crate::order::{kind_order, op_order, operand_order};
+use crate::order::{op_order, operand_order};
 use ev_values::{Kind, Name, NoMemory, Value};
 use std::alloc::Global;
 use std::cmp::Ordering;
@@ -40,9 +40,10 @@ impl Model for Constraint {
 }
 
 impl Constraint {
-    ghost use Rattle.ev_constraint.specs.Faults.{fault_of};
+    ghost use Rattle.std.specs.Prelude.{IsOk, IsErrOf, ◌↔◌, true, false};
+    ghost use Rattle.ev_constraint.specs.Faults.{fault_of, has_op, is_misplaced, is_of_other_kind, is_empty_pattern};
     ghost use Rattle.ev_constraint.specs.Constraint.{ConstraintParts, IsTest, IsConstraint, same_subject, satisfies, constraint_covers, compatible, form_of};
-    ghost use Rattle.ev_constraint.specs.Normal.{form_seen, IsOfKind};
+    ghost use Rattle.ev_constraint.specs.Normal.{form_meant, IsOfKind};
 
     /// The constraint of these parts.
     pub fn make(
@@ -52,6 +53,11 @@ impl Constraint {
         operand: Option<Value>,
     ) -> Result<Constraint, BadConstraint>
         ensures value { IfOk result (λ c. c ≡ record { name = name; kind = kind; op = op; operand = operand }) }
+        ensures ok { IsOk result ↔ IsTest kind op operand }
+        ensures bad_op { IsErrOf result BadConstraint.BadOp ↔ (has_op kind op ≡ false) }
+        ensures operand { IsErrOf result BadConstraint.Operand ↔ ((has_op kind op ≡ true) × (is_misplaced op operand ≡ true)) }
+        ensures wrong_kind { IsErrOf result BadConstraint.WrongKind ↔ ((has_op kind op ≡ true) × (is_misplaced op operand ≡ false) × (is_of_other_kind kind operand ≡ true)) }
+        ensures empty_pattern { IsErrOf result BadConstraint.EmptyPattern ↔ ((has_op kind op ≡ true) × (is_misplaced op operand ≡ false) × (is_of_other_kind kind operand ≡ false) × (is_empty_pattern op operand ≡ true)) }
         ensures answer { MatchResult result (λ _. fault_of kind op operand ≡ None) (λ e. fault_of kind op operand ≡ Some e) }
     {
         if !has_op(kind, op) {
@@ -133,7 +139,7 @@ impl Constraint {
         match (&self.operand, value) {
             (None, _) => self.kind == value.kind(),
             (Some(Value::Bool(u)), Value::Bool(x)) => (*u == *x) == (self.op == Op::Eq),
-            (Some(Value::Int(u)), Value::Int(x)) => stands_int(self.op, *x, *u),
+            (Some(Value::Int(u)), Value::Int(x)) => int_satisfies(self.op, *x, *u),
             (Some(Value::Str(u)), Value::Str(x)) => crate::normal::stands(
                 self.op,
                 x.bytes(),
@@ -146,7 +152,7 @@ impl Constraint {
     /// The normal form.
     pub fn normal(&self) -> Normal<'_>
         ensures kind { IsOfKind self.now.kind result }
-        ensures form { form_seen self.now.kind result ≡ form_of self.now.kind self.now.op self.now.operand }
+        ensures form { form_meant self.now.kind result ≡ form_of self.now.kind self.now.op self.now.operand }
     {
         match &self.operand {
             None => Normal::All,
@@ -184,10 +190,10 @@ impl Constraint {
 }
 
 ghost use Rattle.ev_constraint.specs.Faults.{has_op, is_pattern, is_empty_text};
-ghost use Rattle.ev_constraint.specs.Numbers.{number_stands, number_form};
-ghost use Rattle.ev_constraint.specs.Constraint.{least, greatest, form_of, IsNumberOp, Form};
+ghost use Rattle.ev_constraint.specs.Numbers.{number_satisfies, number_form};
+ghost use Rattle.ev_constraint.specs.Constraint.{int_least, int_greatest, form_of, IsNumberOp, Form};
 ghost use Rattle.ev_constraint.specs.Constraint.Form.{number};
-ghost use Rattle.ev_constraint.specs.Normal.{form_seen, IsOfKind};
+ghost use Rattle.ev_constraint.specs.Normal.{form_meant, IsOfKind};
 ghost use Rattle.ev_values.specs.declared.value.Kind.{Kind};
 
 impl PartialEq for Constraint {
@@ -249,7 +255,7 @@ impl Ord for Constraint {
         self.name
             .bytes()
             .cmp(other.name.bytes())
-            .then(kind_order(self.kind, other.kind))
+            .then(self.kind.order(other.kind))
             .then(op_order(self.op, other.op))
             .then(operand_order(&self.operand, &other.operand))
     }
@@ -284,8 +290,8 @@ fn is_empty_text(v: &Value) -> bool
     }
 }
 
-fn stands_int(op: Op, x: i64, u: i64) -> bool
-    ensures { result ≡ number_stands op x u }
+fn int_satisfies(op: Op, x: i64, u: i64) -> bool
+    ensures { result ≡ number_satisfies op x u }
 {
     match op {
         Op::Any => true,
@@ -302,7 +308,7 @@ fn stands_int(op: Op, x: i64, u: i64) -> bool
 fn normal_int<'a>(op: Op, u: i64) -> Normal<'a>
     requires { IsNumberOp op }
     ensures kind { IsOfKind Kind.Int result }
-    ensures form { form_seen Kind.Int result ≡ number (number_form least greatest op u) }
+    ensures form { form_meant Kind.Int result ≡ number (number_form int_least int_greatest op u) }
 {
     match op {
         Op::Eq => Normal::Int(IntSet::Eq(u)),
