@@ -20,7 +20,7 @@ use Rattle.ev_constraint.proofs.NumberLaws as nl
 use Rattle.ev_constraint.proofs.TextWitnesses as tw
 use Rattle.ev_constraint.proofs.ConstraintLaws.{wide, in_range, form_same, subject-told}
 
-fits : (x : ℤ) → IsWithin int_least int_greatest x → FitsSigned w64 x
+pub fits : (x : ℤ) → IsWithin int_least int_greatest x → FitsSigned w64 x
 fits x l = search (arith, ints)
 
 truths-complete : (k m : Truths) → (truth_allows m true ≡ true → truth_allows k true ≡ true) → (truth_allows m false ≡ true → truth_allows k false ≡ true) → truth_covers k m ≡ true
@@ -83,6 +83,6 @@ complete c d i j n e t h =
     let test : IsTest c.kind d.op d.operand = subst (λ (k : Kind). IsTest k d.op d.operand) (sym e) j in
     let f : form_covers (form_of c.kind c.op c.operand) (form_of c.kind d.op d.operand) ≡ true =
     by_form c.kind c.op d.op c.operand d.operand i test t (λ x v q.
-    form_same c.kind c.op c.operand x i v ∙ h x v (subst (λ (k : Kind). value_satisfies k d.op d.operand x ≡ true) e (sym (form_same c.kind d.op d.operand x test v) ∙ q))) in
+    form_same c.kind c.op c.operand x v ∙ h x v (subst (λ (k : Kind). value_satisfies k d.op d.operand x ≡ true) e (sym (form_same c.kind d.op d.operand x v) ∙ q))) in
     let g : form_covers (form_of c.kind c.op c.operand) (form_of d.kind d.op d.operand) ≡ true = subst (λ (k : Kind). form_covers (form_of c.kind c.op c.operand) (form_of k d.op d.operand) ≡ true) e f in
     rw (subject-told c d n e, g) refl
