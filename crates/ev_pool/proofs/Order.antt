@@ -5,7 +5,7 @@ use Rattle.std.specs.List.{insert, remove}
 use Rattle.std.proofs.lemmas.List.Edits.{length-insert, get_or-insert_below, get_or-insert_at, get_or-insert_above, length-remove, get_or-remove_below, get_or-remove_above}
 use Rattle.std.proofs.lemmas.List.{get_or-set_same, get_or-set_other, get_or_past, get_or_default}
 use Rattle.ev_sets.specs.Laws.{CoverLaws}
-use Rattle.ev_pool.specs.declared.pool.Counted.{Counted}
+use Rattle.ev_pool.specs.declared.counted.Counted.{Counted}
 use Rattle.ev_pool.specs.Pool.{slot, place_of, Others, IsIndex, IsGap}
 
 pub trichotomy : (a b : ℕ) → (a < b) ⊎ ((a ≡ b) ⊎ (b < a))

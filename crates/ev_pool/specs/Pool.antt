@@ -1,7 +1,7 @@
 -- What contracts see of a pool.
 use Rattle.std.specs.Prelude.{◌≡◌, ◌≢◌, ◌⊎◌, ℕ, ◌+◌, ◌<◌, ◌≤◌, Bool, true, false, List, length, Option, Some, None, IsSome, slice_index_or, refl}
 use Rattle.std.specs.Coded.{Coded, code_by, coded×, coded_ℕ, coded_list, coded_option}
-use Rattle.ev_pool.specs.declared.pool.Counted.{Counted}
+use Rattle.ev_pool.specs.declared.counted.Counted.{Counted}
 
 -- the item and its holders at each key, and how many fresh items fit with no memory
 pub record Pooled (T : Type 0) : Type 0 where

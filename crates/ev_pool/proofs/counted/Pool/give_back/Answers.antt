@@ -1,7 +1,7 @@
 use Rattle.std.proofs.Common.{refl, sym, ap, subst, ◌∙◌, ◌≡◌, ◌+◌, ◌-◌, ◌<◌, ℕ, Some, arith}
 use Rattle.ev_pool.specs.Pool.{IsIndex}
 use Rattle.ev_pool.proofs.Order.{index-set, index-remove, one-place, count-down}
-use Rattle.ev_pool.proofs.pool.Pool.give_back.Goals as goal
+use Rattle.ev_pool.proofs.counted.Pool.give_back.Goals as goal
 
 pub invariant_of-self : goal.invariant_of-self
 invariant_of-self g c =

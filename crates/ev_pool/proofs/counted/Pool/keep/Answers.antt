@@ -2,7 +2,7 @@ use Rattle.std.proofs.Common.{refl, sym, ap, subst, ◌∙◌, ◌≡◌, ◌+�
 use Rattle.std.specs.List.{insert}
 use Rattle.ev_pool.specs.Pool.{IsIndex, slot, Others}
 use Rattle.ev_pool.proofs.Order.{index-set, index-insert, here-item}
-use Rattle.ev_pool.proofs.pool.Pool.keep.Goals as goal
+use Rattle.ev_pool.proofs.counted.Pool.keep.Goals as goal
 
 pub overflow_add-index_mut : goal.overflow_add-index_mut
 overflow_add-index_mut g c =

@@ -1,6 +1,6 @@
 use Rattle.std.proofs.Common.{◌≡◌, ◌<◌, ◌≤◌, ◌-◌, ℕ, length, Some, true, false}
 use Rattle.ev_pool.specs.Pool.{slot, place_of}
-use Rattle.ev_pool.proofs.pool.place.Given as goal
+use Rattle.ev_pool.proofs.counted.place.Given as goal
 
 abbrev pub invariant-loop-low : goal.invariant-loop-low
 invariant-loop-low g l =

@@ -1,8 +1,8 @@
 use Rattle.std.proofs.Common.{arith}
 use Rattle.std.proofs.lemmas.Grind.{common_steps}
 use Rattle.ev_pool.proofs.Order.{gap-end, gap-inner}
-use Rattle.ev_pool.proofs.pool.seek.Goals as goal
-use Rattle.ev_pool.proofs.pool.seek.Goals.{else-i-order-via-then-i-order+else-not-before, else-i-order-via-else-i-order}
+use Rattle.ev_pool.proofs.counted.seek.Goals as goal
+use Rattle.ev_pool.proofs.counted.seek.Goals.{else-i-order-via-then-i-order+else-not-before, else-i-order-via-else-i-order}
 
 pub returns-else-i-order-clause-err : goal.returns-else-i-order-clause-err
 returns-else-i-order-clause-err g c = elim c.else-i-order.branch [

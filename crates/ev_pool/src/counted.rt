@@ -2,10 +2,13 @@
 ghost use Rattle.std.specs.Prelude.{◌≡◌, ◌≢◌, ◌+◌, ◌-◌, ◌^◌, ◌<◌, ◌≤◌, ℕ, min, length, Some, None, IsSome, IfSome, IfNone, IfOk, IfErr, OnOk, OnErr, count_by, is_some, true, false};
 ghost use Rattle.ev_pool.specs.Pool.{slot, place_of, IsLive, IsAt, Others, Keeps, IsIndex, IsGap, IsDistinct};
 
-use super::cover::Cover;
+use crate::covering::Cover;
 use slab::Slab;
 use std::alloc::{AllocError, Global};
 use std::marker::Model;
+
+/// A number that the pool gives to an item and that names it while it is live.
+pub type Key = usize;
 
 /// An item with the number of its holders.
 #[derive(Drop)]
