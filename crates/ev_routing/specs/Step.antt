@@ -4,7 +4,7 @@ use Rattle.ev_run.specs.Machine.{Input, Does, Takes, Outcome, at}
 use Rattle.ev_sets.specs.Sets.{union, minus, same_list}
 use Rattle.ev_routing.specs.Theory.{Theory}
 use Rattle.ev_routing.specs.Net.{Command, Subscribe, Unsubscribe, Advertise, Unadvertise, Publish, PhasedCommand, Net}
-use Rattle.ev_routing.specs.Clients.{some_pass, filters_after, adverts_after, ordinal}
+use Rattle.ev_routing.specs.Clients.{some_pass, filters_after, adverts_after, accepts, ordinal}
 use Rattle.ev_routing.specs.Server.{Message, Subs, Advs, Noticed, Publication, ServerState, is_among, messages_to}
 
 -- a task of a server: the next command of a client, or a version
@@ -70,7 +70,7 @@ module _ (theory : Theory) (net : Net theory) where
   command_work client count (Advertise a) = cond net.adverts (SetsAdverts (64 + client) (adverts_after theory [] (take (suc count) (net.script client)))) Nothing
   command_work client count (Unadvertise a) = cond net.adverts (SetsAdverts (64 + client) (adverts_after theory [] (take (suc count) (net.script client)))) Nothing
   -- an accepted publish is routed, a refused one does nothing
-  command_work client count (Publish n) = cond (not net.adverts || some_pass (λ a. theory.allows a n) (adverts_after theory [] (take count (net.script client)))) (Routes (64 + client) client (ordinal theory (take (suc count) (net.script client))) n) Nothing
+  command_work client count (Publish n) = cond (accepts theory net (adverts_after theory [] (take count (net.script client))) n) (Routes (64 + client) client (ordinal theory (take (suc count) (net.script client))) n) Nothing
 
   -- what a message comes to: out are taken from what is held, and add added; a notice is routed
   abbrev pub message_work : ServerState theory → ℕ → Message theory → Work theory
