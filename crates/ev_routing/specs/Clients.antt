@@ -1,6 +1,6 @@
 -- What a client's commands make of its lists, by its script alone.
-use Rattle.std.specs.Prelude.{◌≡◌, ℕ, suc, ◌+◌, ◌≤◌, nat_lt, Bool, true, false, cond, not, ◌||◌, List, [], ◌∷◌, filter, take, slice_get, Some}
-use Rattle.ev_sets.specs.Sets.{Has, union}
+use Rattle.std.specs.Prelude.{◌≡◌, ℕ, suc, ◌+◌, nat_lt, Bool, true, false, cond, not, ◌||◌, List, [], ◌∷◌, filter, take, slice_get, Some}
+use Rattle.ev_sets.specs.Sets.{union}
 use Rattle.ev_routing.specs.Theory.{Theory}
 use Rattle.ev_routing.specs.Net.{Command, Subscribe, Unsubscribe, Advertise, Unadvertise, Publish, PhasedCommand, Net}
 
@@ -52,11 +52,6 @@ module _ (theory : Theory) where
   abbrev pub commands_below : ℕ → List (PhasedCommand theory) → ℕ
   commands_below phase [] = 0
   commands_below phase (command ∷ commands) = cond (nat_lt command.phase phase) (suc (commands_below phase commands)) (commands_below phase commands)
-
-  -- phases never fall within a script
-  abbrev pub NeverFalls : List (PhasedCommand theory) → Type 0
-  NeverFalls [] = Unit {0}
-  NeverFalls (command ∷ commands) = ((later : PhasedCommand theory) → Has later commands → command.phase ≤ later.phase) × NeverFalls commands
 
   module _ (net : Net theory) where
     -- whether a publish of a notice is accepted, by the client's advertisements: under advertisement semantics some one must allow it

@@ -1,6 +1,7 @@
 -- A net: its tree of servers, its clients, and their scripts of commands.
-use Rattle.std.specs.Prelude.{◌≡◌, ℕ, ◌≤◌, Bool, List}
+use Rattle.std.specs.Prelude.{◌≡◌, ℕ, ◌≤◌, Bool, List, [], ◌∷◌}
 use Rattle.ev_sets.specs.Sets.{Has}
+use Rattle.ev_sets.specs.Numbers.{IsDistinct}
 use Rattle.ev_tree.specs.Hops.{AreHops}
 use Rattle.ev_routing.specs.Theory.{Theory}
 
@@ -16,6 +17,11 @@ pub record PhasedCommand (theory : Theory) : Type 0 where
   pub phase : ℕ
   pub command : Command theory
 
+-- phases never fall within a script
+abbrev pub NeverFalls : (theory : Theory) → List (PhasedCommand theory) → Type 0
+NeverFalls theory [] = Unit {0}
+NeverFalls theory (command ∷ commands) = ((later : PhasedCommand theory) → Has later commands → command.phase ≤ later.phase) × NeverFalls theory commands
+
 pub record Net (theory : Theory) : Type 0 where
   -- advertisement semantics; else subscription semantics
   pub adverts : Bool
@@ -30,10 +36,12 @@ pub record Net (theory : Theory) : Type 0 where
   -- the commands of a client, in order
   pub script : ℕ → List (PhasedCommand theory)
 
--- what is asked of a net: a tree of servers numbered from 1 to 64, and clients numbered from 1 with one home each
+-- what is asked of a net: a tree of servers numbered from 1 to 64, clients numbered from 1 with one home each, and scripts whose phases never fall
 pub record NetLaws (theory : Theory) (net : Net theory) : Type 0 where
   pub tree : AreHops net.servers net.links net.hop
   pub small : (server link : ℕ) → Has link (net.links server) → link ≤ 64
   pub counted : (server client : ℕ) → Has client (net.clients server) → 1 ≤ client
   pub housed : (client : ℕ) → Has (net.home client) net.servers
   pub lives : (server client : ℕ) → Has client (net.clients server) → net.home client ≡ server
+  pub single : (server : ℕ) → IsDistinct (net.clients server)
+  pub phased : (client : ℕ) → NeverFalls theory (net.script client)
