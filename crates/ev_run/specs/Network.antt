@@ -1,5 +1,5 @@
 -- The state of a network, and the step of one of its servers as a step of the whole.
-use Rattle.std.specs.Prelude.{◌≡◌, ℕ, suc, ◌==◌, cond, ◌&&◌, List, ◌++◌, slice_get, Option, Some, None}
+use Rattle.std.specs.Prelude.{◌≡◌, ℕ, suc, ◌==◌, cond, ◌&&◌, List, [], ◌++◌, slice_get, Option, Some, None}
 use Rattle.ev_run.specs.Machine.{at, Act, Did, Took, Machine, Input, Does, Takes, Outcome, Stamped, Entry, unstamped, next_stamp, stamped, entry_of}
 
 module _ (machine : Machine) where
@@ -52,6 +52,14 @@ module _ (machine : Machine) where
   -- the outcome of an act of a server, where it is possible
   abbrev pub outcome_at : NetworkState → ℕ → Act machine.Task → Option (Outcome machine.State machine.Message)
   outcome_at network server act = outcome_of network server (input_of network server act)
+
+  abbrev pub outs_of : Option (Outcome machine.State machine.Message) → ℕ → List machine.Message
+  outs_of None link = []
+  outs_of (Some outcome) link = outcome.outs link
+
+  -- the messages that an entry puts for a neighbour, by the state that its step is made on
+  abbrev pub messages_of : NetworkState → Entry machine → ℕ → List machine.Message
+  messages_of network entry link = outs_of (outcome_at network entry.server entry.act) link
 
   abbrev pub after_outcome : NetworkState → ℕ → Input machine.Task (Stamped machine.Message) → Option (Outcome machine.State machine.Message) → NetworkState
   after_outcome network server input None = network
