@@ -119,6 +119,9 @@ module _ (th : Theory) (laws : TheoryLaws th) (run : LegalRun th) where
   pub ends : states th run (length run.journal) ≡ run.end
   ends = ap (λ z. z.network) (run-ends (routing_machine th run.net) run.start run.first run.journal run.end run.last run.legal)
 
+  pub last-phase : phases th run (length run.journal) ≡ run.last
+  last-phase = ap (λ z. z.phase) (run-ends (routing_machine th run.net) run.start run.first run.journal run.end run.last run.legal)
+
   pub earlier : ℕ → ℕ
   earlier q = ordinal th (take ((run.start.state (run.net.home q)).done q) (run.net.script q))
 
