@@ -1,5 +1,5 @@
 -- Journals of the single servers, and their merge.
-use Rattle.std.specs.Prelude.{◌≡◌, ℕ, ◌≤◌, ◌<◌, ◌==◌, cond, List, [], ◌∷◌, ◌++◌, ◌⊎◌, length, Option, Some, None}
+use Rattle.std.specs.Prelude.{◌≡◌, ℕ, suc, ◌≤◌, ◌<◌, ◌==◌, cond, List, [], ◌∷◌, ◌++◌, ◌⊎◌, length, Option, Some, None}
 use Rattle.ev_run.specs.Machine.{Has, at, Machine, Input, Does, Takes, Outcome, Stamped, Entry, unstamped, next_stamp, stamped, entry_of, act_phase}
 use Rattle.ev_run.specs.Network.{NetworkState, IsStep}
 use Rattle.ev_run.specs.Runs.{greatest, raised, IsQuiet, IsThrough, IsRun}
@@ -81,6 +81,17 @@ module _ (machine : Machine) where
   -- cells that enter a phase, with their clocks raised
   abbrev pub entering : ℕ → (ℕ → Cell) → ℕ → Cell
   entering clock cells server = record { state = (cells server).state; clock = clock; put = (cells server).put; took = (cells server).took }
+
+  -- a phase with all cells in hand: each server's journal of it replays from its cell to its cell after it, what each took of another is the beginning of what that put, and the journals have this merge
+  pub record IsPhaseInHand (phase : ℕ) (cells : ℕ → Cell) (journals : ℕ → List (Entry machine)) (merged : List (Entry machine)) (ends : ℕ → Cell) : Type 0 where
+    pub merge : IsMerge journals merged
+    pub replay : (server : ℕ) → IsReplay phase server (cells server) (journals server) (ends server)
+    pub took : (from to : ℕ) → IsPrefix ((ends to).took from) ((ends from).put to)
+
+  -- at the end of a phase all is quiet, and all its commands are taken
+  pub record IsPhaseEnded (phase : ℕ) (ends : ℕ → Cell) : Type 0 where
+    pub quiet : IsQuiet machine (network_of ends)
+    pub through : IsThrough machine (network_of ends) (suc phase)
 
   -- between two phases: the entries so far are a run to w, they are the merge of the journals, and the cells stand at w with the clocks raised
   pub record IsBetweenPhases (opening w : NetworkState machine) (last next : ℕ) (sofar : List (Entry machine)) (journals : ℕ → List (Entry machine)) (cells : ℕ → Cell) : Type 0 where
