@@ -1,17 +1,17 @@
 -- A change of tree at a quiet end is a start on the new tree.
-use Rattle.std.proofs.Common.{◌≡◌, ℕ, zero, suc, ◌+◌, ◌≤◌, ◌<◌, ◌==◌, nat_lt, Bool, true, false, cond, List, [], ◌∷◌, ◌⊎◌, inl, inr, length, slice_get, Some, refl, sym, ap, subst, ◌∙◌, arith, ne_eqb}
+use Rattle.std.proofs.Common.{◌≡◌, ℕ, suc, ◌+◌, ◌≤◌, ◌<◌, nat_lt, true, false, cond, List, [], ◌∷◌, inl, inr, length, slice_get, refl, sym, ap, subst, ◌∙◌, arith, ne_eqb}
 use Rattle.ev_sets.specs.Sets.{Has}
 use Rattle.ev_tree.specs.Hops.{side_size}
 use Rattle.ev_run.specs.Runs.{greatest, IsQuiet, IsThrough}
 use Rattle.ev_run.proofs.Stamps.{greatest-above}
 use Rattle.ev_routing.specs.Theory.{Theory, TheoryLaws}
-use Rattle.ev_routing.specs.Net.{Net, NetLaws, PhasedCommand}
+use Rattle.ev_routing.specs.Net.{Net, NetLaws}
 use Rattle.ev_routing.specs.Clients.{commands_below}
-use Rattle.ev_routing.specs.Server.{Publication, is_among, sent, sent_adverts}
+use Rattle.ev_routing.specs.Server.{Publication, is_among}
 use Rattle.ev_routing.specs.Routing.{routing_machine, Network}
 use Rattle.ev_routing.specs.Rest.{IsAtRest}
 use Rattle.ev_routing.specs.Order.{IsStrictlyRising, ordinals_delivered, IsAccepted}
-use Rattle.ev_routing.specs.Owed.{IsMomentOfPhase, IsPublication, IsAllowed}
+use Rattle.ev_routing.specs.Owed.{IsPublication, IsAllowed}
 use Rattle.ev_routing.specs.Start.{IsStart}
 use Rattle.ev_routing.specs.LegalRun.{LegalRun, states, phases, IsDeliveredOnce}
 use Rattle.ev_routing.specs.Flow.{flow, flow_ad, AgreesOnLinks, relinked}

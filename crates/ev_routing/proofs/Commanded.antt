@@ -1,15 +1,15 @@
 -- The commands of a phase, tried one after the other, are all taken.
-use Rattle.std.proofs.Common.{◌≡◌, ℕ, zero, suc, ◌+◌, ◌≤◌, ◌<◌, ◌==◌, Bool, true, false, cond, List, [], ◌∷◌, ◌++◌, ◌⊎◌, inl, inr, length, slice_get, Option, Some, None, refl, sym, ap, subst, ◌∙◌, arith, eq-eqb}
+use Rattle.std.proofs.Common.{◌≡◌, ℕ, zero, suc, ◌+◌, ◌≤◌, ◌<◌, ◌==◌, Bool, true, false, cond, List, [], ◌∷◌, ◌⊎◌, inl, inr, length, slice_get, Option, Some, None, refl, sym, ap, subst, ◌∙◌, arith, eq-eqb}
 use Rattle.ev_sets.specs.Sets.{Has}
 use Rattle.ev_links.proofs.Numbers.{below}
-use Rattle.ev_run.specs.Machine.{Machine, at, Input, Does, Takes, Outcome, Act, Did, Took, Stamped, act_of, act_phase, entry_of}
+use Rattle.ev_run.specs.Machine.{Machine, at, Input, Does, Takes, Outcome, Act, Did, Stamped, act_of, act_phase, entry_of}
 use Rattle.ev_run.specs.Runs.{raised}
 use Rattle.ev_run.specs.History.{Moment, as_found, network_step, Happens}
-use Rattle.ev_run.specs.Walk.{Turn, entry_given, entry_at, entry_of_phase, entry_in, with_default, entries_by, moment_by, repeated, IsWalkable}
+use Rattle.ev_run.specs.Walk.{entry_given, entry_at, entry_of_phase, with_default, entries_by, moment_by, repeated, IsWalkable}
 use Rattle.ev_run.proofs.History.{moves}
 use Rattle.ev_run.proofs.Lists.{Same, Is, Not, compare}
 use Rattle.ev_run.proofs.Local.{local-run}
-use Rattle.ev_run.proofs.Tried.{Entered, entry-step, Goes, entry-goes, entries-run}
+use Rattle.ev_run.proofs.Tried.{Goes, entry-goes, entries-run}
 use Rattle.ev_run.proofs.Rounds.{moment-append}
 use Rattle.ev_routing.specs.Theory.{Theory}
 use Rattle.ev_routing.specs.Net.{Net, PhasedCommand, NetLaws}
@@ -17,11 +17,11 @@ use Rattle.ev_routing.specs.Clients.{commands_below}
 use Rattle.ev_routing.specs.Server.{Message, ServerState}
 use Rattle.ev_routing.specs.Step.{Task, NextCommand, Version, with_command_taken, effect, command_work, local_step}
 use Rattle.ev_routing.specs.Routing.{routing_machine, phase_of, NetEntry}
-use Rattle.ev_routing.specs.Works.{done_after, Works}
+use Rattle.ev_routing.specs.Works.{done_after}
 use Rattle.ev_routing.specs.Walk.{client_turns, command_turns}
 use Rattle.ev_routing.proofs.Laws.{machine-laws}
 use Rattle.ev_routing.proofs.Listing.{has-one}
-use Rattle.ev_routing.proofs.Working.{Served, served, works}
+use Rattle.ev_routing.proofs.Working.{served, works}
 use Rattle.ev_routing.proofs.Accepted.{effect-done, done-here}
 use Rattle.ev_routing.proofs.Scripts.{through-count, upto-count}
 use Rattle.ev_routing.proofs.Spreading.{unsome}

@@ -1,24 +1,24 @@
 -- What holds at a start, and along a run from it.
-use Rattle.std.proofs.Common.{◌≡◌, ℕ, zero, suc, ◌+◌, ◌*◌, ◌≤◌, ◌<◌, true, false, ◌↔◌, List, [], ◌∷◌, ◌⊎◌, inl, inr, length, take, drop, slice_get, Some, refl, sym, ap, subst, ◌∙◌, arith}
+use Rattle.std.proofs.Common.{◌≡◌, ℕ, zero, suc, ◌+◌, ◌≤◌, false, ◌↔◌, List, [], ◌∷◌, inl, inr, length, take, refl, sym, ap, subst, arith}
 use Rattle.std.proofs.lemmas.Option.{slice_get_within}
 use Rattle.ev_sets.specs.Sets.{Has}
 use Rattle.ev_tree.specs.Hops.{side_size}
 use Rattle.ev_run.specs.Machine.{Stamped}
-use Rattle.ev_run.specs.Runs.{greatest, IsWithinPuts, HasStampsUpTo}
+use Rattle.ev_run.specs.Runs.{IsWithinPuts}
 use Rattle.ev_run.specs.History.{IsHistory}
 use Rattle.ev_run.proofs.History.{run-history, run-ends}
 use Rattle.ev_run.proofs.Lists.{Same, Is, Not, compare}
 use Rattle.ev_routing.specs.Theory.{Theory, TheoryLaws}
 use Rattle.ev_routing.specs.Net.{Net, NetLaws}
-use Rattle.ev_routing.specs.Clients.{ordinal, commands_below}
-use Rattle.ev_routing.specs.Server.{Message, Noticed, Publication, sent, sent_adverts}
+use Rattle.ev_routing.specs.Clients.{ordinal}
+use Rattle.ev_routing.specs.Server.{Message, Publication, sent, sent_adverts}
 use Rattle.ev_routing.specs.Routing.{routing_machine, Network, NetEntry, opening}
-use Rattle.ev_routing.specs.Rest.{filters_of, IsWay, end_of, IsAtRest}
+use Rattle.ev_routing.specs.Rest.{IsWay, end_of, IsAtRest}
 use Rattle.ev_routing.specs.AsOf.{calm, back, times_delivered}
 use Rattle.ev_routing.specs.Order.{IsStrictlyRising, ordinals_put, ordinals_delivered, IsOrderly, IsAccepted, IsAuthentic, ordinals_routed}
 use Rattle.ev_routing.specs.Start.{IsStart}
 use Rattle.ev_routing.specs.LegalRun.{LegalRun, states, phases, Routed, IsSentTo, IsWanted, IsDelivered, IsInForce, IsDeliveredOnce, IsSettledTo}
-use Rattle.ev_routing.proofs.Scripts.{take-rises, zero-below, below-rises}
+use Rattle.ev_routing.proofs.Scripts.{take-rises, zero-below}
 use Rattle.ev_routing.proofs.Rest.{none-sent, none-sent_adverts}
 use Rattle.ev_routing.proofs.Along.{strict, tree, filters-back, adverts-back}
 use Rattle.ev_routing.proofs.Ordered.{orderly-all}

@@ -1,30 +1,25 @@
 -- The walk is a legal run that goes on from a legal run and ends drained.
-use Rattle.std.proofs.Common.{◌≡◌, ℕ, zero, suc, ◌+◌, ◌*◌, ◌-◌, ◌≤◌, ◌<◌, ◌==◌, ◌&&◌, Bool, true, false, cond, nat_le, List, [], ◌∷◌, ◌++◌, ◌⊎◌, inl, inr, length, map, slice_get, Option, Some, None, refl, sym, ap, subst, ◌∙◌, arith, mul-le-mul_right, eq-eqb, le-leb}
+use Rattle.std.proofs.Common.{◌≡◌, ℕ, zero, suc, ◌+◌, ◌*◌, ◌-◌, ◌≤◌, ◌<◌, true, List, [], ◌∷◌, ◌++◌, ◌⊎◌, inl, inr, length, map, slice_get, Option, Some, None, refl, sym, ap, subst, arith, mul-le-mul_right, le-leb}
 use Rattle.ev_sets.specs.Sets.{Has}
-use Rattle.ev_sets.specs.Numbers.{sum_over, count}
 use Rattle.ev_tree.specs.Hops.{side_size}
 use Rattle.ev_run.specs.Machine.{Input, Does, Takes, Outcome, Act, Did, Took, act_phase}
-use Rattle.ev_run.specs.Network.{outcome_at, network_after}
 use Rattle.ev_run.specs.Runs.{IsQuiet, IsThrough, IsRun, IsWithinPuts}
-use Rattle.ev_run.specs.History.{Moment, as_found, acted, network_step}
-use Rattle.ev_run.specs.Load.{load, staged_count, takings, versions, commands}
-use Rattle.ev_run.specs.Walk.{Turn, entry_at, entry_in, with_default, entries_by, moment_by, repeated, rounds, IsIdle, IsWalkable, IsPlan, work_left, walk_phases}
-use Rattle.ev_run.proofs.Lists.{Same, Is, Not, compare}
-use Rattle.ev_run.proofs.Local.{local-run}
+use Rattle.ev_run.specs.History.{Moment}
+use Rattle.ev_run.specs.Load.{load, staged_count, takings, commands}
+use Rattle.ev_run.specs.Walk.{entries_by, moment_by, repeated, IsIdle, IsWalkable, IsPlan, work_left, walk_phases}
 use Rattle.ev_run.proofs.Phases.{run-append}
 use Rattle.ev_run.proofs.Runs.{counted, within-left}
 use Rattle.ev_run.proofs.Walks.{walk-ends}
 use Rattle.ev_run.proofs.Tried.{entries-run}
-use Rattle.ev_run.proofs.Rounds.{entries-append, moment-append, IsPhaseless, phaseless-rounds}
+use Rattle.ev_run.proofs.Rounds.{moment-append, IsPhaseless, phaseless-rounds}
 use Rattle.ev_routing.specs.Theory.{Theory, TheoryLaws}
-use Rattle.ev_routing.specs.Net.{Net, PhasedCommand, NetLaws}
+use Rattle.ev_routing.specs.Net.{Net, PhasedCommand}
 use Rattle.ev_routing.specs.Clients.{commands_below}
-use Rattle.ev_routing.specs.Server.{Message, ServerState, is_among}
-use Rattle.ev_routing.specs.Step.{Task, NextCommand, Version}
+use Rattle.ev_routing.specs.Step.{Task, Version}
 use Rattle.ev_routing.specs.Routing.{routing_machine, Network, NetEntry, measure, all_commands, not_below, all_through}
 use Rattle.ev_routing.specs.Rest.{IsDrained}
 use Rattle.ev_routing.specs.LegalRun.{LegalRun, states, phases}
-use Rattle.ev_routing.specs.Walk.{round_at, walk_round, client_turns, command_turns, enough_rounds, walk_turns, walk_of}
+use Rattle.ev_routing.specs.Walk.{round_at, walk_round, command_turns, enough_rounds, walk_turns, walk_of}
 use Rattle.ev_routing.proofs.Laws.{machine-laws}
 use Rattle.ev_routing.proofs.Along.{strict, tree}
 use Rattle.ev_routing.proofs.Spreading.{spreads}
@@ -97,7 +92,7 @@ module _ (th : Theory) (laws : TheoryLaws th) (run : LegalRun th) where
       let less : commands m k run.journal ≤ all_commands th run.net = omega (arith, r, less-remain th run.net size run.start run.first run.begins) in
       let most : commands m k run.journal * (length run.net.servers * length run.net.servers) ≤ all_commands th run.net * (length run.net.servers * length run.net.servers) = mul-le-mul_right (length run.net.servers * length run.net.servers) less in
       small (load m k run.end) (staged_count m k run.end) (takings m k run.journal) (commands m k run.journal) (all_commands th run.net) (length run.net.servers * length run.net.servers) (commands m k run.journal * (length run.net.servers * length run.net.servers)) (all_commands th run.net * (length run.net.servers * length run.net.servers))
-          (omega (arith, c.0, no-load th run.net size run.start run.first run.begins)) (omega (arith, c.1, none-staged th run.net size run.start run.first run.begins)) less most refl
+      (omega (arith, c.0, no-load th run.net size run.start run.first run.begins)) (omega (arith, c.1, none-staged th run.net size run.start run.first run.begins)) less most refl
     where
       small : (l s t c all n cn an : ℕ) → t + l ≤ cn → s ≤ t + c → c ≤ all → cn ≤ an → an ≡ all * n → 2 * l + s < suc (3 * (all * (n + 1)))
       small l s t c all n cn an a b d e f = let g : all * (n + 1) ≡ all * n + all = omega arith in omega (arith, a, b, d, e, f, g)

@@ -1,5 +1,5 @@
 -- Where a run may begin: at the opening, or at the beginning of a later phase.
-use Rattle.std.specs.Prelude.{◌≡◌, ℕ, ◌≤◌, List, []}
+use Rattle.std.specs.Prelude.{◌≡◌, ℕ, ◌≤◌, []}
 use Rattle.ev_sets.specs.Sets.{Has}
 use Rattle.ev_run.specs.Runs.{greatest}
 use Rattle.ev_routing.specs.Theory.{Theory}

@@ -1,5 +1,5 @@
 -- The step of one server: clients' commands, takings and versions.
-use Rattle.std.specs.Prelude.{ℕ, suc, ◌+◌, ◌==◌, true, false, cond, not, ◌&&◌, ◌||◌, List, [], ◌∷◌, ◌++◌, take, slice_get, Option, Some, None}
+use Rattle.std.specs.Prelude.{ℕ, suc, ◌+◌, ◌==◌, false, cond, not, ◌&&◌, ◌||◌, List, [], ◌∷◌, ◌++◌, take, slice_get, Option, Some, None}
 use Rattle.ev_run.specs.Machine.{Input, Does, Takes, Outcome, at}
 use Rattle.ev_sets.specs.Sets.{union, minus, same_list}
 use Rattle.ev_routing.specs.Theory.{Theory}

@@ -2,7 +2,7 @@
 use Rattle.std.specs.Prelude.{ℕ, suc, ◌+◌, ◌*◌, ◌-◌, List, [], ◌∷◌, ◌++◌, length, map}
 use Rattle.ev_run.specs.Machine.{Act, Did, Took}
 use Rattle.ev_run.specs.History.{Moment}
-use Rattle.ev_run.specs.Walk.{Turn, repeated, walk_phases}
+use Rattle.ev_run.specs.Walk.{repeated, walk_phases}
 use Rattle.ev_routing.specs.Theory.{Theory}
 use Rattle.ev_routing.specs.Net.{Net}
 use Rattle.ev_routing.specs.Step.{Task, NextCommand, Version}

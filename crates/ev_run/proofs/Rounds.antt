@@ -1,10 +1,10 @@
 -- Turns tried one list after the other, and rounds of turns that are no commands.
-use Rattle.std.proofs.Common.{◌≡◌, ℕ, zero, suc, ◌≤◌, ◌<◌, List, [], ◌∷◌, ◌++◌, ◌⊎◌, inl, inr, slice_get, Option, Some, None, refl, sym, ap, subst, ◌∙◌, arith}
-use Rattle.ev_run.specs.Machine.{Machine, Has, Input, Does, Takes, Outcome, Act, Did, Took, Stamped, Entry, unstamped, act_phase}
+use Rattle.std.proofs.Common.{◌≡◌, ℕ, zero, suc, List, [], ◌∷◌, ◌++◌, inl, inr, slice_get, Option, Some, None, refl, sym, ap, ◌∙◌}
+use Rattle.ev_run.specs.Machine.{Machine, Has, Does, Takes, Outcome, Act, Did, Took, Stamped, Entry, unstamped, act_phase}
 use Rattle.ev_run.specs.Network.{NetworkState, taking_of, after_outcome, after_input, turn}
 use Rattle.ev_run.specs.History.{Moment, as_found, acted, network_step}
 use Rattle.ev_run.specs.Walk.{Turn, entry_given, entry_from, entry_at, entry_of_phase, entry_in, with_default, entries_by, moment_by, repeated, round_of, rounds}
-use Rattle.ev_run.proofs.Tried.{Entered, entry-step}
+use Rattle.ev_run.proofs.Tried.{entry-step}
 
 module _ (m : Machine) where
   pub entries-append : (k : ℕ) (xs ys : List (Turn m)) (s : Moment m) → entries_by m k s (xs ++ ys) ≡ entries_by m k s xs ++ entries_by m k (moment_by m k s xs) ys

@@ -1,10 +1,10 @@
 -- The entry of an act: it is the one that a step tells, and it makes a step.
-use Rattle.std.proofs.Common.{◌≡◌, ℕ, zero, suc, ◌≤◌, ◌<◌, ◌==◌, Bool, true, false, cond, List, [], ◌∷◌, ◌++◌, ◌⊎◌, inl, inr, slice_get, Option, Some, None, refl, sym, ap, subst, ◌∙◌, arith, eqb-true, eq-eqb, ne_eqb}
-use Rattle.ev_run.specs.Machine.{Machine, Has, Input, Does, Takes, Outcome, Act, Did, Took, Stamped, Entry, unstamped, stamped, act_of, act_phase, receivers, entry_of}
-use Rattle.ev_run.specs.Network.{NetworkState, IsAvailable, IsStep, network_after, taking_of, input_of, outcome_of, outcome_at, outs_of, messages_of, after_outcome, after_input, turn}
+use Rattle.std.proofs.Common.{◌≡◌, ℕ, ◌==◌, true, false, cond, List, [], ◌∷◌, ◌++◌, ◌⊎◌, inl, inr, slice_get, Option, Some, None, refl, sym, ap, subst, ◌∙◌, arith, eq-eqb, ne_eqb}
+use Rattle.ev_run.specs.Machine.{Machine, Input, Does, Takes, Outcome, Act, Did, Took, Stamped, Entry, unstamped, stamped, act_of, act_phase, receivers, entry_of}
+use Rattle.ev_run.specs.Network.{NetworkState, IsAvailable, IsStep, network_after, taking_of, outcome_of, outcome_at, outs_of, after_outcome, after_input, turn}
 use Rattle.ev_run.specs.Runs.{raised, IsQuiet, IsThrough, IsReady, IsRun, MachineLaws}
 use Rattle.ev_run.specs.History.{Moment, as_found, acted, network_step, Happens, PutsMessages}
-use Rattle.ev_run.specs.Walk.{Turn, turns_of, is_of_phase, entry_given, entry_from, entry_at, entry_of_phase, entry_in, with_default, entries_by, IsWalkable, moment_by}
+use Rattle.ev_run.specs.Walk.{Turn, turns_of, entry_given, entry_from, entry_at, entry_of_phase, entry_in, with_default, entries_by, IsWalkable, moment_by}
 use Rattle.ev_run.proofs.Lists.{Same, Is, Not, compare}
 use Rattle.ev_run.proofs.Turn.{step-turn}
 use Rattle.ev_run.proofs.Fixed.{ready-once}
@@ -84,9 +84,9 @@ module _ (m : Machine) where
           let stamp = ap (λ (z : Entry m). z.stamp) told in
           record {
             puts = λ l. sym (ap (λ (z : NetworkState m). z.put e.server l) after)
-            ∙ (ap (λ z. cond z (x.put e.server l ++ stamped m (entry_of m e.server (x.clock e.server) d r).stamp (r.outs l)) (x.put e.server l)) (eq-eqb e.server e.server refl)
-            ∙ (ap (λ z. x.put e.server l ++ stamped m z (r.outs l)) (sym stamp)
-            ∙ ap (λ z. x.put e.server l ++ stamped m e.stamp (outs_of m z l)) (sym outs)));
+                ∙ (ap (λ z. cond z (x.put e.server l ++ stamped m (entry_of m e.server (x.clock e.server) d r).stamp (r.outs l)) (x.put e.server l)) (eq-eqb e.server e.server refl)
+                ∙ (ap (λ z. x.put e.server l ++ stamped m z (r.outs l)) (sym stamp)
+                ∙ ap (λ z. x.put e.server l ++ stamped m e.stamp (outs_of m z l)) (sym outs)));
             others = λ a l n. sym (ap (λ (z : NetworkState m). z.put a l) after) ∙ ap (λ z. cond z (x.put a l ++ stamped m (entry_of m e.server (x.clock e.server) d r).stamp (r.outs l)) (x.put a l)) (ne_eqb a e.server n);
             outs = ap (λ (z : Entry m). z.outs) told ∙ ap (λ z. receivers m (λ l. outs_of m z l) (m.links e.server)) (sym outs);
           }
@@ -169,7 +169,7 @@ module _ (m : Machine) where
       ordered k o q g (inr w) (Not n v) =
           let x = entry-step (raised m s.network) t a e (ap (λ (z : Moment m). entry_at m z.network t a) (sym (found-raised k v)) ∙ g) in
           finish (record { network = raised m s.network; phase = k }) x (step-by s t a e (Some k) x.server x.act o ∙ ap (λ z. acted m z e) (found-raised k v))
-              (subst (λ z. IsReady m s.network s.phase z (raised m s.network) k) (sym (same-own (inr (x.server, x.act)) ∙ o)) (refl, inr (omega (arith, w.0, q), subst (IsThrough m s.network) (sym q) w.1, w.2, refl))) (inl q)
+          (subst (λ z. IsReady m s.network s.phase z (raised m s.network) k) (sym (same-own (inr (x.server, x.act)) ∙ o)) (refl, inr (omega (arith, w.0, q), subst (IsThrough m s.network) (sym q) w.1, w.2, refl))) (inl q)
         where
           found-raised : (k : ℕ) → (s.phase == k) ≡ false → as_found m s (Some k) ≡ record { network = raised m s.network; phase = k }
           found-raised k v = ap (λ z. cond z s (record { network = raised m s.network; phase = k })) v

@@ -1,6 +1,5 @@
-use Rattle.std.proofs.Common.{◌≤◌, ◌≡◌, sym, ap, ◌∙◌, arith, ℕ, false}
-use Rattle.ev_routing.specs.AsOf.{calm}
-use Rattle.ev_routing.specs.LegalRun.{LegalRun, states}
+use Rattle.std.proofs.Common.{ap, ◌∙◌}
+use Rattle.ev_routing.specs.LegalRun.{states}
 use Rattle.ev_routing.proofs.Started.{published-run, calm-now}
 use Rattle.ev_routing.proofs.published_is_held.Goals as goal
 
