@@ -36,6 +36,7 @@ module _ (theory : Theory) where
   adverts_after adverts [] = adverts
   adverts_after adverts (command ∷ commands) = adverts_after (adverts_step adverts command.command) commands
 
+  -- whether a command is a publish
   abbrev pub is_publish : Command theory → Bool
   is_publish (Subscribe f) = false
   is_publish (Unsubscribe f) = false
@@ -58,6 +59,7 @@ module _ (theory : Theory) where
     abbrev pub accepts : List theory.Advert → theory.Notice → Bool
     accepts adverts notice = not net.adverts || some_pass (λ a. theory.allows a notice) adverts
 
+    -- one command: a publish that is not accepted adds its ordinal
     abbrev pub add_refused : List theory.Advert → ℕ → Command theory → List ℕ → List ℕ
     add_refused adverts before (Subscribe f) refused = refused
     add_refused adverts before (Unsubscribe f) refused = refused

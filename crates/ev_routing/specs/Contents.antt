@@ -20,8 +20,10 @@ module _ (theory : Theory) (net : Net theory) where
   apply_adverts held (Advs out add) = union theory.before_advert (minus theory.before_advert held out) add
   apply_adverts held (Noticed publisher ordinal notice) = held
 
+  -- the filters of links, as a content
   abbrev pub filter_content : Content (routing_machine theory net)
   filter_content = record { Set = List theory.Filter; sent = λ t s v. sent theory net s t v; held = λ t s u. s.subs u; apply = apply_filters }
 
+  -- the advertisements of links, as a content
   abbrev pub advert_content : Content (routing_machine theory net)
   advert_content = record { Set = List theory.Advert; sent = λ t s v. sent_adverts theory net s t v; held = λ t s u. s.advs u; apply = apply_adverts }

@@ -5,6 +5,7 @@ use Rattle.ev_sets.specs.Numbers.{IsDistinct}
 use Rattle.ev_tree.specs.Hops.{AreHops}
 use Rattle.ev_routing.specs.Theory.{Theory}
 
+-- a command of a client
 pub data Command (theory : Theory) : Type 0 where
   Subscribe : (f : theory.Filter) → Command theory
   Unsubscribe : (f : theory.Filter) → Command theory
@@ -22,6 +23,7 @@ abbrev pub NeverFalls : (theory : Theory) → List (PhasedCommand theory) → Ty
 NeverFalls theory [] = Unit {0}
 NeverFalls theory (command ∷ commands) = ((later : PhasedCommand theory) → Has later commands → command.phase ≤ later.phase) × NeverFalls theory commands
 
+-- a net: semantics, tree, clients and scripts
 pub record Net (theory : Theory) : Type 0 where
   -- advertisement semantics; else subscription semantics
   pub adverts : Bool

@@ -41,6 +41,7 @@ union_except before sets but [] = []
 union_except before sets but (i ∷ is) = cond (i == but) (union_except before sets but is) (union before (sets i) (union_except before sets but is))
 
 module _ (theory : Theory) (net : Net theory) where
+  -- the interfaces of a server: its neighbours, then its clients
   abbrev pub interfaces : ℕ → List ℕ
   interfaces server = net.links server ++ map (λ c. 64 + c) (net.clients server)
 

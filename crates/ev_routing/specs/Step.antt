@@ -78,6 +78,7 @@ module _ (theory : Theory) (net : Net theory) where
   message_work state from (Advs out add) = SetsAdverts from (union theory.before_advert (minus theory.before_advert (state.advs from) out) add)
   message_work state from (Noticed publisher ordinal notice) = Routes from publisher ordinal notice
 
+  -- of a next command, where there is one
   abbrev pub next_work : ℕ → ℕ → Option (PhasedCommand theory) → Option (Work theory)
   next_work client count None = None
   next_work client count (Some next) = Some (command_work client count next.command)
@@ -88,6 +89,7 @@ module _ (theory : Theory) (net : Net theory) where
   work_of server state (Does Version) = cond (is_among server net.servers && state.staged) (Some ShowsVersion) None
   work_of server state (Takes from message) = cond (is_among server net.servers && is_among from (net.links server)) (Some (message_work state from message)) None
 
+  -- the outcome of a next command, where there is one: the count rises and its work is done
   abbrev pub command_outcome : ℕ → ServerState theory → ℕ → Option (PhasedCommand theory) → Option (Outcome (ServerState theory) (Message theory))
   command_outcome server state client None = None
   command_outcome server state client (Some next) = Some (effect server (with_command_taken state client) (command_work client (state.done client) next.command))

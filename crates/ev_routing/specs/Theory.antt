@@ -2,6 +2,7 @@
 use Rattle.std.specs.Prelude.{◌≡◌, Bool, true}
 use Rattle.ev_sets.specs.Laws.{CoverLaws}
 
+-- types of filters, advertisements and notices, with the tests on them
 pub record Theory : Type 1 where
   pub Filter : Type 0
   pub Advert : Type 0

@@ -17,6 +17,7 @@ module _ (machine : Machine) where
     replayed held [] = held
     replayed held (message ∷ messages) = replayed (content.apply held message) messages
 
+    -- the same of messages with their stamps
     abbrev pub replayed_frames : content.Set → List (Stamped machine.Message) → content.Set
     replayed_frames held [] = held
     replayed_frames held (message ∷ messages) = replayed_frames (content.apply held message.message) messages

@@ -53,13 +53,15 @@ module _ (machine : Machine) where
     abbrev pub weight_of : ℕ → ℕ → machine.Message → ℕ
     weight_of a b message = cond (measure.wide message) (length machine.servers * measure.size a b) (measure.size a b)
 
-    -- the weight of what is on its way on a link, on the links of a server, and on all
+    -- the weight of what is on its way on a link
     abbrev pub link_load : NetworkState machine → ℕ → ℕ → ℕ
     link_load network a b = sum_over (λ stamped. weight_of a b stamped.message) (drop (network.taken a b) (network.put a b))
 
+    -- of a server: of all its links
     abbrev pub server_load : NetworkState machine → ℕ → ℕ
     server_load network a = sum_over (link_load network a) (machine.links a)
 
+    -- of the network: of all servers
     abbrev pub load : NetworkState machine → ℕ
     load network = sum_over (server_load network) machine.servers
 
@@ -67,25 +69,29 @@ module _ (machine : Machine) where
     abbrev pub staged_count : NetworkState machine → ℕ
     staged_count network = sum_over (λ t. count (machine.staged t (network.state t))) machine.servers
 
-    -- what an act is: a taking, a version or a command
+    -- whether an act is a taking
     abbrev pub is_taking : Act machine.Task → Bool
     is_taking (Did task) = false
     is_taking (Took from) = true
 
+    -- whether it is a version
     abbrev pub is_version : Act machine.Task → Bool
     is_version (Did task) = measure.version task
     is_version (Took from) = false
 
+    -- whether it is a command
     abbrev pub is_command : Act machine.Task → Bool
     is_command (Did task) = cond (measure.version task) false true
     is_command (Took from) = false
 
-    -- how many entries of a journal are takings, versions and commands
+    -- how many entries of a journal are takings
     abbrev pub takings : List (Entry machine) → ℕ
     takings entries = sum_over (λ entry. count (is_taking entry.act)) entries
 
+    -- how many are versions
     abbrev pub versions : List (Entry machine) → ℕ
     versions entries = sum_over (λ entry. count (is_version entry.act)) entries
 
+    -- how many are commands
     abbrev pub commands : List (Entry machine) → ℕ
     commands entries = sum_over (λ entry. count (is_command entry.act)) entries

@@ -36,6 +36,7 @@ module _ (machine : Machine) where
   IsStep network entry next =
       (input : Input machine.Task (Stamped machine.Message)) × (outcome : Outcome machine.State machine.Message) × (machine.step entry.server (network.state entry.server) (unstamped machine input) ≡ Some outcome) × (entry ≡ entry_of machine entry.server (network.clock entry.server) input outcome) × IsAvailable network entry.server input × (network_after network entry.server input outcome ≡ next)
 
+  -- the taking of a message from a neighbour, where there is one
   abbrev pub taking_of : ℕ → Option (Stamped machine.Message) → Option (Input machine.Task (Stamped machine.Message))
   taking_of from None = None
   taking_of from (Some message) = Some (Takes from message)
@@ -45,6 +46,7 @@ module _ (machine : Machine) where
   input_of network server (Did task) = Some (Does task)
   input_of network server (Took from) = taking_of from (slice_get (network.put from server) (network.taken from server))
 
+  -- the outcome of an input of a server, where there is one
   abbrev pub outcome_of : NetworkState → ℕ → Option (Input machine.Task (Stamped machine.Message)) → Option (Outcome machine.State machine.Message)
   outcome_of network server None = None
   outcome_of network server (Some input) = machine.step server (network.state server) (unstamped machine input)
@@ -53,6 +55,7 @@ module _ (machine : Machine) where
   abbrev pub outcome_at : NetworkState → ℕ → Act machine.Task → Option (Outcome machine.State machine.Message)
   outcome_at network server act = outcome_of network server (input_of network server act)
 
+  -- the messages of an outcome, where there is one
   abbrev pub outs_of : Option (Outcome machine.State machine.Message) → ℕ → List machine.Message
   outs_of None link = []
   outs_of (Some outcome) link = outcome.outs link
@@ -61,10 +64,12 @@ module _ (machine : Machine) where
   abbrev pub messages_of : NetworkState → Entry machine → ℕ → List machine.Message
   messages_of network entry link = outs_of (outcome_at network entry.server entry.act) link
 
+  -- the network after an outcome; without one it stays
   abbrev pub after_outcome : NetworkState → ℕ → Input machine.Task (Stamped machine.Message) → Option (Outcome machine.State machine.Message) → NetworkState
   after_outcome network server input None = network
   after_outcome network server input (Some outcome) = network_after network server input outcome
 
+  -- the network after an input; without one it stays
   abbrev pub after_input : NetworkState → ℕ → Option (Input machine.Task (Stamped machine.Message)) → NetworkState
   after_input network server None = network
   after_input network server (Some input) = after_outcome network server input (machine.step server (network.state server) (unstamped machine input))
