@@ -1,4 +1,4 @@
--- The state of a network, and the step of one of its servers as a step of the whole.
+-- The state of a network, and the step of one of its servers as a step of the network.
 use Rattle.std.specs.Prelude.{◌≡◌, ℕ, suc, ◌==◌, cond, ◌&&◌, List, [], ◌++◌, slice_get, Option, Some, None}
 use Rattle.ev_run.specs.Machine.{at, Act, Did, Took, Machine, Input, Does, Takes, Outcome, Stamped, Entry, unstamped, next_stamp, stamped, entry_of}
 

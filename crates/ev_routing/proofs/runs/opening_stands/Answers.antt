@@ -1,4 +1,4 @@
-use Rattle.std.proofs.Common.{◌≡◌, ℕ, Bool, true, nat_le, List, [], ◌∷◌, ◌&&◌, Option, Some, None, slice_get, refl, ap, arith}
+use Rattle.std.proofs.Common.{◌≡◌, ℕ, true, List, [], ◌∷◌, Option, Some, None, slice_get, refl, arith}
 use Rattle.ev_run.proofs.Exists.{opens}
 use Rattle.ev_routing.specs.Theory.{Theory}
 use Rattle.ev_routing.specs.Net.{Net, PhasedCommand}
