@@ -1,0 +1,18 @@
+-- The values of a notice are well formed, as a test.
+use Rattle.std.specs.Prelude.{ℤ, Bool, true, not, ◌&&◌, int_lt, List}
+use Rattle.std.specs.List.{list_all}
+use Rattle.ev_values.specs.Text.{is_text}
+use Rattle.ev_values.specs.declared.value.Value.{Value}
+use Rattle.ev_values.specs.declared.value.Value.TheVariants.{Bool as Truth, Int, Str}
+use Rattle.ev_constraint.specs.Constraint.{int_least, int_greatest}
+use Rattle.ev_notice.specs.Notice.{Attribute}
+
+-- what every value of a program is: the number is an i64, the bytes are a text
+abbrev pub is_value : Value → Bool
+is_value (Truth b) = true
+is_value (Int x) = not (int_lt x int_least) && not (int_lt int_greatest x)
+is_value (Str t) = is_text t
+
+-- each value is one that a program can have
+unfoldable pub are_values : List Attribute → Bool
+are_values n = list_all (λ a. is_value a.1) n
