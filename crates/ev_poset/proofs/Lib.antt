@@ -1,3 +1,4 @@
 pub mod Rows
 pub mod Pairs
 pub mod Names
+pub mod Agreement
