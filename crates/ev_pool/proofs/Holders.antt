@@ -1,5 +1,5 @@
 -- What a kept item gives: a live key, and counts that rise by one at most.
-use Rattle.std.proofs.Common.{◌≡◌, ◌≢◌, ◌⊎◌, inl, inr, ℕ, ◌+◌, ◌≤◌, List, Option, Some, None, sym, ap, ◌∙◌, arith}
+use Rattle.std.proofs.Common.{◌≡◌, inl, inr, ℕ, ◌+◌, ◌≤◌, Some, sym, ap, ◌∙◌, arith}
 use Rattle.std.proofs.lemmas.Bool.{cases_eq}
 use Rattle.ev_pool.specs.declared.counted.Counted.{Counted}
 use Rattle.ev_pool.specs.Pool.{Pooled, slot, IsAt, IsKeptAt, SameElsewhere}

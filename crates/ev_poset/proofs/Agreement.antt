@@ -1,8 +1,8 @@
 -- A poset goes on to agree with its pool.
-use Rattle.std.proofs.Common.{◌≡◌, ◌⊎◌, ◌↔◌, inl, inr, ℕ, Bool, false, List, sym, ap, subst}
+use Rattle.std.proofs.Common.{◌≡◌, ◌⊎◌, ◌↔◌, inl, inr, ℕ, List, sym, subst}
 use Rattle.ev_sets.specs.Sets.{Has}
 use Rattle.ev_pool.specs.Pool.{Pooled, IsAt, KeepsItems}
-use Rattle.ev_poset.specs.Poset.{Held, Agrees, is_pair}
+use Rattle.ev_poset.specs.Poset.{Held, Agrees}
 
 module _ {T : Type 0} where
   -- no key lost its item

@@ -1,12 +1,12 @@
 -- Pairs in a list: one more, one less, and those that are picked.
-use Rattle.std.proofs.Common.{◌≡◌, ◌≢◌, ◌⊎◌, ◌↔◌, inl, inr, ℕ, suc, zero, ◌+◌, ◌-◌, ◌<◌, ◌≤◌, Bool, true, false, List, [], ◌∷◌, ◌++◌, take, drop, length, Option, Some, None, refl, sym, ap, subst, ◌∙◌, arith, slice_get, add-one}
+use Rattle.std.proofs.Common.{◌≡◌, ◌≢◌, ◌⊎◌, ◌↔◌, inl, inr, ℕ, suc, zero, ◌+◌, ◌<◌, ◌≤◌, Bool, true, false, List, [], ◌∷◌, ◌++◌, length, Option, Some, refl, sym, ap, subst, ◌∙◌, arith, slice_get}
 use Rattle.std.specs.List.{remove, list_any}
 use Rattle.std.proofs.lemmas.Bool.Decides.{nat_tests}
 use Rattle.std.proofs.lemmas.Option.{slice_get_within}
 use Rattle.ev_pool.proofs.Order.{trichotomy}
 use Rattle.ev_pool.specs.Pool.{Pooled, IsAt}
 use Rattle.ev_sets.specs.Sets.{Has}
-use Rattle.ev_poset.specs.Poset.{Held, is_pair, holds, Agrees}
+use Rattle.ev_poset.specs.Poset.{Held, is_pair, Agrees}
 use Rattle.ev_poset.specs.Row.{Picked}
 use Rattle.ev_poset.specs.Once.{IsOnce}
 use Rattle.ev_poset.proofs.Rows.{at-one}

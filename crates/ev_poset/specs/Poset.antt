@@ -1,5 +1,5 @@
 -- What contracts see of a poset: its pairs, each of a key and a holder, with the item that the key had.
-use Rattle.std.specs.Prelude.{◌≡◌, ℕ, ◌&&◌, ◌==◌, not, Bool, List, map, filter, refl}
+use Rattle.std.specs.Prelude.{ℕ, ◌&&◌, ◌==◌, not, Bool, List, map, filter, refl}
 use Rattle.std.specs.Coded.{Coded, code_by, coded×, coded_ℕ}
 use Rattle.std.specs.List.{list_any}
 use Rattle.ev_sets.specs.Sets.{Has, set_of}

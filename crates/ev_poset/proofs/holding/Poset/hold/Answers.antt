@@ -1,4 +1,4 @@
-use Rattle.std.proofs.Common.{◌≡◌, ◌++◌, [], ◌∷◌, refl, sym, ap, ◌∙◌, not}
+use Rattle.std.proofs.Common.{sym, ap, not}
 use Rattle.ev_poset.specs.Poset.{is_pair}
 use Rattle.ev_poset.proofs.Pairs.{any-yes, any-no, once-push, pairs-push, pairs-there}
 use Rattle.ev_poset.proofs.holding.Poset.hold.Goals as goal

@@ -1,4 +1,4 @@
-use Rattle.std.proofs.Common.{◌≡◌, refl, sym, ap, ◌∙◌}
+use Rattle.std.proofs.Common.{sym}
 use Rattle.std.proofs.lemmas.Option.{slice_get_within}
 use Rattle.ev_poset.specs.Poset.{is_pair}
 use Rattle.ev_poset.proofs.Pairs.{any-yes, any-no, once-remove, pairs-remove, pairs-absent}
