@@ -5,7 +5,8 @@ use Rattle.ev_links.proofs.Numbers.{below}
 use Rattle.ev_run.specs.Machine.{Machine, at, Input, Does, Takes, Outcome, Act, Did, Stamped, act_of, act_phase, entry_of}
 use Rattle.ev_run.specs.Runs.{raised}
 use Rattle.ev_run.specs.History.{Moment, as_found, network_step, Happens}
-use Rattle.ev_run.specs.Walk.{entry_given, entry_at, entry_of_phase, with_default, entries_by, moment_by, repeated, IsWalkable}
+use Rattle.ev_run.specs.Network.{entry_given, entry_at}
+use Rattle.ev_run.specs.Walk.{entry_of_phase, with_default, entries_by, moment_by, repeated, IsWalkable}
 use Rattle.ev_run.proofs.History.{moves}
 use Rattle.ev_run.proofs.Lists.{Same, Is, Not, compare}
 use Rattle.ev_run.proofs.Local.{local-run}

@@ -98,9 +98,11 @@ module _ (theory : Theory) (run : LegalRun theory) where
   abbrev pub IsAllowedTo : Publication theory → ℕ → Type 0
   IsAllowedTo publication client = (phase : ℕ) × IsPublication theory run.net publication.publisher publication.ordinal phase publication.notice × IsAllowed theory run.net phase publication.notice client
 
-  -- takings, versions, entries and stamps are bounded by the commands of the scripts and the number of servers
+  -- takings, versions and entries are bounded by the commands taken and the number of servers, the commands taken by those of the scripts, and the stamps by the entries
   pub record IsBounded : Type 0 where
-    pub takings : takings_in (routing_machine theory run.net) (measure theory run.net (side_size run.net.hop run.net.servers)) run.journal ≤ all_commands theory run.net * (length run.net.servers * length run.net.servers)
+    pub takings : takings_in (routing_machine theory run.net) (measure theory run.net (side_size run.net.hop run.net.servers)) run.journal ≤ commands_in (routing_machine theory run.net) (measure theory run.net (side_size run.net.hop run.net.servers)) run.journal * (length run.net.servers * length run.net.servers)
     pub versions : versions_in (routing_machine theory run.net) (measure theory run.net (side_size run.net.hop run.net.servers)) run.journal ≤ takings_in (routing_machine theory run.net) (measure theory run.net (side_size run.net.hop run.net.servers)) run.journal + commands_in (routing_machine theory run.net) (measure theory run.net (side_size run.net.hop run.net.servers)) run.journal
-    pub entries : length run.journal ≤ 2 * (all_commands theory run.net * (length run.net.servers * length run.net.servers + 1))
+    pub entries : length run.journal ≤ 2 * (commands_in (routing_machine theory run.net) (measure theory run.net (side_size run.net.hop run.net.servers)) run.journal * (length run.net.servers * length run.net.servers + 1))
+    pub commands : commands_in (routing_machine theory run.net) (measure theory run.net (side_size run.net.hop run.net.servers)) run.journal ≤ all_commands theory run.net
+    pub within : length run.journal ≤ 2 * (all_commands theory run.net * (length run.net.servers * length run.net.servers + 1))
     pub stamps : (entry : NetEntry theory run.net) → Has entry run.journal → entry.stamp ≤ greatest (routing_machine theory run.net) run.start.clock run.net.servers + length run.journal

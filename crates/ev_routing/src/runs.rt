@@ -3,15 +3,14 @@
 ghost use Rattle.std.specs.Prelude.{◌≡◌, ◌≤◌, ◌++◌, ℕ, suc, List, [], ◌∷◌, length, Some, slice_get};
 ghost use Rattle.ev_sets.specs.Sets.{Has};
 ghost use Rattle.ev_sets.specs.Numbers.{IsDistinct};
-ghost use Rattle.ev_run.specs.Machine.{act_phase};
-ghost use Rattle.ev_run.specs.Network.{IsStep, turn};
-ghost use Rattle.ev_run.specs.Runs.{IsReady, IsRun, IsQuiet, IsThrough, greatest};
+ghost use Rattle.ev_run.specs.Machine.{act_phase, Act};
+ghost use Rattle.ev_run.specs.Network.{IsStep, turn, entry_at};
+ghost use Rattle.ev_run.specs.Runs.{IsReady, IsPermitted, IsRun, IsQuiet, IsThrough, greatest};
 ghost use Rattle.ev_run.specs.Journals.{Cell, IsMerge, IsJournal, IsPhaseRun, IsPhaseInHand, IsPhaseEnded, IsBetweenPhases, network_of, opening_cells, entering};
-ghost use Rattle.ev_run.specs.History.{Moment, PutsMessages, state_at, phase_at};
-ghost use Rattle.ev_run.specs.Walk.{Turn, turns_of, entry_at, entries_by, moment_by, IsWalkable};
+ghost use Rattle.ev_run.specs.History.{Moment, Happens, PutsMessages, state_at, phase_at};
+ghost use Rattle.ev_run.specs.Walk.{Turn, turns_of, entries_by, moment_by, IsWalkable};
 ghost use Rattle.ev_routing.specs.Net.{Net};
 ghost use Rattle.ev_routing.specs.Step.{Task};
-ghost use Rattle.ev_run.specs.Machine.{Act};
 ghost use Rattle.ev_routing.specs.Routing.{routing_machine, Network, NetEntry, opening, empty_server};
 
 use super::Matching;
@@ -40,6 +39,12 @@ pub fn run_grows<M: Matching>()
 pub fn entry_steps<M: Matching>()
     ensures makes { (net : Net M.theory) (network : Network M.theory net) (server : ℕ) (act : Act Task) (entry : NetEntry M.theory net) → entry_at (routing_machine M.theory net) network server act ≡ Some entry → (entry.server ≡ server) × (entry.act ≡ act) × IsStep (routing_machine M.theory net) network entry (turn (routing_machine M.theory net) network server act) }
     ensures made { (net : Net M.theory) (network : Network M.theory net) (entry : NetEntry M.theory net) (next : Network M.theory net) → IsStep (routing_machine M.theory net) network entry next → (entry_at (routing_machine M.theory net) network entry.server entry.act ≡ Some entry) × (turn (routing_machine M.theory net) network entry.server entry.act ≡ next) }
+{}
+
+/// A permitted turn happens as its entry tells it, and what happens is a permitted turn.
+pub fn permitted<M: Matching>()
+    ensures happens { (net : Net M.theory) (network : Network M.theory net) (last server : ℕ) (act : Act Task) (entry : NetEntry M.theory net) (next : Network M.theory net) (now : ℕ) → IsPermitted (routing_machine M.theory net) network last server act entry next now → (entry.server ≡ server) × (entry.act ≡ act) × Happens (routing_machine M.theory net) network last entry next now }
+    ensures only { (net : Net M.theory) (network : Network M.theory net) (last : ℕ) (entry : NetEntry M.theory net) (next : Network M.theory net) (now : ℕ) → Happens (routing_machine M.theory net) network last entry next now → IsPermitted (routing_machine M.theory net) network last entry.server entry.act entry next now }
 {}
 
 /// Each entry of a run puts its messages on its server's links, and tells which neighbours got one.

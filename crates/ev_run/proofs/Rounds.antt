@@ -1,9 +1,9 @@
 -- Turns tried one list after the other, and rounds of turns that are no commands.
 use Rattle.std.proofs.Common.{◌≡◌, ℕ, zero, suc, List, [], ◌∷◌, ◌++◌, inl, inr, slice_get, Option, Some, None, refl, sym, ap, ◌∙◌}
 use Rattle.ev_run.specs.Machine.{Machine, Has, Does, Takes, Outcome, Act, Did, Took, Stamped, Entry, unstamped, act_phase}
-use Rattle.ev_run.specs.Network.{NetworkState, taking_of, after_outcome, after_input, turn}
+use Rattle.ev_run.specs.Network.{NetworkState, taking_of, after_outcome, after_input, turn, entry_given, entry_from, entry_at}
 use Rattle.ev_run.specs.History.{Moment, as_found, acted, network_step}
-use Rattle.ev_run.specs.Walk.{Turn, entry_given, entry_from, entry_at, entry_of_phase, entry_in, with_default, entries_by, moment_by, repeated, round_of, rounds}
+use Rattle.ev_run.specs.Walk.{Turn, entry_of_phase, entry_in, with_default, entries_by, moment_by, repeated, round_of, rounds}
 use Rattle.ev_run.proofs.Tried.{entry-step}
 
 module _ (m : Machine) where

@@ -1,10 +1,10 @@
 -- The entry of an act: it is the one that a step tells, and it makes a step.
 use Rattle.std.proofs.Common.{◌≡◌, ℕ, ◌==◌, true, false, cond, List, [], ◌∷◌, ◌++◌, ◌⊎◌, inl, inr, slice_get, Option, Some, None, refl, sym, ap, subst, ◌∙◌, arith, eq-eqb, ne_eqb}
 use Rattle.ev_run.specs.Machine.{Machine, Input, Does, Takes, Outcome, Act, Did, Took, Stamped, Entry, unstamped, stamped, act_of, act_phase, receivers, entry_of}
-use Rattle.ev_run.specs.Network.{NetworkState, IsAvailable, IsStep, network_after, taking_of, outcome_of, outcome_at, outs_of, after_outcome, after_input, turn}
-use Rattle.ev_run.specs.Runs.{raised, IsQuiet, IsThrough, IsReady, IsRun, MachineLaws}
+use Rattle.ev_run.specs.Network.{NetworkState, IsAvailable, IsStep, network_after, taking_of, outcome_of, outcome_at, outs_of, after_outcome, after_input, turn, entry_given, entry_from, entry_at}
+use Rattle.ev_run.specs.Runs.{IsPermitted, raised, IsQuiet, IsThrough, IsReady, IsRun, MachineLaws}
 use Rattle.ev_run.specs.History.{Moment, as_found, acted, network_step, Happens, PutsMessages}
-use Rattle.ev_run.specs.Walk.{Turn, turns_of, entry_given, entry_from, entry_at, entry_of_phase, entry_in, with_default, entries_by, IsWalkable, moment_by}
+use Rattle.ev_run.specs.Walk.{Turn, turns_of, entry_of_phase, entry_in, with_default, entries_by, IsWalkable, moment_by}
 use Rattle.ev_run.proofs.Lists.{Same, Is, Not, compare}
 use Rattle.ev_run.proofs.Turn.{step-turn}
 use Rattle.ev_run.proofs.Fixed.{ready-once}
@@ -50,6 +50,22 @@ module _ (m : Machine) where
       go (Some s) g f =
           let x = given-entered w t (Takes u s) e g (m.step t (w.state t) (unstamped m (Takes u s))) refl f in
           record { server = x.0; act = x.1; step = subst (IsStep m w e) (ap (λ z. after_input m w t (taking_of m u z)) (sym g)) x.2 }
+
+  -- a permitted turn happens, and each entry that happens is of a permitted turn
+  pub permitted-happens : (w : NetworkState m) (p t : ℕ) (a : Act m.Task) (e : Entry m) (v : NetworkState m) (q : ℕ) → IsPermitted m w p t a e v q → (e.server ≡ t) × (e.act ≡ a) × Happens m w p e v q
+  permitted-happens w p t a e v q x =
+      let y = entry-step x.found t a e x.possible in (
+        y.server,
+        y.act,
+        record {
+          found = x.found;
+          ready = subst (λ z. IsReady m w p z x.found q) (sym (ap (λ z. act_phase m z (w.state z) e.act) y.server ∙ ap (act_phase m t (w.state t)) y.act)) x.ready;
+          step = subst (IsStep m x.found e) x.leads y.step;
+        },
+      )
+
+  pub happens-permitted : (w : NetworkState m) (p : ℕ) (e : Entry m) (v : NetworkState m) (q : ℕ) → Happens m w p e v q → IsPermitted m w p e.server e.act e v q
+  happens-permitted w p e v q x = record { found = x.found; ready = x.ready; possible = step-entry x.found e v x.step; leads = step-turn m x.found e v x.step }
 
   abbrev pair : Entry m → Turn m
   pair e = (e.server, e.act)

@@ -77,3 +77,17 @@ module _ (machine : Machine) where
   -- the step of the network as a function: an act that is not possible changes nothing
   abbrev pub turn : NetworkState → ℕ → Act machine.Task → NetworkState
   turn network server act = after_input network server (input_of network server act)
+
+  -- the entry of an outcome, where there is one
+  abbrev pub entry_given : NetworkState → ℕ → Input machine.Task (Stamped machine.Message) → Option (Outcome machine.State machine.Message) → Option (Entry machine)
+  entry_given network server input None = None
+  entry_given network server input (Some outcome) = Some (entry_of machine server (network.clock server) input outcome)
+
+  -- the entry of an input, where there is one and it is possible
+  abbrev pub entry_from : NetworkState → ℕ → Option (Input machine.Task (Stamped machine.Message)) → Option (Entry machine)
+  entry_from network server None = None
+  entry_from network server (Some input) = entry_given network server input (machine.step server (network.state server) (unstamped machine input))
+
+  -- the entry of a server's act, where it is possible
+  abbrev pub entry_at : NetworkState → ℕ → Act machine.Task → Option (Entry machine)
+  entry_at network server act = entry_from network server (input_of network server act)

@@ -1,7 +1,7 @@
 -- The rule of phases, and legal runs.
 use Rattle.std.specs.Prelude.{◌≡◌, ℕ, ◌≤◌, ◌<◌, max, true, false, List, [], ◌∷◌, ◌⊎◌, length, Option, Some, None}
-use Rattle.ev_run.specs.Machine.{Has, Machine, Input, Does, Outcome, Stamped, Entry, act_phase}
-use Rattle.ev_run.specs.Network.{NetworkState, IsStep}
+use Rattle.ev_run.specs.Machine.{Has, Machine, Act, Input, Does, Outcome, Stamped, Entry, act_phase}
+use Rattle.ev_run.specs.Network.{NetworkState, IsStep, entry_at, turn}
 
 module _ (machine : Machine) where
   -- the greatest value of a function over a list
@@ -28,6 +28,13 @@ module _ (machine : Machine) where
   IsReady network last None found next = (network ≡ found) × (last ≡ next)
   -- a command of the same phase is ready; one of a later phase where all is taken and quiet, and then the clocks are raised
   IsReady network last (Some phase) found next = (phase ≡ next) × (((last ≡ phase) × (network ≡ found)) ⊎ ((last < phase) × IsThrough network phase × IsQuiet network × (raised network ≡ found)))
+
+  -- a turn is permitted: the rule of phases lets its act, and the act is possible; it makes this entry and leads to this state and phase
+  pub record IsPermitted (network : NetworkState machine) (last server : ℕ) (act : Act machine.Task) (entry : Entry machine) (next : NetworkState machine) (now : ℕ) : Type 0 where
+    pub found : NetworkState machine
+    pub ready : IsReady network last (act_phase machine server (network.state server) act) found now
+    pub possible : entry_at machine found server act ≡ Some entry
+    pub leads : turn machine found server act ≡ next
 
   -- a legal run: each entry is ready and makes its step, from a state and the phase of the last command before it
   abbrev pub IsRun : NetworkState machine → ℕ → List (Entry machine) → NetworkState machine → ℕ → Type 0

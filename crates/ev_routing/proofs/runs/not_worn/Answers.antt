@@ -1,8 +1,7 @@
 use Rattle.std.proofs.Common.{arith}
-use Rattle.ev_routing.specs.Routing.{opening}
+use Rattle.ev_routing.specs.Routing.{opening, routing_machine}
 use Rattle.ev_routing.proofs.Laws.{machine-laws}
 use Rattle.ev_run.proofs.Phases.{not-worn}
-use Rattle.ev_routing.specs.Routing.{routing_machine}
 use Rattle.ev_routing.proofs.runs.not_worn.Goals as goal
 
 pub returns : goal.returns

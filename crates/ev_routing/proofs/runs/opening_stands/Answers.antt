@@ -2,8 +2,7 @@ use Rattle.std.proofs.Common.{◌≡◌, ℕ, true, List, [], ◌∷◌, Option,
 use Rattle.ev_run.proofs.Exists.{opens}
 use Rattle.ev_routing.specs.Theory.{Theory}
 use Rattle.ev_routing.specs.Net.{Net, PhasedCommand}
-use Rattle.ev_routing.specs.Routing.{empty_server, all_through, not_below}
-use Rattle.ev_routing.specs.Routing.{routing_machine}
+use Rattle.ev_routing.specs.Routing.{empty_server, all_through, not_below, routing_machine}
 use Rattle.ev_routing.proofs.runs.opening_stands.Goals as goal
 
 -- no command is of a phase below the first

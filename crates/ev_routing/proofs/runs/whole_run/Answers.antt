@@ -1,6 +1,5 @@
-use Rattle.ev_routing.specs.Routing.{opening}
+use Rattle.ev_routing.specs.Routing.{opening, routing_machine}
 use Rattle.ev_run.proofs.Fixed.{whole-run}
-use Rattle.ev_routing.specs.Routing.{routing_machine}
 use Rattle.ev_routing.proofs.runs.whole_run.Goals as goal
 
 pub returns : goal.returns
