@@ -1,1 +1,5 @@
 pub mod Hops
+pub mod Graph
+pub mod Tree
+pub mod Sides
+pub mod Growing
