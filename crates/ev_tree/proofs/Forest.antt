@@ -2,16 +2,12 @@
 use Rattle.std.proofs.Common.{◌≡◌, ℕ, ◌≤◌, ◌==◌, Bool, true, false, cond, not, ◌&&◌, List, [], ◌∷◌, ◌++◌, ◌⊎◌, inl, inr, refl, sym, ap, subst, ◌∙◌, arith, eq-eqb, ne_eqb}
 use Rattle.ev_tree.specs.Graph.{has_edge, IsTrail, AreJoined}
 use Rattle.ev_tree.specs.Hops.{side}
+use Rattle.ev_tree.specs.Labels.{Labelled}
 use Rattle.ev_tree.proofs.Numbers.{Same, Is, Not, compare}
 use Rattle.ev_tree.proofs.Joined.{IsOf, Old, Out, Back, split-edge, joined-on, joined-back, joined-more, joined-edge, has_edge-old, has_edge-new, has_edge-back}
 
 abbrev pub In : ℕ → ℕ → Type 0
 In n x = (1 ≤ x) × (x ≤ n)
-
--- servers have one label exactly where edges join them
-pub record Labelled (n : ℕ) (edges : List (ℕ × ℕ)) (label : ℕ → ℕ) : Type 0 where
-  pub joined : (x y : ℕ) → In n x → In n y → label x ≡ label y → AreJoined edges x y
-  pub ends : (x y : ℕ) → has_edge edges x y ≡ true → In n x × In n y × (label x ≡ label y)
 
 trail-level : (n : ℕ) (edges : List (ℕ × ℕ)) (label : ℕ → ℕ) → Labelled n edges label → (x y : ℕ) (p : List ℕ) → IsTrail edges x p y → label x ≡ label y
 trail-level n edges label good x y [] s = ap label s

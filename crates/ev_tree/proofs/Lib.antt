@@ -5,3 +5,6 @@ pub mod Servers
 pub mod Sums
 pub mod Sizes
 pub mod Paths
+pub mod Steps
+pub mod Hopping
+pub mod Verdict

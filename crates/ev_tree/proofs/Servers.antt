@@ -1,6 +1,7 @@
 -- Servers and neighbours as rising lists, and the laws of a tree from its hops.
-use Rattle.std.proofs.Common.{◌≡◌, ℕ, zero, suc, ◌+◌, ◌<◌, ◌≤◌, ◌==◌, Bool, true, false, cond, not, nat_lt, nat_le, filter, add-zero, append-nil, ◌-◌, List, [], ◌∷◌, ◌++◌, ◌⊎◌, inl, inr, refl, sym, ap, subst, ◌∙◌, arith}
+use Rattle.std.proofs.Common.{◌≡◌, ℕ, zero, suc, ◌+◌, ◌<◌, ◌≤◌, ◌==◌, Bool, true, false, cond, not, nat_lt, nat_le, filter, add-zero, append-nil, ◌-◌, length, get_or, List, [], ◌∷◌, ◌++◌, ◌⊎◌, inl, inr, refl, sym, ap, subst, ◌∙◌, arith}
 use Rattle.std.proofs.lemmas.Bool.Decides.{nat_tests}
+use Rattle.std.proofs.lemmas.Grind.{common_steps}
 use Rattle.std.specs.List.{range_with_len}
 use Rattle.ev_sets.specs.Laws.{CoverLaws}
 use Rattle.ev_sets.specs.Sets.{Has, IsRising}
@@ -10,7 +11,8 @@ use Rattle.ev_sets.proofs.Sets.{rising-filter}
 use Rattle.ev_tree.specs.Graph.{has_edge, servers_to, neighbours_by}
 use Rattle.ev_tree.specs.Hops.{side, AreHops}
 use Rattle.ev_tree.proofs.Joined.{has_edge-back}
-use Rattle.ev_tree.proofs.Forest.{In, Labelled, Hopped}
+use Rattle.ev_tree.specs.Labels.{Labelled}
+use Rattle.ev_tree.proofs.Forest.{In, Hopped}
 
 numbers : CoverLaws nat_le nat_lt
 numbers = record { reflexive = λ x. grind (arith, nat_tests); transitive = λ x y z e f. grind (arith, nat_tests, e, f); irreflexive = λ x. grind (arith, nat_tests); chain = λ x y z e f. grind (arith, nat_tests, e, f); total = λ x y e f. grind (arith, nat_tests, e, f) }
@@ -98,3 +100,20 @@ filter-more p x xs l e f = sym (filter-up_to p x l ∙ rw (f, sym e) refl)
 
 pub filter-not : (p : ℕ → Bool) (x : ℕ) (xs : List ℕ) → 1 ≤ x → xs ≡ filter p (range_with_len 1 (x - 1)) → p x ≡ false → xs ≡ filter p (range_with_len 1 (x + 1 - 1))
 filter-not p x xs l e f = sym (filter-up_to p x l ∙ rw (f, sym e) (append-nil xs))
+
+-- rows that follow f, and one more
+pub rows-more : (rows new : List (List ℕ)) (row : List ℕ) (f : ℕ → List ℕ) (a : ℕ) → new ≡ rows ++ row ∷ [] → length rows ≡ a → ((x : ℕ) → 1 ≤ x → x < a → get_or rows x [] ≡ f x) → row ≡ f a → (x : ℕ) → 1 ≤ x → x < a + 1 → get_or new x [] ≡ f x
+rows-more rows new row f a is size done e x low high = go (last-or-before x a high)
+  where
+    last-or-before : (x a : ℕ) → x < a + 1 → (x ≡ a) ⊎ (x < a)
+    last-or-before x a h = grind (arith, h)
+
+    last : (rows : List (List ℕ)) (row : List ℕ) (n : ℕ) → length rows ≡ n → get_or (rows ++ row ∷ []) n [] ≡ row
+    last rows row n e = grind (arith, common_steps, e)
+
+    before : (rows : List (List ℕ)) (row : List ℕ) (n : ℕ) → n < length rows → get_or (rows ++ row ∷ []) n [] ≡ get_or rows n []
+    before rows row n l = grind (arith, common_steps, l)
+
+    go : (x ≡ a) ⊎ (x < a) → get_or new x [] ≡ f x
+    go (inl p) = rw is (last rows row x (size ∙ sym p)) ∙ e ∙ ap f (sym p)
+    go (inr l) = rw is (before rows row x (omega (arith, size))) ∙ done x low l

@@ -1,6 +1,6 @@
 -- Servers numbered from 1 and edges between them: when these are a tree.
 use Rattle.std.specs.Prelude.{◌≡◌, ℕ, ◌<◌, ◌≤◌, ◌==◌, Bool, true, false, ◌&&◌, ◌||◌, List, [], ◌∷◌, Some, slice_get, take, filter, All}
-use Rattle.std.specs.List.{range_with_len}
+use Rattle.std.specs.List.{list_any, range_with_len}
 use Rattle.ev_sets.specs.Sets.{Has}
 use Rattle.ev_sets.specs.Numbers.{IsDistinct}
 
@@ -10,8 +10,7 @@ joins edge a b = (edge.0 == a && edge.1 == b) || (edge.0 == b && edge.1 == a)
 
 -- one of the edges joins a and b
 abbrev pub has_edge : List (ℕ × ℕ) → ℕ → ℕ → Bool
-has_edge [] a b = false
-has_edge (edge ∷ edges) a b = joins edge a b || has_edge edges a b
+has_edge edges a b = list_any (λ edge. joins edge a b) edges
 
 -- from a by edges to b
 abbrev pub IsTrail : List (ℕ × ℕ) → ℕ → List ℕ → ℕ → Type 0
@@ -21,6 +20,10 @@ IsTrail edges a (c ∷ trail) b = (has_edge edges a c ≡ true) × IsTrail edges
 -- edges lead from a to b
 abbrev pub AreJoined : List (ℕ × ℕ) → ℕ → ℕ → Type 0
 AreJoined edges a b = (trail : List ℕ) × IsTrail edges a trail b
+
+-- the number of servers is one that a tree may have
+abbrev pub IsCount : ℕ → Type 0
+IsCount n = (1 ≤ n) × (n ≤ 64)
 
 -- both ends of each edge are servers 1 to n
 abbrev pub AreWithin : ℕ → List (ℕ × ℕ) → Type 0

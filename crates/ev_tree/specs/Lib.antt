@@ -3,3 +3,4 @@ pub mod Graph
 pub mod Tree
 pub mod Sides
 pub mod Growing
+pub mod Labels

@@ -2,6 +2,7 @@
 #![tactic(auto)]
 
 mod fault;
+mod labels;
 mod row;
 mod tables;
 mod tree;
