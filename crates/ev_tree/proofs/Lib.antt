@@ -8,3 +8,4 @@ pub mod Paths
 pub mod Steps
 pub mod Hopping
 pub mod Verdict
+pub mod Whole

@@ -42,3 +42,7 @@ either-right false b e = e
 pub not-true : (b : Bool) → (b ≡ true → ⊥) → b ≡ false
 not-true true n = absurd (n refl)
 not-true false n = refl
+
+pub not-now : (b : Bool) → not b ≡ true → b ≡ true → ⊥
+not-now true e f = absurd cc
+not-now false e f = absurd cc

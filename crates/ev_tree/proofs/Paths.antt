@@ -1,5 +1,5 @@
 -- Between each two servers of a tree there is one path, and it goes by the hops.
-use Rattle.std.proofs.Common.{◌≡◌, ℕ, zero, suc, ◌<◌, ◌≤◌, ◌==◌, Bool, true, false, cond, not, ◌&&◌, List, [], ◌∷◌, ◌++◌, ◌⊎◌, ◌↔◌, inl, inr, refl, sym, ap, subst, ◌∙◌, arith, eq-eqb, eqb-true, ne_eqb}
+use Rattle.std.proofs.Common.{◌≡◌, ℕ, zero, suc, ◌<◌, ◌≤◌, ◌==◌, Bool, true, false, cond, not, ◌&&◌, slice_get, Some, List, [], ◌∷◌, ◌++◌, ◌⊎◌, ◌↔◌, inl, inr, refl, sym, ap, subst, ◌∙◌, arith, eq-eqb, eqb-true, ne_eqb}
 use Rattle.ev_sets.specs.Sets.{Has}
 use Rattle.ev_sets.specs.Numbers.{IsDistinct}
 use Rattle.ev_tree.specs.Hops.{side, side_size, AreHops}
@@ -42,6 +42,16 @@ end-in links a x (b ∷ way) w = inr (end-in links b x way w.1)
 pub no-turn : (links : ℕ → List ℕ) (prior a x : ℕ) (way : List ℕ) → (Has prior way → ⊥) → IsDistinct (a ∷ way) → NeverTurnsBack prior a way
 no-turn links prior a x [] n d = tt
 no-turn links prior a x (b ∷ way) n d = ((λ e. n (inl (sym e))), no-turn links a b x way (λ h. d.0 (inr h)) d.1)
+
+-- how far x is from t: as many servers as lie beyond the first step
+pub far : List ℕ → (ℕ → ℕ → ℕ) → ℕ → ℕ → ℕ
+far servers hop x t = cond (x == t) 0 (side_size hop servers t (hop t x))
+
+-- a path so far, of servers ever nearer to x
+pub record Toward (servers : List ℕ) (links : ℕ → List ℕ) (hop : ℕ → ℕ → ℕ) (a x t : ℕ) (path : List ℕ) : Type 0 where
+  pub path_so_far : IsPath links a t path
+  pub here : Has t servers
+  pub nearing : (y : ℕ) → Has y path → far servers hop x t ≤ far servers hop x y
 
 module _ (servers : List ℕ) (links : ℕ → List ℕ) (hop : ℕ → ℕ → ℕ) (good : AreHops servers links hop) where
   pub side-self : (a b : ℕ) → side hop a b a ≡ false
@@ -88,15 +98,7 @@ module _ (servers : List ℕ) (links : ℕ → List ℕ) (hop : ℕ → ℕ → 
   pub one-path : (a x : ℕ) (p q : List ℕ) → Has x servers → IsPath links a x p → IsPath links a x q → p ≡ q
   one-path a x p q i s t = s.begins ∙ ap (λ z. a ∷ z) (one-way a a a x s.way t.way s.along t.along (path-turn a x p s) (path-turn a x q t) i) ∙ sym t.begins
 
-  -- how far x is from t: as many servers as lie beyond the first step
-  pub far : ℕ → ℕ → ℕ
-  far x t = cond (x == t) 0 (side_size hop servers t (hop t x))
-
-  pub far-here : (x t : ℕ) → x ≡ t → far x t ≡ 0
-  unfolding far
-  far-here x t e = rw (eq-eqb x t e) refl
-
-  pub nearer : (x t : ℕ) → Has t servers → Has x servers → (x ≡ t → ⊥) → far x (hop t x) < far x t
+  pub nearer : (x t : ℕ) → Has t servers → Has x servers → (x ≡ t → ⊥) → far servers hop x (hop t x) < far servers hop x t
   unfolding far
   nearer x t h i n = go (compare x (hop t x))
     where
@@ -114,26 +116,20 @@ module _ (servers : List ℕ) (links : ℕ → List ℕ) (hop : ℕ → ℕ → 
           let off : hop (hop t x) x ≡ t → ⊥ = λ e. differ (subst (λ z. side hop (hop t x) z x ≡ true) e (hop-side (hop t x) x m)) (not-both t (hop t x) x next i (hop-side t x n)) in
           rw (v, ne_eqb x t n) (omega (arith, size, part-sum (side_size hop servers (hop t x)) t (hop (hop t x) x) (links (hop t x)) on off))
 
-  -- a path so far, of servers ever nearer to x
-  pub record Toward (a x t : ℕ) (path : List ℕ) : Type 0 where
-    pub path_so_far : IsPath links a t path
-    pub here : Has t servers
-    pub nearing : (y : ℕ) → Has y path → far x t ≤ far x y
-
-  pub toward-start : (a x : ℕ) → Has a servers → Toward a x a (a ∷ [])
+  pub toward-start : (a x : ℕ) → Has a servers → Toward servers links hop a x a (a ∷ [])
   toward-start a x h = record { path_so_far = path-here links a; here = h; nearing = λ y k. elim k [ inl e ↦ rw e (omega arith) | inr z ↦ absurd z ] }
 
-  pub toward-more : (a x t : ℕ) (path : List ℕ) → Has x servers → (x ≡ t → ⊥) → Toward a x t path → Toward a x (hop t x) (path ++ hop t x ∷ [])
+  pub toward-more : (a x t : ℕ) (path : List ℕ) → Has x servers → (x ≡ t → ⊥) → Toward servers links hop a x t path → Toward servers links hop a x (hop t x) (path ++ hop t x ∷ [])
   toward-more a x t path i n w =
       let next : Has (hop t x) (links t) = good.near t x w.here i n in
-      let less : far x (hop t x) < far x t = nearer x t w.here i n in
+      let less : far servers hop x (hop t x) < far servers hop x t = nearer x t w.here i n in
       record {
         path_so_far = path-more links a t (hop t x) path w.path_so_far next (λ h. omega (arith, less, w.nearing (hop t x) h));
         here = good.linked (hop t x) t (good.both t (hop t x) next);
         nearing = λ y h. elim (has-append y path (hop t x ∷ []) h) [ inl k ↦ omega (arith, less, w.nearing y k) | inr k ↦ elim k [ inl e ↦ rw e (omega arith) | inr z ↦ absurd z ] ];
       }
 
-  path-by : (m a x t : ℕ) (path : List ℕ) → Has x servers → Toward a x t path → far x t ≤ m → (whole : List ℕ) × IsPath links a x whole
+  path-by : (m a x t : ℕ) (path : List ℕ) → Has x servers → Toward servers links hop a x t path → far servers hop x t ≤ m → (whole : List ℕ) × IsPath links a x whole
   path-by zero a x t path i w l = go (compare x t)
     where
       go : Same x t → (whole : List ℕ) × IsPath links a x whole
@@ -141,14 +137,21 @@ module _ (servers : List ℕ) (links : ℕ → List ℕ) (hop : ℕ → ℕ → 
       go (Not n v) = absurd (omega (arith, l, nearer x t w.here i n))
   path-by (suc m) a x t path i w l = go (compare x t) (λ u p v k. path-by m a x u p i v k)
     where
-      go : Same x t → ((u : ℕ) (p : List ℕ) → Toward a x u p → far x u ≤ m → (whole : List ℕ) × IsPath links a x whole) → (whole : List ℕ) × IsPath links a x whole
+      go : Same x t → ((u : ℕ) (p : List ℕ) → Toward servers links hop a x u p → far servers hop x u ≤ m → (whole : List ℕ) × IsPath links a x whole) → (whole : List ℕ) × IsPath links a x whole
       go (Is p v) ih = (path, subst (λ z. IsPath links a z path) (sym p) w.path_so_far)
       go (Not n v) ih = ih (hop t x) (path ++ hop t x ∷ []) (toward-more a x t path i n w) (omega (arith, l, nearer x t w.here i n))
 
   pub a-path : (a x : ℕ) → Has a servers → Has x servers → (path : List ℕ) × IsPath links a x path
-  a-path a x h i = path-by (far x a) a x a (a ∷ []) i (toward-start a x h) (omega arith)
+  a-path a x h i = path-by (far servers hop x a) a x a (a ∷ []) i (toward-start a x h) (omega arith)
 
   -- the second server of a path is the next hop
+  pub path-second : (a x : ℕ) (path : List ℕ) → (a ≡ x → ⊥) → Has x servers → IsPath links a x path → slice_get path 1 ≡ Some (hop a x)
+  path-second a x path m i p = go p.way p.begins p.along (path-turn a x path p)
+    where
+      go : (way : List ℕ) → path ≡ a ∷ way → IsWay links a way x → NeverTurnsBack a a way → slice_get path 1 ≡ Some (hop a x)
+      go [] e w t = absurd (m w)
+      go (b ∷ way) e w t = rw e (ap Some (sym (side-hop a b x (way-side a a b x way w t i))))
+
   path-hop : (a x b : ℕ) (rest : List ℕ) → Has x servers → IsPath links a x (a ∷ b ∷ rest) → side hop a b x ≡ true
   path-hop a x b rest i p =
       let same : b ∷ rest ≡ p.way = tail p.begins in
@@ -173,3 +176,20 @@ module _ (servers : List ℕ) (links : ℕ → List ℕ) (hop : ℕ → ℕ → 
   -- x lies beyond b exactly where the path from a to x begins with b
   pub side-path : (a b x : ℕ) → Has a servers → Has x servers → (side hop a b x ≡ true) ↔ ((rest : List ℕ) × IsPath links a x (a ∷ b ∷ rest))
   side-path a b x h i = ((λ e. hop-path a x b h i e), (λ r. path-hop a x b r.0 i r.1))
+
+  -- the tests that a side is asked by
+  pub side-test : (a b x : ℕ) (n : ℕ) → Has a servers → Has x servers → (a ≡ x → ⊥) → n ≡ hop a x → ((n == b) ≡ true) ↔ ((rest : List ℕ) × IsPath links a x (a ∷ b ∷ rest))
+  side-test a b x n h i m e = let both = side-path a b x h i in ((λ t. both.0 (shut t)), (λ r. open' (both.1 r)))
+    where
+      same : side hop a b x ≡ (n == b)
+      same = rw (ne_eqb x a (λ q. m (sym q)), e) refl
+
+      shut : (n == b) ≡ true → side hop a b x ≡ true
+      shut t = same ∙ t
+
+      open' : side hop a b x ≡ true → (n == b) ≡ true
+      open' t = sym same ∙ t
+
+  -- no path from a server to itself begins with a step
+  pub side-end : (a b x : ℕ) → a ≡ x → Has a servers → Has x servers → ((rest : List ℕ) × IsPath links a x (a ∷ b ∷ rest)) → ⊥
+  side-end a b x e h i r = side-off a b x ((side-path a b x h i).1 r) (sym e)

@@ -1,5 +1,6 @@
 -- A list of edges has at most one fault, and none if it is a tree.
 use Rattle.std.proofs.Common.{◌≡◌, ℕ, zero, suc, ◌<◌, ◌≤◌, true, false, List, [], ◌∷◌, ◌⊎◌, ◌↔◌, inl, inr, Result, Ok, Err, take, slice_get, Some, refl, sym, ap, subst, ◌∙◌, arith}
+use Rattle.std.specs.Result.{IsErrAnd}
 use Rattle.ev_tree.specs.Graph.{has_edge, AreJoined, IsForest, IsTree, IsTwice, IsLoop, IsApart, IsCount}
 use Rattle.ev_tree.specs.Labels.{IsFault}
 use Rattle.ev_tree.specs.declared.fault.TreeFault.{TreeFault}
@@ -132,3 +133,22 @@ one-fault n edges (Twice i) g h k = twice n edges i g h k
 one-fault n edges (Loop i) g h k = loops n edges i g h k
 one-fault n edges (Apart s) g h k = aparts n edges s g h k
 one-fault n edges NoMemory g h k = absurd h
+
+unerr : {A : Type 0} (r : Result A TreeFault) (f g : TreeFault) → r ≡ Err f → r ≡ Err g → f ≡ g
+unerr r f g p q = cc
+
+-- a fault that was found is the one
+pub found : (A : Type 0) (n : ℕ) (edges : List (ℕ × ℕ)) (f g : TreeFault) (r : Result A TreeFault) → r ≡ Err f → IsFault n edges f → (r ≡ Err g) ↔ IsFault n edges g
+found A n edges f g r q h = ((λ e. subst (IsFault n edges) (unerr r f g q e) h), (λ k. q ∙ ap Err (one-fault n edges f g h k)))
+
+-- a tree has no fault
+pub none : (A : Type 0) (n : ℕ) (edges : List (ℕ × ℕ)) (t : A) (g : TreeFault) (r : Result A TreeFault) → r ≡ Ok t → IsCount n → IsTree n edges → (r ≡ Err g) ↔ IsFault n edges g
+none A n edges t g r q some tree = ((λ e. absurd (apart r q e)), (λ k. absurd (no-fault n edges g some tree k)))
+  where
+    apart : (r : Result A TreeFault) → r ≡ Ok t → r ≡ Err g → ⊥
+    apart r p e = cc
+
+-- want of memory is answered for a tree alone
+pub wanting : (A : Type 0) (n : ℕ) (edges : List (ℕ × ℕ)) (g : TreeFault) (r : Result A TreeFault) → IsErrAnd r (λ e. e ≡ NoMemory) → (NoMemory ≡ g → ⊥) → IsCount n → IsTree n edges → (r ≡ Err g) ↔ IsFault n edges g
+wanting A n edges g (Ok x) h m some tree = absurd h
+wanting A n edges g (Err f) h m some tree = ((λ e. absurd (m (sym h ∙ unerr (Err f) f g refl e))), (λ k. absurd (no-fault n edges g some tree k)))

@@ -1,4 +1,7 @@
 //! Why a list of edges is no tree.
+ghost use Rattle.std.specs.Prelude.{◌≡◌};
+
+use ev_memory;
 
 /// Why a list of edges is no tree of servers; edges are named by their place from 0, servers by their number.
 #[derive(Clone, Copy, Debug, PartialEq, Eq)]
@@ -15,4 +18,14 @@ pub enum TreeFault {
     Apart(u32),
     /// Memory ran out.
     NoMemory,
+}
+
+impl From<ev_memory::NoMemory> for TreeFault {
+    ghost use Rattle.ev_tree.specs.declared.fault.TreeFault.TheVariants.{NoMemory};
+
+    ghost from_gives = { λ _ e. e ≡ NoMemory };
+
+    fn from(_: ev_memory::NoMemory) -> Self {
+        TreeFault::NoMemory
+    }
 }
