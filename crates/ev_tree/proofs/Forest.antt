@@ -1,5 +1,5 @@
 -- A forest with its labels and hops grows by an edge between two of its parts.
-use Rattle.std.proofs.Common.{◌≡◌, ℕ, ◌≤◌, ◌==◌, Bool, true, false, cond, not, ◌&&◌, List, [], ◌∷◌, ◌++◌, ◌⊎◌, inl, inr, refl, sym, ap, subst, ◌∙◌, arith, eq-eqb, ne_eqb}
+use Rattle.std.proofs.Common.{◌≡◌, ℕ, ◌≤◌, ◌==◌, Bool, true, false, cond, not, ◌&&◌, List, [], ◌∷◌, ◌++◌, refl, sym, ap, subst, ◌∙◌, eq-eqb, ne_eqb}
 use Rattle.ev_tree.specs.Graph.{has_edge, IsTrail, AreJoined}
 use Rattle.ev_tree.specs.Hops.{side}
 use Rattle.ev_tree.specs.Labels.{Labelled}
@@ -153,11 +153,11 @@ module _ (n : ℕ) (edges : List (ℕ × ℕ)) (label : ℕ → ℕ) (hop new : 
       go (Is p v) (Is q w) = absurd (old.apart a (subst (λ z. has_edge edges a z ≡ true) (q ∙ sym p) is))
       go (Is p v) (Not q w) =
           flip (side new a b x) (side new b a x) (from-a ∙ rw v (ne_eqb d b far-b)) (
-            from-b ∙ rw w (sym (beyond hop b a c (λ z. q (sym z))) ∙ to-c-back ∙ ap not (at-end hop a b c (sym p)))
+          from-b ∙ rw w (sym (beyond hop b a c (λ z. q (sym z))) ∙ to-c-back ∙ ap not (at-end hop a b c (sym p)))
           )
       go (Not p v) (Is q w) =
           flop (side new a b x) (side new b a x) (
-            from-a ∙ rw v (sym (beyond hop a b c (λ z. p (sym z))) ∙ to-c ∙ ap not (at-end hop b a c (sym q)))
+          from-a ∙ rw v (sym (beyond hop a b c (λ z. p (sym z))) ∙ to-c ∙ ap not (at-end hop b a c (sym q)))
           ) (from-b ∙ rw w (ne_eqb d a far-a))
       go (Not p v) (Not q w) =
           let a-side : side new a b x ≡ side hop a b c = from-a ∙ rw v (sym (beyond hop a b c (λ z. p (sym z)))) in

@@ -1,17 +1,17 @@
 -- One edge more: the hops stay those of a forest; and the tables of a tree.
-use Rattle.std.proofs.Common.{◌≡◌, ℕ, zero, suc, ◌+◌, ◌<◌, ◌≤◌, ◌==◌, Bool, true, false, cond, not, filter, List, [], ◌∷◌, ◌++◌, inl, inr, length, take, get_or, slice_get, Some, refl, sym, ap, subst, ◌∙◌, arith, eq-eqb, ne_eqb}
+use Rattle.std.proofs.Common.{◌≡◌, ℕ, ◌+◌, ◌<◌, ◌≤◌, ◌==◌, Bool, true, false, cond, not, filter, List, [], ◌∷◌, inl, inr, length, take, get_or, refl, sym, ap, subst, ◌∙◌, arith, eq-eqb, ne_eqb}
 use Rattle.std.proofs.lemmas.List.{take_more}
 use Rattle.std.proofs.lemmas.Option.{slice_get-get_or}
 use Rattle.ev_sets.specs.Sets.{Has}
 use Rattle.ev_sets.proofs.Roots.{Has-filter, filter-Has}
-use Rattle.ev_tree.specs.Graph.{AreJoined, AreWithin, IsTree, IsCount, has_edge, servers_to, neighbours_by}
+use Rattle.ev_tree.specs.Graph.{AreWithin, IsTree, IsCount, has_edge, servers_to, neighbours_by}
 use Rattle.ev_tree.specs.Growing.{hop_after, IsJoined}
 use Rattle.ev_tree.specs.Hops.{AreHops, side}
-use Rattle.ev_tree.specs.Labels.{Labelled, IsPartition}
+use Rattle.ev_tree.specs.Labels.{IsPartition}
 use Rattle.ev_tree.specs.Tree.{entry, IsTable}
-use Rattle.ev_tree.proofs.Numbers.{Same, Is, Not, compare, Test, Yes, No, test, not-true}
-use Rattle.ev_tree.proofs.Forest.{In, Hopped, hopped, level, relabel}
-use Rattle.ev_tree.proofs.Servers.{hops-of, in-server, server-in}
+use Rattle.ev_tree.proofs.Numbers.{Same, Is, Not, compare, Test, Yes, No, test}
+use Rattle.ev_tree.proofs.Forest.{In, Hopped, hopped, level}
+use Rattle.ev_tree.proofs.Servers.{hops-of, in-server}
 use Rattle.ev_tree.proofs.Steps.{edge-in, ends-joined}
 
 pub own-hops : (n : ℕ) (labels : List ℕ) (rows : List (List ℕ)) → n ≤ 64 → ((x : ℕ) → x < 65 → get_or labels x 0 ≡ x) → Hopped n [] (λ x. get_or labels x 0) (entry rows)
@@ -62,11 +62,11 @@ hops-more n edges i labels after old new few tree within l p is table joined hop
     let b : ℕ = (get_or edges i (0, 0)).1 in
     let m : get_or labels (get_or edges i (0, 0)).0 0 ≡ get_or labels (get_or edges i (0, 0)).1 0 → ⊥ = parts-differ n edges i labels tree within l p in
     subst (λ es. Hopped n es (λ x. get_or after x 0) (entry new)) (sym (take_more edges i (0, 0) l)) (
-      hopped n (take i edges) (λ x. get_or labels x 0) (entry old) (entry new) p.labelled hops (get_or edges i (0, 0)) ends.0 ends.1 m
-      (leads n labels old new (get_or edges i (0, 0)).0 (get_or edges i (0, 0)).1 table joined)
-      (leads-back n labels old new (get_or edges i (0, 0)).0 (get_or edges i (0, 0)).1 table joined m)
-      (stays n labels old new (get_or edges i (0, 0)).0 (get_or edges i (0, 0)).1 table joined m)
-      (λ x. get_or after x 0) (λ x k. is x (omega (arith, k.1)))
+    hopped n (take i edges) (λ x. get_or labels x 0) (entry old) (entry new) p.labelled hops (get_or edges i (0, 0)) ends.0 ends.1 m
+    (leads n labels old new (get_or edges i (0, 0)).0 (get_or edges i (0, 0)).1 table joined)
+    (leads-back n labels old new (get_or edges i (0, 0)).0 (get_or edges i (0, 0)).1 table joined m)
+    (stays n labels old new (get_or edges i (0, 0)).0 (get_or edges i (0, 0)).1 table joined m)
+    (λ x. get_or after x 0) (λ x k. is x (omega (arith, k.1)))
     )
 
 -- with all edges added, the hops are those of the tree

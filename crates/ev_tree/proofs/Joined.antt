@@ -1,5 +1,5 @@
 -- Edges and what they join.
-use Rattle.std.proofs.Common.{◌≡◌, ℕ, ◌==◌, Bool, true, false, ◌&&◌, ◌||◌, List, [], ◌∷◌, ◌++◌, ◌⊎◌, inl, inr, refl, sym, subst, ◌∙◌, arith, eqb-true, eq-eqb}
+use Rattle.std.proofs.Common.{◌≡◌, ℕ, ◌==◌, Bool, true, false, ◌&&◌, ◌||◌, List, [], ◌∷◌, ◌++◌, refl, sym, subst, ◌∙◌, arith, eqb-true, eq-eqb}
 use Rattle.ev_tree.specs.Graph.{joins, has_edge, IsTrail, AreJoined}
 use Rattle.ev_tree.proofs.Numbers.{Test, Yes, No, test, both-left, both-right, either-left, either-right}
 

@@ -1,13 +1,13 @@
 -- Between each two servers of a tree there is one path, and it goes by the hops.
-use Rattle.std.proofs.Common.{◌≡◌, ℕ, zero, suc, ◌<◌, ◌≤◌, ◌==◌, Bool, true, false, cond, not, ◌&&◌, slice_get, Some, List, [], ◌∷◌, ◌++◌, ◌⊎◌, ◌↔◌, inl, inr, refl, sym, ap, subst, ◌∙◌, arith, eq-eqb, eqb-true, ne_eqb}
+use Rattle.std.proofs.Common.{◌≡◌, ℕ, zero, suc, ◌<◌, ◌≤◌, ◌==◌, true, false, cond, not, slice_get, Some, List, [], ◌∷◌, ◌++◌, ◌⊎◌, ◌↔◌, inl, inr, refl, sym, ap, subst, ◌∙◌, arith, eq-eqb, eqb-true, ne_eqb}
 use Rattle.ev_sets.specs.Sets.{Has}
 use Rattle.ev_sets.specs.Numbers.{IsDistinct}
 use Rattle.ev_tree.specs.Hops.{side, side_size, AreHops}
 use Rattle.ev_tree.specs.Tree.{IsWay, NeverTurnsBack, IsPath}
-use Rattle.ev_tree.specs.Sides.{size_but}
-use Rattle.ev_tree.proofs.Numbers.{Same, Is, Not, compare, differ, both-left, both-right, not-true}
+use Rattle.ev_tree.specs.Sides.{size_but, IsToward, AreSides}
+use Rattle.ev_tree.proofs.Numbers.{Same, Is, Not, compare, differ, both-right, not-true}
 use Rattle.ev_tree.proofs.Sums.{part-sum}
-use Rattle.ev_tree.proofs.Sizes.{weighs}
+use Rattle.ev_tree.proofs.Sizes.{weighs, total}
 
 pub has-append : (x : ℕ) (xs ys : List ℕ) → Has x (xs ++ ys) → Has x xs ⊎ Has x ys
 has-append x [] ys h = inr h
@@ -193,3 +193,20 @@ module _ (servers : List ℕ) (links : ℕ → List ℕ) (hop : ℕ → ℕ → 
   -- no path from a server to itself begins with a step
   pub side-end : (a b x : ℕ) → a ≡ x → Has a servers → Has x servers → ((rest : List ℕ) × IsPath links a x (a ∷ b ∷ rest)) → ⊥
   side-end a b x e h i r = side-off a b x ((side-path a b x h i).1 r) (sym e)
+
+  toward : (a x : ℕ) → Has a servers → Has x servers → (x ≡ a → ⊥) → IsToward links hop a x (hop a x)
+  toward a x h i m = record {
+    near = good.near a x h i m;
+    beyond = hop-side a x m;
+    alone = λ c k s. sym (side-hop a c x s);
+  }
+
+  pub sides : AreSides servers links hop
+  sides = record {
+    one_side = good.one_side;
+    one_neighbour = toward;
+    a_path = a-path;
+    one_way = λ prior a x way path i w t p. ap (λ z. a ∷ z) (one-way prior a a x way p.way w p.along t (path-turn a x path p) i) ∙ sym p.begins;
+    weighs = weighs servers links hop good;
+    total = total servers links hop good;
+  }

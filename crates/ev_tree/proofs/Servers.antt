@@ -1,5 +1,5 @@
 -- Servers and neighbours as rising lists, and the laws of a tree from its hops.
-use Rattle.std.proofs.Common.{◌≡◌, ℕ, zero, suc, ◌+◌, ◌<◌, ◌≤◌, ◌==◌, Bool, true, false, cond, not, nat_lt, nat_le, filter, add-zero, append-nil, ◌-◌, length, get_or, List, [], ◌∷◌, ◌++◌, ◌⊎◌, inl, inr, refl, sym, ap, subst, ◌∙◌, arith}
+use Rattle.std.proofs.Common.{◌≡◌, ℕ, zero, suc, ◌+◌, ◌<◌, ◌≤◌, Bool, true, false, cond, nat_lt, nat_le, filter, add-zero, append-nil, ◌-◌, length, get_or, List, [], ◌∷◌, ◌++◌, ◌⊎◌, inl, inr, refl, sym, ap, ◌∙◌, arith}
 use Rattle.std.proofs.lemmas.Bool.Decides.{nat_tests}
 use Rattle.std.proofs.lemmas.Grind.{common_steps}
 use Rattle.std.specs.List.{range_with_len}
@@ -9,7 +9,7 @@ use Rattle.ev_sets.specs.Numbers.{IsDistinct}
 use Rattle.ev_sets.proofs.Roots.{Has-filter, filter-Has}
 use Rattle.ev_sets.proofs.Sets.{rising-filter}
 use Rattle.ev_tree.specs.Graph.{has_edge, servers_to, neighbours_by}
-use Rattle.ev_tree.specs.Hops.{side, AreHops}
+use Rattle.ev_tree.specs.Hops.{AreHops}
 use Rattle.ev_tree.proofs.Joined.{has_edge-back}
 use Rattle.ev_tree.specs.Labels.{Labelled}
 use Rattle.ev_tree.proofs.Forest.{In, Hopped}

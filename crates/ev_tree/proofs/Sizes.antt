@@ -1,7 +1,7 @@
 -- The sides of a tree's edges add up.
-use Rattle.std.proofs.Common.{◌≡◌, ℕ, suc, ◌+◌, ◌==◌, Bool, true, false, cond, not, List, [], ◌∷◌, inl, inr, length, refl, sym, ap, ◌∙◌, arith, ne_eqb, eq-eqb}
+use Rattle.std.proofs.Common.{◌≡◌, ℕ, suc, ◌+◌, ◌==◌, Bool, true, false, cond, not, List, length, refl, sym, ap, ◌∙◌, arith, ne_eqb, eq-eqb}
 use Rattle.ev_sets.specs.Sets.{Has}
-use Rattle.ev_sets.specs.Numbers.{sum_over, IsDistinct, count}
+use Rattle.ev_sets.specs.Numbers.{sum_over, count}
 use Rattle.ev_tree.specs.Hops.{side, side_size, AreHops}
 use Rattle.ev_tree.specs.Sides.{size_but}
 use Rattle.ev_tree.proofs.Numbers.{Same, Is, Not, compare}

@@ -1,10 +1,10 @@
 -- One edge more: the labels stay those of a forest.
 use Rattle.std.proofs.Common.{◌≡◌, ℕ, zero, suc, ◌+◌, ◌<◌, ◌≤◌, ◌==◌, cond, List, [], ◌∷◌, ◌++◌, ◌⊎◌, inl, inr, length, take, get_or, slice_get, Some, refl, sym, ap, subst, ◌∙◌, arith}
 use Rattle.std.proofs.lemmas.List.{take_more}
-use Rattle.ev_tree.specs.Graph.{AreJoined, AreWithin, IsForest, IsTree, IsApart, IsCount, has_edge}
-use Rattle.ev_tree.specs.Labels.{Labelled, IsPartition}
+use Rattle.ev_tree.specs.Graph.{AreJoined, AreWithin, IsForest, IsApart}
+use Rattle.ev_tree.specs.Labels.{IsPartition}
 use Rattle.ev_tree.proofs.Joined.{joined-same}
-use Rattle.ev_tree.proofs.Forest.{In, level, relabel, labelled}
+use Rattle.ev_tree.proofs.Forest.{In, level, labelled}
 
 pub own-labels : (n : ℕ) (labels : List ℕ) → n ≤ 64 → ((x : ℕ) → x < 65 → get_or labels x 0 ≡ x) → IsPartition n [] labels
 own-labels n labels few own = record {

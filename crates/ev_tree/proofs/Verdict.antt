@@ -1,5 +1,5 @@
 -- A list of edges has at most one fault, and none if it is a tree.
-use Rattle.std.proofs.Common.{◌≡◌, ℕ, zero, suc, ◌<◌, ◌≤◌, true, false, List, [], ◌∷◌, ◌⊎◌, ◌↔◌, inl, inr, Result, Ok, Err, take, slice_get, Some, refl, sym, ap, subst, ◌∙◌, arith}
+use Rattle.std.proofs.Common.{◌≡◌, ℕ, zero, suc, ◌<◌, true, List, [], ◌∷◌, ◌⊎◌, ◌↔◌, inl, inr, Result, Ok, Err, take, slice_get, Some, refl, sym, ap, subst, ◌∙◌, arith}
 use Rattle.std.specs.Result.{IsErrAnd}
 use Rattle.ev_tree.specs.Graph.{has_edge, AreJoined, IsForest, IsTree, IsTwice, IsLoop, IsApart, IsCount}
 use Rattle.ev_tree.specs.Labels.{IsFault}

@@ -4,7 +4,7 @@ use Rattle.std.proofs.Math.ListN.{get_or-eq_default}
 use Rattle.ev_sets.specs.Sets.{Has, IsRising}
 use Rattle.ev_tree.specs.Graph.{IsCount, servers_to, neighbours_by}
 use Rattle.ev_tree.specs.Hops.{AreHops, side}
-use Rattle.ev_tree.specs.Tree.{topology, links_of, hop_of, entry, IsTable, IsSound}
+use Rattle.ev_tree.specs.Tree.{topology, links_of, entry, IsTable, IsSound}
 use Rattle.ev_tree.proofs.Servers.{rising-neighbours, server-in}
 use Rattle.ev_tree.proofs.Hopping.{neighbours-by-hops}
 
@@ -16,7 +16,7 @@ no-members [] n = refl
 no-members (x ∷ xs) n = absurd (n x (inl refl))
 
 module _ (n : ℕ) (edges : List (ℕ × ℕ)) (neighbours hops : List (List ℕ)) (some : IsCount n) (table : IsTable n hops) (good : AreHops (servers_to n) (neighbours_by n edges) (entry hops)) (rows : length neighbours ≡ suc n) (none : get_or neighbours 0 [] ≡ [])
-  (by_hops : (a : ℕ) → 1 ≤ a → a ≤ n → get_or neighbours a [] ≡ filter (λ b. side (entry hops) a b b) (servers_to n)) where
+    (by_hops : (a : ℕ) → 1 ≤ a → a ≤ n → get_or neighbours a [] ≡ filter (λ b. side (entry hops) a b b) (servers_to n)) where
   outside : (a : ℕ) → (1 ≤ a → a ≤ n → ⊥) → neighbours_by n edges a ≡ []
   outside a m = no-members (neighbours_by n edges a) (λ b h. let i = server-in n a (good.linked a b h) in m i.0 i.1)
 

@@ -1,8 +1,6 @@
 -- Servers numbered from 1 and edges between them: when these are a tree.
 use Rattle.std.specs.Prelude.{◌≡◌, ℕ, ◌<◌, ◌≤◌, ◌==◌, Bool, true, false, ◌&&◌, ◌||◌, List, [], ◌∷◌, Some, slice_get, take, filter, All}
 use Rattle.std.specs.List.{list_any, range_with_len}
-use Rattle.ev_sets.specs.Sets.{Has}
-use Rattle.ev_sets.specs.Numbers.{IsDistinct}
 
 -- the edge joins a and b, either way round
 abbrev pub joins : ℕ × ℕ → ℕ → ℕ → Bool

@@ -1,6 +1,6 @@
 -- Labels of servers, and the faults of a list of edges.
 use Rattle.std.specs.Prelude.{◌≡◌, ℕ, ◌<◌, ◌≤◌, true, List, slice_index}
-use Rattle.ev_tree.specs.Graph.{has_edge, AreJoined, AreWithin, IsForest, IsTree, IsTwice, IsLoop, IsApart, IsCount}
+use Rattle.ev_tree.specs.Graph.{has_edge, AreJoined, IsForest, IsTwice, IsLoop, IsApart, IsCount}
 use Rattle.ev_tree.specs.declared.fault.TreeFault.{TreeFault}
 use Rattle.ev_tree.specs.declared.fault.TreeFault.TheVariants.{TooFew, TooMany, Twice, Loop, Apart, NoMemory}
 

@@ -31,9 +31,7 @@ pub fn relabel(labels: &mut [u32; 65], from: u32, to: u32)
 fn has_edge(edges: &[(u32, u32)], a: u32, b: u32) -> bool
     ensures { result ≡ has_edge edges.now a b }
 {
-    edges
-        .iter()
-        .any(|edge| (edge.0 == a && edge.1 == b) || (edge.0 == b && edge.1 == a))
+    edges.iter().any(|edge| (edge.0 == a && edge.1 == b) || (edge.0 == b && edge.1 == a))
 }
 
 // What is at fault with edge i, whose ends are joined by earlier edges.

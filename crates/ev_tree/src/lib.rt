@@ -3,9 +3,13 @@
 
 mod fault;
 mod labels;
+mod law;
 mod row;
 mod tables;
+#[cfg(test)]
+mod tests;
 mod tree;
 
 pub use fault::TreeFault;
+pub use law::{one_path, sides};
 pub use tree::Tree;

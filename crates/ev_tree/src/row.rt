@@ -45,8 +45,9 @@ impl Row {
     pub fn zeros(alloc: Global, len: usize) -> Result<Row, NoMemory>
         ensures { IfOk result (λ r. length r ≡ len) }
     {
-        let numbers = vec![in alloc; 0u32; len]?;
-        Ok(Row { numbers })
+        Ok(Row {
+            numbers: vec![in alloc; 0u32; len]?,
+        })
     }
 
     pub fn get(&self, place: u32) -> u32

@@ -113,7 +113,7 @@ impl Tree {
         ensures path { IsTrue result ↔ ((rest : List ℕ) × IsPath (links_of self.now) a x (a ∷ b ∷ rest)) }
     {
         self.laws();
-        a != x && self.hop(a, x) == b
+        a != x && self.next_hop(a, x) == b
     }
 
     /// The path from a to x, both ends included: along neighbours, and no server twice.

@@ -1,6 +1,6 @@
 use Rattle.std.proofs.Common.{get_or}
 use Rattle.std.proofs.lemmas.Option.{slice_get-get_or}
-use Rattle.ev_tree.proofs.Steps.{ends-joined, one-more, own-labels}
+use Rattle.ev_tree.proofs.Steps.{ends-joined, one-more}
 use Rattle.ev_tree.proofs.labels.part_labels.Goals as goal
 
 pub returns-then-to-from : goal.returns-then-to-from

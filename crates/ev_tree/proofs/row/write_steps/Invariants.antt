@@ -1,4 +1,4 @@
-use Rattle.std.proofs.Common.{◌≡◌, ℕ, ◌<◌, ◌≤◌, ◌==◌, cond, length, get_or}
+use Rattle.std.proofs.Common.{◌≡◌, ℕ, ◌<◌, ◌≤◌, ◌==◌, cond, get_or}
 use Rattle.ev_tree.proofs.row.write_steps.Given as goal
 
 abbrev pub invariant-loop-y : goal.invariant-loop-y

@@ -1,4 +1,4 @@
-use Rattle.std.proofs.Common.{ℕ, List, take, get_or, subst, sym}
+use Rattle.std.proofs.Common.{ℕ, List, get_or, subst}
 use Rattle.std.proofs.lemmas.List.{take_all}
 use Rattle.ev_tree.specs.Labels.{IsPartition}
 use Rattle.ev_tree.specs.Tree.{entry}

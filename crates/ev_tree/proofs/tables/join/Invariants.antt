@@ -1,4 +1,4 @@
-use Rattle.std.proofs.Common.{◌≡◌, ℕ, ◌<◌, ◌≤◌, List, [], length, get_or}
+use Rattle.std.proofs.Common.{◌≡◌, ℕ, ◌<◌, ◌≤◌, [], length, get_or}
 use Rattle.ev_tree.specs.Growing.{hop_after}
 use Rattle.ev_tree.proofs.tables.join.Given as goal
 

@@ -1,4 +1,4 @@
-use Rattle.std.proofs.Common.{◌≡◌, ℕ, ◌<◌, ◌≤◌, ◌+◌, [], length, filter, get_or}
+use Rattle.std.proofs.Common.{◌≡◌, ℕ, ◌<◌, ◌≤◌, [], length, filter, get_or}
 use Rattle.ev_tree.specs.Graph.{servers_to}
 use Rattle.ev_tree.specs.Hops.{side}
 use Rattle.ev_tree.specs.Tree.{entry}

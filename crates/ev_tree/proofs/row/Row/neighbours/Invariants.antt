@@ -1,4 +1,4 @@
-use Rattle.std.proofs.Common.{◌≡◌, ℕ, ◌-◌, ◌==◌, ◌&&◌, not, filter, get_or}
+use Rattle.std.proofs.Common.{◌≡◌, ◌-◌, ◌==◌, ◌&&◌, not, filter, get_or}
 use Rattle.std.specs.List.{range_with_len}
 use Rattle.ev_tree.proofs.row.Row.neighbours.Given as goal
 

@@ -1,8 +1,7 @@
-use Rattle.std.proofs.Common.{◌≡◌, ℕ, ◌≤◌, List, [], filter, get_or, refl, subst, arith}
+use Rattle.std.proofs.Common.{◌≡◌, ℕ, ◌≤◌, [], filter, get_or, refl, subst}
 use Rattle.ev_tree.specs.Graph.{servers_to}
 use Rattle.ev_tree.specs.Hops.{side}
 use Rattle.ev_tree.specs.Tree.{entry}
-use Rattle.ev_tree.specs.declared.fault.TreeFault.{TreeFault}
 use Rattle.ev_tree.specs.declared.fault.TreeFault.TheVariants.{Twice, Loop, Apart, NoMemory}
 use Rattle.ev_tree.specs.declared.tree.Tree.{Tree}
 use Rattle.ev_tree.proofs.Verdict.{found, none, wanting}

@@ -1,5 +1,4 @@
-use Rattle.std.proofs.Common.{◌≡◌, List, ℕ, Some, slice_get, ap, subst, sym, ◌∙◌}
-use Rattle.ev_sets.specs.Sets.{Has}
+use Rattle.std.proofs.Common.{Some, ap, sym, ◌∙◌}
 use Rattle.ev_tree.specs.Tree.{servers_of, links_of, hop_of}
 use Rattle.ev_tree.proofs.Servers.{in-server}
 use Rattle.ev_tree.proofs.Paths.{path-second}

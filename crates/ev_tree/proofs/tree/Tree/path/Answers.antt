@@ -1,7 +1,7 @@
-use Rattle.std.proofs.Common.{◌≡◌, ℕ, List, [], ◌∷◌, ◌++◌, subst, sym, ◌∙◌, arith}
+use Rattle.std.proofs.Common.{subst, sym}
 use Rattle.ev_tree.specs.Tree.{servers_of, links_of, hop_of, IsPath}
 use Rattle.ev_tree.proofs.Servers.{in-server, server-in}
-use Rattle.ev_tree.proofs.Paths.{Toward, toward-start, toward-more, nearer, one-path}
+use Rattle.ev_tree.proofs.Paths.{toward-start, toward-more, nearer, one-path}
 use Rattle.ev_tree.proofs.tree.Tree.path.Goals as goal
 
 pub loop-at-init : goal.loop-at-init

@@ -1,4 +1,3 @@
-use Rattle.std.proofs.Common.{List, ℕ}
 use Rattle.ev_tree.specs.Tree.{servers_of, links_of, hop_of}
 use Rattle.ev_tree.proofs.Paths.{Toward, far}
 use Rattle.ev_tree.proofs.tree.Tree.path.Given as goal
