@@ -1,5 +1,5 @@
 //! Labels of servers: the same exactly where edges join the servers.
-ghost use Rattle.std.specs.Prelude.{◌≡◌, ◌≢◌, ◌==◌, ◌<◌, ◌≤◌, ◌+◌, ℕ, true, false, List, cond, length, slice_index, take, IfOk, IfErr, OnErr, IfSome, IfNone, slice_get, MatchResult, Some};
+ghost use Rattle.std.specs.Prelude.{◌≡◌, ◌≢◌, ◌==◌, ◌<◌, ◌≤◌, ℕ, cond, length, slice_index, take, IfSome, IfNone, slice_get, MatchResult, Some};
 ghost use Rattle.ev_tree.specs.Graph.{has_edge, AreWithin, AreJoined, IsForest, IsTree, IsCount};
 ghost use Rattle.ev_tree.specs.Labels.{IsPartition, IsFault};
 

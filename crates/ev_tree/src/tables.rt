@@ -1,5 +1,5 @@
 //! The tables of a tree: the next server on the way from each server to each other, and the neighbours.
-ghost use Rattle.std.specs.Prelude.{◌≡◌, ◌==◌, ◌<◌, ◌≤◌, ◌+◌, ◌∷◌, [], ℕ, suc, cond, filter, length, slice_index, IfOk};
+ghost use Rattle.std.specs.Prelude.{◌≡◌, ◌<◌, ◌≤◌, ◌+◌, [], ℕ, suc, filter, length, IfOk};
 ghost use Rattle.std.specs.List.{slice_index_or};
 ghost use Rattle.ev_tree.specs.Graph.{AreWithin, IsCount, IsTree, servers_to, neighbours_by};
 ghost use Rattle.ev_tree.specs.Growing.{IsJoined};

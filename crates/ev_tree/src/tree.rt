@@ -1,5 +1,5 @@
 //! The tree of servers.
-ghost use Rattle.std.specs.Prelude.{◌≡◌, ◌≢◌, ◌≤◌, ◌==◌, ◌<◌, ◌+◌, ◌++◌, ◌∷◌, ◌↔◌, [], ℕ, List, IsTrue, IfOk, Err, nat_lt, slice_get, Some};
+ghost use Rattle.std.specs.Prelude.{◌≡◌, ◌≢◌, ◌≤◌, ◌==◌, ◌<◌, ◌∷◌, ◌↔◌, ℕ, List, IsTrue, IfOk, Err, nat_lt, slice_get, Some};
 ghost use Rattle.ev_sets.specs.Sets.{Has, IsRising};
 ghost use Rattle.ev_tree.specs.Graph.{AreWithin, IsCount, IsTree, IsTwice, IsLoop, IsApart, neighbours_by};
 ghost use Rattle.ev_tree.specs.Hops.{side};
