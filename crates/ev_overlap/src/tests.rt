@@ -42,15 +42,11 @@ fn overlapping(rt: HostRuntime) -> Result<(), Fail> {
     let two_names = [(b"x".as_slice(), Op::Gt, 5), (b"y".as_slice(), Op::Any, 0)];
     let any = [(b"x".as_slice(), Op::Any, 0)];
     let within = [(b"x".as_slice(), Op::Gt, 3), (b"x".as_slice(), Op::Lt, 5)];
-    for (filter, advert, want) in [
-        (over_three.as_slice(), one_or_five.as_slice(), true),
-        (over_five.as_slice(), below_three.as_slice(), false),
-        (two_names.as_slice(), any.as_slice(), false),
-        (any.as_slice(), two_names.as_slice(), true),
-        (within.as_slice(), one_or_five.as_slice(), false),
-        (within.as_slice(), any.as_slice(), true),
-    ] {
-        assert_eq!(rt; answer(alloc, filter, advert)?, want);
-    }
+    assert!(rt; answer(alloc, &over_three, &one_or_five)?);
+    assert!(rt; !answer(alloc, &over_five, &below_three)?);
+    assert!(rt; !answer(alloc, &two_names, &any)?);
+    assert!(rt; answer(alloc, &any, &two_names)?);
+    assert!(rt; !answer(alloc, &within, &one_or_five)?);
+    assert!(rt; answer(alloc, &within, &any)?);
     Ok(())
 }
