@@ -3,5 +3,6 @@
 
 pub mod law;
 mod real;
+pub mod runs;
 
 pub use real::{Real, plain};
