@@ -1,0 +1,3 @@
+pub mod Owing
+pub mod Lawful
+pub mod Nets
