@@ -4,8 +4,7 @@ use Rattle.ev_sets.specs.Sets.{Has}
 use Rattle.ev_sets.specs.Numbers.{IsDistinct}
 use Rattle.ev_tree.specs.Hops.{AreHops, side}
 use Rattle.ev_run.proofs.Lists.{Same, Is, Not, compare}
-use Rattle.ev_routing.specs.Net.{Net, NetLaws, NeverFalls, PhasedCommand, Subscribe, Unsubscribe, Advertise, Publish}
-use Rattle.ev_routing.specs.Example.{line_links}
+use Rattle.ev_routing.specs.Net.{NetLaws, NeverFalls, PhasedCommand, Subscribe, Unsubscribe, Advertise, Publish}
 use Rattle.ev_routing.proofs.Witness.{line-laws}
 use Rattle.ev_worked.specs.Ranges.{Below, Equal, Above, AtLeast, Any, ranges}
 use Rattle.ev_worked.specs.Nets.{in_phase, pair_links, line_clients, line_of, wide_and_narrow, withdrawn_wide, equal_ranges, advertised_small, subscribed_again}

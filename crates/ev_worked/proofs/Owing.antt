@@ -1,9 +1,9 @@
 -- Who may be given what in the worked nets, and who must.
-use Rattle.std.proofs.Common.{◌≡◌, ℕ, suc, ◌≤◌, List, [], ◌∷◌, take, inl, inr, refl, sym, subst, arith}
+use Rattle.std.proofs.Common.{◌≡◌, ℕ, [], take, inl, refl, subst, arith}
 use Rattle.ev_sets.specs.Sets.{Has}
 use Rattle.ev_routing.specs.Clients.{filters_after}
 use Rattle.ev_routing.specs.Owed.{IsMomentOfPhase, IsOwed, IsAllowed}
-use Rattle.ev_worked.specs.Ranges.{Range, Above, Any, ranges}
+use Rattle.ev_worked.specs.Ranges.{Above, Any, ranges}
 use Rattle.ev_worked.specs.Nets.{withdrawn_wide, subscribed_again}
 
 pub wide-allowed : IsAllowed ranges withdrawn_wide 1 9 1

@@ -6,7 +6,7 @@ use Rattle.ev_routing.specs.Server.{Publication, Subs}
 use Rattle.ev_routing.specs.Step.{Task, NextCommand, Version}
 use Rattle.ev_routing.specs.Example.{line_links}
 use Rattle.ev_worked.specs.Trace.{Line, line}
-use Rattle.ev_worked.specs.Ranges.{Range, Below, Equal, Above, AtLeast, Any, ranges}
+use Rattle.ev_worked.specs.Ranges.{Below, Equal, Above, AtLeast, Any, ranges}
 
 -- a command in its phase
 abbrev pub in_phase : ℕ → Command ranges → PhasedCommand ranges

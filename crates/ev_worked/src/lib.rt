@@ -1,10 +1,10 @@
 //! Worked runs: what the definitions of the network come to in small nets over ranges of numbers, computed.
 #![tactic(auto)]
 
-ghost use Rattle.std.specs.Prelude.{◌≡◌, ◌<◌, ℕ, [], ◌∷◌, ◌++◌, take};
+ghost use Rattle.std.specs.Prelude.{◌≡◌, ◌<◌, ℕ, List, [], ◌∷◌, ◌++◌, take};
 ghost use Rattle.ev_sets.specs.Sets.{Has};
 ghost use Rattle.ev_run.specs.Runs.{IsRun};
-ghost use Rattle.ev_run.specs.Machine.{Did, Took};
+ghost use Rattle.ev_run.specs.Machine.{Act, Did, Took};
 ghost use Rattle.ev_routing.specs.Theory.{TheoryLaws};
 ghost use Rattle.ev_routing.specs.Net.{Net, NetLaws, PhasedCommand};
 ghost use Rattle.ev_routing.specs.Rest.{IsDrained};
@@ -12,24 +12,10 @@ ghost use Rattle.ev_routing.specs.Routing.{Network, routing_machine, opening};
 ghost use Rattle.ev_routing.specs.Clients.{filters_after};
 ghost use Rattle.ev_routing.specs.Owed.{IsOwed, IsAllowed};
 ghost use Rattle.ev_routing.specs.Server.{Subs, Advs, Noticed};
-ghost use Rattle.ev_routing.specs.Step.{NextCommand, Version};
+ghost use Rattle.ev_routing.specs.Step.{Task, NextCommand, Version};
 ghost use Rattle.ev_worked.specs.Ranges.{Below, Equal, Above, AtLeast, Any, ranges};
 ghost use Rattle.ev_worked.specs.Trace.{line, walk, replay, trace, given, held};
 ghost use Rattle.ev_worked.specs.Nets.{publication, wide_travels, wide_and_narrow, withdrawn_wide, all_know, both_set_out, notice_arrives, withdrawal_known, equal_ranges, advertised_small, subscribed_again};
-
-use ev_routing::{Matching, opening_starts, walk_drains};
-
-/// Ranges of numbers, as filters and advertisements of numbers.
-pub struct RangesOfNumbers;
-
-impl Matching for RangesOfNumbers {
-    ghost use Rattle.ev_worked.specs.Ranges.{ranges};
-    ghost use Rattle.ev_worked.proofs.Lawful.{ranges-laws};
-
-    ghost theory = { ranges };
-
-    ghost laws = { ranges-laws };
-}
 
 /// Ranges of numbers are a theory of filters, and the nets below are nets over it, so that every law of runs holds of them.
 pub fn all_lawful()
@@ -44,10 +30,12 @@ pub fn all_lawful()
 /// The walk of such a net is a legal run that ends drained.
 pub fn walk_runs()
     ensures { (net : Net ranges) → NetLaws ranges net → (phases : ℕ) → ((client : ℕ) (command : PhasedCommand ranges) → Has command (net.script client) → command.phase < phases) → 0 < phases → (end : Network ranges net) × (last : ℕ) × IsRun (routing_machine ranges net) (opening ranges net) 0 (walk ranges net phases) end last × IsDrained ranges net end }
-{
-    opening_starts::<RangesOfNumbers>();
-    walk_drains::<RangesOfNumbers>();
-}
+{}
+
+/// Schedules of turns, phase by phase, are a legal run of such a net, whatever they try.
+pub fn replay_runs()
+    ensures { (net : Net ranges) → NetLaws ranges net → (schedules : List (List (ℕ × Act Task))) → (end : Network ranges net) × (last : ℕ) × IsRun (routing_machine ranges net) (opening ranges net) 0 (replay ranges net schedules) end last }
+{}
 
 /// Only the wide range travels; the narrow one in it goes nowhere.
 pub fn narrow_range_stays()
