@@ -1,13 +1,13 @@
 -- Each step of the lock keeps its rule.
-use Rattle.std.proofs.Common.{◌≡◌, ◌≢◌, ℕ, ◌+◌, ◌-◌, ◌<◌, ◌≤◌, ◌⊎◌, Bool, true, false, List, [], ◌∷◌, ◌++◌, length, set, sym, refl, ap, ◌∙◌, subst, inl, inr, ⊎_elim, arith, Option, Some, length-set, get_or, get_or-set_same, None}
+use Rattle.std.proofs.Common.{◌≡◌, ◌≢◌, ℕ, ◌<◌, ◌⊎◌, true, false, List, [], ◌∷◌, ◌++◌, length, set, sym, refl, ap, ◌∙◌, subst, inl, inr, ⊎_elim, arith, Option, Some, length-set, get_or, get_or-set_same, None}
 use mathlib.Core.List.{IsPrefix}
-use mathlib.Core.Option.{some, none, some-injective, some-ne-none}
+use mathlib.Core.Option.{some, some-injective, some-ne-none}
 use lib.ListN.{get_elem?}
-use Rattle.atomic_table.specs.Table.{State, opening, Me, Act, Valid, stepped, carried_after, rest, keeps, takes, gives, Allows, Splits, Joins, Final, Seen}
+use Rattle.atomic_table.specs.Table.{State, opening, Me, Act, Valid, stepped, carried_after, keeps, takes, gives, Allows, Splits, Joins, Final, Seen}
 use Rattle.atomic_table.proofs.Lists.{at_set, at_snoc, set_else, set_here}
 use Rattle.ev_turnlock.specs.declared.view.View.{View}
-use Rattle.ev_turnlock.specs.Rule.{EachBegins, view, opener, stays, branch, united, nobody, missed, took, gave, laid, lifted, Laid, Lifted, total, Fits, Home, Away, Kept, Taken, PutBack}
-use Rattle.ev_turnlock.proofs.Lists.{not_both, not_true, set_at, same_at, at_append, begins_self, begins_trans, each_trans, each_append, total_set, total_snoc, total_two, fits_more}
+use Rattle.ev_turnlock.specs.Rule.{EachBegins, opener, stays, branch, united, nobody, missed, took, gave, laid, lifted, Laid, Lifted, total, Fits, Home, Away, Kept, Taken, PutBack}
+use Rattle.ev_turnlock.proofs.Lists.{not_both, not_true, set_at, same_at, at_append, begins_self, each_trans, each_append, total_set, total_snoc, total_two, fits_more}
 
 module _ {I R : Type 0} where
   -- where one view changes

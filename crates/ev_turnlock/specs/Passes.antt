@@ -1,5 +1,5 @@
 -- What a contract sees of a lock and of its passes.
-use Rattle.std.specs.Prelude.{◌≡◌, ℕ, Bool, false, List, Option, Some}
+use Rattle.std.specs.Prelude.{◌≡◌, ℕ, Bool, false, List, Some}
 use Rattle.ev_turnlock.specs.declared.lock.Pass.{Pass}
 use Rattle.ev_turnlock.specs.declared.lock.TurnLock.{TurnLock}
 use Rattle.ev_turnlock.specs.Rule.{view_in}

@@ -13,6 +13,7 @@ use std::snapshot::Snapshot;
 type PassSeat<T> = Seat<Option<T>, View<<T as Standing>::Item, <T as Standing>::Root>>;
 
 /// A lock round a value, which one pass at a time has in hand.
+#[derive(Drop)]
 pub struct TurnLock<T: Standing> {
     table: Table<Option<T>, View<T::Item, T::Root>, Start<T>, Turns, Global>,
     ghost sized: { (table.shared.table_id.words ≡ 1) × (table.shared.table_id.slots ≡ 1) },

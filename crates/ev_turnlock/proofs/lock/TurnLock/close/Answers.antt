@@ -1,7 +1,6 @@
-use Rattle.std.proofs.Common.{rules, ◌≡◌, ◌+◌, true, false, [], ◌∷◌, ◌++◌, ℕ, List, All, vec_len, length, Option, None, Some, sym, ap, subst, ◌∙◌, arith}
+use Rattle.std.proofs.Common.{rules, ◌≡◌, ◌+◌, false, [], ◌∷◌, ◌++◌, All, vec_len, length, Some, sym, ap, subst, ◌∙◌, arith}
 use Rattle.std.specs.Option.{option_to_list, unwrap_or}
 use Rattle.std.proofs.lemmas.List.Elements.{All-push, All-pop}
-use Rattle.atomic_table.specs.Table.{rest}
 use mathlib.Core.List.{IsPrefix}
 use Rattle.ev_turnlock.specs.Rule.{view_in, EachBegins}
 use Rattle.ev_turnlock.specs.Passes.{IsPassOf, has_in_hand, seen_by}

@@ -1,7 +1,7 @@
-use Rattle.std.proofs.Common.{rules, ◌≡◌, ◌<◌, true, false, [], ◌∷◌, ℕ, List, Option, None, Some, sym, ap, subst, ◌∙◌, refl, arith}
+use Rattle.std.proofs.Common.{rules, ◌≡◌, ◌<◌, true, false, [], ◌∷◌, Some, sym, ap, subst, ◌∙◌, arith}
 use Rattle.atomic_table.specs.Table.{rest}
 use mathlib.Core.List.{IsPrefix}
-use Rattle.ev_turnlock.specs.Rule.{view_in, took, lifted}
+use Rattle.ev_turnlock.specs.Rule.{view_in, lifted}
 use Rattle.ev_turnlock.proofs.Keeps.{lift_keeps, put_keeps}
 use Rattle.ev_turnlock.proofs.lock.TurnLock.put.Goals as goal
 

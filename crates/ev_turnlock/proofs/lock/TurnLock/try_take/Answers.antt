@@ -1,6 +1,6 @@
-use Rattle.std.proofs.Common.{rules, ◌≡◌, ◌<◌, true, false, [], ◌∷◌, ℕ, List, Option, None, Some, sym, ap, subst, ◌∙◌, refl, arith}
+use Rattle.std.proofs.Common.{rules, ◌≡◌, ◌<◌, false, [], ◌∷◌, None, Some, sym, ap, ◌∙◌, refl, arith}
 use Rattle.atomic_table.specs.Table.{rest}
-use Rattle.ev_turnlock.specs.Rule.{view_in, took, lifted}
+use Rattle.ev_turnlock.specs.Rule.{view_in, took}
 use Rattle.ev_turnlock.proofs.Keeps.{take_keeps, lay_keeps}
 use Rattle.ev_turnlock.proofs.lock.TurnLock.try_take.Goals as goal
 
