@@ -45,7 +45,7 @@ pub(crate) fn move_out<T: Drop>(outbox: &mut VecDeque<T>, producer: &mut Produce
 }
 
 impl<T: Drop> LaneIn<T> {
-    ghost use Rattle.std.specs.Prelude.{◌≡◌, ◌+◌, ◌<◌, ◌≤◌, ◌^◌, ◌⊎◌, ◌↔◌, ◌++◌, ◌∷◌, [], length, OnOk, IsTrue};
+    ghost use Rattle.std.specs.Prelude.{◌≡◌, ◌+◌, ◌<◌, ◌≤◌, ◌^◌, ◌⊎◌, ◌↔◌, ◌++◌, ◌∷◌, [], length, OnOk, IsTrue, IsFalse};
     ghost use Rattle.ev_lane.specs.Lane.{put_list, pushed_list, waiting_list, spare, free_places, mark_of, SameIn};
 
     /// Makes room for n items, which can then be put without memory. After want of memory the lane is
@@ -63,6 +63,13 @@ impl<T: Drop> LaneIn<T> {
         ensures { IsTrue result ↔ (2 ^ 63 ≤ length (put_list self.now)) }
     {
         self.pushed + self.outbox.len() as u64 >= 1 << 63
+    }
+
+    /// Whether items wait in the outbox.
+    pub fn has_waiting(&self) -> bool
+        ensures { IsFalse result ↔ (waiting_list self.now ≡ []) }
+    {
+        !self.outbox.is_empty()
     }
 
     /// Puts an item behind all others. There is spare room, and the lane isn't used up.
