@@ -26,7 +26,10 @@ pub struct LaneIn<T: Drop> {
 }
 
 // Moves items into the ring, as long as a place is known to be free.
-pub(crate) fn move_out<T: Drop>(outbox: &mut VecDeque<T>, producer: &mut Producer<T, Global, Bounded>) -> u64
+pub(crate) fn move_out<T: Drop>(
+    outbox: &mut VecDeque<T>,
+    producer: &mut Producer<T, Global, Bounded>,
+) -> u64
     requires { length (sent producer.old) + deque_len outbox.old ≤ 2 ^ 63 }
     ensures same { SameProducer producer.old producer.new }
     ensures items { sent producer.new ++ outbox.new.items ≡ sent producer.old ++ outbox.old.items }
@@ -92,6 +95,9 @@ impl<T: Drop> LaneIn<T> {
         ensures mark { mark_of self.new ≡ length (pushed_list self.new) }
     {
         let moved = move_out(&mut self.outbox, &mut self.producer);
+        if moved == 0 {
+            return;
+        }
         self.pushed += moved;
         self.mark
             .shared

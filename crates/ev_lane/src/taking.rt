@@ -82,7 +82,10 @@ fn see_from<T: Drop, R: Wait>(
 }
 
 // Moves what is known to be in the ring to the rest.
-pub(crate) fn take_known<T: Drop>(consumer: &mut Consumer<T, Global, Bounded>, rest: &mut VecDeque<T>)
+pub(crate) fn take_known<T: Drop>(
+    consumer: &mut Consumer<T, Global, Bounded>,
+    rest: &mut VecDeque<T>,
+)
     requires { deque_len rest.old + length (known_items consumer.old) ≤ deque_capacity rest.old }
     ensures same { SameConsumer consumer.old consumer.new × (deque_capacity rest.new ≡ deque_capacity rest.old) }
     ensures received { (received consumer.new ≡ received consumer.old ++ known_items consumer.old) × (known_items consumer.new ≡ []) }
