@@ -21,6 +21,10 @@ module _ {I R : Type 0} where
   abbrev pub pass_misses : Pass I R → ℕ
   pass_misses p = (view_in p.badge.views).misses
 
+  -- it is the same pass, later
+  abbrev pub IsSamePass : Pass I R → Pass I R → Type 0
+  IsSamePass p q = (q.badge.table_id ≡ p.badge.table_id) × ((view_in q.badge.views).root ≡ (view_in p.badge.views).root) × (pass_number q ≡ pass_number p)
+
   -- a pass that has seen this list, has nothing in hand and counted no miss
   abbrev pub IsFresh : List I → Pass I R → Type 0
   IsFresh l p = (seen_by p ≡ l) × (has_in_hand p ≡ false) × (pass_misses p ≡ 0)

@@ -35,7 +35,7 @@ impl<T: Standing> TurnLock<T> {
     ghost use Rattle.std.specs.Prelude.{◌≡◌, ◌+◌, ◌<◌, true, false, IfSome, IfNone, IfOk, IfErr, All, map, vec_len};
     ghost use Rattle.std.specs.List.{range_with_len};
     ghost use mathlib.Core.List.{IsPrefix};
-    ghost use Rattle.ev_turnlock.specs.Passes.{first_value, pass_count, IsPassOf, IsFresh, pass_number, seen_by, has_in_hand, pass_misses};
+    ghost use Rattle.ev_turnlock.specs.Passes.{first_value, pass_count, IsPassOf, IsSamePass, IsFresh, pass_number, seen_by, has_in_hand, pass_misses};
 
     /// A lock round the value, and its passes, numbered from 0. There is at least one. Each has seen
     /// the value's root and list. The value comes back only for want of memory.
@@ -80,7 +80,7 @@ impl<T: Standing> TurnLock<T> {
     pub fn try_take(&self, pass: &mut Pass<T::Item, T::Root>) -> Option<T>
         requires own { IsPassOf T.root self.now pass.old }
         requires free { has_in_hand pass.old ≡ false }
-        ensures own { IsPassOf T.root self.now pass.new × (pass_number pass.new ≡ pass_number pass.old) }
+        ensures own { IsPassOf T.root self.now pass.new × IsSamePass pass.old pass.new }
         ensures found { IfSome result (λ v. (T.root v ≡ T.root (first_value self.now)) × IsPrefix (seen_by pass.old) (T.list v)) }
         ensures taken { IfSome result (λ v. (seen_by pass.new ≡ T.list v) × (has_in_hand pass.new ≡ true) × (pass_misses pass.new ≡ pass_misses pass.old)) }
         ensures missed { IfNone result ((pass_misses pass.new ≡ pass_misses pass.old + 1) × (seen_by pass.new ≡ seen_by pass.old) × (has_in_hand pass.new ≡ false)) }
@@ -104,7 +104,7 @@ impl<T: Standing> TurnLock<T> {
         requires held { has_in_hand pass.old ≡ true }
         requires root { T.root value ≡ T.root (first_value self.now) }
         requires list { IsPrefix (seen_by pass.old) (T.list value) }
-        ensures own { IsPassOf T.root self.now pass.new × (pass_number pass.new ≡ pass_number pass.old) }
+        ensures own { IsPassOf T.root self.now pass.new × IsSamePass pass.old pass.new }
         ensures put { (seen_by pass.new ≡ T.list value) × (has_in_hand pass.new ≡ false) × (pass_misses pass.new ≡ pass_misses pass.old) }
     {
         let shared = &self.table.shared;
