@@ -1,5 +1,5 @@
 -- What stays known of the ends of a lane.
-use Rattle.std.proofs.Common.{◌≡◌, ◌∙◌, sym}
+use Rattle.std.proofs.Common.{◌∙◌, sym}
 use Rattle.ev_lane.specs.declared.putting.LaneIn.{LaneIn}
 use Rattle.ev_lane.specs.declared.taking.LaneOut.{LaneOut}
 use Rattle.ev_lane.specs.Lane.{IsLane, SameIn, SameOut}

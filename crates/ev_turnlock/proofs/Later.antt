@@ -1,5 +1,5 @@
 -- What stays known of a pass.
-use Rattle.std.proofs.Common.{◌≡◌, ◌∙◌}
+use Rattle.std.proofs.Common.{◌∙◌}
 use Rattle.ev_turnlock.specs.declared.lock.Pass.{Pass}
 use Rattle.ev_turnlock.specs.declared.lock.TurnLock.{TurnLock}
 use Rattle.ev_turnlock.specs.Passes.{IsPassOf, IsSamePass}
