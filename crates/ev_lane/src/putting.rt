@@ -48,15 +48,16 @@ pub(crate) fn move_out<T: Drop>(
 }
 
 impl<T: Drop> LaneIn<T> {
-    ghost use Rattle.std.specs.Prelude.{◌≡◌, ◌+◌, ◌<◌, ◌≤◌, ◌^◌, ◌⊎◌, ◌↔◌, ◌++◌, ◌∷◌, [], length, OnOk, IsTrue, IsFalse};
+    ghost use Rattle.std.specs.Prelude.{◌≡◌, ◌+◌, ◌<◌, ◌≤◌, ◌^◌, ◌⊎◌, ◌↔◌, ◌++◌, ◌∷◌, [], length, OnOk, OnErr, IsTrue, IsFalse};
     ghost use Rattle.ev_lane.specs.Lane.{put_list, pushed_list, waiting_list, spare, free_places, mark_of, SameIn};
 
-    /// Makes room for n items, which can then be put without memory. After want of memory the lane is
-    /// as before.
+    /// Makes room for n items, which can then be put without memory. It wants memory only where there
+    /// isn't room for n already; after want of memory the lane is as before.
     pub fn room(&mut self, n: usize) -> Result<(), NoMemory>
         ensures same { SameIn self.old self.new × (pushed_list self.new ≡ pushed_list self.old) × (waiting_list self.new ≡ waiting_list self.old) × (mark_of self.new ≡ mark_of self.old) }
         ensures kept { spare self.old ≤ spare self.new }
         ensures room { OnOk result (n ≤ spare self.new) }
+        ensures wanting { OnErr result (spare self.old < n) }
     {
         self.outbox.reserve(n).map_err(|_| NoMemory)
     }
