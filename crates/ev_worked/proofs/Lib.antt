@@ -1,0 +1,4 @@
+pub mod Owing
+pub mod Lawful
+pub mod Nets
+pub mod Replayed

@@ -1,0 +1,114 @@
+-- Small nets over ranges of numbers.
+use Rattle.std.specs.Prelude.{ℕ, ◌==◌, true, false, cond, List, [], ◌∷◌}
+use Rattle.ev_run.specs.Machine.{Act, Did, Took}
+use Rattle.ev_routing.specs.Net.{Net, PhasedCommand, Command, Subscribe, Unsubscribe, Advertise, Publish}
+use Rattle.ev_routing.specs.Server.{Publication, Subs}
+use Rattle.ev_routing.specs.Step.{Task, NextCommand, Version}
+use Rattle.ev_routing.specs.Example.{line_links}
+use Rattle.ev_worked.specs.Trace.{Line, line}
+use Rattle.ev_worked.specs.Ranges.{Below, Equal, Above, AtLeast, Any, ranges}
+
+-- a command in its phase
+abbrev pub in_phase : ℕ → Command ranges → PhasedCommand ranges
+in_phase phase command = record { phase = phase; command = command }
+
+-- a publication in one row
+abbrev pub publication : ℕ → ℕ → ℕ → Publication ranges
+publication publisher ordinal notice = record { publisher = publisher; ordinal = ordinal; notice = notice }
+
+-- the neighbours in a pair of servers, 1 and 2
+abbrev pub pair_links : ℕ → List ℕ
+pair_links server = cond (server == 1) (2 ∷ []) (cond (server == 2) (1 ∷ []) [])
+
+-- clients 1 and 2 live at server 1 of a line, client 3 at server 3
+abbrev pub line_clients : ℕ → List ℕ
+line_clients server = cond (server == 1) (1 ∷ 2 ∷ []) (cond (server == 3) (3 ∷ []) [])
+
+-- a line of three servers under subscription semantics, with these scripts of clients 1, 2 and 3
+abbrev pub line_of : List (PhasedCommand ranges) → List (PhasedCommand ranges) → List (PhasedCommand ranges) → Net ranges
+line_of one two three = record {
+  adverts = false;
+  servers = 1 ∷ 2 ∷ 3 ∷ [];
+  links = line_links;
+  hop = λ server other. cond (server == 2) other 2;
+  home = λ client. cond (client == 3) 3 1;
+  clients = line_clients;
+  script = λ client. cond (client == 1) one (cond (client == 2) two (cond (client == 3) three []));
+}
+
+-- at one server a wide range and a narrow one in it
+abbrev pub wide_and_narrow : Net ranges
+wide_and_narrow = line_of (in_phase 0 (Subscribe Any) ∷ []) (in_phase 0 (Subscribe (Above 5)) ∷ []) []
+
+-- then the wide range is withdrawn, while at the other end of the line a notice is published
+abbrev pub withdrawn_wide : Net ranges
+withdrawn_wide = line_of (in_phase 0 (Subscribe Any) ∷ in_phase 1 (Unsubscribe Any) ∷ []) (in_phase 0 (Subscribe (Above 5)) ∷ []) (in_phase 1 (Publish 9) ∷ [])
+
+-- in the first phase both ranges are subscribed and known everywhere
+abbrev pub all_know : List (ℕ × Act Task)
+all_know = (1, Did (NextCommand 1)) ∷ (1, Did (NextCommand 2)) ∷ (1, Did Version) ∷ (2, Took 1) ∷ (2, Did Version) ∷ (3, Took 2) ∷ (3, Did Version) ∷ []
+
+-- in the second phase the withdrawal and the notice set out
+abbrev pub both_set_out : List (ℕ × Act Task)
+both_set_out = (1, Did (NextCommand 1)) ∷ (3, Did (NextCommand 3)) ∷ []
+
+-- or the notice arrives before the withdrawal
+abbrev pub notice_arrives : List (ℕ × Act Task)
+notice_arrives = (3, Did (NextCommand 3)) ∷ (2, Took 3) ∷ (1, Took 2) ∷ (1, Did (NextCommand 1)) ∷ []
+
+-- or the middle server has taken the withdrawal and shown it by a version
+abbrev pub withdrawal_known : List (ℕ × Act Task)
+withdrawal_known = (1, Did (NextCommand 1)) ∷ (2, Took 1) ∷ (2, Did Version) ∷ (3, Did (NextCommand 3)) ∷ []
+
+-- a pair of servers, where client 1 withdraws a range that is the range of client 2 in other words
+abbrev pub equal_ranges : Net ranges
+equal_ranges = record {
+  adverts = false;
+  servers = 1 ∷ 2 ∷ [];
+  links = pair_links;
+  hop = λ server other. other;
+  home = λ client. 1;
+  clients = λ server. cond (server == 1) (1 ∷ 2 ∷ []) [];
+  script = λ client.
+      cond (client == 1) (in_phase 0 (Subscribe (Above 1)) ∷ in_phase 1 (Unsubscribe (Above 1)) ∷ [])
+      (cond (client == 2) (in_phase 0 (Subscribe (AtLeast 2)) ∷ []) []);
+}
+
+-- a pair of servers under advertisement semantics: client 1 advertises small numbers, and client 2 subscribes to large ones and then to some that are both
+abbrev pub advertised_small : Net ranges
+advertised_small = record {
+  adverts = true;
+  servers = 1 ∷ 2 ∷ [];
+  links = pair_links;
+  hop = λ server other. other;
+  home = λ client. cond (client == 2) 2 1;
+  clients = λ server. cond (server == 1) (1 ∷ []) (cond (server == 2) (2 ∷ []) []);
+  script = λ client.
+      cond (client == 1) (in_phase 0 (Advertise (Below 3)) ∷ [])
+      (cond (client == 2) (in_phase 1 (Subscribe (Above 5)) ∷ in_phase 2 (Subscribe (Below 9)) ∷ []) []);
+}
+
+-- one server, where client 1 subscribes to three ranges, withdraws all that any covers and subscribes to any again, and client 2 publishes
+abbrev pub subscribed_again : Net ranges
+subscribed_again = record {
+  adverts = false;
+  servers = 1 ∷ [];
+  links = λ server. [];
+  hop = λ server other. other;
+  home = λ client. 1;
+  clients = λ server. cond (server == 1) (1 ∷ 2 ∷ []) [];
+  script = λ client.
+      cond (client == 1) (in_phase 0 (Subscribe (Above 5)) ∷ in_phase 0 (Subscribe (Equal 1)) ∷ in_phase 0 (Subscribe Any) ∷ in_phase 1 (Unsubscribe Any) ∷ in_phase 1 (Subscribe Any) ∷ [])
+      (cond (client == 2) (in_phase 1 (Publish 8) ∷ []) []);
+}
+
+-- the lines of a first phase in which the wide range comes to be known everywhere
+abbrev pub wide_travels : List (Line ranges)
+wide_travels =
+    line ranges 1 1 (Did (NextCommand 1)) ((2, Subs [] (Any ∷ [])) ∷ []) ∷
+    line ranges 2 1 (Did (NextCommand 2)) [] ∷
+    line ranges 3 1 (Did Version) [] ∷
+    line ranges 2 2 (Took 1) ((3, Subs [] (Any ∷ [])) ∷ []) ∷
+    line ranges 3 2 (Did Version) [] ∷
+    line ranges 3 3 (Took 2) [] ∷
+    line ranges 4 3 (Did Version) [] ∷ []

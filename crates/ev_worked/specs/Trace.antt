@@ -1,0 +1,68 @@
+-- What a run tells line by line, what it delivers, and what it leaves held.
+use Rattle.std.specs.Prelude.{ℕ, suc, List, [], ◌∷◌, ◌++◌, length, map}
+use Rattle.ev_run.specs.Machine.{Act}
+use Rattle.ev_run.specs.Network.{messages_of}
+use Rattle.ev_run.specs.History.{Moment, network_step, moment_after}
+use Rattle.ev_run.specs.Walk.{entries_by, moment_by}
+use Rattle.ev_routing.specs.Theory.{Theory}
+use Rattle.ev_routing.specs.Net.{Net}
+use Rattle.ev_routing.specs.Server.{Message, Publication}
+use Rattle.ev_routing.specs.Step.{Task}
+use Rattle.ev_routing.specs.Routing.{routing_machine, Network, NetEntry, opening}
+use Rattle.ev_routing.specs.Walk.{walk_of, walk_turns}
+
+module _ (theory : Theory) where
+  -- an entry as it is traced: its stamp, server and act, and the messages that it puts, by neighbour
+  pub record Line : Type 0 where
+    pub stamp : ℕ
+    pub server : ℕ
+    pub act : Act Task
+    pub outs : List (ℕ × Message theory)
+
+  -- a line written in one row
+  abbrev pub line : ℕ → ℕ → Act Task → List (ℕ × Message theory) → Line
+  line stamp server act outs = record { stamp = stamp; server = server; act = act; outs = outs }
+
+  module _ (net : Net theory) where
+    -- the opening, before the first command
+    abbrev pub beginning : Moment (routing_machine theory net)
+    beginning = record { network = opening theory net; phase = 0 }
+
+    -- the messages of an entry for these neighbours
+    abbrev pub outs_to : Network theory net → NetEntry theory net → List ℕ → List (ℕ × Message theory)
+    outs_to network entry [] = []
+    outs_to network entry (link ∷ links) = map (λ message. (link, message)) (messages_of (routing_machine theory net) network entry link) ++ outs_to network entry links
+
+    -- the lines of entries from a moment on
+    abbrev pub lines_from : Moment (routing_machine theory net) → List (NetEntry theory net) → List Line
+    lines_from moment [] = []
+    lines_from moment (entry ∷ entries) = line entry.stamp entry.server entry.act (outs_to moment.network entry (net.links entry.server)) ∷ lines_from (network_step (routing_machine theory net) moment entry) entries
+
+    -- the trace of a journal
+    abbrev pub trace : List (NetEntry theory net) → List Line
+    trace entries = lines_from beginning entries
+
+    -- the walk of the whole net, of so many phases
+    abbrev pub walk : ℕ → List (NetEntry theory net)
+    walk phases = walk_of theory net phases beginning
+
+    -- schedules of turns, phase by phase: in each phase the turns are taken, and the walk ends it
+    abbrev pub replay_from : ℕ → Moment (routing_machine theory net) → List (List (ℕ × Act Task)) → List (NetEntry theory net)
+    replay_from phase moment [] = []
+    replay_from phase moment (turns ∷ schedules) = entries_by (routing_machine theory net) phase moment (turns ++ walk_turns theory net) ++ replay_from (suc phase) (moment_by (routing_machine theory net) phase moment (turns ++ walk_turns theory net)) schedules
+
+    -- the journal of schedules from the opening on
+    abbrev pub replay : List (List (ℕ × Act Task)) → List (NetEntry theory net)
+    replay schedules = replay_from 0 beginning schedules
+
+    -- the network at the end of a journal
+    abbrev pub end_of : List (NetEntry theory net) → Network theory net
+    end_of entries = (moment_after (routing_machine theory net) beginning entries (length entries)).network
+
+    -- what a client was given by the end of a journal
+    abbrev pub given : List (NetEntry theory net) → ℕ → List (Publication theory)
+    given entries client = ((end_of entries).state (net.home client)).inbox client
+
+    -- what a server holds from an interface at the end of a journal
+    abbrev pub held : List (NetEntry theory net) → ℕ → ℕ → List theory.Filter
+    held entries server interface = ((end_of entries).state server).subs interface

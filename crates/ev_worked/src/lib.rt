@@ -1,0 +1,158 @@
+//! Worked runs: what the definitions of the network come to in small nets over ranges of numbers, computed.
+#![tactic(auto)]
+
+ghost use Rattle.std.specs.Prelude.{◌≡◌, ◌<◌, ℕ, List, [], ◌∷◌, ◌++◌, take};
+ghost use Rattle.ev_sets.specs.Sets.{Has};
+ghost use Rattle.ev_run.specs.Runs.{IsRun};
+ghost use Rattle.ev_run.specs.Machine.{Act, Did, Took};
+ghost use Rattle.ev_routing.specs.Theory.{TheoryLaws};
+ghost use Rattle.ev_routing.specs.Net.{Net, NetLaws, PhasedCommand};
+ghost use Rattle.ev_routing.specs.Rest.{IsDrained};
+ghost use Rattle.ev_routing.specs.Routing.{Network, routing_machine, opening};
+ghost use Rattle.ev_routing.specs.Clients.{filters_after};
+ghost use Rattle.ev_routing.specs.Owed.{IsOwed, IsAllowed};
+ghost use Rattle.ev_routing.specs.Server.{Subs, Advs, Noticed};
+ghost use Rattle.ev_routing.specs.Step.{Task, NextCommand, Version};
+ghost use Rattle.ev_worked.specs.Ranges.{Below, Equal, Above, AtLeast, Any, ranges};
+ghost use Rattle.ev_worked.specs.Trace.{line, walk, replay, trace, given, held};
+ghost use Rattle.ev_worked.specs.Nets.{publication, wide_travels, wide_and_narrow, withdrawn_wide, all_know, both_set_out, notice_arrives, withdrawal_known, equal_ranges, advertised_small, subscribed_again};
+
+/// Ranges of numbers are a theory of filters, and the nets below are nets over it, so that every law of runs holds of them.
+pub fn all_lawful()
+    ensures ranges { TheoryLaws ranges }
+    ensures wide_and_narrow { NetLaws ranges wide_and_narrow }
+    ensures withdrawn_wide { NetLaws ranges withdrawn_wide }
+    ensures equal_ranges { NetLaws ranges equal_ranges }
+    ensures advertised_small { NetLaws ranges advertised_small }
+    ensures subscribed_again { NetLaws ranges subscribed_again }
+{}
+
+/// The walk of such a net is a legal run that ends drained.
+pub fn walk_runs()
+    ensures { (net : Net ranges) → NetLaws ranges net → (phases : ℕ) → ((client : ℕ) (command : PhasedCommand ranges) → Has command (net.script client) → command.phase < phases) → 0 < phases → (end : Network ranges net) × (last : ℕ) × IsRun (routing_machine ranges net) (opening ranges net) 0 (walk ranges net phases) end last × IsDrained ranges net end }
+{}
+
+/// Schedules of turns, phase by phase, are a legal run of such a net, whatever they try.
+pub fn replay_runs()
+    ensures { (net : Net ranges) → NetLaws ranges net → (schedules : List (List (ℕ × Act Task))) → (end : Network ranges net) × (last : ℕ) × IsRun (routing_machine ranges net) (opening ranges net) 0 (replay ranges net schedules) end last }
+{}
+
+/// Only the wide range travels; the narrow one in it goes nowhere.
+pub fn narrow_range_stays()
+    ensures trace { trace ranges wide_and_narrow (walk ranges wide_and_narrow 1) ≡
+        line ranges 1 1 (Did (NextCommand 1)) ((2, Subs [] (Any ∷ [])) ∷ []) ∷
+        line ranges 2 1 (Did (NextCommand 2)) [] ∷
+        line ranges 3 1 (Did Version) [] ∷
+        line ranges 2 2 (Took 1) ((3, Subs [] (Any ∷ [])) ∷ []) ∷
+        line ranges 3 2 (Did Version) [] ∷
+        line ranges 3 3 (Took 2) [] ∷
+        line ranges 4 3 (Did Version) [] ∷ [] }
+    ensures home { held ranges wide_and_narrow (walk ranges wide_and_narrow 1) 1 66 ≡ Above 5 ∷ [] }
+    ensures middle { held ranges wide_and_narrow (walk ranges wide_and_narrow 1) 2 1 ≡ Any ∷ [] }
+    ensures far { held ranges wide_and_narrow (walk ranges wide_and_narrow 1) 3 2 ≡ Any ∷ [] }
+{}
+
+/// The withdrawal and the notice meet at the middle server: it sends the change on, and then routes the notice by its older version. Server 1 has its new version by then.
+pub fn withdrawal_meets_notice()
+    ensures trace { trace ranges withdrawn_wide (replay ranges withdrawn_wide (all_know ∷ both_set_out ∷ [])) ≡
+        wide_travels ++ (
+        line ranges 5 1 (Did (NextCommand 1)) ((2, Subs (Any ∷ []) (Above 5 ∷ [])) ∷ []) ∷
+        line ranges 5 3 (Did (NextCommand 3)) ((2, Noticed 3 1 9) ∷ []) ∷
+        line ranges 6 1 (Did Version) [] ∷
+        line ranges 6 2 (Took 1) ((3, Subs (Any ∷ []) (Above 5 ∷ [])) ∷ []) ∷
+        line ranges 7 2 (Took 3) ((1, Noticed 3 1 9) ∷ []) ∷
+        line ranges 8 2 (Did Version) [] ∷
+        line ranges 7 3 (Took 2) [] ∷
+        line ranges 8 3 (Did Version) [] ∷
+        line ranges 8 1 (Took 2) [] ∷ []) }
+    ensures wide { given ranges withdrawn_wide (replay ranges withdrawn_wide (all_know ∷ both_set_out ∷ [])) 1 ≡ [] }
+    ensures narrow { given ranges withdrawn_wide (replay ranges withdrawn_wide (all_know ∷ both_set_out ∷ [])) 2 ≡ publication 3 1 9 ∷ [] }
+{}
+
+/// The notice arrives before the withdrawal, and both clients are given it.
+pub fn notice_before_withdrawal()
+    ensures trace { trace ranges withdrawn_wide (replay ranges withdrawn_wide (all_know ∷ notice_arrives ∷ [])) ≡
+        wide_travels ++ (
+        line ranges 5 3 (Did (NextCommand 3)) ((2, Noticed 3 1 9) ∷ []) ∷
+        line ranges 6 2 (Took 3) ((1, Noticed 3 1 9) ∷ []) ∷
+        line ranges 7 1 (Took 2) [] ∷
+        line ranges 8 1 (Did (NextCommand 1)) ((2, Subs (Any ∷ []) (Above 5 ∷ [])) ∷ []) ∷
+        line ranges 9 1 (Did Version) [] ∷
+        line ranges 9 2 (Took 1) ((3, Subs (Any ∷ []) (Above 5 ∷ [])) ∷ []) ∷
+        line ranges 10 2 (Did Version) [] ∷
+        line ranges 10 3 (Took 2) [] ∷
+        line ranges 11 3 (Did Version) [] ∷ []) }
+    ensures wide { given ranges withdrawn_wide (replay ranges withdrawn_wide (all_know ∷ notice_arrives ∷ [])) 1 ≡ publication 3 1 9 ∷ [] }
+    ensures narrow { given ranges withdrawn_wide (replay ranges withdrawn_wide (all_know ∷ notice_arrives ∷ [])) 2 ≡ publication 3 1 9 ∷ [] }
+{}
+
+/// The middle server knows of the withdrawal before the notice comes; the client with the narrow range is given it still.
+pub fn withdrawal_before_notice()
+    ensures trace { trace ranges withdrawn_wide (replay ranges withdrawn_wide (all_know ∷ withdrawal_known ∷ [])) ≡
+        wide_travels ++ (
+        line ranges 5 1 (Did (NextCommand 1)) ((2, Subs (Any ∷ []) (Above 5 ∷ [])) ∷ []) ∷
+        line ranges 6 2 (Took 1) ((3, Subs (Any ∷ []) (Above 5 ∷ [])) ∷ []) ∷
+        line ranges 7 2 (Did Version) [] ∷
+        line ranges 5 3 (Did (NextCommand 3)) ((2, Noticed 3 1 9) ∷ []) ∷
+        line ranges 6 1 (Did Version) [] ∷
+        line ranges 8 2 (Took 3) ((1, Noticed 3 1 9) ∷ []) ∷
+        line ranges 7 3 (Took 2) [] ∷
+        line ranges 8 3 (Did Version) [] ∷
+        line ranges 9 1 (Took 2) [] ∷ []) }
+    ensures wide { given ranges withdrawn_wide (replay ranges withdrawn_wide (all_know ∷ withdrawal_known ∷ [])) 1 ≡ [] }
+    ensures narrow { given ranges withdrawn_wide (replay ranges withdrawn_wide (all_know ∷ withdrawal_known ∷ [])) 2 ≡ publication 3 1 9 ∷ [] }
+{}
+
+/// What each run may and must deliver of it: client 1 withdraws in the phase of the notice, so it may be given it; client 2 is owed it.
+pub fn withdrawn_and_owed()
+    ensures allowed { IsAllowed ranges withdrawn_wide 1 9 1 }
+    ensures not_owed { IsOwed ranges withdrawn_wide 3 1 9 1 → ⊥ }
+    ensures owed { IsOwed ranges withdrawn_wide 3 1 9 2 }
+{}
+
+/// A withdrawal and the range that it uncovers are one message.
+pub fn withdrawal_uncovers()
+    ensures { trace ranges equal_ranges (walk ranges equal_ranges 2) ≡
+        line ranges 1 1 (Did (NextCommand 1)) ((2, Subs [] (Above 1 ∷ [])) ∷ []) ∷
+        line ranges 2 1 (Did (NextCommand 2)) [] ∷
+        line ranges 3 1 (Did Version) [] ∷
+        line ranges 2 2 (Took 1) [] ∷
+        line ranges 3 2 (Did Version) [] ∷
+        line ranges 4 1 (Did (NextCommand 1)) ((2, Subs (Above 1 ∷ []) (AtLeast 2 ∷ [])) ∷ []) ∷
+        line ranges 5 1 (Did Version) [] ∷
+        line ranges 5 2 (Took 1) [] ∷
+        line ranges 6 2 (Did Version) [] ∷ [] }
+{}
+
+/// A range travels only towards an advertisement that it overlaps.
+pub fn overlap_lets_through()
+    ensures { trace ranges advertised_small (walk ranges advertised_small 3) ≡
+        line ranges 1 1 (Did (NextCommand 1)) ((2, Advs [] (Below 3 ∷ [])) ∷ []) ∷
+        line ranges 2 2 (Took 1) [] ∷
+        line ranges 3 2 (Did (NextCommand 2)) [] ∷
+        line ranges 4 2 (Did Version) [] ∷
+        line ranges 5 2 (Did (NextCommand 2)) ((1, Subs [] (Below 9 ∷ [])) ∷ []) ∷
+        line ranges 6 1 (Took 2) [] ∷
+        line ranges 7 1 (Did Version) [] ∷
+        line ranges 6 2 (Did Version) [] ∷ [] }
+{}
+
+/// A withdrawal takes away all that its range covers; until the next version notices go by the ranges of the last.
+pub fn withdrawal_takes_all()
+    ensures trace { trace ranges subscribed_again (walk ranges subscribed_again 2) ≡
+        line ranges 1 1 (Did (NextCommand 1)) [] ∷
+        line ranges 2 1 (Did (NextCommand 1)) [] ∷
+        line ranges 3 1 (Did (NextCommand 1)) [] ∷
+        line ranges 4 1 (Did Version) [] ∷
+        line ranges 5 1 (Did (NextCommand 1)) [] ∷
+        line ranges 6 1 (Did (NextCommand 1)) [] ∷
+        line ranges 7 1 (Did (NextCommand 2)) [] ∷
+        line ranges 8 1 (Did Version) [] ∷ [] }
+    ensures first { filters_after ranges [] (take 3 (subscribed_again.script 1)) ≡ Equal 1 ∷ Above 5 ∷ Any ∷ [] }
+    ensures withdrawn { filters_after ranges [] (take 4 (subscribed_again.script 1)) ≡ [] }
+    ensures given { given ranges subscribed_again (walk ranges subscribed_again 2) 1 ≡ publication 2 1 8 ∷ [] }
+    ensures publisher { given ranges subscribed_again (walk ranges subscribed_again 2) 2 ≡ [] }
+    ensures list { held ranges subscribed_again (walk ranges subscribed_again 2) 1 65 ≡ Any ∷ [] }
+    ensures allowed { IsAllowed ranges subscribed_again 1 8 1 }
+    ensures not_owed { IsOwed ranges subscribed_again 2 1 8 1 → ⊥ }
+{}
