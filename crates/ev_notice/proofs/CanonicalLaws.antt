@@ -208,3 +208,7 @@ pub canonical_none : (xs : List ConstraintParts) → length xs ≡ 0 → length 
 unfolding canonical
 canonical_none [] e = refl
 canonical_none (x ∷ xs) e = absurd (omega arith)
+
+-- sorted and without repeats
+pub settled : (xs ys zs : List ConstraintParts) → IsPermutation xs ys → IsSorted constraint_cmp ys → IsFiltered (DiffersFromLast (eq_by_cmp constraint_cmp)) [] ys zs → zs ≡ canonical xs
+settled xs ys zs p s f = deduped ys zs s f ∙ canonical-permutation xs ys p

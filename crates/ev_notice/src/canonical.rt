@@ -1,6 +1,7 @@
 //! Lists of constraints in the canonical order, as filters and advertisements keep them.
-ghost use Rattle.std.specs.Prelude.{◌≡◌, IfOk};
-ghost use Rattle.std.specs.Ordering.{is_lt};
+ghost use Rattle.std.specs.Prelude.{◌≡◌, [], IfOk};
+ghost use Rattle.std.specs.List.Retain.{IsFiltered, DiffersFromLast};
+ghost use Rattle.std.specs.Ordering.{is_lt, eq_by_cmp};
 ghost use Rattle.ev_constraint.specs.Order.{constraint_cmp};
 ghost use Rattle.ev_notice.specs.Canonical.{canonical, is_rising, AreConstraints};
 
@@ -9,13 +10,20 @@ use ev_memory::NoMemory;
 use std::alloc::Global;
 use std::cmp::Ordering;
 
+// Of neighbours that are equal the first alone.
+fn without_repeats(mut sorted: Vec<Constraint>) -> Vec<Constraint>
+    ensures { IsFiltered (DiffersFromLast (eq_by_cmp constraint_cmp)) [] sorted.items result.items }
+{
+    sorted.dedup();
+    sorted
+}
+
 /// The constraints, each once, in the canonical order. It takes no memory.
 pub fn canonical(mut constraints: Vec<Constraint>) -> Vec<Constraint>
     ensures { result.items ≡ canonical constraints.items }
 {
     constraints.sort_unstable();
-    constraints.dedup();
-    constraints
+    without_repeats(constraints)
 }
 
 // Whether the first constraint stands before the second.
