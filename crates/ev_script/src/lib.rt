@@ -1,0 +1,14 @@
+//! Command lines of a script: the lenient form of a client's commands, read whole or told at fault.
+#![tactic(auto)]
+
+mod command;
+mod fault;
+mod form;
+mod int;
+mod tokens;
+
+#[cfg(test)]
+mod tests;
+
+pub use command::script_command;
+pub use fault::ScriptFault;
