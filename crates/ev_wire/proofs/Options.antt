@@ -1,9 +1,13 @@
 -- What an answer of a chain of readers tells of each.
 use Rattle.std.proofs.Common.{◌≡◌, ◌⊎◌, inl, inr, Bool, true, false, cond, refl, sym, ap, List, [], ◌∷◌, ℕ}
-use Rattle.std.specs.Prelude.{Some, None, ◌==◌}
+use Rattle.std.specs.Prelude.{Some, None, IsErrOf, ◌==◌}
 use Rattle.std.specs.declared.option.Option.{Option}
 use Rattle.std.proofs.lemmas.Bool.Decides.{nat_tests}
-use Rattle.ev_wire.specs.Reading.{◌>>=◌, whole}
+use Rattle.std.specs.declared.result.Result.{Result}
+use Rattle.std.specs.declared.result.Result.TheVariants.{Ok, Err}
+use Rattle.ev_wire.specs.declared.fault.WireFault.{WireFault}
+use Rattle.ev_wire.specs.declared.fault.WireFault.TheVariants as faults
+use Rattle.ev_wire.specs.Reading.{◌>>=◌, Gives, whole}
 
 pub bind_some : {A B : Type 0} (r : Option A) (f : A → Option B) (y : B) → (r >>= f) ≡ Some y → (x : A) × (r ≡ Some x) × (f x ≡ Some y)
 bind_some None f y e = absurd cc
@@ -32,3 +36,9 @@ pub whole_is : {A : Type 0} (r : Option (A × List ℕ)) (x : A) → whole r ≡
 whole_is None x e = none_not x e
 whole_is (Some (y, [])) x e = rw (some_in y x e) refl
 whole_is (Some (y, b ∷ rest)) x e = none_not x e
+
+-- bytes that are outside are read as nothing
+pub gives_none : {X Y : Type 0} (view : X → Y) (r : Result X WireFault) (read : Option Y) → Gives view r read → IsErrOf r faults.Outside → read ≡ None
+gives_none view (Ok x) read g e = absurd cc
+gives_none view (Err faults.NoMemory) read g e = absurd cc
+gives_none view (Err faults.Outside) read g e = g
