@@ -98,14 +98,17 @@ changes_spelled most sign zero read bytes xs rest e = nothing most sign read byt
 changes_spelled most sign (suc n) read bytes xs rest e = elim (marked_cases sign bytes) [
   | inl m ↦ nothing most sign read bytes xs rest (sym (ap (λ (z : Bool × List ℕ). go_on z read (λ inner. braced_at most inner >>= λ x. changes_at most sign n (read ++ x.0 ∷ []) x.1)) m) ∙ e)
   | inr m ↦ (
-    let x = bind_some (braced_at most m.0) (λ x. changes_at most sign n (read ++ x.0 ∷ []) x.1) (xs, rest) (sym (ap (λ (z : Bool × List ℕ). go_on z read (λ inner. braced_at most inner >>= λ x. changes_at most sign n (read ++ x.0 ∷ []) x.1)) m.2) ∙ e) in
-    further x.0.0 m.0 x.0.1 (braced_spelled most m.0 x.0.0 x.0.1 x.1) m.1 (changes_spelled most sign n (read ++ x.0.0 ∷ []) x.0.1 xs rest x.2))
+      let x = bind_some (braced_at most m.0) (λ x. changes_at most sign n (read ++ x.0 ∷ []) x.1) (xs, rest) (sym (ap (λ (z : Bool × List ℕ). go_on z read (λ inner. braced_at most inner >>= λ x. changes_at most sign n (read ++ x.0 ∷ []) x.1)) m.2) ∙ e) in
+      further x.0.0 m.0 x.0.1 (braced_spelled most m.0 x.0.0 x.0.1 x.1) m.1 (changes_spelled most sign n (read ++ x.0.0 ∷ []) x.0.1 xs rest x.2))
 ]
   where
     further : (f : List ConstraintParts) (inner after : List ℕ) → IsWhole most f × (inner ≡ constraints_text f ++ 125 ∷ after) → bytes ≡ 32 ∷ sign ∷ 123 ∷ inner → Changed most sign (read ++ f ∷ []) after xs rest → Changed most sign read bytes xs rest
-    further f inner after is m c =
-        (f ∷ c.0, (is.0, c.1), c.2 ∙ append_assoc read (f ∷ []) c.0,
-         m ∙ rw (is.1, c.3) (ap (λ (z : List ℕ). 32 ∷ sign ∷ 123 ∷ z) (sym (append_assoc (constraints_text f ++ 125 ∷ []) (flat_map (change_text sign) c.0) rest ∙ append_assoc (constraints_text f) (125 ∷ []) (flat_map (change_text sign) c.0 ++ rest)))))
+    further f inner after is m c = (
+      f ∷ c.0,
+      (is.0, c.1),
+      c.2 ∙ append_assoc read (f ∷ []) c.0,
+      m ∙ rw (is.1, c.3) (ap (λ (z : List ℕ). 32 ∷ sign ∷ 123 ∷ z) (sym (append_assoc (constraints_text f ++ 125 ∷ []) (flat_map (change_text sign) c.0) rest ∙ append_assoc (constraints_text f) (125 ∷ []) (flat_map (change_text sign) c.0 ++ rest)))),
+    )
 
 other : (fs : Lists) → IsLast 45 (flat_map (change_text 43) fs)
 other [] = refl
@@ -128,7 +131,7 @@ both_spelled most bytes l e =
     let one = changes_spelled most 45 (length bytes) [] bytes o.0.0 o.0.1 o.1 in
     let two = changes_spelled most 43 (length o.0.1) [] o.0.1 a.0.0 a.0.1 a.1 in
     subst (λ (z : Lists × Lists). AreWhole most z.0 × AreWhole most z.1 × (bytes ≡ flat_map (change_text 45) z.0 ++ flat_map (change_text 43) z.1)) p.0
-        (subst (AreWhole most) (sym one.2) one.1, subst (AreWhole most) (sym two.2) two.1, joins bytes one.0 o.0.0 two.0 a.0.0 o.0.1 a.0.1 one.3 (sym one.2) two.3 (sym two.2) p.1)
+    (subst (AreWhole most) (sym one.2) one.1, subst (AreWhole most) (sym two.2) two.1, joins bytes one.0 o.0.0 two.0 a.0.0 o.0.1 a.0.1 one.3 (sym one.2) two.3 (sym two.2) p.1)
   where
     joins : (bytes : List ℕ) (xs out ys add : Lists) (b c : List ℕ) → bytes ≡ flat_map (change_text 45) xs ++ b → xs ≡ out → b ≡ flat_map (change_text 43) ys ++ c → ys ≡ add → c ≡ [] → bytes ≡ flat_map (change_text 45) out ++ flat_map (change_text 43) add
     joins bytes xs out ys add b c one two three four five = one ∙ rw (two, three, four, five, append-nil (flat_map (change_text 43) add)) refl

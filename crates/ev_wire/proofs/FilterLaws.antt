@@ -286,7 +286,7 @@ constraint_spelled bytes c rest e =
     let four = operand_spelled h.0.0.1 o.0.0 o.0.1 u.0.0 u.0.1 u.1 in
     let all = composed bytes h.0.0.0 h.0.0.1 h.0.1 r.0.1 o.0.0 o.0.1 u.0.0 u.0.1 rest one.1 two three four.1 m.2 in
     subst (λ (z : ConstraintParts). IsSound z × (bytes ≡ constraint_text z ++ rest)) m.1
-        ((one.0, is_test h.0.0.1 o.0.0 u.0.0 four.0 m.0), all ∙ sym (regrouped (record { name = h.0.0.0; kind = h.0.0.1; op = o.0.0; operand = u.0.0 }) rest))
+    ((one.0, is_test h.0.0.1 o.0.0 u.0.0 four.0 m.0), all ∙ sym (regrouped (record { name = h.0.0.0; kind = h.0.0.1; op = o.0.0; operand = u.0.0 }) rest))
 
 named_of : (f : List ConstraintParts) → Each IsSound f → AreNamed f
 named_of [] is = tt

@@ -66,6 +66,10 @@ items_spelled {A = A} P text one spelled (suc n) read bytes xs rest e =
         (x, [], (is.0, tt), sym p.0, is.1 ∙ rw (p.1, append-nil (text x)) refl)
 
     further : (x : A) (after more : List ℕ) → P x × (bytes ≡ text x ++ after) → after ≡ 59 ∷ 32 ∷ more → Joins P text (read ++ x ∷ []) more xs rest → Joins P text read bytes xs rest
-    further x after more is m j =
-        (x, j.0 ∷ j.1, (is.0, j.2), j.3 ∙ append_assoc read (x ∷ []) (j.0 ∷ j.1),
-         is.1 ∙ rw (m, j.4) (sym (append_assoc (text x) (59 ∷ 32 ∷ joined text (j.0 ∷ j.1)) rest)))
+    further x after more is m j = (
+      x,
+      j.0 ∷ j.1,
+      (is.0, j.2),
+      j.3 ∙ append_assoc read (x ∷ []) (j.0 ∷ j.1),
+      is.1 ∙ rw (m, j.4) (sym (append_assoc (text x) (59 ∷ 32 ∷ joined text (j.0 ∷ j.1)) rest)),
+    )

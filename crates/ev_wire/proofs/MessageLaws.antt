@@ -89,7 +89,7 @@ notice_message_spelled bytes m e =
     let three = space_spelled i.0.1 s.0.1 s.0.0 s.1 in
     let four = notice_found s.0.1 n.0 n.1 in
     subst (IsMessageText (codes "notice" ++ bytes)) (some_in (messages.Notice i.0.0 n.0) m n.2)
-        (record { sound = four.notice; sendable = two.0; text = told bytes i.0.0 r.0.1 i.0.1 s.0.1 n.0 one two.1 three four.text })
+    (record { sound = four.notice; sendable = two.0; text = told bytes i.0.0 r.0.1 i.0.1 s.0.1 n.0 one two.1 three four.text })
   where
     told : (bytes : List ℕ) (id : Id) (a b c : List ℕ) (n : List Attribute) → bytes ≡ 32 ∷ a → a ≡ decimal id.publisher ++ 32 ∷ (decimal id.ordinal ++ b) → b ≡ 32 ∷ c → c ≡ notice_text n → codes "notice" ++ bytes ≡ codes "notice " ++ id_text id ++ 32 ∷ notice_text n
     told bytes id a b c n one two three four = rw (one, two, three, four) (ap (λ (z : List ℕ). codes "notice " ++ z) (sym (id_flat id (32 ∷ notice_text n))))

@@ -109,4 +109,3 @@ text_spelled (b ∷ rest) t tail e = go (b == 34) refl e
     go : (p : Bool) → (b == 34) ≡ p → cond p (body_at [] false rest >>= checked) None ≡ Some (t, tail) → IsText t × (b ∷ rest ≡ string_text t ++ tail)
     go true p e = rw (eq_of b 34 p) (done (body_at [] false rest) refl e)
     go false p e = absurd cc
-

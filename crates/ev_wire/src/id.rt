@@ -56,12 +56,14 @@ impl Bytes {
         Bytes { bytes }
     }
 
+    /// The bytes.
     pub fn as_slice(&self) -> &[u8]
         ensures { result.now ≡ self.now }
     {
         &self.bytes
     }
 
+    /// The bytes, given away.
     pub fn into_vec(self) -> Vec<u8>
         ensures { result.items ≡ self }
     {

@@ -1,11 +1,11 @@
 //! The one text of each value that goes from server to server and to clients, written and read exactly.
 #![tactic(auto)]
 
+mod adverts;
 mod command;
 mod constraint;
 mod fault;
 mod filters;
-mod adverts;
 mod id;
 mod int;
 mod law;
@@ -13,11 +13,10 @@ mod message;
 mod notice;
 mod reader;
 mod string;
-mod value;
-mod wire;
-
 #[cfg(test)]
 mod tests;
+mod value;
+mod wire;
 
 pub use adverts::{read_advert, write_advert};
 pub use command::Command;

@@ -54,12 +54,14 @@ impl Filters {
         Filters { filters }
     }
 
+    /// The filters of the list.
     pub fn as_slice(&self) -> &[Filter]
         ensures { result.now ≡ self.now }
     {
         &self.filters
     }
 
+    /// The filters of the list, given away.
     pub fn into_vec(self) -> Vec<Filter>
         ensures { result.items ≡ self }
     {
@@ -88,12 +90,14 @@ impl Adverts {
         Adverts { adverts }
     }
 
+    /// The advertisements of the list.
     pub fn as_slice(&self) -> &[Advert]
         ensures { result.now ≡ self.now }
     {
         &self.adverts
     }
 
+    /// The advertisements of the list, given away.
     pub fn into_vec(self) -> Vec<Advert>
         ensures { result.items ≡ self }
     {

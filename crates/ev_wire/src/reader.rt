@@ -48,6 +48,7 @@ fn counted(most: u32, number: i64) -> Option<u32>
 }
 
 impl<'a> Reader<'a> {
+    /// A reader of all of these.
     pub fn new(bytes: &'a [u8]) -> Reader<'a>
         ensures { result.rest.now ≡ bytes.now }
     {
@@ -96,6 +97,7 @@ impl<'a> Reader<'a> {
         }
     }
 
+    /// A name.
     #[tactic(auto, unfolding(crate::specs::Words::name_at))]
     pub fn name(&mut self, alloc: Global) -> Result<Name, WireFault>
         ensures { Reads (λ x. x) result (name_at self.old.rest.now) self.new.rest.now }
@@ -110,6 +112,7 @@ impl<'a> Reader<'a> {
         }
     }
 
+    /// A kind.
     #[tactic(auto, unfolding(crate::specs::Words::kind_at))]
     pub fn kind(&mut self) -> Result<Kind, WireFault>
         ensures { Reads (λ x. x) result (kind_at self.old.rest.now) self.new.rest.now }

@@ -1,5 +1,9 @@
 //! Worked rows: texts that are written, read again, and refused.
-use crate::{Adverts, Bytes, Command, Delivery, Filters, Id, Message, Sent, WireFault, read_advert, read_filter, read_message, read_notice, write_advert, write_filter, write_message, write_notice};
+use crate::{
+    Adverts, Bytes, Command, Delivery, Filters, Id, Message, Sent, WireFault, read_advert,
+    read_filter, read_message, read_notice, write_advert, write_filter, write_message,
+    write_notice,
+};
 use ev_notice::Notice;
 use ev_values::{Name, Value};
 use std::alloc::Global;
@@ -115,8 +119,14 @@ fn filters(rt: HostRuntime) -> Result<(), Fail> {
         (b"x int >", false),
         (b"x bool < true", false),
         (b"s str prefix \"\"", false),
-        (b"s str contains \"a\"; s str prefix \"a\"; s str suffix \"a\"", true),
-        (b"x int != 1; x int < 1; x int <= 1; x int = 1; x int > 1; x int >= 1; x int any", true),
+        (
+            b"s str contains \"a\"; s str prefix \"a\"; s str suffix \"a\"",
+            true,
+        ),
+        (
+            b"x int != 1; x int < 1; x int <= 1; x int = 1; x int > 1; x int >= 1; x int any",
+            true,
+        ),
         (b"x int = 1; x int < 1", false),
         (b"x bool any; x int any; x str any", true),
         (b"x int any; x bool any", false),
@@ -160,12 +170,19 @@ fn written(rt: HostRuntime) -> Result<(), Fail> {
     attributes.push((Name::read(alloc, b"b")?, Value::Int(1)))?;
     attributes.push((Name::read(alloc, b"a")?, Value::Int(2)))?;
     let notice = Notice::make(attributes)?;
-    assert_eq!(rt; write_notice(alloc, &notice)?.as_slice(), b"a int 2; b int 1".as_slice());
+    assert_eq!(rt;
+        write_notice(alloc, &notice)?.as_slice(),
+        b"a int 2; b int 1".as_slice()
+    );
     let mut out = Vec::new(alloc);
     out.push(read_filter(alloc, b"x int any")?)?;
     let mut add = Vec::new(alloc);
     add.push(read_filter(alloc, b"x int > 5")?)?;
-    let message = Message::Subs { out: Filters::of(out), add: Filters::of(add) }.copy(alloc)?;
+    let message = Message::Subs {
+        out: Filters::of(out),
+        add: Filters::of(add),
+    }
+    .copy(alloc)?;
     let Message::Subs { out, add } = &message else {
         return Err(Fail::new("no subs"));
     };
