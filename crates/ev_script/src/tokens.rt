@@ -1,5 +1,5 @@
 //! A command line cut into tokens.
-ghost use Rattle.std.specs.Prelude.{◌≡◌, ◌∷◌, ◌×◌, [], false, IfOk, Some, None};
+ghost use Rattle.std.specs.Prelude.{◌≡◌, ◌∷◌, [], false, IfOk, Some, None};
 ghost use Rattle.std.specs.Str.{is_utf8};
 ghost use Rattle.ev_values.specs.Text.{is_open_byte};
 ghost use Rattle.ev_script.specs.Tokens.{equals_at, is_string, is_word_byte, quoted_at, run_at, skip, string_seen, string_token, token_at, tokens};
