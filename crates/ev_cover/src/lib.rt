@@ -4,6 +4,8 @@
 mod covering;
 mod items;
 mod law;
+#[cfg(test)]
+mod tests;
 
 pub use covering::{advert_covers, filter_covers};
 pub use items::{Ad, Sub};

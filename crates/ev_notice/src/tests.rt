@@ -64,8 +64,8 @@ fn filters_made(rt: HostRuntime) -> Result<(), Fail> {
     let alloc = rt.alloc();
     let mut distinct = Vec::new(alloc);
     let mut repeated = Vec::new(alloc);
-    for i in 0..17_i64 {
-        distinct.push((b"x".as_slice(), Op::Ne, 17 - i))?;
+    for i in 0..17_u8 {
+        distinct.push((b"x".as_slice(), Op::Ne, i64::from(i)))?;
         repeated.push((b"x".as_slice(), Op::Gt, 3_i64))?;
     }
     let many = Filter::make(constraints(alloc, &distinct)?);

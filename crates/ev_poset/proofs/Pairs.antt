@@ -1,12 +1,13 @@
 -- Pairs in a list: one more, one less, and those that are picked.
-use Rattle.std.proofs.Common.{◌≡◌, ◌≢◌, ◌⊎◌, ◌↔◌, inl, inr, ℕ, suc, zero, ◌+◌, ◌-◌, ◌<◌, ◌≤◌, Bool, true, false, List, [], ◌∷◌, ◌++◌, take, drop, length, Option, Some, None, refl, sym, ap, subst, ◌∙◌, arith, slice_get, add-one}
+use Rattle.std.proofs.Common.{◌≡◌, ◌≢◌, ◌⊎◌, ◌↔◌, inl, inr, ℕ, suc, zero, ◌+◌, ◌<◌, ◌==◌, ◌≤◌, Bool, true, false, List, [], ◌∷◌, ◌++◌, length, Option, Some, refl, sym, ap, subst, ◌∙◌, arith, slice_get}
 use Rattle.std.specs.List.{remove, list_any}
 use Rattle.std.proofs.lemmas.Bool.Decides.{nat_tests}
 use Rattle.std.proofs.lemmas.Option.{slice_get_within}
 use Rattle.ev_pool.proofs.Order.{trichotomy}
 use Rattle.ev_pool.specs.Pool.{Pooled, IsAt}
+use Rattle.ev_sets.specs.Numbers.{sum_over, count}
 use Rattle.ev_sets.specs.Sets.{Has}
-use Rattle.ev_poset.specs.Poset.{Held, is_pair, holds, Agrees}
+use Rattle.ev_poset.specs.Poset.{Held, is_pair, Agrees}
 use Rattle.ev_poset.specs.Row.{Picked}
 use Rattle.ev_poset.specs.Once.{IsOnce}
 use Rattle.ev_poset.proofs.Rows.{at-one}
@@ -93,6 +94,20 @@ has-push {X} (z ∷ zs) y x = go (has-push zs y x)
         from (inl (inr m)) = inr (ih.1 (inl m))
         from (inr q) = inr (ih.1 (inr q))
 
+pub count-cons : {X : Type 0} (p : X → Bool) (x : X) (xs : List X) → sum_over (λ z. count (p z)) (x ∷ xs) ≡ count (p x) + sum_over (λ z. count (p z)) xs
+count-cons p x xs = refl
+
+pub count-push : {X : Type 0} (p : X → Bool) (xs : List X) (x : X) → sum_over (λ z. count (p z)) (xs ++ x ∷ []) ≡ sum_over (λ z. count (p z)) xs + count (p x)
+count-push p [] x = omega (arith, count-cons p x [])
+count-push p (y ∷ ys) x = omega (arith, count-cons p y (ys ++ x ∷ []), count-cons p y ys, count-push p ys x)
+
+pub count-remove : {X : Type 0} (p : X → Bool) (xs : List X) (i : ℕ) (x : X) → slice_get xs i ≡ Some x → sum_over (λ z. count (p z)) xs ≡ sum_over (λ z. count (p z)) (remove xs i) + count (p x)
+count-remove p [] i x e = absurd cc
+count-remove p (y ∷ ys) zero x e =
+    let one : x ≡ y = some-same (Some y) x y e refl in
+    subst (λ z. sum_over (λ z. count (p z)) (y ∷ ys) ≡ sum_over (λ z. count (p z)) ys + count (p z)) (sym one) (omega (arith, count-cons p y ys))
+count-remove p (y ∷ ys) (suc i) x e = omega (arith, count-cons p y (remove ys i), count-cons p y ys, count-remove p ys i x e)
+
 module _ {T : Type 0} where
   pub pair-is : (key holder : ℕ) (h : Held T) → is_pair key holder h ≡ true → (h.key ≡ key) × (h.holder ≡ holder)
   pair-is key holder h e = (grind (arith, nat_tests), grind (arith, nat_tests))
@@ -104,6 +119,10 @@ module _ {T : Type 0} where
   pair-whole key holder h e =
       let r = pair-is key holder h e in
       subst (λ z. h ≡ record { key = z; holder = holder; item = h.item }) r.0 (subst (λ z. h ≡ record { key = h.key; holder = z; item = h.item }) r.1 refl)
+
+  -- a pair of the key is taken out
+  pub pairs-less : (s : List (Held T)) (key holder i : ℕ) (f : Held T) → slice_get s i ≡ Some f → is_pair key holder f ≡ true → (k : ℕ) → sum_over (λ h. count (h.key == k)) s ≡ sum_over (λ h. count (h.key == k)) (remove s i) + count (key == k)
+  pairs-less s key holder i f e p k = subst (λ z. sum_over (λ h. count (h.key == k)) s ≡ sum_over (λ h. count (h.key == k)) (remove s i) + count (z == k)) (pair-is key holder f p).0 (count-remove (λ h. h.key == k) s i f e)
 
   pub once-push : (s : List (Held T)) (h : Held T) → IsOnce s → ((i : ℕ) (a : Held T) → slice_get s i ≡ Some a → is_pair h.key h.holder a ≡ false) → IsOnce (s ++ h ∷ [])
   once-push s h once fresh i j a b e f k o = go (un-push s h i a e) (un-push s h j b f)

@@ -1,10 +1,11 @@
 //! The pairs of keys and holders, and the sorted answers about them.
-ghost use Rattle.std.specs.Prelude.{◌≡◌, ◌⊎◌, ◌↔◌, ℕ, Some, IfSome, IfNone, IfOk, OnOk, OnErr, true, false, slice_get, [], Bool, ◌&&◌, ◌==◌, not};
+ghost use Rattle.std.specs.Prelude.{◌≡◌, ◌⊎◌, ◌↔◌, ◌+◌, ℕ, Some, IfSome, IfNone, IfOk, OnOk, OnErr, true, false, slice_get, [], Bool, ◌&&◌, ◌==◌, not};
 ghost use Rattle.std.specs.List.{list_any};
 ghost use Rattle.std.specs.Fn.{FnReturnsAt};
+ghost use Rattle.ev_sets.specs.Numbers.{count};
 ghost use Rattle.ev_sets.specs.Sets.{Has, roots};
 ghost use Rattle.ev_pool.specs.Pool.{IsLive, IsAt, Names};
-ghost use Rattle.ev_poset.specs.Poset.{is_pair, holds, Agrees, held_by, held_under, held_by_others};
+ghost use Rattle.ev_poset.specs.Poset.{is_pair, holds, pairs_of, Agrees, held_by, held_under, held_by_others};
 ghost use Rattle.ev_poset.specs.Row.{IsRow};
 
 use crate::pair::Pair;
@@ -71,6 +72,7 @@ impl<T: Cover> Poset<T> {
         requires agrees { Agrees pool.now self.old }
         ensures fresh { IfOk result (λ fresh. fresh ≡ not (holds self.old key holder)) }
         ensures pairs { OnOk result ((item : _) (h : _) → IsAt pool.now key item → Has h self.new ↔ (Has h self.old ⊎ (h ≡ record { key = key; holder = holder; item = item }))) }
+        ensures counted { IfOk result (λ fresh. (k : ℕ) → pairs_of self.new k ≡ pairs_of self.old k + count (fresh && (key == k))) }
         ensures there { IfOk result (λ fresh. fresh ≡ false → self.new ≡ self.old) }
         ensures err { OnErr result (self.new ≡ self.old) }
     {
@@ -87,6 +89,7 @@ impl<T: Cover> Poset<T> {
     pub fn release(&mut self, key: Key, holder: u32) -> bool
         ensures found { result ≡ holds self.old key holder }
         ensures pairs { (h : _) → Has h self.new ↔ (Has h self.old × (is_pair key holder h ≡ false)) }
+        ensures counted { (k : ℕ) → pairs_of self.old k ≡ pairs_of self.new k + count (result && (key == k)) }
         ensures absent { result ≡ false → self.new ≡ self.old }
     {
         match find(&self.pairs, key, holder) {

@@ -9,5 +9,7 @@
 mod holding;
 mod pair;
 mod row;
+#[cfg(test)]
+mod tests;
 
 pub use holding::Poset;

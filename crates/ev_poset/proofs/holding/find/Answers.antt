@@ -1,4 +1,4 @@
-use Rattle.std.proofs.Common.{◌≡◌, ◌<◌, ◌⊎◌, refl, inl, inr, arith, sym, ap, ◌∙◌, Some, slice_get}
+use Rattle.std.proofs.Common.{◌≡◌, refl, inl, inr, arith, sym, ap, ◌∙◌, slice_get}
 use Rattle.std.proofs.lemmas.Option.{slice_get_read, slice_get_within}
 use Rattle.ev_pool.proofs.Order.{trichotomy}
 use Rattle.ev_poset.specs.Poset.{is_pair}

@@ -1,4 +1,4 @@
-use Rattle.std.proofs.Common.{◌≡◌, ◌<◌, ◌⊎◌, inl, inr, refl, sym, ap, subst, ◌∙◌, arith, length, get_or, ℕ, true, false}
+use Rattle.std.proofs.Common.{◌≡◌, inl, inr, refl, sym, subst, ◌∙◌, arith, true}
 use Rattle.ev_pool.specs.Pool.{IsAt}
 use Rattle.ev_pool.specs.Sorted.{place_of}
 use Rattle.ev_pool.proofs.Order.{trichotomy}

@@ -1,4 +1,4 @@
-use Rattle.std.proofs.Common.{◌≡◌, ◌↔◌, ◌&&◌, ◌==◌, not, ℕ, true}
+use Rattle.std.proofs.Common.{◌↔◌, ◌&&◌, ◌==◌, not, ℕ}
 use Rattle.ev_poset.specs.Row.{In, IsRow, Picked}
 use Rattle.ev_poset.proofs.holding.Poset.counting.Given as goal
 

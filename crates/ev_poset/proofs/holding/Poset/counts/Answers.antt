@@ -1,4 +1,4 @@
-use Rattle.std.proofs.Common.{◌≡◌, ◌&&◌, ◌==◌, not, true, false, sym, ap, ◌∙◌, of_calls, arith}
+use Rattle.std.proofs.Common.{◌≡◌, ◌==◌, false, of_calls, arith}
 use Rattle.ev_pool.specs.Pool.{IsAt}
 use Rattle.ev_poset.proofs.Rows.{at-one}
 use Rattle.ev_poset.proofs.holding.Poset.counts.Goals as goal

@@ -1,4 +1,4 @@
-use Rattle.std.proofs.Common.{◌≡◌, ◌&&◌, ◌==◌, not, refl, sym, ◌∙◌, rules}
+use Rattle.std.proofs.Common.{◌&&◌, ◌==◌, refl, sym, ◌∙◌}
 use Rattle.std.proofs.lemmas.Option.{slice_get_read}
 use Rattle.ev_poset.specs.Row.{In}
 use Rattle.ev_poset.proofs.Rows.{is-live}

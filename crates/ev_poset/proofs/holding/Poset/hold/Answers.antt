@@ -1,6 +1,6 @@
-use Rattle.std.proofs.Common.{◌≡◌, ◌++◌, [], ◌∷◌, refl, sym, ap, ◌∙◌, not}
-use Rattle.ev_poset.specs.Poset.{is_pair}
-use Rattle.ev_poset.proofs.Pairs.{any-yes, any-no, once-push, pairs-push, pairs-there}
+use Rattle.std.proofs.Common.{◌==◌, sym, ap, not}
+use Rattle.ev_poset.specs.Poset.{Held, is_pair}
+use Rattle.ev_poset.proofs.Pairs.{count-push, any-yes, any-no, once-push, pairs-push, pairs-there}
 use Rattle.ev_poset.proofs.holding.Poset.hold.Goals as goal
 
 pub returns-in-Some-clause-fresh : goal.returns-in-Some-clause-fresh
@@ -26,3 +26,6 @@ returns-in_ok-push-in-None-clause-fresh g c =
 pub returns-in_ok-push-in-None-clause-pairs : goal.returns-in_ok-push-in-None-clause-pairs
 returns-in_ok-push-in-None-clause-pairs g c = λ item h is.
     rw (c.in_ok-push-in-None.ensures.items, c.new.ensures, ← c.self.view_is) (pairs-push _ c.args.pool.now _ _ _ item h c.at.ensures is)
+
+pub returns-in_ok-push-in-None-clause-counted : goal.returns-in_ok-push-in-None-clause-counted
+returns-in_ok-push-in-None-clause-counted g c = λ k. rw (c.in_ok-push-in-None.ensures.items, c.new.ensures, ← c.self.view_is) (count-push (λ (h : Held _). h.key == k) c.self.inside.pairs.items (record { key = c.args.key; holder = c.args.holder; item = c.at.result.now }))

@@ -1,7 +1,7 @@
-use Rattle.std.proofs.Common.{◌≡◌, refl, sym, ap, ◌∙◌}
+use Rattle.std.proofs.Common.{sym}
 use Rattle.std.proofs.lemmas.Option.{slice_get_within}
 use Rattle.ev_poset.specs.Poset.{is_pair}
-use Rattle.ev_poset.proofs.Pairs.{any-yes, any-no, once-remove, pairs-remove, pairs-absent}
+use Rattle.ev_poset.proofs.Pairs.{pairs-less, any-yes, any-no, once-remove, pairs-remove, pairs-absent}
 use Rattle.ev_poset.proofs.holding.Poset.release.Goals as goal
 
 pub invariant_of-self : goal.invariant_of-self
@@ -28,3 +28,8 @@ pub returns-in-None-clause-pairs : goal.returns-in-None-clause-pairs
 returns-in-None-clause-pairs g c =
     let f = rw (c.deref.ensures.value, c.self.view_is) at c.in-None.ensures.none in
     pairs-absent c.args.self.now c.args.key c.args.holder f
+
+pub returns-in-Some-clause-counted : goal.returns-in-Some-clause-counted
+returns-in-Some-clause-counted g c =
+    let f = rw c.deref.ensures.value at c.in-Some.ensures.some in
+    rw (c.remove.ensures.items, ← c.self.view_is) (pairs-less c.self.inside.pairs.items c.args.key c.args.holder c.in-Some.i f.0 f.1 f.2)

@@ -1,0 +1,11 @@
+pub mod Numbers
+pub mod Joined
+pub mod Forest
+pub mod Servers
+pub mod Sums
+pub mod Sizes
+pub mod Paths
+pub mod Steps
+pub mod Hopping
+pub mod Verdict
+pub mod Whole

@@ -1,0 +1,48 @@
+-- Two numbers are the same or not, with the test.
+use Rattle.std.proofs.Common.{◌≡◌, ℕ, ◌==◌, Bool, true, false, not, ◌&&◌, ◌||◌, refl, arith, eqb-true, eq-eqb}
+
+pub data Same (x y : ℕ) : Type 0 where
+  Is : x ≡ y → (x == y) ≡ true → Same x y
+  Not : (x ≡ y → ⊥) → (x == y) ≡ false → Same x y
+
+same_by : (x y : ℕ) (b : Bool) → (x == y) ≡ b → Same x y
+same_by x y true e = Is (eqb-true x y e) e
+same_by x y false e = Not (λ q. grind (arith, eq-eqb x y q)) e
+
+pub compare : (x y : ℕ) → Same x y
+compare x y = same_by x y (x == y) refl
+
+pub data Test (b : Bool) : Type 0 where
+  Yes : b ≡ true → Test b
+  No : b ≡ false → Test b
+
+pub test : (b : Bool) → Test b
+test true = Yes refl
+test false = No refl
+
+pub differ : {b : Bool} → b ≡ true → b ≡ false → ⊥
+differ e f = cc
+
+pub both-left : (a b : Bool) → a && b ≡ true → a ≡ true
+both-left true b e = refl
+both-left false b e = absurd cc
+
+pub both-right : (a b : Bool) → a && b ≡ true → b ≡ true
+both-right true b e = e
+both-right false b e = absurd cc
+
+pub either-left : (a b : Bool) → a ≡ true → a || b ≡ true
+either-left true b e = refl
+either-left false b e = absurd cc
+
+pub either-right : (a b : Bool) → b ≡ true → a || b ≡ true
+either-right true b e = refl
+either-right false b e = e
+
+pub not-true : (b : Bool) → (b ≡ true → ⊥) → b ≡ false
+not-true true n = absurd (n refl)
+not-true false n = refl
+
+pub not-now : (b : Bool) → not b ≡ true → b ≡ true → ⊥
+not-now true e f = absurd cc
+not-now false e f = absurd cc

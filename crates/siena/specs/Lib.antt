@@ -1,0 +1,10 @@
+pub mod Bytes
+pub mod Document
+pub mod Flooding
+pub mod Headline
+pub mod Net
+pub mod Output
+pub mod Server
+pub mod Status
+pub mod Text
+pub mod Walk
