@@ -1,5 +1,5 @@
 -- Ints of a command line: std reads them, exactly where they are within i64.
-use Rattle.std.proofs.Common.{◌≡◌, ◌<◌, ◌-◌, ℕ, zero, suc, ℤ, Bool, true, false, cond, refl, sym, ap, subst, ◌∙◌, arith, List, [], ◌∷◌, length, drop, FitsSigned, rules}
+use Rattle.std.proofs.Common.{◌≡◌, ◌<◌, ◌-◌, ℕ, zero, suc, ℤ, Bool, true, false, cond, refl, sym, ap, subst, ◌∙◌, arith, List, [], ◌∷◌, length, drop, FitsSigned, to_z, of_z, rules}
 use Rattle.std.specs.Prelude.{Some, None, pos, negsuc, nat_le, nat_lt, ◌&&◌, ◌==◌, slice_index}
 use Rattle.std.specs.declared.option.Option.{Option}
 use Rattle.std.specs.declared.result.Result.{Result}
@@ -10,6 +10,7 @@ use Rattle.std.specs.Char.{digit_value}
 use Rattle.std.specs.Str.{IsAscii, IsUtf8}
 use Rattle.std.specs.Str.Parse.{AllDigits, IsNumeral, ParsesSigned, without_leading_sign, signed_digits_value}
 use Rattle.std.proofs.lemmas.Str.{IsUtf8-from_ascii}
+use Rattle.std.proofs.lemmas.Int.{to_z-of_z}
 use Rattle.std.proofs.lemmas.Bool.Decides.{nat_tests}
 use Rattle.ev_values.specs.declared.value.Value.TheVariants as values
 use Rattle.ev_notice.proofs.Lists.{both}
@@ -69,12 +70,13 @@ numeral w e =
     let a : nat_lt 0 (length (without_leading_sign w)) ≡ true = d.0 in
     (grind (arith, nat_tests), all_digits (without_leading_sign w) d.1)
 
-pub parsed_given : {E : Type 0} (w text : List ℕ) (z : ℤ) (r : Result ℤ E) → are_digits (without_leading_sign w) ≡ true → text ≡ w → ParsesSigned w64 10 text r → r ≡ Ok z → Some (Fit (values.Int z)) ≡ int_given w
+pub parsed_given : {E : Type 0} (w text : List ℕ) (z : ℤ) (r : Result ℤ E) → are_digits (without_leading_sign w) ≡ true → text ≡ w → ParsesSigned w64 10 text r → r ≡ Ok z → Some (Fit (values.Int (to_z w64 (of_z w64 z)))) ≡ int_given w
 unfolding int_given
 parsed_given {E = E} w text z r e same h ok =
-    let k : ParsesSigned w64 10 w (Ok z) = subst (λ (x : Result ℤ E). ParsesSigned w64 10 w x) ok (subst (λ (x : List ℕ). ParsesSigned w64 10 x r) same h) in
+    let k : ParsesSigned {E = E} w64 10 w (Ok z) = subst (λ (x : Result ℤ E). ParsesSigned w64 10 w x) ok (subst (λ (x : List ℕ). ParsesSigned w64 10 x r) same h) in
     let fits : fits_i64 (signed_digits_value 10 w) ≡ true = fits_told (signed_digits_value 10 w) k.0.1 in
-    rw (e, fits, k.1) refl
+    let back : to_z w64 (of_z w64 z) ≡ signed_digits_value 10 w = to_z-of_z w64 z (subst (FitsSigned w64) (sym k.1) k.0.1) ∙ k.1 in
+    rw (e, fits, back) refl
 
 pub wide_given : {E : Type 0} (w text : List ℕ) (f : E) (r : Result ℤ E) → are_digits (without_leading_sign w) ≡ true → text ≡ w → ParsesSigned w64 10 text r → r ≡ Err f → Some Wide ≡ int_given w
 unfolding int_given

@@ -1,5 +1,5 @@
 -- Tokens one after the other are the tokens of the line.
-use Rattle.std.proofs.Common.{◌≡◌, ◌≤◌, ◌<◌, ◌+◌, ℕ, zero, suc, Bool, true, false, cond, refl, sym, ap, subst, ◌∙◌, arith, List, [], ◌∷◌, ◌++◌, length}
+use Rattle.std.proofs.Common.{◌≡◌, ◌≤◌, ◌<◌, ◌+◌, ℕ, zero, suc, Bool, true, false, cond, refl, sym, ap, subst, ◌∙◌, arith, List, [], ◌∷◌, ◌++◌, ◌-◌, length, take, drop, get_or}
 use Rattle.std.specs.Prelude.{Some, None, ◌==◌, ◌||◌}
 use Rattle.std.specs.declared.option.Option.{Option}
 use Rattle.ev_constraint.specs.declared.op.Op.TheVariants as ops
@@ -46,7 +46,7 @@ equals_short : (bytes : List ℕ) → length (equals_at bytes).1 ≤ length byte
 equals_short [] = omega arith
 equals_short (b ∷ rest) = go (b == 61)
   where
-    go : (p : Bool) → length (cond p (true, rest) (false, b ∷ rest)).1 ≤ length (b ∷ rest)
+    go : (p : Bool) → length (cond {A = Bool × List ℕ} p (true, rest) (false, b ∷ rest)).1 ≤ length (b ∷ rest)
     go true = omega arith
     go false = omega arith
 
@@ -90,11 +90,11 @@ enough zero m [] h k = sym (empty m)
 enough zero m (b ∷ rest) h k = absurd (omega arith)
 enough (suc n) zero [] h k = empty (suc n)
 enough (suc n) zero (b ∷ rest) h k = absurd (omega arith)
-enough (suc n) (suc m) bytes h k = go (skip bytes) (skip_short bytes)
+enough (suc n) (suc m) bytes h k = go (skip bytes) (skip_short bytes) (λ rest a b. enough n m rest a b)
   where
-    go : (left : List ℕ) → length left ≤ length bytes → cut_by (λ rest. tokens_in n rest) left ≡ cut_by (λ rest. tokens_in m rest) left
-    go [] l = refl
-    go (b ∷ rest) l = let s = token_short b rest in ap (λ (z : List Token). (token_at b rest).0 ∷ z) (enough n m (token_at b rest).1 (omega (arith, s, l, h)) (omega (arith, s, l, k)))
+    go : (left : List ℕ) → length left ≤ length bytes → ((rest : List ℕ) → length rest ≤ n → length rest ≤ m → tokens_in n rest ≡ tokens_in m rest) → cut_by (λ rest. tokens_in n rest) left ≡ cut_by (λ rest. tokens_in m rest) left
+    go [] l more = refl
+    go (b ∷ rest) l more = let s = token_short b rest in ap (λ (z : List Token). (token_at b rest).0 ∷ z) (more (token_at b rest).1 (omega (arith, s, l, h)) (omega (arith, s, l, k)))
 
 pub nothing_left : (bytes : List ℕ) → skip bytes ≡ [] → tokens bytes ≡ []
 unfolding tokens_in
@@ -113,3 +113,18 @@ cut_off (b ∷ rest) first after left t e c =
     let one : tokens (b ∷ rest) ≡ (token_at first after).0 ∷ tokens_in (length rest) (token_at first after).1 = ap (cut_by (λ rest'. tokens_in (length rest) rest')) e in
     let two : (token_at first after).0 ∷ tokens_in (length rest) (token_at first after).1 ≡ t ∷ tokens_in (length rest) left = ap (λ (z : Token × List ℕ). z.0 ∷ tokens_in (length rest) z.1) (sym c) in
     one ∙ two ∙ ap (λ (z : List Token). t ∷ z) (enough (length rest) (length left) left small (omega arith))
+
+pub at_end : (bytes left : List ℕ) → left ≡ skip bytes → length left < 1 → (tokens bytes ≡ []) × (tokens left ≡ [])
+at_end bytes [] e l = (nothing_left bytes (sym e), empty 0)
+at_end bytes (b ∷ left) e l = absurd (omega arith)
+
+take_all : (xs : List ℕ) → take (length xs) xs ≡ xs
+take_all [] = refl
+take_all (x ∷ xs) = ap (λ (z : List ℕ). x ∷ z) (take_all xs)
+
+pub first_and_rest : (xs : List ℕ) → 1 ≤ length xs → xs ≡ get_or xs 0 0 ∷ take (length xs - 1) (drop 1 xs)
+first_and_rest [] l = absurd (omega arith)
+first_and_rest (x ∷ xs) l = let e : length (x ∷ xs) - 1 ≡ length xs = omega arith in ap (λ (z : List ℕ). x ∷ z) (sym (ap (λ (n : ℕ). take n xs) e ∙ take_all xs))
+
+pub next_cut : (bytes left : List ℕ) (first : ℕ) (after more : List ℕ) (t : Token) → (t, more) ≡ token_at first after → left ≡ skip bytes → left ≡ first ∷ after → tokens bytes ≡ t ∷ tokens more
+next_cut bytes left first after more t c e f = cut_off bytes first after more t (sym e ∙ f) c

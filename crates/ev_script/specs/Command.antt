@@ -1,6 +1,7 @@
 -- What is wrong with a command line, and the command that it spells.
-use Rattle.std.specs.Prelude.{◌≡◌, ℕ, nat_lt, Bool, true, false, List, [], ◌∷◌, length, Some, None, IsPermutation, if◌then◌else◌}
+use Rattle.std.specs.Prelude.{◌≡◌, ℕ, nat_lt, Bool, true, false, List, [], ◌∷◌, length, Some, None, Ok, Err, IsPermutation, if◌then◌else◌}
 use Rattle.std.specs.declared.option.Option.{Option}
+use Rattle.std.specs.declared.result.Result.{Result}
 use Rattle.std.specs.Option.{is_some}
 use Rattle.std.specs.List.{list_any}
 use Rattle.ev_constraint.specs.Constraint.{ConstraintParts}
@@ -95,6 +96,13 @@ Spells (control verbs.Advertise parts) (commands.Advertise a) = a ≡ canonical 
 Spells (control verbs.Unadvertise parts) (commands.Unadvertise a) = a ≡ canonical (wholes parts)
 Spells (publish attributes) (commands.Publish n) = IsPermutation (fits attributes) n × AreRising n
 Spells form command = ⊥
+
+-- the answer to a form: its first fault, or the command that it spells; want of memory tells nothing
+abbrev pub Answers : Result Command ScriptFault → Option Form → Type 0
+Answers (Ok c) None = ⊥
+Answers (Ok c) (Some form) = (fault_in form ≡ None) × Spells form c
+Answers (Err faults.NoMemory) form = Unit {0}
+Answers (Err e) form = fault_of_form form ≡ Some e
 
 -- the command that a line spells
 abbrev pub IsCommandOf : List ℕ → Command → Type 0

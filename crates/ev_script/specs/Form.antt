@@ -114,6 +114,13 @@ pub data Form : Type 0 where
   control : Verb → List Part → Form
   publish : List (List ℕ × Given) → Form
 
+abbrev pub control_in : ℕ → Verb → List Token → Option Form
+control_in n v ts = parts_in constraint_in n [] ts >>= λ p. Some (control v p)
+
+abbrev pub publish_in : ℕ → List Token → Option Form
+publish_in n ts = parts_in attribute_in n [] ts >>= λ p. Some (publish p)
+
+-- what follows the first word
 abbrev pub form_in : ℕ → Verb → List Token → Option Form
-form_in n verbs.Publish ts = parts_in attribute_in n [] ts >>= λ p. Some (publish p)
-form_in n v ts = parts_in constraint_in n [] ts >>= λ p. Some (control v p)
+form_in n verbs.Publish ts = publish_in n ts
+form_in n v ts = control_in n v ts

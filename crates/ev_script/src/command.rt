@@ -1,10 +1,13 @@
 //! The command of a line.
-ghost use Rattle.std.specs.Prelude.{◌≡◌, ◌<◌, length, Some, IfOk, IsErrOf, IsPermutation};
+ghost use Rattle.std.specs.Prelude.{◌≡◌, ◌≢◌, ◌<◌, length, Some, IfOk, IsErrOf, IsPermutation};
+ghost use Rattle.std.specs.List.{list_any};
 ghost use Rattle.ev_notice.specs.Canonical.{canonical};
 ghost use Rattle.ev_notice.specs.Notice.{AreRising};
 ghost use Rattle.ev_script.specs.declared.form.Verb.{Verb};
+ghost use Rattle.ev_script.specs.Tokens.{tokens};
+ghost use Rattle.ev_script.specs.Form.{control_in, publish_in};
 ghost use Rattle.ev_script.specs.Form.Form.{control, publish};
-ghost use Rattle.ev_script.specs.Command.{IsCommandOf, Spells, control_fault, fault_in, fits, is_beyond, is_empty, is_wide, publish_fault, script_fault, wholes};
+ghost use Rattle.ev_script.specs.Command.{Answers, IsCommandOf, Spells, control_fault, fault_in, fits, form_of, is_beyond, is_empty, is_wide, publish_fault, script_fault, wholes};
 ghost use Rattle.ev_script.specs.Reading.{Judges};
 
 use crate::fault::ScriptFault;
@@ -44,6 +47,24 @@ fn is_wide(attribute: &(Name, Given)) -> bool
     }
 }
 
+fn some_beyond(parts: &[Part]) -> bool
+    ensures { result ≡ list_any is_beyond parts.now }
+{
+    parts.iter().any(|part| is_beyond(part))
+}
+
+fn some_empty(parts: &[Part]) -> bool
+    ensures { result ≡ list_any is_empty parts.now }
+{
+    parts.iter().any(|part| is_empty(part))
+}
+
+fn some_wide(attributes: &[(Name, Given)]) -> bool
+    ensures { result ≡ list_any is_wide attributes.now }
+{
+    attributes.iter().any(|attribute| is_wide(attribute))
+}
+
 // The constraints among the parts.
 fn wholes(alloc: Global, parts: Vec<Part>) -> Result<Vec<Constraint>, NoMemory>
     ensures { IfOk result (λ v. v.items ≡ wholes parts.items) }
@@ -73,15 +94,15 @@ fn fits(alloc: Global, attributes: Vec<(Name, Given)>) -> Result<Vec<(Name, Valu
     Ok(read)
 }
 
-#[tactic(auto, unfolding(crate::specs::Command::control_fault), using(crate::proofs::CommandLaws::some_whole))]
+#[tactic(auto, using(crate::proofs::CommandLaws::control_beyond))]
 fn filter_of(alloc: Global, parts: Vec<Part>) -> Result<Filter, ScriptFault>
     requires { 0 < length parts.items }
     ensures { Judges (λ f. f ≡ canonical (wholes parts.items)) result (control_fault 16 parts.items) }
 {
-    if parts.iter().any(|part| is_beyond(part)) {
+    if some_beyond(&parts) {
         return Err(ScriptFault::Value);
     }
-    if parts.iter().any(|part| is_empty(part)) {
+    if some_empty(&parts) {
         return Err(ScriptFault::Operand);
     }
     match Filter::make(wholes(alloc, parts)?) {
@@ -92,15 +113,15 @@ fn filter_of(alloc: Global, parts: Vec<Part>) -> Result<Filter, ScriptFault>
     }
 }
 
-#[tactic(auto, unfolding(crate::specs::Command::control_fault), using(crate::proofs::CommandLaws::some_whole))]
+#[tactic(auto, using(crate::proofs::CommandLaws::control_beyond))]
 fn advert_of(alloc: Global, parts: Vec<Part>) -> Result<Advert, ScriptFault>
     requires { 0 < length parts.items }
     ensures { Judges (λ a. a ≡ canonical (wholes parts.items)) result (control_fault 64 parts.items) }
 {
-    if parts.iter().any(|part| is_beyond(part)) {
+    if some_beyond(&parts) {
         return Err(ScriptFault::Value);
     }
-    if parts.iter().any(|part| is_empty(part)) {
+    if some_empty(&parts) {
         return Err(ScriptFault::Operand);
     }
     match Advert::make(wholes(alloc, parts)?) {
@@ -111,12 +132,12 @@ fn advert_of(alloc: Global, parts: Vec<Part>) -> Result<Advert, ScriptFault>
     }
 }
 
-#[tactic(auto, unfolding(crate::specs::Command::publish_fault), using(crate::proofs::CommandLaws::some_fits))]
+#[tactic(auto, using(crate::proofs::CommandLaws::publish_wide))]
 fn notice_of(alloc: Global, attributes: Vec<(Name, Given)>) -> Result<Notice, ScriptFault>
     requires { 0 < length attributes.items }
     ensures { Judges (λ n. IsPermutation (fits attributes.items) n × AreRising n) result (publish_fault attributes.items) }
 {
-    if attributes.iter().any(|attribute| is_wide(attribute)) {
+    if some_wide(&attributes) {
         return Err(ScriptFault::Value);
     }
     match Notice::make(fits(alloc, attributes)?) {
@@ -143,10 +164,46 @@ fn control(alloc: Global, verb: Verb, parts: Vec<Part>) -> Result<Command, Scrip
     }
 }
 
+// The command of what follows the first word.
+fn control_command(
+    alloc: Global,
+    verb: Verb,
+    mut left: Tokens<'_>,
+    most: usize,
+) -> Result<Command, ScriptFault>
+    requires { verb ≢ Verb.Publish }
+    ensures { Answers result (control_in most verb (tokens left.entry.rest.now)) }
+{
+    let parts = left.constraints(alloc, most)?;
+    control(alloc, verb, parts)
+}
+
+fn publish_command(alloc: Global, mut left: Tokens<'_>, most: usize) -> Result<Command, ScriptFault>
+    ensures { Answers result (publish_in most (tokens left.entry.rest.now)) }
+{
+    let attributes = left.attributes(alloc, most)?;
+    let notice = notice_of(alloc, attributes)?;
+    Ok(Command::Publish(notice))
+}
+
+#[tactic(auto, unfolding(crate::specs::Command::form_of))]
+fn answered(alloc: Global, line: &[u8]) -> Result<Command, ScriptFault>
+    ensures { Answers result (form_of line.now) }
+{
+    let mut tokens = Tokens::new(line);
+    let verb = tokens.verb(alloc)?;
+    match verb {
+        Verb::Publish => publish_command(alloc, tokens, line.len()),
+        Verb::Subscribe => control_command(alloc, verb, tokens, line.len()),
+        Verb::Unsubscribe => control_command(alloc, verb, tokens, line.len()),
+        Verb::Advertise => control_command(alloc, verb, tokens, line.len()),
+        Verb::Unadvertise => control_command(alloc, verb, tokens, line.len()),
+    }
+}
+
 /// The command that a line of a script spells, without its line end. Spaces and tabs between tokens may be missing where
 /// the cut is clear, parts stand in any order, and equal constraints count once. A fault is the first, over the whole
 /// line, in the order of `ScriptFault`.
-#[tactic(auto, unfolding(crate::specs::Command::form_of))]
 pub fn script_command(alloc: Global, line: &[u8]) -> Result<Command, ScriptFault>
     ensures command { IfOk result (λ c. IsCommandOf line.now c) }
     ensures syntax { IsErrOf result ScriptFault.Syntax → script_fault line.now ≡ Some ScriptFault.Syntax }
@@ -155,15 +212,5 @@ pub fn script_command(alloc: Global, line: &[u8]) -> Result<Command, ScriptFault
     ensures count { IsErrOf result ScriptFault.Count → script_fault line.now ≡ Some ScriptFault.Count }
     ensures repeat { IsErrOf result ScriptFault.Repeat → script_fault line.now ≡ Some ScriptFault.Repeat }
 {
-    let mut tokens = Tokens::new(line);
-    match tokens.verb(alloc)? {
-        Verb::Publish => {
-            let attributes = tokens.attributes(alloc, line.len())?;
-            Ok(Command::Publish(notice_of(alloc, attributes)?))
-        }
-        verb => {
-            let parts = tokens.constraints(alloc, line.len())?;
-            control(alloc, verb, parts)
-        }
-    }
+    answered(alloc, line)
 }

@@ -75,7 +75,11 @@ fn part_of(name: Name, kind: Kind, op: Op, operand: Option<Given>) -> Option<Par
     let operand = match operand {
         None => None,
         Some(Given::Fit(value)) => Some(value),
-        Some(Given::Wide) => return if has_op(kind, op) { Some(Part::Beyond) } else { None },
+        Some(Given::Wide) => return if has_op(kind, op) {
+            Some(Part::Beyond)
+        } else {
+            None
+        },
     };
     match Constraint::make(name, kind, op, operand) {
         Ok(constraint) => Some(Part::Whole(constraint)),
@@ -209,7 +213,8 @@ impl<'a> Tokens<'a> {
         for _ in 0..most {
             let part = self.constraint(alloc)?;
             read.push(part)?;
-            if !self.more(alloc)? {
+            let more = self.more(alloc)?;
+            if !more {
                 return Ok(read);
             }
         }
@@ -217,7 +222,11 @@ impl<'a> Tokens<'a> {
     }
 
     /// The parts of a publish command, up to the end of the line.
-    pub fn attributes(&mut self, alloc: Global, most: usize) -> Result<Vec<(Name, Given)>, ScriptFault>
+    pub fn attributes(
+        &mut self,
+        alloc: Global,
+        most: usize,
+    ) -> Result<Vec<(Name, Given)>, ScriptFault>
         ensures parts { Gives (λ v. v.items) result (parts_in attribute_in most [] (tokens self.old.rest.now)) }
         ensures some { IfOk result (λ v. 0 < length v.items) }
     {
@@ -225,7 +234,8 @@ impl<'a> Tokens<'a> {
         for _ in 0..most {
             let attribute = self.attribute(alloc)?;
             read.push(attribute)?;
-            if !self.more(alloc)? {
+            let more = self.more(alloc)?;
+            if !more {
                 return Ok(read);
             }
         }

@@ -1,5 +1,6 @@
 //! Ints of a command line.
-ghost use Rattle.std.specs.Prelude.{◌≡◌};
+ghost use Rattle.std.specs.Prelude.{◌≡◌, true};
+ghost use Rattle.std.specs.List.{list_all};
 ghost use Rattle.std.specs.Str.Parse.{without_leading_sign};
 ghost use Rattle.ev_script.specs.Form.{are_digits, int_given, is_digit};
 
@@ -12,10 +13,16 @@ fn is_digit(b: u8) -> bool
     b >= b'0' && b <= b'9'
 }
 
+fn all_digits(bytes: &[u8]) -> bool
+    ensures { result ≡ list_all is_digit bytes.now }
+{
+    bytes.iter().all(|b| is_digit(*b))
+}
+
 fn are_digits(bytes: &[u8]) -> bool
     ensures { result ≡ are_digits bytes.now }
 {
-    !bytes.is_empty() && bytes.iter().all(|b| is_digit(*b))
+    bytes.len() > 0 && all_digits(bytes)
 }
 
 fn without_sign(word: &[u8]) -> &[u8]

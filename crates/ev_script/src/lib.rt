@@ -5,10 +5,9 @@ mod command;
 mod fault;
 mod form;
 mod int;
-mod tokens;
-
 #[cfg(test)]
 mod tests;
+mod tokens;
 
 pub use command::script_command;
 pub use fault::ScriptFault;

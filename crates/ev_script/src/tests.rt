@@ -29,11 +29,26 @@ fn commands(rt: HostRuntime) -> Result<(), Fail> {
         (b"publish  b int +07 ;a bool true", b"a bool true; b int 7"),
         (b"publish x int -0", b"x int 0"),
         (b"publish s str\"a\tb\"", b"s str \"a\\tb\""),
-        (b"publish s str \"a\\\"\\\\\\n\\tb\"", b"s str \"a\\\"\\\\\\n\\tb\""),
-        (b"publish x int 9223372036854775807;y int -9223372036854775808", b"x int 9223372036854775807; y int -9223372036854775808"),
-        (b"\t subscribe x int any;x int!=3 ; x int any", b"x int != 3; x int any"),
-        (b"advertise s str prefix\"a\";s bool any", b"s bool any; s str prefix \"a\""),
-        (b"unadvertise x int<=1;x int<1;x int=1", b"x int < 1; x int <= 1; x int = 1"),
+        (
+            b"publish s str \"a\\\"\\\\\\n\\tb\"",
+            b"s str \"a\\\"\\\\\\n\\tb\"",
+        ),
+        (
+            b"publish x int 9223372036854775807;y int -9223372036854775808",
+            b"x int 9223372036854775807; y int -9223372036854775808",
+        ),
+        (
+            b"\t subscribe x int any;x int!=3 ; x int any",
+            b"x int != 3; x int any",
+        ),
+        (
+            b"advertise s str prefix\"a\";s bool any",
+            b"s bool any; s str prefix \"a\"",
+        ),
+        (
+            b"unadvertise x int<=1;x int<1;x int=1",
+            b"x int < 1; x int <= 1; x int = 1",
+        ),
     ] {
         let command = script_command(alloc, line)?;
         assert_eq!(rt; carried(alloc, &command)?.as_slice(), text, "at {line:?}");
@@ -65,11 +80,20 @@ fn faults(rt: HostRuntime) {
         (b"publish s str \"a\rb\"", ScriptFault::Syntax),
         (b"publish s str \"\xC3\"", ScriptFault::Syntax),
         (b"publish x int 9223372036854775808", ScriptFault::Value),
-        (b"publish x int -9223372036854775809;x int 1", ScriptFault::Value),
+        (
+            b"publish x int -9223372036854775809;x int 1",
+            ScriptFault::Value,
+        ),
         (b"publish x int 9223372036854775808;y", ScriptFault::Syntax),
-        (b"subscribe x int prefix 9223372036854775808", ScriptFault::Syntax),
+        (
+            b"subscribe x int prefix 9223372036854775808",
+            ScriptFault::Syntax,
+        ),
         (b"subscribe s str prefix\"\"", ScriptFault::Operand),
-        (b"subscribe s str suffix\"\";x int=9223372036854775808", ScriptFault::Value),
+        (
+            b"subscribe s str suffix\"\";x int=9223372036854775808",
+            ScriptFault::Value,
+        ),
         (b"publish x int 1;x int 2", ScriptFault::Repeat),
     ] {
         assert_eq!(rt; fault(rt.alloc(), line), Some(told), "at {line:?}");
@@ -103,13 +127,37 @@ fn marks(alloc: Global, count: usize) -> Result<Vec<u8>, Fail> {
 fn limits(rt: HostRuntime) -> Result<(), Fail> {
     let alloc = rt.alloc();
     assert_eq!(rt; fault(alloc, &marks(alloc, 1024)?), None);
-    assert_eq!(rt; fault(alloc, &marks(alloc, 1025)?), Some(ScriptFault::Value));
-    assert_eq!(rt; fault(alloc, &parts(alloc, b"publish", 64, false, b" int 1")?), None);
-    assert_eq!(rt; fault(alloc, &parts(alloc, b"publish", 65, true, b" int 1")?), Some(ScriptFault::Count));
-    assert_eq!(rt; fault(alloc, &parts(alloc, b"subscribe", 16, false, b" int any")?), None);
-    assert_eq!(rt; fault(alloc, &parts(alloc, b"subscribe", 17, false, b" int any")?), Some(ScriptFault::Count));
-    assert_eq!(rt; fault(alloc, &parts(alloc, b"subscribe", 17, true, b" int any")?), None);
-    assert_eq!(rt; fault(alloc, &parts(alloc, b"advertise", 64, false, b" int any")?), None);
-    assert_eq!(rt; fault(alloc, &parts(alloc, b"advertise", 65, false, b" int any")?), Some(ScriptFault::Count));
+    assert_eq!(rt;
+        fault(alloc, &marks(alloc, 1025)?),
+        Some(ScriptFault::Value)
+    );
+    assert_eq!(rt;
+        fault(alloc, &parts(alloc, b"publish", 64, false, b" int 1")?),
+        None
+    );
+    assert_eq!(rt;
+        fault(alloc, &parts(alloc, b"publish", 65, true, b" int 1")?),
+        Some(ScriptFault::Count)
+    );
+    assert_eq!(rt;
+        fault(alloc, &parts(alloc, b"subscribe", 16, false, b" int any")?),
+        None
+    );
+    assert_eq!(rt;
+        fault(alloc, &parts(alloc, b"subscribe", 17, false, b" int any")?),
+        Some(ScriptFault::Count)
+    );
+    assert_eq!(rt;
+        fault(alloc, &parts(alloc, b"subscribe", 17, true, b" int any")?),
+        None
+    );
+    assert_eq!(rt;
+        fault(alloc, &parts(alloc, b"advertise", 64, false, b" int any")?),
+        None
+    );
+    assert_eq!(rt;
+        fault(alloc, &parts(alloc, b"advertise", 65, false, b" int any")?),
+        Some(ScriptFault::Count)
+    );
     Ok(())
 }

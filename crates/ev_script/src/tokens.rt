@@ -1,5 +1,6 @@
 //! A command line cut into tokens.
 ghost use Rattle.std.specs.Prelude.{◌≡◌, ◌∷◌, [], false, IfOk, Some, None};
+ghost use Rattle.std.specs.List.{list_all};
 ghost use Rattle.std.specs.Str.{is_utf8};
 ghost use Rattle.ev_values.specs.Text.{is_open_byte};
 ghost use Rattle.ev_script.specs.Tokens.{equals_at, is_string, is_word_byte, quoted_at, run_at, skip, string_seen, string_token, token_at, tokens};
@@ -62,10 +63,16 @@ fn is_utf8(bytes: &[u8]) -> bool
     }
 }
 
+fn all_open(bytes: &[u8]) -> bool
+    ensures { result ≡ list_all is_open_byte bytes.now }
+{
+    bytes.iter().all(|b| is_open(*b))
+}
+
 fn is_string(bytes: &[u8]) -> bool
     ensures { result ≡ is_string bytes.now }
 {
-    is_utf8(bytes) && bytes.iter().all(|b| is_open(*b))
+    is_utf8(bytes) && all_open(bytes)
 }
 
 // The token of a string's decoded bytes.
@@ -188,13 +195,16 @@ impl<'a> Tokens<'a> {
             b'=' => Ok(Token::Sign(Op::Eq)),
             b'<' => Ok(Token::Sign(if self.equals() { Op::Le } else { Op::Lt })),
             b'>' => Ok(Token::Sign(if self.equals() { Op::Ge } else { Op::Gt })),
-            b'!' => Ok(if self.equals() { Token::Sign(Op::Ne) } else { Token::Bad }),
+            b'!' => Ok(if self.equals() {
+                Token::Sign(Op::Ne)
+            } else {
+                Token::Bad
+            }),
             _ => Ok(Token::Bad),
         }
     }
 
     /// The next token; `None` at the end of the line.
-    #[tactic(auto, using(crate::proofs::TokenLaws::nothing_left, crate::proofs::TokenLaws::cut_off))]
     pub fn next(&mut self, alloc: Global) -> Result<Option<Token<'a>>, NoMemory>
         ensures { Nexts result (tokens self.old.rest.now) (tokens self.new.rest.now) }
     {
