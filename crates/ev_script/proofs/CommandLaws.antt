@@ -1,14 +1,13 @@
 -- The first fault of a command's parts.
-use Rattle.std.proofs.Common.{◌≡◌, ◌<◌, ◌≤◌, ℕ, Bool, true, false, refl, sym, arith, List, [], ◌∷◌, length}
+use Rattle.std.proofs.Common.{◌≡◌, ◌<◌, ◌≤◌, ℕ, true, false, refl, arith, List, [], ◌∷◌, length}
 use Rattle.std.specs.Prelude.{Some, None, nat_lt}
 use Rattle.std.specs.declared.option.Option.{Option}
 use Rattle.std.specs.declared.result.Result.{Result}
 use Rattle.std.specs.declared.result.Result.TheVariants.{Ok, Err}
 use Rattle.std.specs.List.{list_any}
 use Rattle.std.proofs.lemmas.Bool.Decides.{nat_tests}
-use Rattle.ev_constraint.specs.Constraint.{ConstraintParts}
 use Rattle.ev_notice.specs.Canonical.{canonical}
-use Rattle.ev_notice.specs.Notice.{Attribute, first_twice}
+use Rattle.ev_notice.specs.Notice.{first_twice}
 use Rattle.ev_wire.specs.declared.command.Command.{Command}
 use Rattle.ev_script.specs.declared.fault.ScriptFault.{ScriptFault}
 use Rattle.ev_script.specs.declared.fault.ScriptFault.TheVariants as faults

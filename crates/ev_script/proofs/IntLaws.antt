@@ -1,7 +1,6 @@
 -- Ints of a command line: std reads them, exactly where they are within i64.
-use Rattle.std.proofs.Common.{◌≡◌, ◌<◌, ◌-◌, ℕ, zero, suc, ℤ, Bool, true, false, cond, refl, sym, ap, subst, ◌∙◌, arith, List, [], ◌∷◌, length, drop, FitsSigned, to_z, of_z, rules}
-use Rattle.std.specs.Prelude.{Some, None, pos, negsuc, nat_le, nat_lt, ◌&&◌, ◌==◌, slice_index}
-use Rattle.std.specs.declared.option.Option.{Option}
+use Rattle.std.proofs.Common.{◌≡◌, ◌<◌, ◌-◌, ℕ, zero, suc, ℤ, Bool, true, false, cond, refl, sym, subst, ◌∙◌, arith, List, [], ◌∷◌, length, drop, FitsSigned, to_z, of_z}
+use Rattle.std.specs.Prelude.{Some, nat_le, nat_lt, ◌==◌}
 use Rattle.std.specs.declared.result.Result.{Result}
 use Rattle.std.specs.declared.result.Result.TheVariants.{Ok, Err}
 use Rattle.std.specs.Int.{w64}
@@ -16,7 +15,6 @@ use Rattle.ev_values.specs.declared.value.Value.TheVariants as values
 use Rattle.ev_notice.proofs.Lists.{both}
 use Rattle.ev_wire.specs.Words.{fits_i64}
 use Rattle.ev_wire.proofs.IntLaws.{fits_told, fits_tells}
-use Rattle.ev_script.specs.declared.form.Given.{Given}
 use Rattle.ev_script.specs.declared.form.Given.TheVariants.{Fit, Wide}
 use Rattle.ev_script.specs.Form.{is_digit, are_digits, int_given}
 

@@ -1,13 +1,12 @@
 -- Tokens one after the other are the tokens of the line.
-use Rattle.std.proofs.Common.{◌≡◌, ◌≤◌, ◌<◌, ◌+◌, ℕ, zero, suc, Bool, true, false, cond, refl, sym, ap, subst, ◌∙◌, arith, List, [], ◌∷◌, ◌++◌, ◌-◌, length, take, drop, get_or}
+use Rattle.std.proofs.Common.{◌≡◌, ◌≤◌, ◌<◌, ℕ, zero, suc, Bool, true, false, cond, refl, sym, ap, ◌∙◌, arith, List, [], ◌∷◌, ◌++◌, ◌-◌, length, take, drop, get_or}
 use Rattle.std.specs.Prelude.{Some, None, ◌==◌, ◌||◌}
 use Rattle.std.specs.declared.option.Option.{Option}
 use Rattle.ev_constraint.specs.declared.op.Op.TheVariants as ops
-use Rattle.ev_wire.specs.Reading.{◌>>=◌}
 use Rattle.ev_wire.specs.Values.{plain}
 use Rattle.ev_wire.proofs.Options.{bind_some, pair_in, none_not}
-use Rattle.ev_script.specs.Tokens.{Token, is_word_byte, run_at, quoted_at, string_seen, string_token, equals_at, sign_token, token_at, skip, cut_by, tokens_in, tokens}
-use Rattle.ev_script.specs.Tokens.Token.{word, sign, string, long, semicolon, bad}
+use Rattle.ev_script.specs.Tokens.{Token, is_word_byte, run_at, quoted_at, string_token, equals_at, sign_token, token_at, skip, cut_by, tokens_in, tokens}
+use Rattle.ev_script.specs.Tokens.Token.{sign, bad}
 
 run_short : (read bytes : List ℕ) → length (run_at read bytes).1 ≤ length bytes
 run_short read [] = omega arith

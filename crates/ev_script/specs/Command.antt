@@ -26,10 +26,12 @@ use Rattle.ev_script.specs.Form.Form.{control, publish}
 unfoldable pub form_of : List ℕ → Option Form
 form_of line = verb_in (tokens line) >>= λ v. form_in (length line) v.0 v.1
 
+-- the operand is beyond the limits
 abbrev pub is_beyond : Part → Bool
 is_beyond Beyond = true
 is_beyond part = false
 
+-- a pattern has an empty operand
 abbrev pub is_empty : Part → Bool
 is_empty Empty = true
 is_empty part = false
@@ -40,6 +42,7 @@ wholes [] = []
 wholes (Whole c ∷ parts) = c ∷ wholes parts
 wholes (part ∷ parts) = wholes parts
 
+-- the value is beyond the limits
 abbrev pub is_wide : List ℕ × Given → Bool
 is_wide (name, Wide) = true
 is_wide (name, Fit v) = false
@@ -76,10 +79,12 @@ publish_fault attributes =
     else if has_twice (fits attributes) then Some faults.Repeat
     else None
 
+-- the first fault of a form
 abbrev pub fault_in : Form → Option ScriptFault
 fault_in (control v parts) = control_fault (most v) parts
 fault_in (publish attributes) = publish_fault attributes
 
+-- a line without a form is at fault by that
 abbrev pub fault_of_form : Option Form → Option ScriptFault
 fault_of_form None = Some faults.Syntax
 fault_of_form (Some form) = fault_in form

@@ -1,5 +1,5 @@
 -- The form of a command over its tokens.
-use Rattle.std.specs.Prelude.{◌&&◌, ◌++◌, ℕ, ℤ, zero, suc, nat_le, nat_lt, Bool, true, false, List, [], ◌∷◌, length, Some, None, codes, if◌then◌else◌}
+use Rattle.std.specs.Prelude.{◌&&◌, ◌++◌, ℕ, zero, suc, nat_le, nat_lt, Bool, true, false, List, [], ◌∷◌, length, Some, None, codes, if◌then◌else◌}
 use Rattle.std.specs.declared.option.Option.{Option}
 use Rattle.std.specs.List.{list_all}
 use Rattle.std.specs.Str.{bytes_eq}
@@ -25,11 +25,13 @@ use Rattle.ev_script.specs.declared.form.Part.TheVariants.{Whole, Beyond, Empty}
 use Rattle.ev_script.specs.declared.form.Verb.{Verb}
 use Rattle.ev_script.specs.declared.form.Verb.TheVariants as verbs
 use Rattle.ev_script.specs.Tokens.{Token}
-use Rattle.ev_script.specs.Tokens.Token.{word, sign, string, long, semicolon, bad}
+use Rattle.ev_script.specs.Tokens.Token.{word, sign, string, long, semicolon}
 
+-- a decimal digit of ASCII
 abbrev pub is_digit : ℕ → Bool
 is_digit b = nat_le 48 b && nat_le b 57
 
+-- one digit or more, and nothing else
 abbrev pub are_digits : List ℕ → Bool
 are_digits ds = nat_lt 0 (length ds) && list_all is_digit ds
 
@@ -40,6 +42,7 @@ int_given w =
     then Some (if fits_i64 (signed_digits_value 10 w) then Fit (values.Int (signed_digits_value 10 w)) else Wide)
     else None
 
+-- a word
 abbrev pub word_in : List Token → Option (List ℕ × List Token)
 word_in (word w ∷ ts) = Some (w, ts)
 word_in ts = None
@@ -67,6 +70,7 @@ abbrev pub operand_in : Kind → Op → List Token → Option (Option Given × L
 operand_in kind ops.Any ts = Some (None, ts)
 operand_in kind op ts = given_in kind ts >>= λ g. Some (Some g.0, g.1)
 
+-- a constraint without a fault is whole; the one fault that is not of the form is an empty pattern
 abbrev pub judged : Option BadConstraint → ConstraintParts → Option Part
 judged None c = Some (Whole c)
 judged (Some EmptyPattern) c = Some Empty
@@ -97,6 +101,7 @@ unfoldable pub parts_in : {A : Type 0} → (List Token → Option (A × List Tok
 parts_in one zero read ts = None
 parts_in one (suc n) read ts = one ts >>= λ x. more_in x.1 >>= λ m. if m.0 then parts_in one n (read ++ x.0 ∷ []) m.1 else Some (read ++ x.0 ∷ [])
 
+-- the first word of a command
 abbrev pub verb_named : List ℕ → Option Verb
 verb_named w =
     if bytes_eq w (codes "subscribe") then Some verbs.Subscribe
@@ -106,6 +111,7 @@ verb_named w =
     else if bytes_eq w (codes "publish") then Some verbs.Publish
     else None
 
+-- that word in front
 abbrev pub verb_in : List Token → Option (Verb × List Token)
 verb_in ts = word_in ts >>= λ w. verb_named w.0 >>= λ v. Some (v, w.1)
 
@@ -114,9 +120,11 @@ pub data Form : Type 0 where
   control : Verb → List Part → Form
   publish : List (List ℕ × Given) → Form
 
+-- the parts of a control command
 abbrev pub control_in : ℕ → Verb → List Token → Option Form
 control_in n v ts = parts_in constraint_in n [] ts >>= λ p. Some (control v p)
 
+-- the parts of a publish command
 abbrev pub publish_in : ℕ → List Token → Option Form
 publish_in n ts = parts_in attribute_in n [] ts >>= λ p. Some (publish p)
 

@@ -8,6 +8,7 @@ use Rattle.ev_script.specs.declared.tokens.Token.{Token as Read}
 use Rattle.ev_script.specs.Tokens.{Token}
 use Rattle.ev_script.specs.Seen.{seen}
 
+-- a fault told while reading: want of memory tells nothing, and else nothing is there to be read
 abbrev pub Fails : {Y : Type 0} → ScriptFault → Option Y → Type 0
 Fails faults.NoMemory read = Unit {0}
 Fails faults.Syntax read = read ≡ None
@@ -28,11 +29,13 @@ abbrev pub Cuts : {E : Type 0} → Result Read E → Token × List ℕ → List 
 Cuts (Ok t) cut left = (seen t, left) ≡ cut
 Cuts (Err e) cut left = Unit {0}
 
+-- the token in front of the others is told, and at the end that there is none
 abbrev pub Nexts : {E : Type 0} → Result (Option Read) E → List Token → List Token → Type 0
 Nexts (Ok None) before after = (before ≡ []) × (after ≡ [])
 Nexts (Ok (Some t)) before after = before ≡ seen t ∷ after
 Nexts (Err e) before after = Unit {0}
 
+-- the decoded bytes of a string and what follows it are told, or that there is none
 abbrev pub Quotes : {E X : Type 0} → (X → List ℕ) → Result (Option X) E → Option (List ℕ × List ℕ) → List ℕ → List ℕ → Type 0
 Quotes view (Ok None) quoted before after = (quoted ≡ None) × (after ≡ before)
 Quotes view (Ok (Some x)) quoted before after = quoted ≡ Some (view x, after)

@@ -1,10 +1,10 @@
 -- The tokens of the code, as specifications see them.
-use Rattle.std.specs.Prelude.{ℕ, List}
 use Rattle.ev_script.specs.declared.tokens.Token.{Token as Read}
 use Rattle.ev_script.specs.declared.tokens.Token.TheVariants.{Word, Sign, Str, Long, Semicolon, Bad}
 use Rattle.ev_script.specs.Tokens.{Token}
 use Rattle.ev_script.specs.Tokens.Token.{word, sign, string, long, semicolon, bad}
 
+-- a token without the place of its bytes
 abbrev pub seen : Read → Token
 seen (Word w) = word w.now
 seen (Sign op) = sign op

@@ -47,6 +47,7 @@ is_string t = is_utf8 t && list_all is_open_byte t
 abbrev pub string_seen : List ℕ → Token
 string_seen t = if is_string t then (if nat_lt 1024 (length t) then long else string t) else bad
 
+-- the token of a string that was read, if it was closed, and what follows it
 abbrev pub string_token : Option (List ℕ × List ℕ) → List ℕ → Token × List ℕ
 string_token None rest = (bad, rest)
 string_token (Some x) rest = (string_seen x.0, x.1)

@@ -1,8 +1,8 @@
-use Rattle.std.proofs.Common.{◌≡◌, ◌<◌, ◌≤◌, ℕ, List, Some, true, false, length, sym, ap, subst, ◌∙◌}
+use Rattle.std.proofs.Common.{◌≡◌, ◌<◌, ◌≤◌, List, false, length, sym, ap, subst, ◌∙◌}
 use Rattle.std.specs.Prelude.{IsPermutation}
 use Rattle.std.specs.List.{list_any}
 use Rattle.ev_notice.specs.Notice.{Attribute, first_twice}
-use Rattle.ev_script.specs.Command.{is_wide, fits}
+use Rattle.ev_script.specs.Command.{is_wide}
 use Rattle.ev_script.proofs.CommandLaws.{some_fits, publish_many, publish_twice, publish_none}
 use Rattle.ev_script.proofs.command.notice_of.Goals as goal
 

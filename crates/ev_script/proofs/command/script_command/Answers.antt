@@ -1,7 +1,6 @@
-use Rattle.std.proofs.Common.{refl}
 use Rattle.ev_script.specs.declared.fault.ScriptFault.TheVariants as faults
 use Rattle.ev_script.specs.Command.{form_of}
-use Rattle.ev_script.proofs.CommandLaws.{command_told, fault_told}
+use Rattle.ev_script.proofs.CommandLaws.{fault_told}
 use Rattle.ev_script.proofs.command.script_command.Goals as goal
 
 pub returns-clause-syntax : goal.returns-clause-syntax
