@@ -1,0 +1,88 @@
+-- Ints of a command line: std reads them, exactly where they are within i64.
+use Rattle.std.proofs.Common.{◌≡◌, ◌<◌, ◌-◌, ℕ, zero, suc, ℤ, Bool, true, false, cond, refl, sym, subst, ◌∙◌, arith, List, [], ◌∷◌, length, drop, FitsSigned, to_z, of_z}
+use Rattle.std.specs.Prelude.{Some, nat_le, nat_lt, ◌==◌}
+use Rattle.std.specs.declared.result.Result.{Result}
+use Rattle.std.specs.declared.result.Result.TheVariants.{Ok, Err}
+use Rattle.std.specs.Int.{w64}
+use Rattle.std.specs.List.{list_all}
+use Rattle.std.specs.Char.{digit_value}
+use Rattle.std.specs.Str.{IsAscii, IsUtf8}
+use Rattle.std.specs.Str.Parse.{AllDigits, IsNumeral, ParsesSigned, without_leading_sign, signed_digits_value}
+use Rattle.std.proofs.lemmas.Str.{IsUtf8-from_ascii}
+use Rattle.std.proofs.lemmas.Int.{to_z-of_z}
+use Rattle.std.proofs.lemmas.Bool.Decides.{nat_tests}
+use Rattle.ev_values.specs.declared.value.Value.TheVariants as values
+use Rattle.ev_notice.proofs.Lists.{both}
+use Rattle.ev_wire.specs.Words.{fits_i64}
+use Rattle.ev_wire.proofs.IntLaws.{fits_told, fits_tells}
+use Rattle.ev_script.specs.declared.form.Given.TheVariants.{Fit, Wide}
+use Rattle.ev_script.specs.Form.{is_digit, are_digits, int_given}
+
+eq_of : (a b : ℕ) → (a == b) ≡ true → a ≡ b
+eq_of a b e = grind (arith, nat_tests)
+
+digit_small : (b : ℕ) → is_digit b ≡ true → b < 128
+digit_small b e = grind (arith, nat_tests)
+
+digit_is : (b : ℕ) → is_digit b ≡ true → digit_value b < 10
+digit_is b e =
+    let w = both (nat_le 48 b) (nat_le b 57) e in
+    let x : nat_le 48 b ≡ true = w.0 in
+    let y : nat_le b 57 ≡ true = w.1 in
+    let p : nat_lt b 48 ≡ false = grind (arith, nat_tests) in
+    let q : nat_lt b 58 ≡ true = grind (arith, nat_tests) in
+    let l : b < 58 = grind (arith, nat_tests) in
+    let v : digit_value b ≡ b - 48 = simp (p, q) in
+    omega (arith, v, l)
+
+all_digits : (ds : List ℕ) → list_all is_digit ds ≡ true → AllDigits 10 ds
+all_digits [] e = tt
+all_digits (b ∷ ds) e = let w = both (is_digit b) (list_all is_digit ds) e in (digit_is b w.0, all_digits ds w.1)
+
+ascii_cons : (b : ℕ) (rest : List ℕ) → b < 128 → IsAscii rest → IsAscii (b ∷ rest)
+ascii_cons b rest h k zero = h
+ascii_cons b rest h k (suc i) = k i
+
+ascii_none : IsAscii []
+ascii_none i = omega arith
+
+ascii_digits : (ds : List ℕ) → list_all is_digit ds ≡ true → IsAscii ds
+ascii_digits [] e = ascii_none
+ascii_digits (b ∷ ds) e = let w = both (is_digit b) (list_all is_digit ds) e in ascii_cons b ds (digit_small b w.0) (ascii_digits ds w.1)
+
+ascii_word : (w : List ℕ) → list_all is_digit (without_leading_sign w) ≡ true → IsAscii w
+ascii_word [] e = ascii_none
+ascii_word (b ∷ rest) e = go (b == 45) refl (b == 43) refl e
+  where
+    go : (p : Bool) → (b == 45) ≡ p → (q : Bool) → (b == 43) ≡ q → list_all is_digit (cond p rest (drop (cond q 1 0) (b ∷ rest))) ≡ true → IsAscii (b ∷ rest)
+    go true p q qe e = let n : b ≡ 45 = eq_of b 45 p in ascii_cons b rest (omega (arith, n)) (ascii_digits rest e)
+    go false p true qe e = let n : b ≡ 43 = eq_of b 43 qe in ascii_cons b rest (omega (arith, n)) (ascii_digits rest e)
+    go false p false qe e = ascii_digits (b ∷ rest) e
+
+pub word_utf8 : (w : List ℕ) → are_digits (without_leading_sign w) ≡ true → IsUtf8 w
+word_utf8 w e = IsUtf8-from_ascii w (ascii_word w (both (nat_lt 0 (length (without_leading_sign w))) (list_all is_digit (without_leading_sign w)) e).1)
+
+numeral : (w : List ℕ) → are_digits (without_leading_sign w) ≡ true → IsNumeral 10 (without_leading_sign w)
+numeral w e =
+    let d = both (nat_lt 0 (length (without_leading_sign w))) (list_all is_digit (without_leading_sign w)) e in
+    let a : nat_lt 0 (length (without_leading_sign w)) ≡ true = d.0 in
+    (grind (arith, nat_tests), all_digits (without_leading_sign w) d.1)
+
+pub parsed_given : {E : Type 0} (w text : List ℕ) (z : ℤ) (r : Result ℤ E) → are_digits (without_leading_sign w) ≡ true → text ≡ w → ParsesSigned w64 10 text r → r ≡ Ok z → Some (Fit (values.Int (to_z w64 (of_z w64 z)))) ≡ int_given w
+unfolding int_given
+parsed_given {E = E} w text z r e same h ok =
+    let k : ParsesSigned {E = E} w64 10 w (Ok z) = subst (λ (x : Result ℤ E). ParsesSigned w64 10 w x) ok (subst (λ (x : List ℕ). ParsesSigned w64 10 x r) same h) in
+    let fits : fits_i64 (signed_digits_value 10 w) ≡ true = fits_told (signed_digits_value 10 w) k.0.1 in
+    let back : to_z w64 (of_z w64 z) ≡ signed_digits_value 10 w = to_z-of_z w64 z (subst (FitsSigned w64) (sym k.1) k.0.1) ∙ k.1 in
+    rw (e, fits, back) refl
+
+pub wide_given : {E : Type 0} (w text : List ℕ) (f : E) (r : Result ℤ E) → are_digits (without_leading_sign w) ≡ true → text ≡ w → ParsesSigned w64 10 text r → r ≡ Err f → Some Wide ≡ int_given w
+unfolding int_given
+wide_given {E = E} w text f r e same h err =
+    let k : ParsesSigned w64 10 w (Err f) = subst (λ (x : Result ℤ E). ParsesSigned w64 10 w x) err (subst (λ (x : List ℕ). ParsesSigned w64 10 x r) same h) in
+    let not_fits : fits_i64 (signed_digits_value 10 w) ≡ false = go (fits_i64 (signed_digits_value 10 w)) refl k in
+    rw (e, not_fits) refl
+  where
+    go : (b : Bool) → fits_i64 (signed_digits_value 10 w) ≡ b → (IsNumeral 10 (without_leading_sign w) × FitsSigned w64 (signed_digits_value 10 w) → ⊥) → b ≡ false
+    go true p k = absurd (k (numeral w e, fits_tells (signed_digits_value 10 w) p))
+    go false p k = refl

@@ -1,0 +1,4 @@
+pub mod TokenLaws
+pub mod IntLaws
+pub mod CommandLaws
+pub mod PartsLoop

@@ -1,0 +1,134 @@
+-- The form of a command over its tokens.
+use Rattle.std.specs.Prelude.{◌&&◌, ◌++◌, ℕ, zero, suc, nat_le, nat_lt, Bool, true, false, List, [], ◌∷◌, length, Some, None, codes, if◌then◌else◌}
+use Rattle.std.specs.declared.option.Option.{Option}
+use Rattle.std.specs.List.{list_all}
+use Rattle.std.specs.Str.{bytes_eq}
+use Rattle.std.specs.Str.Parse.{without_leading_sign, signed_digits_value}
+use Rattle.ev_values.specs.Name.{is_name}
+use Rattle.ev_values.specs.declared.value.Kind.{Kind}
+use Rattle.ev_values.specs.declared.value.Kind.TheVariants as kinds
+use Rattle.ev_values.specs.declared.value.Value.TheVariants as values
+use Rattle.ev_constraint.specs.declared.op.Op.{Op}
+use Rattle.ev_constraint.specs.declared.op.Op.TheVariants as ops
+use Rattle.ev_constraint.specs.declared.constraint.BadConstraint.{BadConstraint}
+use Rattle.ev_constraint.specs.declared.constraint.BadConstraint.TheVariants.{EmptyPattern}
+use Rattle.ev_constraint.specs.Constraint.{ConstraintParts}
+use Rattle.ev_constraint.specs.Faults.{fault_of, has_op}
+use Rattle.ev_wire.specs.Reading.{◌>>=◌}
+use Rattle.ev_wire.specs.Words.{kind_named, fits_i64}
+use Rattle.ev_wire.specs.Values.{truth_named}
+use Rattle.ev_wire.specs.Filters.{op_named}
+use Rattle.ev_script.specs.declared.form.Given.{Given}
+use Rattle.ev_script.specs.declared.form.Given.TheVariants.{Fit, Wide}
+use Rattle.ev_script.specs.declared.form.Part.{Part}
+use Rattle.ev_script.specs.declared.form.Part.TheVariants.{Whole, Beyond, Empty}
+use Rattle.ev_script.specs.declared.form.Verb.{Verb}
+use Rattle.ev_script.specs.declared.form.Verb.TheVariants as verbs
+use Rattle.ev_script.specs.Tokens.{Token}
+use Rattle.ev_script.specs.Tokens.Token.{word, sign, string, long, semicolon}
+
+-- a decimal digit of ASCII
+abbrev pub is_digit : ℕ → Bool
+is_digit b = nat_le 48 b && nat_le b 57
+
+-- one digit or more, and nothing else
+abbrev pub are_digits : List ℕ → Bool
+are_digits ds = nat_lt 0 (length ds) && list_all is_digit ds
+
+-- an int: perhaps `+` or `-`, and one or more digits; it is beyond the limits outside i64
+unfoldable pub int_given : List ℕ → Option Given
+int_given w =
+    if are_digits (without_leading_sign w)
+    then Some (if fits_i64 (signed_digits_value 10 w) then Fit (values.Int (signed_digits_value 10 w)) else Wide)
+    else None
+
+-- a word
+abbrev pub word_in : List Token → Option (List ℕ × List Token)
+word_in (word w ∷ ts) = Some (w, ts)
+word_in ts = None
+
+-- a name and a kind
+unfoldable pub head_in : List Token → Option ((List ℕ × Kind) × List Token)
+head_in ts = word_in ts >>= λ n. word_in n.1 >>= λ k. kind_named k.0 >>= λ kind. if is_name n.0 then Some ((n.0, kind), k.1) else None
+
+-- an operator: a sign, or one of the words `any`, `prefix`, `suffix` and `contains` (no word has a sign's byte)
+abbrev pub op_in : List Token → Option (Op × List Token)
+op_in (word w ∷ ts) = op_named w >>= λ o. Some (o, ts)
+op_in (sign o ∷ ts) = Some (o, ts)
+op_in ts = None
+
+-- a value of the kind's form
+abbrev pub given_in : Kind → List Token → Option (Given × List Token)
+given_in kinds.Bool (word w ∷ ts) = truth_named w >>= λ b. Some (Fit (values.Bool b), ts)
+given_in kinds.Int (word w ∷ ts) = int_given w >>= λ g. Some (g, ts)
+given_in kinds.Str (string t ∷ ts) = Some (Fit (values.Str t), ts)
+given_in kinds.Str (long ∷ ts) = Some (Wide, ts)
+given_in kind ts = None
+
+-- `any` has no operand, every other operator has one
+abbrev pub operand_in : Kind → Op → List Token → Option (Option Given × List Token)
+operand_in kind ops.Any ts = Some (None, ts)
+operand_in kind op ts = given_in kind ts >>= λ g. Some (Some g.0, g.1)
+
+-- a constraint without a fault is whole; the one fault that is not of the form is an empty pattern
+abbrev pub judged : Option BadConstraint → ConstraintParts → Option Part
+judged None c = Some (Whole c)
+judged (Some EmptyPattern) c = Some Empty
+judged (Some e) c = None
+
+-- a constraint, or an operand beyond the limits, or the empty operand of a pattern; the kind has the operator
+abbrev pub part_of : List ℕ → Kind → Op → Option Given → Option Part
+part_of name kind op None = judged (fault_of kind op None) (record { name = name; kind = kind; op = op; operand = None })
+part_of name kind op (Some (Fit v)) = judged (fault_of kind op (Some v)) (record { name = name; kind = kind; op = op; operand = Some v })
+part_of name kind op (Some Wide) = if has_op kind op then Some Beyond else None
+
+-- a part of a control command
+unfoldable pub constraint_in : List Token → Option (Part × List Token)
+constraint_in ts = head_in ts >>= λ h. op_in h.1 >>= λ o. operand_in h.0.1 o.0 o.1 >>= λ u. part_of h.0.0 h.0.1 o.0 u.0 >>= λ p. Some (p, u.1)
+
+-- a part of a publish command: a name, a kind and a value
+unfoldable pub attribute_in : List Token → Option ((List ℕ × Given) × List Token)
+attribute_in ts = head_in ts >>= λ h. given_in h.0.1 h.1 >>= λ g. Some ((h.0.0, g.0), g.1)
+
+-- behind a part: the end of the line, or a semicolon
+abbrev pub more_in : List Token → Option (Bool × List Token)
+more_in [] = Some (false, [])
+more_in (semicolon ∷ ts) = Some (true, ts)
+more_in ts = None
+
+-- one part or more, at most so many, joined by semicolons up to the end of the line, behind those that were read
+unfoldable pub parts_in : {A : Type 0} → (List Token → Option (A × List Token)) → ℕ → List A → List Token → Option (List A)
+parts_in one zero read ts = None
+parts_in one (suc n) read ts = one ts >>= λ x. more_in x.1 >>= λ m. if m.0 then parts_in one n (read ++ x.0 ∷ []) m.1 else Some (read ++ x.0 ∷ [])
+
+-- the first word of a command
+abbrev pub verb_named : List ℕ → Option Verb
+verb_named w =
+    if bytes_eq w (codes "subscribe") then Some verbs.Subscribe
+    else if bytes_eq w (codes "unsubscribe") then Some verbs.Unsubscribe
+    else if bytes_eq w (codes "advertise") then Some verbs.Advertise
+    else if bytes_eq w (codes "unadvertise") then Some verbs.Unadvertise
+    else if bytes_eq w (codes "publish") then Some verbs.Publish
+    else None
+
+-- that word in front
+abbrev pub verb_in : List Token → Option (Verb × List Token)
+verb_in ts = word_in ts >>= λ w. verb_named w.0 >>= λ v. Some (v, w.1)
+
+-- a command without limits
+pub data Form : Type 0 where
+  control : Verb → List Part → Form
+  publish : List (List ℕ × Given) → Form
+
+-- the parts of a control command
+abbrev pub control_in : ℕ → Verb → List Token → Option Form
+control_in n v ts = parts_in constraint_in n [] ts >>= λ p. Some (control v p)
+
+-- the parts of a publish command
+abbrev pub publish_in : ℕ → List Token → Option Form
+publish_in n ts = parts_in attribute_in n [] ts >>= λ p. Some (publish p)
+
+-- what follows the first word
+abbrev pub form_in : ℕ → Verb → List Token → Option Form
+form_in n verbs.Publish ts = publish_in n ts
+form_in n v ts = control_in n v ts

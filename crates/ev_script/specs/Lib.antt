@@ -1,0 +1,5 @@
+pub mod Tokens
+pub mod Seen
+pub mod Form
+pub mod Command
+pub mod Reading

@@ -1,0 +1,244 @@
+//! The form of a command, read from its tokens.
+ghost use Rattle.std.specs.Prelude.{◌≡◌, ◌<◌, [], length, IfOk};
+ghost use Rattle.ev_constraint.specs.Faults.{has_op};
+ghost use Rattle.ev_script.specs.Tokens.{tokens};
+ghost use Rattle.ev_script.specs.Form.{attribute_in, constraint_in, given_in, head_in, more_in, op_in, operand_in, part_of, parts_in, verb_in, verb_named, word_in};
+ghost use Rattle.ev_script.specs.Reading.{Gives, Reads};
+
+use crate::fault::ScriptFault;
+use crate::int::int_given;
+use crate::tokens::{Token, Tokens};
+use ev_constraint::{BadConstraint, Constraint, Op};
+use ev_values::{Kind, Name, Value, is_name};
+use ev_wire::{kind_named, op_named, truth_named};
+use std::alloc::Global;
+
+/// The first word of a command.
+#[derive(Clone, Copy, Debug, PartialEq, Eq)]
+pub enum Verb {
+    Subscribe,
+    Unsubscribe,
+    Advertise,
+    Unadvertise,
+    Publish,
+}
+
+/// A value as a line gives it: within the limits, or an int outside i64 or a string of more than 1,024 bytes.
+#[derive(Drop)]
+pub enum Given {
+    Fit(Value),
+    Wide,
+}
+
+/// A part of a control command: a constraint, or one whose operand is beyond the limits, or a pattern whose operand is
+/// empty.
+#[derive(Drop)]
+pub enum Part {
+    Whole(Constraint),
+    Beyond,
+    Empty,
+}
+
+fn verb_named(word: &[u8]) -> Option<Verb>
+    ensures { result ≡ verb_named word.now }
+{
+    if word == b"subscribe".as_slice() {
+        Some(Verb::Subscribe)
+    } else if word == b"unsubscribe".as_slice() {
+        Some(Verb::Unsubscribe)
+    } else if word == b"advertise".as_slice() {
+        Some(Verb::Advertise)
+    } else if word == b"unadvertise".as_slice() {
+        Some(Verb::Unadvertise)
+    } else if word == b"publish".as_slice() {
+        Some(Verb::Publish)
+    } else {
+        None
+    }
+}
+
+fn has_op(kind: Kind, op: Op) -> bool
+    ensures { result ≡ has_op kind op }
+{
+    match (kind, op) {
+        (_, Op::Any | Op::Eq | Op::Ne) => true,
+        (Kind::Bool, _) => false,
+        (Kind::Int, Op::Contains | Op::Prefix | Op::Suffix) => false,
+        _ => true,
+    }
+}
+
+// The part of these.
+fn part_of(name: Name, kind: Kind, op: Op, operand: Option<Given>) -> Option<Part>
+    ensures { result ≡ part_of name kind op operand }
+{
+    let operand = match operand {
+        None => None,
+        Some(Given::Fit(value)) => Some(value),
+        Some(Given::Wide) => return if has_op(kind, op) {
+            Some(Part::Beyond)
+        } else {
+            None
+        },
+    };
+    match Constraint::make(name, kind, op, operand) {
+        Ok(constraint) => Some(Part::Whole(constraint)),
+        Err(BadConstraint::EmptyPattern) => Some(Part::Empty),
+        Err(BadConstraint::BadOp) => None,
+        Err(BadConstraint::Operand) => None,
+        Err(BadConstraint::WrongKind) => None,
+    }
+}
+
+impl<'a> Tokens<'a> {
+    fn word(&mut self, alloc: Global) -> Result<&'a [u8], ScriptFault>
+        ensures { Reads (λ w. w.now) result (word_in (tokens self.old.rest.now)) (tokens self.new.rest.now) }
+    {
+        match self.next(alloc)? {
+            Some(Token::Word(word)) => Ok(word),
+            _ => Err(ScriptFault::Syntax),
+        }
+    }
+
+    /// The first word.
+    pub fn verb(&mut self, alloc: Global) -> Result<Verb, ScriptFault>
+        ensures { Reads (λ v. v) result (verb_in (tokens self.old.rest.now)) (tokens self.new.rest.now) }
+    {
+        match verb_named(self.word(alloc)?) {
+            Some(verb) => Ok(verb),
+            None => Err(ScriptFault::Syntax),
+        }
+    }
+
+    // A name and a kind.
+    #[tactic(auto, unfolding(crate::specs::Form::head_in))]
+    fn head(&mut self, alloc: Global) -> Result<(Name, Kind), ScriptFault>
+        ensures { Reads (λ x. x) result (head_in (tokens self.old.rest.now)) (tokens self.new.rest.now) }
+    {
+        let word = self.word(alloc)?;
+        let Some(kind) = kind_named(self.word(alloc)?) else {
+            return Err(ScriptFault::Syntax);
+        };
+        if !is_name(word) {
+            return Err(ScriptFault::Syntax);
+        }
+        match Name::read(alloc, word) {
+            Ok(name) => Ok((name, kind)),
+            Err(_) => Err(ScriptFault::NoMemory),
+        }
+    }
+
+    fn op(&mut self, alloc: Global) -> Result<Op, ScriptFault>
+        ensures { Reads (λ o. o) result (op_in (tokens self.old.rest.now)) (tokens self.new.rest.now) }
+    {
+        match self.next(alloc)? {
+            Some(Token::Word(word)) => match op_named(word) {
+                Some(op) => Ok(op),
+                None => Err(ScriptFault::Syntax),
+            },
+            Some(Token::Sign(op)) => Ok(op),
+            _ => Err(ScriptFault::Syntax),
+        }
+    }
+
+    // A value of this kind.
+    fn given(&mut self, alloc: Global, kind: Kind) -> Result<Given, ScriptFault>
+        ensures { Reads (λ g. g) result (given_in kind (tokens self.old.rest.now)) (tokens self.new.rest.now) }
+    {
+        let token = self.next(alloc)?;
+        let given = match (kind, token) {
+            (Kind::Bool, Some(Token::Word(word))) => match truth_named(word) {
+                Some(b) => Some(Given::Fit(Value::Bool(b))),
+                None => None,
+            },
+            (Kind::Int, Some(Token::Word(word))) => int_given(word),
+            (Kind::Str, Some(Token::Str(text))) => Some(Given::Fit(Value::Str(text))),
+            (Kind::Str, Some(Token::Long)) => Some(Given::Wide),
+            _ => None,
+        };
+        match given {
+            Some(given) => Ok(given),
+            None => Err(ScriptFault::Syntax),
+        }
+    }
+
+    fn operand(&mut self, alloc: Global, kind: Kind, op: Op) -> Result<Option<Given>, ScriptFault>
+        ensures { Reads (λ u. u) result (operand_in kind op (tokens self.old.rest.now)) (tokens self.new.rest.now) }
+    {
+        match op {
+            Op::Any => Ok(None),
+            _ => Ok(Some(self.given(alloc, kind)?)),
+        }
+    }
+
+    #[tactic(auto, unfolding(crate::specs::Form::constraint_in))]
+    fn constraint(&mut self, alloc: Global) -> Result<Part, ScriptFault>
+        ensures { Reads (λ p. p) result (constraint_in (tokens self.old.rest.now)) (tokens self.new.rest.now) }
+    {
+        let (name, kind) = self.head(alloc)?;
+        let op = self.op(alloc)?;
+        let operand = self.operand(alloc, kind, op)?;
+        match part_of(name, kind, op, operand) {
+            Some(part) => Ok(part),
+            None => Err(ScriptFault::Syntax),
+        }
+    }
+
+    #[tactic(auto, unfolding(crate::specs::Form::attribute_in))]
+    fn attribute(&mut self, alloc: Global) -> Result<(Name, Given), ScriptFault>
+        ensures { Reads (λ a. a) result (attribute_in (tokens self.old.rest.now)) (tokens self.new.rest.now) }
+    {
+        let (name, kind) = self.head(alloc)?;
+        let given = self.given(alloc, kind)?;
+        Ok((name, given))
+    }
+
+    // Whether a semicolon follows, and not the end of the line.
+    fn more(&mut self, alloc: Global) -> Result<bool, ScriptFault>
+        ensures { Reads (λ m. m) result (more_in (tokens self.old.rest.now)) (tokens self.new.rest.now) }
+    {
+        match self.next(alloc)? {
+            None => Ok(false),
+            Some(Token::Semicolon) => Ok(true),
+            _ => Err(ScriptFault::Syntax),
+        }
+    }
+
+    /// The parts of a control command, up to the end of the line.
+    pub fn constraints(&mut self, alloc: Global, most: usize) -> Result<Vec<Part>, ScriptFault>
+        ensures parts { Gives (λ v. v.items) result (parts_in constraint_in most [] (tokens self.old.rest.now)) }
+        ensures some { IfOk result (λ v. 0 < length v.items) }
+    {
+        let mut read = Vec::new(alloc);
+        for _ in 0..most {
+            let part = self.constraint(alloc)?;
+            read.push(part)?;
+            let more = self.more(alloc)?;
+            if !more {
+                return Ok(read);
+            }
+        }
+        Err(ScriptFault::Syntax)
+    }
+
+    /// The parts of a publish command, up to the end of the line.
+    pub fn attributes(
+        &mut self,
+        alloc: Global,
+        most: usize,
+    ) -> Result<Vec<(Name, Given)>, ScriptFault>
+        ensures parts { Gives (λ v. v.items) result (parts_in attribute_in most [] (tokens self.old.rest.now)) }
+        ensures some { IfOk result (λ v. 0 < length v.items) }
+    {
+        let mut read = Vec::new(alloc);
+        for _ in 0..most {
+            let attribute = self.attribute(alloc)?;
+            read.push(attribute)?;
+            let more = self.more(alloc)?;
+            if !more {
+                return Ok(read);
+            }
+        }
+        Err(ScriptFault::Syntax)
+    }
+}

@@ -1,0 +1,15 @@
+pub mod Options
+pub mod Ints
+pub mod IntLaws
+pub mod StringLaws
+pub mod WordLaws
+pub mod ValueLaws
+pub mod ItemsLaws
+pub mod ItemsLoop
+pub mod NoticeLaws
+pub mod FilterLaws
+pub mod ChangeLaws
+pub mod ChangesLoop
+pub mod ApartLaws
+pub mod MessageLaws
+pub mod Unique

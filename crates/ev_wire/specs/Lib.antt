@@ -1,0 +1,13 @@
+pub mod ValueText
+pub mod NoticeText
+pub mod FilterText
+pub mod MessageText
+pub mod OneText
+pub mod Reading
+pub mod Words
+pub mod Values
+pub mod Items
+pub mod Notices
+pub mod Filters
+pub mod Changes
+pub mod Messages

@@ -1,0 +1,63 @@
+-- The text of a message: a notice with its id, or changes of filters or of advertisements.
+use Rattle.std.specs.Prelude.{◌≡◌, ◌++◌, ◌+◌, ◌<◌, ℕ, List, [], ◌∷◌, length, codes}
+use Rattle.std.specs.Fmt.{decimal}
+use Rattle.std.specs.Int.{IsInRange}
+use Rattle.std.specs.List.{flat_map}
+use Rattle.ev_constraint.specs.Constraint.{ConstraintParts}
+use Rattle.ev_notice.specs.Notice.{IsNotice}
+use Rattle.ev_notice.specs.Before.{list_before}
+use Rattle.ev_sets.specs.Sets.{Has, IsRising}
+use Rattle.ev_wire.specs.declared.id.Id.{Id}
+use Rattle.ev_wire.specs.declared.message.Message.{Message}
+use Rattle.ev_wire.specs.declared.message.Message.TheVariants as messages
+use Rattle.ev_wire.specs.NoticeText.{notice_text}
+use Rattle.ev_wire.specs.FilterText.{constraints_text, IsWhole}
+
+-- a list that is taken out (sign `-`) or added (sign `+`): space, sign, and the list between braces (123, 125)
+abbrev pub change_text : ℕ → List ConstraintParts → List ℕ
+change_text sign f = 32 ∷ sign ∷ 123 ∷ (constraints_text f ++ 125 ∷ [])
+
+-- what is taken out (sign 45, `-`), then what is added (sign 43, `+`)
+unfoldable pub changes_text : List (List ConstraintParts) → List (List ConstraintParts) → List ℕ
+changes_text out add = flat_map (change_text 45) out ++ flat_map (change_text 43) add
+
+unfoldable pub id_text : Id → List ℕ
+id_text id = decimal id.publisher ++ 32 ∷ decimal id.ordinal
+
+unfoldable pub message_text : Message → List ℕ
+message_text (messages.Notice id n) = codes "notice " ++ id_text id ++ 32 ∷ notice_text n
+message_text (messages.Subs out add) = codes "subs" ++ changes_text out add
+message_text (messages.Advs out add) = codes "advs" ++ changes_text out add
+
+-- a publisher is a client's number, 1 to 1,024, and an ordinal one of its publications', 1 to 100,000
+abbrev pub IsId : Id → Type 0
+IsId id = IsInRange 1 1024 id.publisher × IsInRange 1 100000 id.ordinal
+
+-- each list is strictly rising, no member is in both, and there is at least one in all
+pub record IsChange (out add : List (List ConstraintParts)) : Type 0 where
+  pub out_rising : IsRising list_before out
+  pub add_rising : IsRising list_before add
+  pub apart : (f : List ConstraintParts) → Has f out → Has f add → ⊥
+  pub some : 0 < length out + length add
+
+-- what a message must meet to have a text: its id in range, or its lists a change
+abbrev pub IsSendable : Message → Type 0
+IsSendable (messages.Notice id n) = IsId id
+IsSendable (messages.Subs out add) = IsChange out add
+IsSendable (messages.Advs out add) = IsChange out add
+
+abbrev pub AreWhole : ℕ → List (List ConstraintParts) → Type 0
+AreWhole most [] = Unit {0}
+AreWhole most (f ∷ rest) = IsWhole most f × AreWhole most rest
+
+-- what a program's types keep of a message: its notice, its filters, its advertisements are well formed
+abbrev pub IsSound : Message → Type 0
+IsSound (messages.Notice id n) = IsNotice n
+IsSound (messages.Subs out add) = AreWhole 16 out × AreWhole 16 add
+IsSound (messages.Advs out add) = AreWhole 64 out × AreWhole 64 add
+
+-- the bytes are the text of a message
+pub record IsMessageText (bytes : List ℕ) (m : Message) : Type 0 where
+  pub sound : IsSound m
+  pub sendable : IsSendable m
+  pub text : bytes ≡ message_text m

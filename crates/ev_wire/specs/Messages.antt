@@ -1,0 +1,34 @@
+-- The message that bytes spell.
+use Rattle.std.specs.Prelude.{ℕ, List, [], Some, None, codes, if◌then◌else◌}
+use Rattle.std.specs.declared.option.Option.{Option}
+use Rattle.std.specs.Str.{bytes_eq}
+use Rattle.ev_wire.specs.declared.id.Id.{Id}
+use Rattle.ev_wire.specs.declared.message.Message.{Message}
+use Rattle.ev_wire.specs.declared.message.Message.TheVariants as messages
+use Rattle.ev_wire.specs.Reading.{◌>>=◌}
+use Rattle.ev_wire.specs.Words.{word_at, space_at, number_at}
+use Rattle.ev_wire.specs.Notices.{notice_of}
+use Rattle.ev_wire.specs.Changes.{Lists, lists_of}
+
+-- an id in front, and what follows it
+unfoldable pub id_at : List ℕ → Option (Id × List ℕ)
+id_at bytes = number_at 1024 bytes >>= λ p. space_at p.1 >>= λ r. number_at 100000 r.1 >>= λ o. Some (record { publisher = p.0; ordinal = o.0 }, o.1)
+
+unfoldable pub notice_message_of : List ℕ → Option Message
+notice_message_of bytes = space_at bytes >>= λ r. id_at r.1 >>= λ i. space_at i.1 >>= λ s. notice_of s.1 >>= λ n. Some (messages.Notice i.0 n)
+
+abbrev pub as_subs : Lists × Lists → Option Message
+as_subs l = Some (messages.Subs l.0 l.1)
+
+abbrev pub as_advs : Lists × Lists → Option Message
+as_advs l = Some (messages.Advs l.0 l.1)
+
+abbrev pub tagged_of : List ℕ × List ℕ → Option Message
+tagged_of w =
+    if bytes_eq w.0 (codes "notice") then notice_message_of w.1
+    else if bytes_eq w.0 (codes "subs") then (lists_of 16 w.1 >>= as_subs)
+    else if bytes_eq w.0 (codes "advs") then (lists_of 64 w.1 >>= as_advs)
+    else None
+
+unfoldable pub message_of : List ℕ → Option Message
+message_of bytes = tagged_of (word_at [] bytes)

@@ -1,0 +1,31 @@
+-- How the readers of this crate are followed on lists; no promise to a caller speaks of it.
+use Rattle.std.specs.Prelude.{◌≡◌, List, [], ◌∷◌, ℕ, Some, None, Ok, Err}
+use Rattle.std.specs.declared.option.Option.{Option}
+use Rattle.std.specs.declared.result.Result.{Result}
+use Rattle.ev_wire.specs.declared.fault.WireFault.{WireFault}
+use Rattle.ev_wire.specs.declared.fault.WireFault.TheVariants as faults
+
+infixl 10 ◌>>=◌
+abbrev pub ◌>>=◌ : {A B : Type 0} → Option A → (A → Option B) → Option B
+(Some x) >>= f = f x
+None >>= f = None
+
+abbrev pub Fails : {Y : Type 0} → WireFault → Option Y → Type 0
+Fails faults.NoMemory read = Unit {0}
+Fails faults.Outside read = read ≡ None
+
+-- the result, seen by view, is what reading gives, unless memory ran out
+abbrev pub Gives : {X Y : Type 0} → (X → Y) → Result X WireFault → Option Y → Type 0
+Gives view (Ok x) read = read ≡ Some (view x)
+Gives view (Err e) read = Fails e read
+
+-- the result, seen by view, and the bytes that are left then are what reading gives, unless memory ran out
+abbrev pub Reads : {X Y : Type 0} → (X → Y) → Result X WireFault → Option (Y × List ℕ) → List ℕ → Type 0
+Reads view (Ok x) read left = read ≡ Some (view x, left)
+Reads view (Err e) read left = Fails e read
+
+-- what was read, where nothing follows it
+abbrev pub whole : {A : Type 0} → Option (A × List ℕ) → Option A
+whole None = None
+whole (Some (x, [])) = Some x
+whole (Some (x, b ∷ rest)) = None

@@ -1,0 +1,54 @@
+-- Values and attributes in front of bytes.
+use Rattle.std.specs.Prelude.{◌==◌, ◌||◌, ◌++◌, ℕ, Bool, true, false, List, [], ◌∷◌, Some, None, codes, if◌then◌else◌}
+use Rattle.std.specs.declared.option.Option.{Option}
+use Rattle.std.specs.Str.{bytes_eq}
+use Rattle.ev_values.specs.Text.{is_text}
+use Rattle.ev_values.specs.declared.value.Kind.{Kind}
+use Rattle.ev_values.specs.declared.value.Kind.TheVariants as kinds
+use Rattle.ev_values.specs.declared.value.Value.{Value}
+use Rattle.ev_values.specs.declared.value.Value.TheVariants as values
+use Rattle.ev_notice.specs.Notice.{Attribute}
+use Rattle.ev_wire.specs.Reading.{◌>>=◌}
+use Rattle.ev_wire.specs.Words.{word_at, space_at, head_at, int_of}
+
+-- what a byte behind a backslash stands for
+abbrev pub plain : ℕ → Option ℕ
+plain b =
+    if b == 34 then Some 34
+    else if b == 92 then Some 92
+    else if b == 110 then Some 10
+    else if b == 116 then Some 9
+    else None
+
+-- the bytes up to the closing mark behind those that were read, and what follows it
+abbrev pub body_at : List ℕ → Bool → List ℕ → Option (List ℕ × List ℕ)
+body_at read slashed [] = None
+body_at read true (b ∷ rest) = plain b >>= λ c. body_at (read ++ c ∷ []) false rest
+body_at read false (b ∷ rest) =
+    if b == 34 then Some (read, rest)
+    else if b == 92 then body_at read true rest
+    else if b == 10 || b == 9 then None
+    else body_at (read ++ b ∷ []) false rest
+
+abbrev pub checked : List ℕ × List ℕ → Option (List ℕ × List ℕ)
+checked x = if is_text x.0 then Some x else None
+
+-- a str value in front, and what follows it
+unfoldable pub text_at : List ℕ → Option (List ℕ × List ℕ)
+text_at [] = None
+text_at (b ∷ rest) = if b == 34 then body_at [] false rest >>= checked else None
+
+abbrev pub truth_named : List ℕ → Option Bool
+truth_named w =
+    if bytes_eq w (codes "true") then Some true
+    else if bytes_eq w (codes "false") then Some false
+    else None
+
+-- a value of the kind in front, and what follows it
+unfoldable pub value_at : Kind → List ℕ → Option (Value × List ℕ)
+value_at kinds.Bool bytes = truth_named (word_at [] bytes).0 >>= λ b. Some (values.Bool b, (word_at [] bytes).1)
+value_at kinds.Int bytes = int_of (word_at [] bytes).0 >>= λ z. Some (values.Int z, (word_at [] bytes).1)
+value_at kinds.Str bytes = text_at bytes >>= λ t. Some (values.Str t.0, t.1)
+
+unfoldable pub attribute_at : List ℕ → Option (Attribute × List ℕ)
+attribute_at bytes = head_at bytes >>= λ h. space_at h.1 >>= λ r. value_at h.0.1 r.1 >>= λ v. Some ((h.0.0, v.0), v.1)

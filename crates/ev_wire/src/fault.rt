@@ -1,0 +1,39 @@
+//! Why bytes are not read.
+ghost use Rattle.std.specs.Prelude.{◌≡◌};
+ghost use Rattle.ev_wire.specs.declared.fault.WireFault.TheVariants as faults;
+
+use ev_memory::NoMemory;
+use std::alloc::{AllocError, AllocFailed};
+
+/// Why bytes are not read.
+#[derive(Clone, Copy, Debug, PartialEq, Eq)]
+pub enum WireFault {
+    /// The bytes are the text of no value of the sort that was to be read.
+    Outside,
+    /// Memory ran out.
+    NoMemory,
+}
+
+impl From<AllocError> for WireFault {
+    ghost from_gives = { λ _ e. e ≡ faults.NoMemory };
+
+    fn from(_: AllocError) -> Self {
+        WireFault::NoMemory
+    }
+}
+
+impl<T: Drop> From<AllocFailed<T>> for WireFault {
+    ghost from_gives = { λ _ e. e ≡ faults.NoMemory };
+
+    fn from(_: AllocFailed<T>) -> Self {
+        WireFault::NoMemory
+    }
+}
+
+impl From<NoMemory> for WireFault {
+    ghost from_gives = { λ _ e. e ≡ faults.NoMemory };
+
+    fn from(_: NoMemory) -> Self {
+        WireFault::NoMemory
+    }
+}
