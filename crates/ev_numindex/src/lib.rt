@@ -1,0 +1,4 @@
+//! An index of int and bool constraints.
+#![tactic(auto)]
+
+mod groups;
