@@ -10,20 +10,20 @@ use Rattle.ev_values.specs.declared.value.Value.{Value}
 use Rattle.ev_values.specs.declared.value.Value.TheVariants as values
 use Rattle.ev_constraint.specs.declared.op.Op.{Op}
 use Rattle.ev_constraint.specs.declared.op.Op.TheVariants as ops
-use Rattle.ev_constraint.specs.Truths.{Truths, truth_has, truth_covers, truth_form}
-use Rattle.ev_constraint.specs.Numbers.{Numbers, Lies, number_form}
-use Rattle.ev_constraint.specs.Texts.{Texts, text_covers, text_form, IsTextForm, IsPattern, IsWider}
-use Rattle.ev_constraint.specs.Constraint.{ConstraintParts, IsTextTest, IsTest, IsConstraint, meets, form_of, form_has, form_covers, least, greatest, satisfies, constraint_covers}
-use Rattle.ev_constraint.specs.Complete.{IsPatternOp, IsTold, IsImplied}
+use Rattle.ev_constraint.specs.Truths.{Truths, truth_allows, truth_covers, truth_form}
+use Rattle.ev_constraint.specs.Numbers.{Numbers, IsWithin, number_form}
+use Rattle.ev_constraint.specs.Texts.{Texts, text_covers, text_form, IsTextForm, IsUnorderedForm, IsWider}
+use Rattle.ev_constraint.specs.Constraint.{ConstraintParts, IsTextTest, IsTest, IsConstraint, value_satisfies, form_of, form_allows, form_covers, int_least, int_greatest, satisfies, constraint_covers}
+use Rattle.ev_constraint.specs.Complete.{IsUnorderedOp, IsCompletePair, IsImplied}
 use Rattle.ev_constraint.proofs.NumberForms as nf
 use Rattle.ev_constraint.proofs.NumberLaws as nl
 use Rattle.ev_constraint.proofs.TextWitnesses as tw
 use Rattle.ev_constraint.proofs.ConstraintLaws.{wide, in_range, form_same, subject-told}
 
-fits : (x : ℤ) → Lies least greatest x → FitsSigned w64 x
+pub fits : (x : ℤ) → IsWithin int_least int_greatest x → FitsSigned w64 x
 fits x l = search (arith, ints)
 
-truths-complete : (k m : Truths) → (truth_has m true ≡ true → truth_has k true ≡ true) → (truth_has m false ≡ true → truth_has k false ≡ true) → truth_covers k m ≡ true
+truths-complete : (k m : Truths) → (truth_allows m true ≡ true → truth_allows k true ≡ true) → (truth_allows m false ≡ true → truth_allows k false ≡ true) → truth_covers k m ≡ true
 truths-complete k m a b = grind arith
 
 text-form : (op : Op) (u : List ℕ) → IsTextTest op u → IsText u → IsTextForm (text_form op u)
@@ -42,7 +42,7 @@ text-form ops.Gt (c ∷ u) i t = (t, omega arith)
 text-form ops.Ge [] i t = tt
 text-form ops.Ge (c ∷ u) i t = (t, omega arith)
 
-pattern-form : (most : ℕ) (op : Op) (u : List ℕ) → IsPatternOp op → length u ≤ most → IsPattern most (text_form op u)
+pattern-form : (most : ℕ) (op : Op) (u : List ℕ) → IsUnorderedOp op → length u ≤ most → IsUnorderedForm most (text_form op u)
 pattern-form most ops.Any u i l = tt
 pattern-form most ops.Ne u i l = l
 pattern-form most ops.Prefix u i l = l
@@ -50,12 +50,12 @@ pattern-form most ops.Suffix u i l = l
 pattern-form most ops.Contains u i l = l
 pattern-form most op u i l = absurd (assumption)
 
-by_text : (k m : Op) (u : List ℕ) (b : Texts) → IsTextTest k u → IsText u → IsTextForm b → (k ≡ ops.Ne) ⊎ (IsPatternOp k × IsPattern 1023 b) → IsWider (text_form k u) b → text_covers (text_form k u) b ≡ true
+by_text : (k m : Op) (u : List ℕ) (b : Texts) → IsTextTest k u → IsText u → IsTextForm b → (k ≡ ops.Ne) ⊎ (IsUnorderedOp k × IsUnorderedForm 1023 b) → IsWider (text_form k u) b → text_covers (text_form k u) b ≡ true
 by_text k m u b i t j (inl e) h = rw e (tw.covering_but u b t (rw e at h))
 by_text k m u b i t j (inr p) h = tw.patterns (text_form k u) b (text-form k u i t) j (pattern-form 1024 k u p.0 t.short) p.1 h
 
 -- the same for the normal forms
-by_form : (kind : Kind) (k m : Op) (o p : Option Value) → IsTest kind k o → IsTest kind m p → IsTold kind k m p → ((x : Value) → IsValue x → form_has (form_of kind m p) x ≡ true → form_has (form_of kind k o) x ≡ true) → form_covers (form_of kind k o) (form_of kind m p) ≡ true
+by_form : (kind : Kind) (k m : Op) (o p : Option Value) → IsTest kind k o → IsTest kind m p → IsCompletePair kind k m p → ((x : Value) → IsValue x → form_allows (form_of kind m p) x ≡ true → form_allows (form_of kind k o) x ≡ true) → form_covers (form_of kind k o) (form_of kind m p) ≡ true
 by_form kinds.Bool k m None None i j t h = refl
 by_form kinds.Bool k m None (Some (values.Bool v)) i j t h = refl
 by_form kinds.Bool k m (Some (values.Bool u)) None i j t h = truths-complete (truth_form k u) Truths.all (h (values.Bool true) tt) (h (values.Bool false) tt)
@@ -63,9 +63,9 @@ by_form kinds.Bool k m (Some (values.Bool u)) (Some (values.Bool v)) i j t h = t
 by_form kinds.Int k m None None i j t h = refl
 by_form kinds.Int k m None (Some (values.Int v)) i j t h = refl
 by_form kinds.Int k m (Some (values.Int u)) None i j t h =
-    nl.complete least greatest (number_form least greatest k u) Numbers.all wide (nf.form least greatest k u wide (in_range u i.1)) tt (λ x l q. h (values.Int x) (fits x l) q)
+    nl.complete int_least int_greatest (number_form int_least int_greatest k u) Numbers.all wide (nf.form int_least int_greatest k u wide (in_range u i.1)) tt (λ x l q. h (values.Int x) (fits x l) q)
 by_form kinds.Int k m (Some (values.Int u)) (Some (values.Int v)) i j t h =
-    nl.complete least greatest (number_form least greatest k u) (number_form least greatest m v) wide (nf.form least greatest k u wide (in_range u i.1)) (nf.form least greatest m v wide (in_range v j.1)) (λ x l q. h (values.Int x) (fits x l) q)
+    nl.complete int_least int_greatest (number_form int_least int_greatest k u) (number_form int_least int_greatest m v) wide (nf.form int_least int_greatest k u wide (in_range u i.1)) (nf.form int_least int_greatest m v wide (in_range v j.1)) (λ x l q. h (values.Int x) (fits x l) q)
 by_form kinds.Str k m None None i j t h = refl
 by_form kinds.Str k m None (Some (values.Str v)) i j t h = refl
 by_form kinds.Str k m (Some (values.Str u)) None i j (inl e) h = cc
@@ -77,12 +77,12 @@ by_form kinds.Str k m (Some (values.Str u)) (Some (values.Str v)) i j (inr (inl 
 by_form kinds.Str k m (Some (values.Str u)) (Some (values.Str v)) i j (inr (inr r)) h = by_text k m u (text_form m v) i.0 i.1 (text-form m v j.0 j.1) (inr (r.0, pattern-form 1023 m v r.1 r.2)) (λ x t q. h (values.Str x) t q)
 by_form kind k m o p i j t h = absurd (assumption)
 
-pub complete : (c d : ConstraintParts) → IsConstraint c → IsConstraint d → c.name ≡ d.name → c.kind ≡ d.kind → IsTold c.kind c.op d.op d.operand → IsImplied c d → constraint_covers c d ≡ true
+pub complete : (c d : ConstraintParts) → IsConstraint c → IsConstraint d → c.name ≡ d.name → c.kind ≡ d.kind → IsCompletePair c.kind c.op d.op d.operand → IsImplied c d → constraint_covers c d ≡ true
 unfolding constraint_covers satisfies
 complete c d i j n e t h =
     let test : IsTest c.kind d.op d.operand = subst (λ (k : Kind). IsTest k d.op d.operand) (sym e) j in
     let f : form_covers (form_of c.kind c.op c.operand) (form_of c.kind d.op d.operand) ≡ true =
     by_form c.kind c.op d.op c.operand d.operand i test t (λ x v q.
-    form_same c.kind c.op c.operand x i v ∙ h x v (subst (λ (k : Kind). meets k d.op d.operand x ≡ true) e (sym (form_same c.kind d.op d.operand x test v) ∙ q))) in
+    form_same c.kind c.op c.operand x v ∙ h x v (subst (λ (k : Kind). value_satisfies k d.op d.operand x ≡ true) e (sym (form_same c.kind d.op d.operand x v) ∙ q))) in
     let g : form_covers (form_of c.kind c.op c.operand) (form_of d.kind d.op d.operand) ≡ true = subst (λ (k : Kind). form_covers (form_of c.kind c.op c.operand) (form_of k d.op d.operand) ≡ true) e f in
     rw (subject-told c d n e, g) refl

@@ -11,19 +11,19 @@ use Rattle.ev_values.specs.declared.value.Value.TheVariants as values
 use Rattle.ev_constraint.specs.declared.op.Op.{Op}
 use Rattle.ev_constraint.specs.declared.op.Op.TheVariants as ops
 use Rattle.ev_constraint.specs.Bytes.{less}
-use Rattle.ev_constraint.specs.Truths.{truth_has, truth_stands, truth_form}
-use Rattle.ev_constraint.specs.Numbers.{Lies, Wide}
-use Rattle.ev_constraint.specs.Texts.{text_has, text_stands, text_form}
-use Rattle.ev_constraint.specs.Constraint.{ConstraintParts, Form, IsTruthOp, IsTest, IsConstraint, meets, form_of, form_has, form_covers, form_compatible, least, greatest, same_subject, satisfies, constraint_covers, compatible}
+use Rattle.ev_constraint.specs.Truths.{truth_allows, truth_satisfies, truth_form}
+use Rattle.ev_constraint.specs.Numbers.{IsWithin, IsWide}
+use Rattle.ev_constraint.specs.Texts.{text_allows, text_satisfies, text_form}
+use Rattle.ev_constraint.specs.Constraint.{ConstraintParts, Form, IsConstraint, value_satisfies, form_of, form_allows, form_covers, form_compatible, int_least, int_greatest, same_subject, satisfies, constraint_covers, compatible}
 use Rattle.ev_constraint.specs.Constraint.Form.{truth, number, text, no_form}
 use Rattle.ev_constraint.proofs.BytesLemmas.{bytes_eq-tells, bytes_eq-told}
 use Rattle.ev_constraint.proofs.NumberForms as nf
 use Rattle.ev_constraint.proofs.TextLaws as tl
 
-pub wide : Wide least greatest
+pub wide : IsWide int_least int_greatest
 wide = omega (arith, ints)
 
-pub in_range : (x : ℤ) → FitsSigned w64 x → Lies least greatest x
+pub in_range : (x : ℤ) → FitsSigned w64 x → IsWithin int_least int_greatest x
 in_range x f = record { low = omega (arith, ints); high = omega (arith, ints) }
 
 nothing_less : (x : List ℕ) → less x [] ≡ false
@@ -36,7 +36,7 @@ unfolding less
 less_than_some [] = refl
 less_than_some (b ∷ x) = refl
 
-text_same : (op : Op) (u x : List ℕ) → text_has (text_form op u) x ≡ text_stands op x u
+text_same : (op : Op) (u x : List ℕ) → text_allows (text_form op u) x ≡ text_satisfies op x u
 text_same ops.Any u x = refl
 text_same ops.Eq u x = refl
 text_same ops.Ne u x = refl
@@ -56,23 +56,23 @@ text_same ops.Gt (c ∷ u) x = refl
 text_same ops.Ge [] x = rw (nothing_less x) refl
 text_same ops.Ge (c ∷ u) x = refl
 
-truth_same : (op : Op) (u x : Bool) → IsTruthOp op → truth_has (truth_form op u) x ≡ truth_stands op x u
-truth_same ops.Eq u x i = refl
-truth_same ops.Ne true true i = refl
-truth_same ops.Ne true false i = refl
-truth_same ops.Ne false true i = refl
-truth_same ops.Ne false false i = refl
-truth_same op u x i = absurd (assumption)
+truth_same : (op : Op) (u x : Bool) → truth_allows (truth_form op u) x ≡ truth_satisfies op x u
+truth_same ops.Eq u x = refl
+truth_same ops.Ne true true = refl
+truth_same ops.Ne true false = refl
+truth_same ops.Ne false true = refl
+truth_same ops.Ne false false = refl
+truth_same op u x = refl
 
 -- the normal form allows what the constraint allows
-pub form_same : (kind : Kind) (op : Op) (operand : Option Value) (x : Value) → IsTest kind op operand → IsValue x → form_has (form_of kind op operand) x ≡ meets kind op operand x
-form_same kinds.Bool op None (values.Bool x) t i = refl
-form_same kinds.Int op None (values.Int x) t i = refl
-form_same kinds.Str op None (values.Str x) t i = refl
-form_same kinds.Bool op (Some (values.Bool u)) (values.Bool x) t i = truth_same op u x t
-form_same kinds.Int op (Some (values.Int u)) (values.Int x) t i = nf.same least greatest op u x wide (in_range u t.1) (in_range x i)
-form_same kinds.Str op (Some (values.Str u)) (values.Str x) t i = text_same op u x
-form_same kind op operand x t i = refl
+pub form_same : (kind : Kind) (op : Op) (operand : Option Value) (x : Value) → IsValue x → form_allows (form_of kind op operand) x ≡ value_satisfies kind op operand x
+form_same kinds.Bool op None (values.Bool x) i = refl
+form_same kinds.Int op None (values.Int x) i = refl
+form_same kinds.Str op None (values.Str x) i = refl
+form_same kinds.Bool op (Some (values.Bool u)) (values.Bool x) i = truth_same op u x
+form_same kinds.Int op (Some (values.Int u)) (values.Int x) i = nf.same int_least int_greatest op u x wide (in_range x i)
+form_same kinds.Str op (Some (values.Str u)) (values.Str x) i = text_same op u x
+form_same kind op operand x i = refl
 
 form_reflexive : (k : Form) → form_covers k k ≡ true
 form_reflexive (truth k) = grind arith
@@ -87,7 +87,7 @@ form_transitive (text k) (text m) (text n) h j = tl.transitive k m n h j
 form_transitive no_form no_form n h j = j
 form_transitive k m n h j = cc
 
-form_sound : (k m : Form) (x : Value) → form_covers k m ≡ true → form_has m x ≡ true → form_has k x ≡ true
+form_sound : (k m : Form) (x : Value) → form_covers k m ≡ true → form_allows m x ≡ true → form_allows k x ≡ true
 form_sound (truth k) (truth m) (values.Bool x) h j = grind arith
 form_sound (number k) (number m) (values.Int x) h j = grind (arith, ints)
 form_sound (text k) (text m) (values.Str x) h j = tl.sound k m x h j
@@ -95,7 +95,7 @@ form_sound k m (values.Bool x) h j = grind arith
 form_sound k m (values.Int x) h j = grind arith
 form_sound k m (values.Str x) h j = grind arith
 
-form_never_wrong : (k m : Form) (x : Value) → form_has k x ≡ true → form_has m x ≡ true → form_compatible k m ≡ true
+form_never_wrong : (k m : Form) (x : Value) → form_allows k x ≡ true → form_allows m x ≡ true → form_compatible k m ≡ true
 form_never_wrong (truth k) (truth m) (values.Bool x) h j = grind arith
 form_never_wrong (number k) (number m) (values.Int x) h j = grind (arith, ints)
 form_never_wrong (text k) (text m) (values.Str x) h j = tl.never_wrong k m x h j
@@ -103,7 +103,7 @@ form_never_wrong k m (values.Bool x) h j = cc
 form_never_wrong k m (values.Int x) h j = cc
 form_never_wrong k m (values.Str x) h j = cc
 
-both : (a b : Bool) → (a && b) ≡ true → (a ≡ true) × (b ≡ true)
+pub both : (a b : Bool) → (a && b) ≡ true → (a ≡ true) × (b ≡ true)
 both true b h = (refl, h)
 both false b h = cc
 
@@ -142,21 +142,29 @@ pub covers-name : (c d : ConstraintParts) → constraint_covers c d ≡ true →
 unfolding constraint_covers
 covers-name c d h = (subject-tells c d (both (same_subject c d) _ h).0).0
 
-pub covers-sat : (c d : ConstraintParts) (x : Value) → IsConstraint c → IsConstraint d → IsValue x → constraint_covers c d ≡ true → satisfies d x ≡ true → satisfies c x ≡ true
+pub covers-sound : (c d : ConstraintParts) (x : Value) → IsValue x → constraint_covers c d ≡ true → satisfies d x ≡ true → satisfies c x ≡ true
 unfolding constraint_covers satisfies
-covers-sat c d x i j v h s =
+covers-sound c d x v h s =
     let p = both (same_subject c d) _ h in
-    sym (form_same c.kind c.op c.operand x i v) ∙ form_sound (form_of c.kind c.op c.operand) (form_of d.kind d.op d.operand) x p.1 (form_same d.kind d.op d.operand x j v ∙ s)
+    sym (form_same c.kind c.op c.operand x v) ∙ form_sound (form_of c.kind c.op c.operand) (form_of d.kind d.op d.operand) x p.1 (form_same d.kind d.op d.operand x v ∙ s)
 
-meets-kind : (kind : Kind) (op : Op) (operand : Option Value) (x : Value) → meets kind op operand x ≡ true → kind ≡ kind_of x
-meets-kind kind op operand x h = grind arith
+-- the same under premises that it does not need
+pub covers-sat : (c d : ConstraintParts) (x : Value) → IsConstraint c → IsConstraint d → IsValue x → constraint_covers c d ≡ true → satisfies d x ≡ true → satisfies c x ≡ true
+covers-sat c d x i j v h s = covers-sound c d x v h s
+
+value_satisfies-kind : (kind : Kind) (op : Op) (operand : Option Value) (x : Value) → value_satisfies kind op operand x ≡ true → kind ≡ kind_of x
+value_satisfies-kind kind op operand x h = grind arith
 
 pub sat-kind : (c : ConstraintParts) (x : Value) → satisfies c x ≡ true → c.kind ≡ kind_of x
 unfolding satisfies
-sat-kind c x h = meets-kind c.kind c.op c.operand x h
+sat-kind c x h = value_satisfies-kind c.kind c.op c.operand x h
 
-pub sat-compatible : (c d : ConstraintParts) (x : Value) → IsConstraint c → IsConstraint d → IsValue x → c.name ≡ d.name → satisfies c x ≡ true → satisfies d x ≡ true → compatible c d ≡ true
+pub shared-compatible : (c d : ConstraintParts) (x : Value) → IsValue x → c.name ≡ d.name → satisfies c x ≡ true → satisfies d x ≡ true → compatible c d ≡ true
 unfolding compatible
-sat-compatible c d x i j v n h s =
-    let f = form_never_wrong (form_of c.kind c.op c.operand) (form_of d.kind d.op d.operand) x (form_same c.kind c.op c.operand x i v ∙ (unfold satisfies in h)) (form_same d.kind d.op d.operand x j v ∙ (unfold satisfies in s)) in
+shared-compatible c d x v n h s =
+    let f = form_never_wrong (form_of c.kind c.op c.operand) (form_of d.kind d.op d.operand) x (form_same c.kind c.op c.operand x v ∙ (unfold satisfies in h)) (form_same d.kind d.op d.operand x v ∙ (unfold satisfies in s)) in
     rw (subject-told c d n (sat-kind c x h ∙ sym (sat-kind d x s)), f) refl
+
+-- the same under premises that it does not need
+pub sat-compatible : (c d : ConstraintParts) (x : Value) → IsConstraint c → IsConstraint d → IsValue x → c.name ≡ d.name → satisfies c x ≡ true → satisfies d x ≡ true → compatible c d ≡ true
+sat-compatible c d x i j v n h s = shared-compatible c d x v n h s

@@ -1,4 +1,4 @@
--- The pairs of constraints for which the covering table is complete.
+-- What it means that covering is sound and complete, and compatibility exact.
 use Rattle.std.specs.Prelude.{◌≡◌, ◌≤◌, ◌⊎◌, true, length, Some}
 use Rattle.std.specs.declared.option.Option.{Option}
 use Rattle.ev_values.specs.declared.value.Kind.{Kind}
@@ -10,24 +10,29 @@ use Rattle.ev_constraint.specs.declared.op.Op.{Op}
 use Rattle.ev_constraint.specs.declared.op.Op.TheVariants as ops
 use Rattle.ev_constraint.specs.Constraint.{ConstraintParts, satisfies}
 
-abbrev pub IsPatternOp : Op → Type 0
-IsPatternOp ops.Ne = Unit {0}
-IsPatternOp ops.Any = Unit {0}
-IsPatternOp ops.Contains = Unit {0}
-IsPatternOp ops.Prefix = Unit {0}
-IsPatternOp ops.Suffix = Unit {0}
-IsPatternOp op = ⊥
+-- `!=`, `any`, `contains`, `prefix` or `suffix`
+abbrev pub IsUnorderedOp : Op → Type 0
+IsUnorderedOp ops.Ne = Unit {0}
+IsUnorderedOp ops.Any = Unit {0}
+IsUnorderedOp ops.Contains = Unit {0}
+IsUnorderedOp ops.Prefix = Unit {0}
+IsUnorderedOp ops.Suffix = Unit {0}
+IsUnorderedOp op = ⊥
 
--- a text among the operands has at most 1,023 bytes
-abbrev pub IsShort : Option Value → Type 0
-IsShort (Some (values.Str v)) = length v ≤ 1023
-IsShort operand = Unit {0}
+-- an operand that is a text has at most 1,023 bytes
+abbrev pub IsShortText : Option Value → Type 0
+IsShortText (Some (values.Str v)) = length v ≤ 1023
+IsShortText operand = Unit {0}
 
--- the covering operator, then the covered one with its operand
-abbrev pub IsTold : Kind → Op → Op → Option Value → Type 0
-IsTold kinds.Str op other operand = (other ≡ ops.Eq) ⊎ (op ≡ ops.Ne) ⊎ (IsPatternOp op × IsPatternOp other × IsShort operand)
-IsTold kind op other operand = Unit {0}
+-- pairs for which covering is complete: the kind, the covering operator, then the covered one with its operand
+abbrev pub IsCompletePair : Kind → Op → Op → Option Value → Type 0
+IsCompletePair kinds.Str op other operand = (other ≡ ops.Eq) ⊎ (op ≡ ops.Ne) ⊎ (IsUnorderedOp op × IsUnorderedOp other × IsShortText operand)
+IsCompletePair kind op other operand = Unit {0}
 
 -- each value that satisfies d satisfies c
 abbrev pub IsImplied : ConstraintParts → ConstraintParts → Type 0
 IsImplied c d = (x : Value) → IsValue x → satisfies d x ≡ true → satisfies c x ≡ true
+
+-- one value satisfies both
+abbrev pub SharesValue : ConstraintParts → ConstraintParts → Type 0
+SharesValue c d = (x : Value) × IsValue x × (satisfies c x ≡ true) × (satisfies d x ≡ true)

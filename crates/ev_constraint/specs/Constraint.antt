@@ -10,9 +10,9 @@ use Rattle.ev_values.specs.declared.value.Value.{Value}
 use Rattle.ev_values.specs.declared.value.Value.TheVariants as values
 use Rattle.ev_constraint.specs.declared.op.Op.{Op}
 use Rattle.ev_constraint.specs.declared.op.Op.TheVariants as ops
-use Rattle.ev_constraint.specs.Truths.{Truths, truth_has, truth_covers, truth_compatible, truth_stands, truth_form}
-use Rattle.ev_constraint.specs.Numbers.{Numbers, number_has, number_covers, number_compatible, number_stands, number_form}
-use Rattle.ev_constraint.specs.Texts.{Texts, text_has, text_covers, text_compatible, text_stands, text_form}
+use Rattle.ev_constraint.specs.Truths.{Truths, truth_allows, truth_covers, truth_compatible, truth_satisfies, truth_form}
+use Rattle.ev_constraint.specs.Numbers.{Numbers, number_allows, number_covers, number_compatible, number_satisfies, number_form}
+use Rattle.ev_constraint.specs.Texts.{Texts, text_allows, text_covers, text_compatible, text_satisfies, text_form}
 
 -- a constraint, as contracts see it
 pub record ConstraintParts : Type 0 where
@@ -21,12 +21,13 @@ pub record ConstraintParts : Type 0 where
   pub op : Op
   pub operand : Option Value
 
--- the operator is one of bool, of int
+-- bool has the operator
 abbrev pub IsTruthOp : Op → Type 0
 IsTruthOp ops.Eq = Unit {0}
 IsTruthOp ops.Ne = Unit {0}
 IsTruthOp op = ⊥
 
+-- int has the operator
 abbrev pub IsNumberOp : Op → Type 0
 IsNumberOp ops.Contains = ⊥
 IsNumberOp ops.Prefix = ⊥
@@ -34,7 +35,7 @@ IsNumberOp ops.Suffix = ⊥
 IsNumberOp ops.Any = ⊥
 IsNumberOp op = Unit {0}
 
--- the operator is one of str, and the operand of a pattern has a byte
+-- str has the operator, which has an operand, and the operand of a pattern has at least one byte
 abbrev pub IsTextTest : Op → List ℕ → Type 0
 IsTextTest ops.Contains u = 0 < length u
 IsTextTest ops.Prefix u = 0 < length u
@@ -42,7 +43,7 @@ IsTextTest ops.Suffix u = 0 < length u
 IsTextTest ops.Any u = ⊥
 IsTextTest op u = Unit {0}
 
--- the operator and the operand are of the kind
+-- the kind has the operator, and the operand is of the kind, or there is none and the operator is `any`
 abbrev pub IsTest : Kind → Op → Option Value → Type 0
 IsTest kind op None = op ≡ ops.Any
 IsTest kinds.Bool op (Some (values.Bool u)) = IsTruthOp op
@@ -50,44 +51,49 @@ IsTest kinds.Int op (Some (values.Int u)) = IsNumberOp op × IsValue (values.Int
 IsTest kinds.Str op (Some (values.Str u)) = IsTextTest op u × IsText u
 IsTest kind op (Some u) = ⊥
 
--- the value is of the kind, and stands to the operand as the operator says
-abbrev pub meets : Kind → Op → Option Value → Value → Bool
-meets kinds.Bool op None (values.Bool x) = true
-meets kinds.Int op None (values.Int x) = true
-meets kinds.Str op None (values.Str x) = true
-meets kinds.Bool op (Some (values.Bool u)) (values.Bool x) = truth_stands op x u
-meets kinds.Int op (Some (values.Int u)) (values.Int x) = number_stands op x u
-meets kinds.Str op (Some (values.Str u)) (values.Str x) = text_stands op x u
-meets kind op operand x = false
+-- the value is of the kind and satisfies the operator with the operand
+abbrev pub value_satisfies : Kind → Op → Option Value → Value → Bool
+value_satisfies kinds.Bool op None (values.Bool x) = true
+value_satisfies kinds.Int op None (values.Int x) = true
+value_satisfies kinds.Str op None (values.Str x) = true
+value_satisfies kinds.Bool op (Some (values.Bool u)) (values.Bool x) = truth_satisfies op x u
+value_satisfies kinds.Int op (Some (values.Int u)) (values.Int x) = number_satisfies op x u
+value_satisfies kinds.Str op (Some (values.Str u)) (values.Str x) = text_satisfies op x u
+value_satisfies kind op operand x = false
 
--- the normal forms
+-- the normal forms of all kinds; no_form is for parts that are no constraint
 pub data Form : Type 0 where
   truth : Truths → Form
   number : Numbers → Form
   text : Texts → Form
   no_form : Form
 
-abbrev pub least : ℤ
-least = negsuc (2 ^ 63 - 1)
+-- the least i64
+abbrev pub int_least : ℤ
+int_least = negsuc (2 ^ 63 - 1)
 
-abbrev pub greatest : ℤ
-greatest = pos (2 ^ 63 - 1)
+-- the greatest i64
+abbrev pub int_greatest : ℤ
+int_greatest = pos (2 ^ 63 - 1)
 
+-- the normal form of a kind, an operator and an operand; int is numbers from the least to the greatest i64
 abbrev pub form_of : Kind → Op → Option Value → Form
 form_of kinds.Bool op None = truth Truths.all
 form_of kinds.Int op None = number Numbers.all
 form_of kinds.Str op None = text Texts.all
 form_of kinds.Bool op (Some (values.Bool u)) = truth (truth_form op u)
-form_of kinds.Int op (Some (values.Int u)) = number (number_form least greatest op u)
+form_of kinds.Int op (Some (values.Int u)) = number (number_form int_least int_greatest op u)
 form_of kinds.Str op (Some (values.Str u)) = text (text_form op u)
 form_of kind op (Some u) = no_form
 
-abbrev pub form_has : Form → Value → Bool
-form_has (truth k) (values.Bool x) = truth_has k x
-form_has (number k) (values.Int x) = number_has k x
-form_has (text k) (values.Str x) = text_has k x
-form_has k x = false
+-- a value meets the normal form
+abbrev pub form_allows : Form → Value → Bool
+form_allows (truth k) (values.Bool x) = truth_allows k x
+form_allows (number k) (values.Int x) = number_allows k x
+form_allows (text k) (values.Str x) = text_allows k x
+form_allows k x = false
 
+-- the covering tables of all kinds
 abbrev pub form_covers : Form → Form → Bool
 form_covers (truth k) (truth m) = truth_covers k m
 form_covers (number k) (number m) = number_covers k m
@@ -95,25 +101,29 @@ form_covers (text k) (text m) = text_covers k m
 form_covers no_form no_form = true
 form_covers k m = false
 
+-- the tables of compatibility of all kinds
 abbrev pub form_compatible : Form → Form → Bool
 form_compatible (truth k) (truth m) = truth_compatible k m
 form_compatible (number k) (number m) = number_compatible k m
 form_compatible (text k) (text m) = text_compatible k m
 form_compatible k m = false
 
+-- the parts are a constraint
 abbrev pub IsConstraint : ConstraintParts → Type 0
 IsConstraint c = IsTest c.kind c.op c.operand
 
--- the constraints are on one name and kind
+-- two constraints are on one name and kind
 abbrev pub same_subject : ConstraintParts → ConstraintParts → Bool
 same_subject c d = bytes_eq c.name d.name && same_kind c.kind d.kind
 
--- the value satisfies the constraint
+-- a value satisfies the constraint
 unfoldable pub satisfies : ConstraintParts → Value → Bool
-satisfies c x = meets c.kind c.op c.operand x
+satisfies c x = value_satisfies c.kind c.op c.operand x
 
+-- c covers d: on one name and kind, and by the covering table of the kind
 unfoldable pub constraint_covers : ConstraintParts → ConstraintParts → Bool
 constraint_covers c d = same_subject c d && form_covers (form_of c.kind c.op c.operand) (form_of d.kind d.op d.operand)
 
+-- c and d can both hold: on one name and kind, and the table of the kind does not speak against it
 unfoldable pub compatible : ConstraintParts → ConstraintParts → Bool
 compatible c d = same_subject c d && form_compatible (form_of c.kind c.op c.operand) (form_of d.kind d.op d.operand)

@@ -1,26 +1,32 @@
-// A constraint on the value of one name.
+//! A constraint on the value of one attribute: making one, satisfaction, covering, compatibility.
 ghost use Rattle.std.specs.Prelude.{◌≡◌, IfOk, MatchResult};
 ghost use Rattle.std.specs.Option.{option_copied};
 
-use crate::bytes::{does_begin, does_finish, does_hold, is_less, is_same};
-use crate::normal::{IntSet, Normal};
+use crate::bytes::{has_part, has_prefix, has_suffix, is_less, is_same};
+use crate::normal::{IntSet, Normal, text_allows};
 use crate::op::Op;
-use crate::order::{kind_order, op_order, operand_order};
+use crate::order::{op_order, operand_order};
 use ev_values::{Kind, Name, NoMemory, Value};
 use std::alloc::Global;
 use std::cmp::Ordering;
 use std::marker::Model;
 
-/// Why there is no such constraint.
+/// Why parts make no constraint, in the order in which the faults are tried.
 #[derive(Clone, Copy, Debug, PartialEq, Eq)]
 pub enum BadConstraint {
+    /// The kind lacks the operator.
     BadOp,
+    /// `Any` has an operand, or another operator has none.
     Operand,
+    /// The operand is of another kind.
     WrongKind,
+    /// `Contains`, `Prefix` or `Suffix` has the empty text as its operand.
     EmptyPattern,
 }
 
-/// A name, a kind, an operator and, except for `Any`, an operand.
+/// A constraint on the value of one attribute: the attribute's name, a kind, an operator of that kind
+/// and, except for `Any`, an operand of that kind. It is ordered by name, kind, operator and operand;
+/// this is its canonical order.
 #[derive(Drop)]
 pub struct Constraint {
     name: Name,
@@ -40,11 +46,13 @@ impl Model for Constraint {
 }
 
 impl Constraint {
-    ghost use Rattle.ev_constraint.specs.Faults.{fault_of};
+    ghost use Rattle.std.specs.Prelude.{IsOk, IsErrOf, ◌↔◌, true, false};
+    ghost use Rattle.ev_constraint.specs.Faults.{fault_of, has_op, is_misplaced, is_of_other_kind, is_empty_pattern};
     ghost use Rattle.ev_constraint.specs.Constraint.{ConstraintParts, IsTest, IsConstraint, same_subject, satisfies, constraint_covers, compatible, form_of};
-    ghost use Rattle.ev_constraint.specs.Normal.{form_seen, IsOfKind};
+    ghost use Rattle.ev_constraint.specs.Normal.{form_meant, IsOfKind};
 
-    /// The constraint of these parts.
+    /// The constraint of these parts, exactly where they make one. `Bool` has the operators `Eq`, `Ne`
+    /// and `Any`, `Int` has besides `Lt`, `Le`, `Gt` and `Ge`, and `Str` has all. It takes no memory.
     pub fn make(
         name: Name,
         kind: Kind,
@@ -52,6 +60,11 @@ impl Constraint {
         operand: Option<Value>,
     ) -> Result<Constraint, BadConstraint>
         ensures value { IfOk result (λ c. c ≡ record { name = name; kind = kind; op = op; operand = operand }) }
+        ensures ok { IsOk result ↔ IsTest kind op operand }
+        ensures bad_op { IsErrOf result BadConstraint.BadOp ↔ (has_op kind op ≡ false) }
+        ensures operand { IsErrOf result BadConstraint.Operand ↔ ((has_op kind op ≡ true) × (is_misplaced op operand ≡ true)) }
+        ensures wrong_kind { IsErrOf result BadConstraint.WrongKind ↔ ((has_op kind op ≡ true) × (is_misplaced op operand ≡ false) × (is_of_other_kind kind operand ≡ true)) }
+        ensures empty_pattern { IsErrOf result BadConstraint.EmptyPattern ↔ ((has_op kind op ≡ true) × (is_misplaced op operand ≡ false) × (is_of_other_kind kind operand ≡ false) × (is_empty_pattern op operand ≡ true)) }
         ensures answer { MatchResult result (λ _. fault_of kind op operand ≡ None) (λ e. fault_of kind op operand ≡ Some e) }
     {
         if !has_op(kind, op) {
@@ -93,12 +106,14 @@ impl Constraint {
         })
     }
 
+    /// The operand; there is none exactly for `Any`.
     pub fn operand(&self) -> Option<&Value>
         ensures { option_copied result ≡ self.now.operand }
     {
         self.operand.as_ref()
     }
 
+    /// The operator.
     pub fn op(&self) -> Op
         ensures op { result ≡ self.now.op }
         ensures whole { IsConstraint self.now }
@@ -106,6 +121,7 @@ impl Constraint {
         self.op
     }
 
+    /// The name of the attribute.
     pub fn name(&self) -> &Name
         ensures { result.now ≡ self.now.name }
     {
@@ -119,13 +135,15 @@ impl Constraint {
         self.name.equals(&other.name) && self.kind.is(other.kind)
     }
 
+    /// The kind of the values that may satisfy the constraint.
     pub fn kind(&self) -> Kind
         ensures { result ≡ self.now.kind }
     {
         self.kind
     }
 
-    /// Whether a value satisfies the constraint.
+    /// Whether a value satisfies the constraint. A value of another kind never does. It takes constant
+    /// time for numbers and truth values, and time linear in value and operand for texts.
     #[tactic(auto, unfolding(crate::specs::Constraint::satisfies))]
     pub fn satisfied(&self, value: &Value) -> bool
         ensures { result ≡ satisfies self.now value.now }
@@ -133,20 +151,17 @@ impl Constraint {
         match (&self.operand, value) {
             (None, _) => self.kind == value.kind(),
             (Some(Value::Bool(u)), Value::Bool(x)) => (*u == *x) == (self.op == Op::Eq),
-            (Some(Value::Int(u)), Value::Int(x)) => stands_int(self.op, *x, *u),
-            (Some(Value::Str(u)), Value::Str(x)) => crate::normal::stands(
-                self.op,
-                x.bytes(),
-                u.bytes(),
-            ),
+            (Some(Value::Int(u)), Value::Int(x)) => int_satisfies(self.op, *x, *u),
+            (Some(Value::Str(u)), Value::Str(x)) => text_allows(self.op, x.bytes(), u.bytes()),
             _ => false,
         }
     }
 
-    /// The normal form.
+    /// The normal form, by which constraints are compared: the values that meet it are those that
+    /// satisfy the constraint. It takes constant time and borrows a text operand.
     pub fn normal(&self) -> Normal<'_>
         ensures kind { IsOfKind self.now.kind result }
-        ensures form { form_seen self.now.kind result ≡ form_of self.now.kind self.now.op self.now.operand }
+        ensures form { form_meant self.now.kind result ≡ form_of self.now.kind self.now.op self.now.operand }
     {
         match &self.operand {
             None => Normal::All,
@@ -162,7 +177,9 @@ impl Constraint {
         }
     }
 
-    /// Whether each value that satisfies the other is sure to satisfy this one.
+    /// Whether this constraint covers the other: both are on one name and kind, and the covering table
+    /// says that each value that satisfies the other satisfies this one. It takes constant time for
+    /// numbers and truth values, and time linear in the operands for texts.
     #[tactic(auto, unfolding(crate::specs::Constraint::constraint_covers))]
     pub fn covers(&self, other: &Constraint) -> bool
         ensures { result ≡ constraint_covers self.now other.now }
@@ -172,7 +189,8 @@ impl Constraint {
             && self.normal().covers(&other.normal())
     }
 
-    /// Whether the table finds no reason against a value that satisfies both.
+    /// Whether both are on one name and kind and the table finds no reason why no value should satisfy
+    /// both. For numbers and truth values a yes says that one value does. It takes time as `covers`.
     #[tactic(auto, unfolding(crate::specs::Constraint::compatible))]
     pub fn compatible(&self, other: &Constraint) -> bool
         ensures { result ≡ compatible self.now other.now }
@@ -184,10 +202,10 @@ impl Constraint {
 }
 
 ghost use Rattle.ev_constraint.specs.Faults.{has_op, is_pattern, is_empty_text};
-ghost use Rattle.ev_constraint.specs.Numbers.{number_stands, number_form};
-ghost use Rattle.ev_constraint.specs.Constraint.{least, greatest, form_of, IsNumberOp, Form};
+ghost use Rattle.ev_constraint.specs.Numbers.{number_satisfies, number_form};
+ghost use Rattle.ev_constraint.specs.Constraint.{int_least, int_greatest, form_of, IsNumberOp, Form};
 ghost use Rattle.ev_constraint.specs.Constraint.Form.{number};
-ghost use Rattle.ev_constraint.specs.Normal.{form_seen, IsOfKind};
+ghost use Rattle.ev_constraint.specs.Normal.{form_meant, IsOfKind};
 ghost use Rattle.ev_values.specs.declared.value.Kind.{Kind};
 
 impl PartialEq for Constraint {
@@ -249,7 +267,7 @@ impl Ord for Constraint {
         self.name
             .bytes()
             .cmp(other.name.bytes())
-            .then(kind_order(self.kind, other.kind))
+            .then(self.kind.order(other.kind))
             .then(op_order(self.op, other.op))
             .then(operand_order(&self.operand, &other.operand))
     }
@@ -284,8 +302,8 @@ fn is_empty_text(v: &Value) -> bool
     }
 }
 
-fn stands_int(op: Op, x: i64, u: i64) -> bool
-    ensures { result ≡ number_stands op x u }
+fn int_satisfies(op: Op, x: i64, u: i64) -> bool
+    ensures { result ≡ number_satisfies op x u }
 {
     match op {
         Op::Any => true,
@@ -302,7 +320,7 @@ fn stands_int(op: Op, x: i64, u: i64) -> bool
 fn normal_int<'a>(op: Op, u: i64) -> Normal<'a>
     requires { IsNumberOp op }
     ensures kind { IsOfKind Kind.Int result }
-    ensures form { form_seen Kind.Int result ≡ number (number_form least greatest op u) }
+    ensures form { form_meant Kind.Int result ≡ number (number_form int_least int_greatest op u) }
 {
     match op {
         Op::Eq => Normal::Int(IntSet::Eq(u)),

@@ -1,94 +1,72 @@
-// Laws of the definitions.
-ghost use Rattle.std.specs.Prelude.{◌≡◌, ◌↔◌, ℤ, ◌≤ℤ◌, ◌<ℤ◌, ◌≤◌, Bool, true, false, List, ℕ, pos, ◌^◌, ◌-◌};
-ghost use Rattle.ev_constraint.specs.Numbers.{Numbers, IsForm, Lies, Wide, number_has, number_covers, number_compatible, number_form, number_stands};
-ghost use Rattle.ev_constraint.specs.Texts.{Texts, text_has, text_covers, text_compatible, IsTextForm, IsPattern, IsWider};
-ghost use Rattle.ev_constraint.specs.Texts.Texts.{only, but};
-ghost use Rattle.ev_values.specs.Text.{IsText};
-ghost use Rattle.ev_constraint.specs.Constraint.{ConstraintParts, IsConstraint, satisfies, constraint_covers, compatible};
+//! Laws of covering, of compatibility and of the canonical order. The laws of numbers are over any
+//! range with a least and a greatest number and at least three in all; int is the range of i64.
+ghost use Rattle.std.specs.Prelude.{◌≡◌, ◌≢◌, ℤ, true, List};
 ghost use Rattle.std.specs.Cmp.{IsTotalOrder};
 ghost use Rattle.std.specs.declared.cmp.Ordering.TheVariants.{Equal};
-ghost use Rattle.ev_constraint.specs.Order.{constraint_cmp, list_cmp};
-ghost use Rattle.ev_constraint.specs.Complete.{IsTold, IsImplied};
 ghost use Rattle.ev_values.specs.Value.{IsValue};
+ghost use Rattle.ev_values.specs.declared.value.Kind.{Kind};
 ghost use Rattle.ev_values.specs.declared.value.Value.{Value};
+ghost use Rattle.ev_constraint.specs.Complete.{IsCompletePair, IsImplied, SharesValue};
+ghost use Rattle.ev_constraint.specs.Constraint.{ConstraintParts, IsConstraint, satisfies, constraint_covers, compatible, form_of, form_allows, int_least, int_greatest};
+ghost use Rattle.ev_constraint.specs.Numbers.{Numbers, IsNumberForm, IsWithin, IsWide, number_allows, number_covers, number_compatible, number_form, number_satisfies};
+ghost use Rattle.ev_constraint.specs.Order.{constraint_cmp, list_cmp};
 ghost use Rattle.ev_constraint.specs.declared.op.Op.{Op};
 
-/// What a covered form allows the covering form allows.
-pub fn number_sound()
-    ensures { (k m : Numbers) (x : ℤ) → number_covers k m ≡ true → number_has m x ≡ true → number_has k x ≡ true }
+/// The values that meet the normal form are those that satisfy the constraint.
+pub fn normal_form()
+    ensures { (c : ConstraintParts) (x : Value) → IsValue x → form_allows (form_of c.kind c.op c.operand) x ≡ satisfies c x }
 {}
 
-pub fn number_reflexive()
-    ensures { (k : Numbers) → number_covers k k ≡ true }
-{}
-
-pub fn number_transitive()
-    ensures { (k m n : Numbers) → number_covers k m ≡ true → number_covers m n ≡ true → number_covers k n ≡ true }
-{}
-
-/// Where each number that the second form allows is allowed by the first, the table says yes.
-pub fn number_complete()
-    ensures { (least greatest : ℤ) (k m : Numbers) → Wide least greatest → IsForm least greatest k → IsForm least greatest m → ((x : ℤ) → Lies least greatest x → number_has m x ≡ true → number_has k x ≡ true) → number_covers k m ≡ true }
-{}
-
-/// Forms are compatible exactly where some number of the range meets both.
-pub fn number_exact()
-    ensures never_wrong { (k m : Numbers) (x : ℤ) → number_has k x ≡ true → number_has m x ≡ true → number_compatible k m ≡ true }
-    ensures exact { (least greatest : ℤ) (k m : Numbers) → Wide least greatest → IsForm least greatest k → IsForm least greatest m → number_compatible k m ≡ true → (x : ℤ) × Lies least greatest x × (number_has k x ≡ true) × (number_has m x ≡ true) }
-{}
-
-/// The normal form is one, and allows the numbers that satisfy the constraint.
-pub fn number_normal()
-    ensures is_form { (least greatest : ℤ) (op : Op) (u : ℤ) → Wide least greatest → Lies least greatest u → IsForm least greatest (number_form least greatest op u) }
-    ensures same { (least greatest : ℤ) (op : Op) (u x : ℤ) → Wide least greatest → Lies least greatest u → Lies least greatest x → number_has (number_form least greatest op u) x ≡ number_stands op x u }
-{}
-
-pub fn text_sound()
-    ensures { (k m : Texts) (x : List ℕ) → text_covers k m ≡ true → text_has m x ≡ true → text_has k x ≡ true }
-{}
-
-pub fn text_reflexive()
-    ensures { (k : Texts) → text_covers k k ≡ true }
-{}
-
-pub fn text_transitive()
-    ensures { (k m n : Texts) → text_covers k m ≡ true → text_covers m n ≡ true → text_covers k n ≡ true }
-{}
-
-/// Forms that one text meets are compatible.
-pub fn text_never_wrong()
-    ensures { (k m : Texts) (x : List ℕ) → text_has k x ≡ true → text_has m x ≡ true → text_compatible k m ≡ true }
-{}
-
-/// The table is complete where one text is covered, where all texts but one cover, and among patterns.
-pub fn text_complete()
-    ensures covered_one { (k : Texts) (v : List ℕ) → IsText v → IsWider k (only v) → text_covers k (only v) ≡ true }
-    ensures covering_but { (u : List ℕ) (m : Texts) → IsText u → IsWider (but u) m → text_covers (but u) m ≡ true }
-    ensures patterns { (k m : Texts) → IsTextForm k → IsTextForm m → IsPattern 1024 k → IsPattern 1023 m → IsWider k m → text_covers k m ≡ true }
-{}
-
-/// Covering of constraints is reflexive, transitive and sound, and what one value satisfies is compatible.
-pub fn constraint_laws()
+/// Covering is reflexive, transitive and sound.
+pub fn covering()
     ensures reflexive { (c : ConstraintParts) → constraint_covers c c ≡ true }
     ensures transitive { (c d e : ConstraintParts) → constraint_covers c d ≡ true → constraint_covers d e ≡ true → constraint_covers c e ≡ true }
-    ensures sound { (c d : ConstraintParts) (x : Value) → IsConstraint c → IsConstraint d → IsValue x → constraint_covers c d ≡ true → satisfies d x ≡ true → satisfies c x ≡ true }
-    ensures compatible { (c d : ConstraintParts) (x : Value) → IsConstraint c → IsConstraint d → IsValue x → c.name ≡ d.name → satisfies c x ≡ true → satisfies d x ≡ true → compatible c d ≡ true }
+    ensures sound { (c d : ConstraintParts) → constraint_covers c d ≡ true → IsImplied c d }
 {}
 
-/// The covering table is complete for int, for bool, and for the pairs of str that are named.
-pub fn constraint_complete()
-    ensures { (c d : ConstraintParts) → IsConstraint c → IsConstraint d → c.name ≡ d.name → c.kind ≡ d.kind → IsTold c.kind c.op d.op d.operand → IsImplied c d → constraint_covers c d ≡ true }
+/// Covering is complete for int, for bool, and for the pairs of str that are named.
+pub fn covering_complete()
+    ensures { (c d : ConstraintParts) → IsConstraint c → IsConstraint d → c.name ≡ d.name → c.kind ≡ d.kind → IsCompletePair c.kind c.op d.op d.operand → IsImplied c d → constraint_covers c d ≡ true }
 {}
 
-/// The canonical order is total, and its ties are equal.
-pub fn order_laws()
-    ensures parts { IsTotalOrder constraint_cmp }
-    ensures same_parts { (c d : ConstraintParts) → constraint_cmp c d ≡ Equal → c ≡ d }
+/// Compatibility is symmetric, it is never no where one value satisfies both, and for int and bool
+/// it is yes only there.
+pub fn compatibility()
+    ensures symmetric { (c d : ConstraintParts) → compatible c d ≡ compatible d c }
+    ensures never_wrong { (c d : ConstraintParts) → c.name ≡ d.name → SharesValue c d → compatible c d ≡ true }
+    ensures exact { (c d : ConstraintParts) → IsConstraint c → IsConstraint d → c.kind ≢ Kind.Str → compatible c d ≡ true → SharesValue c d }
+{}
+
+/// The canonical orders of constraints and of lists of them are total, and what ties is equal.
+pub fn canonical_order()
+    ensures constraints { IsTotalOrder constraint_cmp }
+    ensures same_constraints { (c d : ConstraintParts) → constraint_cmp c d ≡ Equal → c ≡ d }
     ensures lists { IsTotalOrder list_cmp }
     ensures same_lists { (f g : List ConstraintParts) → list_cmp f g ≡ Equal → f ≡ g }
 {}
 
-/// The table of numbers serves any range of three or more, as the seconds of a u64.
-pub fn seconds_wide()
-    ensures { Wide (pos 0) (pos (2 ^ 64 - 1)) }
+/// int is a range that the laws of numbers speak of.
+pub fn int_range()
+    ensures { IsWide int_least int_greatest }
+{}
+
+/// The normal form of a constraint on a number is one of the range, and the numbers that meet it
+/// satisfy the constraint.
+pub fn number_normal_form()
+    ensures is_form { (least greatest : ℤ) (op : Op) (u : ℤ) → IsWide least greatest → IsWithin least greatest u → IsNumberForm least greatest (number_form least greatest op u) }
+    ensures same { (least greatest : ℤ) (op : Op) (u x : ℤ) → IsWide least greatest → IsWithin least greatest x → number_allows (number_form least greatest op u) x ≡ number_satisfies op x u }
+{}
+
+/// Covering of numbers is reflexive, transitive, sound and complete.
+pub fn number_covering()
+    ensures reflexive { (k : Numbers) → number_covers k k ≡ true }
+    ensures transitive { (k m n : Numbers) → number_covers k m ≡ true → number_covers m n ≡ true → number_covers k n ≡ true }
+    ensures sound { (k m : Numbers) (x : ℤ) → number_covers k m ≡ true → number_allows m x ≡ true → number_allows k x ≡ true }
+    ensures complete { (least greatest : ℤ) (k m : Numbers) → IsWide least greatest → IsNumberForm least greatest k → IsNumberForm least greatest m → ((x : ℤ) → IsWithin least greatest x → number_allows m x ≡ true → number_allows k x ≡ true) → number_covers k m ≡ true }
+{}
+
+/// Forms of numbers are compatible exactly where some number of the range meets both.
+pub fn number_compatibility()
+    ensures never_wrong { (k m : Numbers) (x : ℤ) → number_allows k x ≡ true → number_allows m x ≡ true → number_compatible k m ≡ true }
+    ensures exact { (least greatest : ℤ) (k m : Numbers) → IsWide least greatest → IsNumberForm least greatest k → IsNumberForm least greatest m → number_compatible k m ≡ true → (x : ℤ) × IsWithin least greatest x × (number_allows k x ≡ true) × (number_allows m x ≡ true) }
 {}

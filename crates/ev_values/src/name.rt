@@ -1,17 +1,22 @@
-// Names of attributes, clients and the like.
-ghost use Rattle.std.specs.Prelude.{◌≡◌, ◌<◌, ◌↔◌, ℕ, List, length, IfOk, OnOk, IsErrOf, IsTrue};
+//! Names of attributes, of clients and of patterns.
+ghost use Rattle.std.specs.Prelude.{◌≡◌, ◌<◌, ◌↔◌, ℕ, List, length, slice_index, IfOk, MatchOption, OnOk, IsErrOf, IsTrue};
 ghost use Rattle.std.specs.Str.{bytes_eq};
-ghost use Rattle.ev_values.specs.Name.{FitsNameAt, IsFirstBad, IsName};
+ghost use Rattle.ev_values.specs.Name.{FitsNameAt, IsFirstBad, IsName, is_name};
 
+use ev_memory::NoMemory;
 use std::alloc::{AllocError, Global};
 use std::marker::Model;
 
 /// Why bytes are no name.
 #[derive(Clone, Copy, Debug, PartialEq, Eq)]
 pub enum NameFault {
+    /// There is no byte.
     Empty,
+    /// There are more than 64 bytes.
     TooLong,
+    /// The first byte that may not stand at its place, by that place, counted from 0.
     BadByte(usize),
+    /// Memory ran out.
     NoMemory,
 }
 
@@ -26,7 +31,8 @@ impl From<AllocError> for NameFault {
     }
 }
 
-/// A name: 1 to 64 letters, digits, `_`, `.` and `-` of ASCII, the first a letter.
+/// A name: 1 to 64 letters, digits, `_`, `.` and `-` of ASCII, the first a letter. Contracts see it
+/// as its bytes.
 #[derive(Drop)]
 pub struct Name {
     bytes: Vec<u8>,
@@ -55,8 +61,30 @@ fn fits_at(place: usize, byte: u8) -> bool
     }
 }
 
+// The first place of a byte that may not stand there.
+fn first_misfit(bytes: &[u8]) -> Option<usize>
+    ensures { MatchOption result ((k : ℕ) → k < length bytes.now → FitsNameAt k (slice_index bytes.now k)) (λ i. (i < length bytes.now) × (FitsNameAt i (slice_index bytes.now i) → ⊥) × ((k : ℕ) → k < i → FitsNameAt k (slice_index bytes.now k))) }
+{
+    for (i, byte) in bytes.iter().enumerate() {
+        if !fits_at(i, *byte) {
+            return Some(i);
+        }
+    }
+    None
+}
+
+/// Whether the bytes are a name. It takes no memory.
+#[tactic(auto, using(crate::proofs::NameTests::name_tested, crate::proofs::NameTests::tested_name))]
+pub fn is_name(bytes: &[u8]) -> bool
+    ensures name { IsTrue result ↔ IsName bytes.now }
+    ensures test { result ≡ is_name bytes.now }
+{
+    !bytes.is_empty() && bytes.len() <= MAX_LEN && first_misfit(bytes).is_none()
+}
+
 impl Name {
-    /// The name that the bytes spell.
+    /// The name that the bytes spell. Where they spell none it tells the first fault, tried in the
+    /// order of `NameFault`.
     pub fn read(alloc: Global, bytes: &[u8]) -> Result<Name, NameFault>
         ensures value { IfOk result (λ name. name ≡ bytes.now) }
         ensures ok { OnOk result (IsName bytes.now) }
@@ -71,15 +99,14 @@ impl Name {
         if bytes.len() > MAX_LEN {
             return Err(NameFault::TooLong);
         }
-        for (i, byte) in bytes.iter().enumerate() {
-            if !fits_at(i, *byte) {
-                return Err(NameFault::BadByte(i));
-            }
+        if let Some(i) = first_misfit(bytes) {
+            return Err(NameFault::BadByte(i));
         }
         let bytes = bytes.to_vec(alloc)?;
         Ok(Name { bytes })
     }
 
+    /// The bytes of the name.
     pub fn bytes(&self) -> &[u8]
         ensures bytes { result.now ≡ self.now }
         ensures name { IsName self.now }
@@ -88,13 +115,14 @@ impl Name {
     }
 
     /// An equal name.
-    pub fn copy(&self, alloc: Global) -> Result<Name, ev_memory::NoMemory>
+    pub fn copy(&self, alloc: Global) -> Result<Name, NoMemory>
         ensures { IfOk result (λ name. name ≡ self.now) }
     {
         let bytes = self.bytes.to_vec(alloc)?;
         Ok(Name { bytes })
     }
 
+    /// Whether two names are equal.
     pub fn equals(&self, other: &Name) -> bool
         ensures test { result ≡ bytes_eq self.now other.now }
         ensures same { IsTrue result ↔ (self.now ≡ other.now) }

@@ -1,9 +1,9 @@
-// Texts: the bytes of a str value.
-ghost use Rattle.std.specs.Prelude.{◌≡◌, ◌<◌, ◌≤◌, ◌↔◌, ℕ, length, IfOk, OnOk, IfNone, IsErrOf, MatchOption, position, not, true, false};
+//! Texts: the bytes of a str value.
+ghost use Rattle.std.specs.Prelude.{◌≡◌, ◌<◌, ◌≤◌, ◌↔◌, ℕ, length, IfOk, OnOk, IfNone, IfSome, IsSome, is_some, IsErrOf, IsTrue, MatchOption, position, not, true, false};
 ghost use Rattle.std.specs.Str.Lossy.{utf8_valid_len};
-ghost use Rattle.std.specs.Str.{is_utf8};
+ghost use Rattle.std.specs.Str.{bytes_eq, is_utf8};
 ghost use Rattle.std.specs.List.{list_all};
-ghost use Rattle.ev_values.specs.Text.{IsText, IsBadUtf8, IsFirstControl, is_open_byte};
+ghost use Rattle.ev_values.specs.Text.{IsText, IsBadUtf8, IsFirstControl, is_open_byte, is_text};
 
 use ev_memory::NoMemory;
 use std::alloc::{AllocError, Global};
@@ -12,9 +12,13 @@ use std::marker::Model;
 /// Why bytes are no text.
 #[derive(Clone, Copy, Debug, PartialEq, Eq)]
 pub enum TextFault {
+    /// There are more than 1,024 bytes.
     TooLong,
+    /// The bytes are no UTF-8; so many bytes has the longest prefix that is.
     BadUtf8(usize),
+    /// The first control byte that a text may not have, by its place, counted from 0.
     Control(usize),
+    /// Memory ran out.
     NoMemory,
 }
 
@@ -65,7 +69,23 @@ fn control(bytes: &[u8]) -> Option<usize>
     first_control(bytes)
 }
 
-/// A text: UTF-8 of at most 1,024 bytes without control bytes other than tab and newline.
+fn all_open(bytes: &[u8]) -> bool
+    ensures { result ≡ list_all is_open_byte bytes.now }
+{
+    bytes.iter().all(|b| is_open(*b))
+}
+
+/// Whether the bytes are a text. It takes no memory.
+#[tactic(auto, using(crate::proofs::TextTests::text_tested, crate::proofs::TextTests::tested_text))]
+pub fn is_text(bytes: &[u8]) -> bool
+    ensures text { IsTrue result ↔ IsText bytes.now }
+    ensures test { result ≡ is_text bytes.now }
+{
+    bytes.len() <= MAX_LEN && bad_utf8(bytes).is_none() && all_open(bytes)
+}
+
+/// A text: UTF-8 of at most 1,024 bytes without control bytes other than tab and newline (UTF-8 is
+/// that of RFC 3629). Contracts see it as its bytes.
 #[derive(Drop)]
 pub struct Text {
     bytes: Vec<u8>,
@@ -83,6 +103,7 @@ impl Model for Text {
 }
 
 impl Text {
+    /// The bytes of the text.
     pub fn bytes(&self) -> &[u8]
         ensures bytes { result.now ≡ self.now }
         ensures text { IsText self.now }
@@ -90,7 +111,21 @@ impl Text {
         &self.bytes
     }
 
-    /// The text of these bytes.
+    /// The text of owned bytes, exactly where they are one. It takes no memory.
+    pub fn from_bytes(bytes: Vec<u8>) -> Option<Text>
+        ensures value { IfSome result (λ text. text ≡ bytes.items) }
+        ensures some { IsSome result ↔ IsText bytes.items }
+        ensures test { is_some result ≡ is_text bytes.items }
+    {
+        if is_text(&bytes) {
+            Some(Text { bytes })
+        } else {
+            None
+        }
+    }
+
+    /// The text of these bytes. Where they are none it tells the first fault, tried in the order of
+    /// `TextFault`.
     pub fn read(alloc: Global, bytes: &[u8]) -> Result<Text, TextFault>
         ensures value { IfOk result (λ text. text ≡ bytes.now) }
         ensures ok { OnOk result (IsText bytes.now) }
@@ -110,6 +145,14 @@ impl Text {
         }
         let bytes = bytes.to_vec(alloc)?;
         Ok(Text { bytes })
+    }
+
+    /// Whether two texts are equal.
+    pub fn equals(&self, other: &Text) -> bool
+        ensures test { result ≡ bytes_eq self.now other.now }
+        ensures same { IsTrue result ↔ (self.now ≡ other.now) }
+    {
+        self.bytes.as_slice() == other.bytes.as_slice()
     }
 
     /// An equal text.
