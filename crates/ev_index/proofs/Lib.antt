@@ -1,3 +1,4 @@
 pub mod Tallies
 pub mod Groups
 pub mod Keyed
+pub mod Rows

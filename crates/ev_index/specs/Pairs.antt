@@ -1,11 +1,11 @@
 -- What an index holds: pairs of a test and an id.
-use Rattle.std.specs.Prelude.{◌≡◌, ◌+◌, ℕ, Bool, List, [], ◌∷◌, ◌++◌, cond, if◌then◌else◌, refl}
+use Rattle.std.specs.Prelude.{◌≡◌, ◌+◌, ℕ, Bool, List, [], ◌∷◌, ◌++◌, ◌⊎◌, cond, if◌then◌else◌}
 use Rattle.std.specs.declared.option.Option.{Option}
 use Rattle.std.specs.Coded.{Coded}
 use Rattle.ev_values.specs.declared.value.Kind.{Kind}
 use Rattle.ev_values.specs.declared.value.Value.{Value}
 use Rattle.ev_constraint.specs.declared.op.Op.{Op}
-use Rattle.ev_constraint.specs.Constraint.{ConstraintParts, meets}
+use Rattle.ev_constraint.specs.Constraint.{ConstraintParts, value_satisfies}
 
 -- how many of the list pass
 abbrev pub tally : {X : Type 0} → (X → Bool) → List X → ℕ
@@ -30,7 +30,7 @@ Pair = Test × ℕ
 
 -- the value passes the test
 abbrev pub passes : Value → Test → Bool
-passes v t = meets t.kind t.op t.operand v
+passes v t = value_satisfies t.kind t.op t.operand v
 
 -- the ids of the pairs whose test the value passes
 abbrev pub ids_met : Value → List Pair → List ℕ
@@ -42,3 +42,8 @@ pub record Appends (old new ids : List ℕ) : Type 0 where
   pub tail : List ℕ
   pub whole : new ≡ old ++ tail
   pub same : Same tail ids
+
+-- the list has the member
+abbrev pub IsIn : {X : Type 0} → X → List X → Type 0
+IsIn x [] = ⊥
+IsIn x (y ∷ ys) = (x ≡ y) ⊎ IsIn x ys

@@ -1,21 +1,21 @@
 -- Keys that compare equal are one.
-use Rattle.ev_index.specs.Pairs.{tally}
-use Rattle.ev_index.proofs.Tallies.{tally-none}
 use Rattle.std.proofs.Common.{◌≡◌, ◌==◌, List, [], ◌∷◌, length, ◌&&◌, ap, ℕ, ℤ, Bool, true, false, refl, sym, arith, Ordering}
 use Rattle.std.specs.declared.cmp.Ordering.TheVariants.{Less, Equal, Greater}
-use Rattle.std.specs.Ordering.{nat_cmp, int_cmp, ordering_then, is_eq}
-use Rattle.std.proofs.lemmas.Map.Lookups.{exact_unsigned, exact_signed, exact_pairs}
-use Rattle.ev_numindex.specs.Keys.{key_cmp, same_key}
+use Rattle.std.specs.Ordering.{int_cmp, is_eq}
+use Rattle.std.proofs.lemmas.Map.Lookups.{exact_signed}
+use Rattle.ev_index.specs.Pairs.{tally}
+use Rattle.ev_index.proofs.Tallies.{tally-none}
+use Rattle.ev_numindex.specs.Keys.{same_key}
 
 equal : (o : Ordering) → is_eq o ≡ true → o ≡ Equal
 equal Less h = cc
 equal Equal h = refl
 equal Greater h = cc
 
-pub same-one : (a b : ℕ × ℤ) → same_key a b ≡ true → b ≡ a
-same-one a b h = sym (exact_pairs nat_cmp int_cmp exact_unsigned exact_signed a b (equal (key_cmp a b) h))
+pub same-one : (a b : ℤ) → same_key a b ≡ true → b ≡ a
+same-one a b h = sym (exact_signed a b (equal (int_cmp a b) h))
 
-pub same-same : (k a b : ℕ × ℤ) → same_key k a ≡ true → same_key a b ≡ same_key k b
+pub same-same : (k a b : ℤ) → same_key k a ≡ true → same_key a b ≡ same_key k b
 same-same k a b h = ap {B = Bool} (λ q. same_key q b) (same-one k a h)
 
 pub not-same : (a b : Bool) → a ≡ false → (a && b) ≡ false

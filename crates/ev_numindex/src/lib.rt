@@ -2,3 +2,8 @@
 #![tactic(auto)]
 
 mod groups;
+mod index;
+mod meet;
+mod row;
+
+pub use index::NumIndex;

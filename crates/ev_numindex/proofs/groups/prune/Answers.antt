@@ -8,4 +8,4 @@ use Rattle.ev_numindex.proofs.groups.prune.Goals as goal
 
 pub returns-then-is_empty : goal.returns-then-is_empty
 returns-then-is_empty c = λ p.
-    keyed-drop {K = ℕ × ℤ} {N = ℕ × ℤ} (λ k. k) p (same_key c.args.key) c.args.key (same-one c.args.key) c.in-Some.ids.now c.args.groups.now.entries c.remove.new.self.entries (sym c.get.ensures.value ∙ ap option_copied c.in-Some.is) (empty c.in-Some.ids.now.items (grind (arith, nat_tests, c.in-Some.ids.now.ok.0))) c.remove.ensures.entries
+    keyed-drop {K = ℤ} {N = ℤ} (λ k. k) p (same_key c.args.key.now) c.args.key.now (same-one c.args.key.now) c.in-Some.ids.now c.args.groups.now.entries c.remove.new.self.entries (sym c.get.ensures.value ∙ ap option_copied c.in-Some.is) (empty c.in-Some.ids.now.items (grind (arith, nat_tests, c.in-Some.ids.now.ok.0))) c.remove.ensures.entries

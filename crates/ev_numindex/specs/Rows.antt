@@ -1,0 +1,26 @@
+-- Rows of groups, one for a kind and an operator.
+use Rattle.std.specs.Prelude.{List, ◌≡◌, ◌⊎◌}
+use Rattle.ev_values.specs.declared.value.Kind.{Kind}
+use Rattle.ev_constraint.specs.declared.op.Op.{Op}
+use Rattle.ev_values.specs.declared.value.Kind.TheVariants as kinds
+use Rattle.ev_constraint.specs.Constraint.{ConstraintParts}
+use Rattle.ev_index.specs.Pairs.{Pair}
+use Rattle.ev_index.specs.Groups.{keyed, flat}
+use Rattle.ev_numindex.specs.declared.row.Row.{Row}
+use Rattle.ev_numindex.specs.Keys.{test_at}
+
+-- the row is of this kind and operator
+abbrev pub IsRowOf : Kind → Op → Row → Type 0
+IsRowOf kind op r = (r.kind ≡ kind) × (r.op ≡ op)
+
+-- the pairs of a row
+abbrev pub row_pairs : Row → List Pair
+row_pairs r = keyed (test_at r.kind r.op) r.groups.entries
+
+-- the pairs of all rows
+abbrev pub rows_pairs : List Row → List Pair
+rows_pairs rows = flat row_pairs rows
+
+-- the constraint is on an int or a bool
+abbrev pub IsNumeric : ConstraintParts → Type 0
+IsNumeric c = (c.kind ≡ kinds.Int) ⊎ (c.kind ≡ kinds.Bool)
