@@ -1,5 +1,5 @@
 -- What a change of one group does to the ids with their keys.
-use Rattle.std.proofs.Common.{◌≡◌, ◌+◌, ◌≤◌, ◌<◌, ℕ, Bool, true, false, cond, refl, sym, ap, ◌∙◌, arith, List, [], ◌∷◌, ◌++◌, length, get_or, Option, Some, None, Ordering}
+use Rattle.std.proofs.Common.{◌≡◌, ◌+◌, ◌≤◌, ◌<◌, ℕ, Bool, true, false, cond, refl, sym, ap, ◌∙◌, arith, List, [], ◌∷◌, ◌++◌, length, map, get_or, Option, Some, None, Ordering}
 use Rattle.std.specs.Prelude.{Vec}
 use Rattle.std.specs.declared.alloc.Global.{Global}
 use Rattle.std.specs.Cmp.{IsEquivalence, IsTotalOrder, eq_by_cmp_equiv}
@@ -11,7 +11,7 @@ use Rattle.std.specs.Ordering.{eq_by_cmp}
 use Rattle.std.proofs.lemmas.Map.{lookup-remove_entry}
 use Rattle.ev_index.specs.Pairs.{tally}
 use Rattle.ev_index.specs.Groups.{under, spread, keyed}
-use Rattle.ev_index.proofs.Tallies.{tally-append, tally-remove, tally-none}
+use Rattle.ev_index.proofs.Tallies.{tally-append, tally-remove, tally-none, tally-map}
 use Rattle.ev_index.proofs.Groups.{tally-under, spread-insert, spread-set, spread-remove, spread-absent}
 
 -- a group with the same ids
@@ -74,3 +74,19 @@ module _ {K N : Type 0} (said : K → N) (p : N × ℕ → Bool) where
         go : (b : Bool) → t x.0 ≡ b → cond b (Some x.1) (lookup t es) ≡ Some old → (lookup t es ≡ Some old → met n old.items ≡ 0 → tally p (keyed said es) ≡ 0) → (t x.0 ≡ true → tally p (keyed said es) ≡ 0) → tally p (keyed said (x ∷ es)) ≡ 0
         go true w g r k = let s : x.1 ≡ old = cc in omega (arith, tally-append p (part x.0 x.1) (keyed said es), of-part x.0 n x.1 (one x.0 w), ap {B = ℕ} (λ (ids : Vec ℕ Global). met n ids.items) s, k w)
         go false w g r k = omega (arith, tally-append p (part x.0 x.1) (keyed said es), of-part x.0 (said x.0) x.1 refl, tally-none (λ id. p (said x.0, id)) x.1.items (λ id. none x.0 id w), r g e)
+
+    -- a group's ids are among all
+    pub keyed-has : (old : Vec ℕ Global) (es : List (K × Vec ℕ Global)) → lookup t es ≡ Some old → met n old.items ≤ tally p (keyed said es)
+    keyed-has old es h = omega (arith, spread-remove part p t (λ ids. met n ids.items) old es (λ q ids w. of-part q n ids (one q w)) h)
+
+-- ids with their keys are ids with what the keys say
+pub keyed-said : {K N : Type 0} (said : K → N) (es : List (K × Vec ℕ Global)) → keyed said es ≡ map (λ x. (said x.0, x.1)) (keyed (λ k. k) es)
+keyed-said {K = K} {N = N} said [] = refl
+keyed-said {K = K} {N = N} said (e ∷ es) = all e.1.items (keyed-said said es)
+  where
+    all : (ids : List ℕ) → keyed said es ≡ map (λ x. (said x.0, x.1)) (keyed (λ k. k) es) → under (said e.0) ids ++ keyed said es ≡ map (λ x. (said x.0, x.1)) (under e.0 ids ++ keyed (λ k. k) es)
+    all [] r = r
+    all (id ∷ ids) r = ap (λ xs. (said e.0, id) ∷ xs) (all ids r)
+
+pub tally-said : {K N : Type 0} (said : K → N) (p : N × ℕ → Bool) (es : List (K × Vec ℕ Global)) → tally p (keyed said es) ≡ tally (λ x. p (said x.0, x.1)) (keyed (λ k. k) es)
+tally-said {K = K} {N = N} said p es = ap (tally p) (keyed-said said es) ∙ tally-map (λ (x : K × ℕ). (said x.0, x.1)) p (keyed (λ k. k) es)

@@ -2,3 +2,4 @@ pub mod Tallies
 pub mod Groups
 pub mod Keyed
 pub mod Rows
+pub mod Members

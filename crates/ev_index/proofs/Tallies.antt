@@ -51,3 +51,7 @@ Appends-append old between new a b h g = record {
   whole = g.whole ∙ ap (λ xs. xs ++ g.tail) h.whole ∙ append_assoc old h.tail g.tail;
   same = λ p. omega (arith, tally-append p h.tail g.tail, tally-append p a b, h.same p, g.same p);
 }
+
+-- what stands at a place counts
+pub tally-at : {X : Type 0} (p : X → Bool) (xs : List X) (i : ℕ) (d : X) → i < length xs → p (get_or xs i d) ≡ true → 1 ≤ tally p xs
+tally-at p xs i d h e = omega (arith, tally-remove p xs i d h, ap {B = ℕ} (λ b. cond b 1 0) e)

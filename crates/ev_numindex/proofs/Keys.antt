@@ -1,10 +1,12 @@
 -- Keys that compare equal are one.
-use Rattle.std.proofs.Common.{◌≡◌, ◌==◌, List, [], ◌∷◌, length, ◌&&◌, ap, ℕ, ℤ, Bool, true, false, refl, sym, arith, Ordering}
+use Rattle.std.proofs.Common.{◌≡◌, ◌==◌, List, [], ◌∷◌, length, get_or, ◌<◌, ◌≤◌, ◌∙◌, ◌&&◌, ap, ℕ, ℤ, Bool, true, false, refl, sym, arith, Ordering}
 use Rattle.std.specs.declared.cmp.Ordering.TheVariants.{Less, Equal, Greater}
 use Rattle.std.specs.Ordering.{int_cmp, is_eq}
+use Rattle.std.proofs.lemmas.Int.{ints}
+use Rattle.std.proofs.lemmas.Bool.Decides.{nat_tests}
 use Rattle.std.proofs.lemmas.Map.Lookups.{exact_signed}
 use Rattle.ev_index.specs.Pairs.{tally}
-use Rattle.ev_index.proofs.Tallies.{tally-none}
+use Rattle.ev_index.proofs.Tallies.{tally-none, tally-at}
 use Rattle.ev_numindex.specs.Keys.{same_key}
 
 equal : (o : Ordering) → is_eq o ≡ true → o ≡ Equal
@@ -29,3 +31,12 @@ none-met false id xs h = tally-none (λ _. false) xs (λ _. refl)
 pub empty : {X : Type 0} (xs : List X) → length xs ≡ 0 → xs ≡ []
 empty [] h = refl
 empty (x ∷ xs) h = absurd (omega arith)
+
+pub same-self : (k : ℤ) → same_key k k ≡ true
+same-self k = grind (arith, ints)
+
+pub some-met : (k : ℤ) (id : ℕ) (xs : List ℕ) (i : ℕ) → i < length xs → get_or xs i 0 ≡ id → 1 ≤ tally (λ x. same_key k k && (x == id)) xs
+some-met k id xs i h e = tally-at (λ x. same_key k k && (x == id)) xs i 0 h (ap {B = Bool} (λ b. b && (get_or xs i 0 == id)) (same-self k) ∙ ap {B = Bool} (λ n. n == id) e ∙ here id)
+  where
+    here : (n : ℕ) → (n == n) ≡ true
+    here n = grind (arith, nat_tests)

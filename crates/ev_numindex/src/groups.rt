@@ -1,5 +1,5 @@
 //! Ids in groups, each group under its key in an ordered map.
-ghost use Rattle.std.specs.Prelude.{◌≡◌, ◌++◌, ◌∷◌, ◌<◌, ◌==◌, ◌&&◌, List, true, false, Bool, ℕ, ℤ, IfOk, OnOk, OnErr, IfSome, IfNone, length, slice_index, Vec};
+ghost use Rattle.std.specs.Prelude.{◌≡◌, ◌++◌, ◌∷◌, ◌<◌, ◌≤◌, ◌==◌, ◌&&◌, List, true, false, Bool, ℕ, ℤ, IfOk, OnOk, OnErr, IfSome, IfNone, length, slice_index, Vec};
 ghost use Rattle.std.specs.List.{list_any, remove};
 ghost use Rattle.ev_index.specs.Pairs.{tally, Same};
 ghost use Rattle.ev_index.specs.Groups.{keyed, ids_of};
@@ -48,6 +48,22 @@ fn place_of(ids: &[u32], id: u32) -> Option<usize>
         }
     }
     None
+}
+
+/// Whether an id is under a key.
+pub(crate) fn has(groups: &BTreeMap<Key, Vec<u32>>, key: &Key, id: u32) -> bool
+    ensures there { result ≡ true → 1 ≤ tally (λ x. same_key key.now x.0 && (x.1 == id)) (keyed (λ k. k) groups.now.entries) }
+    ensures none { result ≡ false → tally (λ x. same_key key.now x.0 && (x.1 == id)) (keyed (λ k. k) groups.now.entries) ≡ 0 }
+{
+    let Some(ids) = groups.get(key) else {
+        return false;
+    };
+    // The keys rise, so there is no other such group.
+    let _size = groups.len();
+    let Some(_) = place_of(ids, id) else {
+        return false;
+    };
+    true
 }
 
 /// Takes an id from under a key; whether it was there.

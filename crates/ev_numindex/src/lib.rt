@@ -7,3 +7,6 @@ mod meet;
 mod row;
 
 pub use index::NumIndex;
+
+#[cfg(test)]
+mod tests;

@@ -5,4 +5,4 @@ use Rattle.ev_numindex.specs.Rows.{IsRowOf}
 use Rattle.ev_numindex.proofs.row.place.Given as goal
 
 abbrev pub invariant-loop-i : goal.invariant-loop-i
-invariant-loop-i l = (k : ℕ) (d : Row) → k < l.i → IsRowOf l.kind l.op (slice_index_or l.rows k d) → ⊥
+invariant-loop-i l = (k : ℕ) → k < l.i → (d : Row) → IsRowOf l.kind l.op (slice_index_or l.rows k d) → ⊥
