@@ -1,5 +1,5 @@
 -- The canonical list, from a sort and the removal of repeats.
-use Rattle.std.proofs.Common.{inl, inr, ◌⊎◌, ◌≡◌, ℕ, zero, suc, ◌+◌, ◌<◌, ◌≤◌, Bool, true, false, cond, refl, sym, ap, subst, ◌∙◌, arith, List, [], ◌∷◌, length, get_or, Ordering, add-one}
+use Rattle.std.proofs.Common.{inl, inr, ◌⊎◌, ◌≡◌, ◌↔◌, ℕ, zero, suc, ◌+◌, ◌<◌, ◌≤◌, Bool, true, false, cond, refl, sym, ap, subst, ◌∙◌, arith, List, [], ◌∷◌, length, get_or, Ordering, add-one}
 use Rattle.std.specs.declared.cmp.Ordering.TheVariants.{Less, Equal, Greater}
 use Rattle.std.specs.Ordering.{is_lt, is_eq, ordering_reverse, eq_by_cmp}
 use Rattle.std.specs.List.{Contains, items_where_true}
@@ -120,6 +120,15 @@ contains-has x [] t = absurd (omega arith)
 contains-has x (y ∷ xs) (zero, l, e) = inl (sym e)
 contains-has x (y ∷ xs) (suc k, l, e) = inr (contains-has x xs (k, omega arith, e))
 
+pub canonical_contains : (x : ConstraintParts) (xs : List ConstraintParts) → Contains (canonical xs) x → Contains xs x
+canonical_contains x xs t = has-contains x xs (canonical-has x xs (contains-has x (canonical xs) t))
+
+pub contains_canonical : (x : ConstraintParts) (xs : List ConstraintParts) → Contains xs x → Contains (canonical xs) x
+contains_canonical x xs t = has-contains x (canonical xs) (has-canonical x xs (contains-has x xs t))
+
+pub unique-contains : (xs ys : List ConstraintParts) → IsRising xs → IsRising ys → ((x : ConstraintParts) → Contains xs x ↔ Contains ys x) → xs ≡ ys
+unique-contains xs ys r s m = unique xs ys r s (λ x h. contains-has x ys ((m x).0 (has-contains x xs h))) (λ x h. contains-has x xs ((m x).1 (has-contains x ys h)))
+
 -- the canonical list does not depend on the order
 pub canonical-permutation : (xs ys : List ConstraintParts) → IsPermutation xs ys → canonical ys ≡ canonical xs
 canonical-permutation xs ys p = unique (canonical ys) (canonical xs) (rises ys) (rises xs)
@@ -194,3 +203,12 @@ canonical_some (x ∷ xs) ys e l = go ys (subst (λ (zs : List ConstraintParts).
     go : (zs : List ConstraintParts) → Has x zs → 0 < length zs
     go [] m = absurd m
     go (z ∷ zs) m = omega arith
+
+pub canonical_none : (xs : List ConstraintParts) → length xs ≡ 0 → length (canonical xs) ≡ 0
+unfolding canonical
+canonical_none [] e = refl
+canonical_none (x ∷ xs) e = absurd (omega arith)
+
+-- sorted and without repeats
+pub settled : (xs ys zs : List ConstraintParts) → IsPermutation xs ys → IsSorted constraint_cmp ys → IsFiltered (DiffersFromLast (eq_by_cmp constraint_cmp)) [] ys zs → zs ≡ canonical xs
+settled xs ys zs p s f = deduped ys zs s f ∙ canonical-permutation xs ys p

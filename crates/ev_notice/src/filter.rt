@@ -1,26 +1,23 @@
-// Filters and advertisements, and what they say of a notice.
-ghost use Rattle.std.specs.Prelude.{◌≡◌, ◌<◌, ◌↔◌, [], length, IfOk, OnOk, IsErrOf};
-ghost use Rattle.ev_notice.specs.Canonical.{canonical, IsRising, IsListed};
-ghost use Rattle.std.specs.Option.{option_copied};
-ghost use Rattle.ev_notice.specs.Before.{list_before};
-ghost use Rattle.ev_notice.specs.Notice.{attribute_at, AreConstraints};
-ghost use Rattle.ev_notice.specs.Cover.{attribute_satisfies, matches, allows, some_allows};
-
-use crate::notice::Notice;
+//! Filters and advertisements: lists of constraints in canonical order, each once.
+use crate::canonical::{canonical, copied, is_rising, settle};
 use ev_constraint::Constraint;
-use ev_values::{Name, NoMemory, Value};
+use ev_memory::NoMemory;
+use std::alloc::Global;
 use std::cmp::Ordering;
 use std::marker::Model;
 
-/// Why there is no such list of constraints.
+/// Why there is no such filter or advertisement.
 #[derive(Clone, Copy, Debug, PartialEq, Eq)]
 pub enum FilterFault {
+    /// There is no constraint.
     Nothing,
+    /// Repeats aside there are more than 16 constraints, for an advertisement more than 64.
     TooMany,
+    /// Memory ran out.
     NoMemory,
 }
 
-/// Constraints that a notice meets one and all.
+/// A filter: 1 to 16 constraints, all of which a notice must meet.
 #[derive(Drop)]
 pub struct Filter {
     constraints: Vec<Constraint>,
@@ -38,7 +35,7 @@ impl Model for Filter {
     ghost invariant = { λ f. IsListed 16 f.constraints.items };
 }
 
-/// Constraints of which an attribute meets one.
+/// An advertisement: 1 to 64 constraints, of which each attribute of a notice must meet one.
 #[derive(Drop)]
 pub struct Advert {
     constraints: Vec<Constraint>,
@@ -56,28 +53,64 @@ impl Model for Advert {
     ghost invariant = { λ a. IsListed 64 a.constraints.items };
 }
 
+/// The most constraints of a filter, and of an advertisement.
+const MOST_OF_FILTER: usize = 16;
+
+const MOST_OF_ADVERT: usize = 64;
+
 impl Filter {
-    /// The filter of these constraints.
+    ghost use Rattle.std.specs.Prelude.{◌≡◌, ◌<◌, ◌↔◌, [], length, true, false, IfOk, OnOk, IsErrOf, MatchOption};
+    ghost use Rattle.ev_notice.specs.Canonical.{canonical, is_listed, IsListed};
+    ghost use Rattle.ev_notice.specs.Before.{list_before};
+
+    /// The filter of these constraints, given in any order and maybe more than once. It takes no memory.
+    #[tactic(auto, using(crate::proofs::CanonicalLaws::canonical_rising, crate::proofs::CanonicalLaws::canonical_some, crate::proofs::CanonicalLaws::canonical_none))]
     pub fn make(constraints: Vec<Constraint>) -> Result<Filter, FilterFault>
         ensures value { IfOk result (λ f. f ≡ canonical constraints.items) }
-        ensures ok { OnOk result (IsListed 16 (canonical constraints.items)) }
+        ensures listed { IfOk result (λ f. IsListed 16 f) }
         ensures nothing { IsErrOf result FilterFault.Nothing ↔ (constraints.items ≡ []) }
-        ensures too_many { IsErrOf result FilterFault.TooMany → 16 < length (canonical constraints.items) }
+        ensures too_many { IsErrOf result FilterFault.TooMany ↔ (16 < length (canonical constraints.items)) }
+        ensures memory { IsErrOf result FilterFault.NoMemory → ⊥ }
     {
         if constraints.is_empty() {
             return Err(FilterFault::Nothing);
         }
-        let Ok(constraints) = canonical(constraints) else {
-            return Err(FilterFault::NoMemory);
-        };
-        if constraints.len() > 16 {
+        let constraints = canonical(constraints);
+        if constraints.len() > MOST_OF_FILTER {
             return Err(FilterFault::TooMany);
         }
         settle(&constraints);
         Ok(Filter { constraints })
     }
 
-    /// Whether it stands before the other in the canonical order.
+    /// The filter of constraints that stand in canonical order already, each once; `None` where they don't, or are none
+    /// or more than 16.
+    #[tactic(auto, unfolding(crate::specs::Canonical::is_listed))]
+    pub fn of_rising(constraints: Vec<Constraint>) -> Option<Filter>
+        ensures { MatchOption result (is_listed 16 constraints.items ≡ false) (λ f. (f ≡ constraints.items) × (is_listed 16 constraints.items ≡ true)) }
+    {
+        if !constraints.is_empty()
+            && constraints.len() <= MOST_OF_FILTER
+            && is_rising(&constraints)
+        {
+            settle(&constraints);
+            Some(Filter { constraints })
+        } else {
+            None
+        }
+    }
+
+    /// Its constraints in canonical order.
+    #[tactic(auto, using(crate::proofs::Shapes::listed_told))]
+    pub fn constraints(&self) -> &[Constraint]
+        ensures same { result.now ≡ self.now }
+        ensures whole { IsListed 16 self.now }
+        ensures listed { is_listed 16 self.now ≡ true }
+    {
+        &self.constraints
+    }
+
+    /// Whether it stands before the other in the canonical order of filters.
     #[tactic(auto, unfolding(crate::specs::Before::list_before))]
     pub fn is_before(&self, other: &Filter) -> bool
         ensures { result ≡ list_before self.now other.now }
@@ -92,35 +125,68 @@ impl Filter {
         }
     }
 
-    pub fn constraints(&self) -> &[Constraint]
-        ensures { result.now ≡ self.now }
+    /// An equal filter.
+    pub fn copy(&self, alloc: Global) -> Result<Filter, NoMemory>
+        ensures { IfOk result (λ f. f ≡ self.now) }
     {
-        &self.constraints
+        let constraints = copied(alloc, &self.constraints)?;
+        Ok(Filter { constraints })
     }
 }
 
 impl Advert {
-    /// The advertisement of these constraints.
+    ghost use Rattle.std.specs.Prelude.{◌≡◌, ◌<◌, ◌↔◌, [], length, true, false, IfOk, OnOk, IsErrOf, MatchOption};
+    ghost use Rattle.ev_notice.specs.Canonical.{canonical, is_listed, IsListed};
+    ghost use Rattle.ev_notice.specs.Before.{list_before};
+
+    /// The advertisement of these constraints, given in any order and maybe more than once. It takes no memory.
+    #[tactic(auto, using(crate::proofs::CanonicalLaws::canonical_rising, crate::proofs::CanonicalLaws::canonical_some, crate::proofs::CanonicalLaws::canonical_none))]
     pub fn make(constraints: Vec<Constraint>) -> Result<Advert, FilterFault>
         ensures value { IfOk result (λ a. a ≡ canonical constraints.items) }
-        ensures ok { OnOk result (IsListed 64 (canonical constraints.items)) }
+        ensures listed { IfOk result (λ a. IsListed 64 a) }
         ensures nothing { IsErrOf result FilterFault.Nothing ↔ (constraints.items ≡ []) }
-        ensures too_many { IsErrOf result FilterFault.TooMany → 64 < length (canonical constraints.items) }
+        ensures too_many { IsErrOf result FilterFault.TooMany ↔ (64 < length (canonical constraints.items)) }
+        ensures memory { IsErrOf result FilterFault.NoMemory → ⊥ }
     {
         if constraints.is_empty() {
             return Err(FilterFault::Nothing);
         }
-        let Ok(constraints) = canonical(constraints) else {
-            return Err(FilterFault::NoMemory);
-        };
-        if constraints.len() > 64 {
+        let constraints = canonical(constraints);
+        if constraints.len() > MOST_OF_ADVERT {
             return Err(FilterFault::TooMany);
         }
         settle(&constraints);
         Ok(Advert { constraints })
     }
 
-    /// Whether it stands before the other in the canonical order.
+    /// The advertisement of constraints that stand in canonical order already, each once; `None` where they don't, or
+    /// are none or more than 64.
+    #[tactic(auto, unfolding(crate::specs::Canonical::is_listed))]
+    pub fn of_rising(constraints: Vec<Constraint>) -> Option<Advert>
+        ensures { MatchOption result (is_listed 64 constraints.items ≡ false) (λ a. (a ≡ constraints.items) × (is_listed 64 constraints.items ≡ true)) }
+    {
+        if !constraints.is_empty()
+            && constraints.len() <= MOST_OF_ADVERT
+            && is_rising(&constraints)
+        {
+            settle(&constraints);
+            Some(Advert { constraints })
+        } else {
+            None
+        }
+    }
+
+    /// Its constraints in canonical order.
+    #[tactic(auto, using(crate::proofs::Shapes::listed_told))]
+    pub fn constraints(&self) -> &[Constraint]
+        ensures same { result.now ≡ self.now }
+        ensures whole { IsListed 64 self.now }
+        ensures listed { is_listed 64 self.now ≡ true }
+    {
+        &self.constraints
+    }
+
+    /// Whether it stands before the other in the canonical order of advertisements.
     #[tactic(auto, unfolding(crate::specs::Before::list_before))]
     pub fn is_before(&self, other: &Advert) -> bool
         ensures { result ≡ list_before self.now other.now }
@@ -135,80 +201,11 @@ impl Advert {
         }
     }
 
-    pub fn constraints(&self) -> &[Constraint]
-        ensures { result.now ≡ self.now }
+    /// An equal advertisement.
+    pub fn copy(&self, alloc: Global) -> Result<Advert, NoMemory>
+        ensures { IfOk result (λ a. a ≡ self.now) }
     {
-        &self.constraints
+        let constraints = copied(alloc, &self.constraints)?;
+        Ok(Advert { constraints })
     }
-}
-
-// Whether the attribute of the constraint's name exists and attribute_satisfies it.
-fn meets(attributes: &[(Name, Value)], constraint: &Constraint) -> bool
-    ensures { result ≡ attribute_satisfies (attribute_at attributes.now constraint.now.name) constraint.now }
-{
-    for (name, value) in attributes {
-        if name.equals(constraint.name()) {
-            return constraint.satisfied(value);
-        }
-    }
-    false
-}
-
-/// Whether the notice matches the filter.
-#[tactic(auto, unfolding(crate::specs::Cover::matches))]
-pub fn matches(filter: &Filter, notice: &Notice) -> bool
-    ensures { result ≡ matches notice.now filter.now }
-{
-    let attributes = notice.attributes();
-    filter
-        .constraints()
-        .iter()
-        .all(|constraint| meets(attributes, constraint))
-}
-
-// Whether some constraint allows the attribute.
-fn allows_one(constraints: &[Constraint], name: &Name, value: &Value) -> bool
-    ensures { result ≡ some_allows constraints.now name.now value.now }
-{
-    constraints.iter().any(|constraint| constraint.name().equals(name)
-        && constraint.satisfied(value))
-}
-
-/// Whether the advertisement covers the notice.
-#[tactic(auto, unfolding(crate::specs::Cover::allows))]
-pub fn allows(advert: &Advert, notice: &Notice) -> bool
-    ensures { result ≡ allows advert.now notice.now }
-{
-    let constraints = advert.constraints();
-    notice
-        .attributes()
-        .iter()
-        .all(|(name, value)| allows_one(constraints, name, value))
-}
-
-// Each is a constraint.
-fn settle(constraints: &[Constraint])
-    ensures { AreConstraints constraints.now }
-{
-    for constraint in constraints {
-        let _op = constraint.op();
-    }
-}
-
-// The constraints, rising, each once.
-#[tactic(auto, using(crate::proofs::CanonicalLaws::canonical_rising, crate::proofs::CanonicalLaws::canonical_some))]
-fn canonical(constraints: Vec<Constraint>) -> Result<Vec<Constraint>, NoMemory>
-    ensures value { IfOk result (λ v. v.items ≡ canonical constraints.items) }
-    ensures rising { IfOk result (λ v. IsRising v.items) }
-    ensures some { IfOk result (λ v. 0 < length constraints.items → 0 < length v.items) }
-{
-    rising(constraints)
-}
-
-fn rising(mut constraints: Vec<Constraint>) -> Result<Vec<Constraint>, NoMemory>
-    ensures { IfOk result (λ v. v.items ≡ canonical constraints.items) }
-{
-    constraints.sort()?;
-    constraints.dedup();
-    Ok(constraints)
 }

@@ -1,9 +1,11 @@
-// Notices: names with values.
-use ev_values::{Name, NoMemory, Value};
+//! Notices: what a client publishes, a list of named values.
+use ev_memory::NoMemory;
+use ev_values::{Name, Value};
+use std::alloc::Global;
 use std::cmp::Ordering;
 use std::marker::Model;
 
-/// A notice.
+/// A notice (a notification): 1 to 64 attributes, each a name with a value, by rising names.
 #[derive(Drop)]
 pub struct Notice {
     attributes: Vec<(Name, Value)>,
@@ -11,76 +13,98 @@ pub struct Notice {
 
 impl Model for Notice {
     ghost use Rattle.std.specs.Prelude.{List};
-    ghost use Rattle.ev_notice.specs.Notice.{Attribute};
+    ghost use Rattle.ev_notice.specs.Notice.{Attribute, IsNotice};
 
     ghost Value = { List Attribute };
 
     ghost view = { λ n. n.attributes.items };
+
+    ghost invariant = { λ n. IsNotice n.attributes.items };
 }
 
 /// Why there is no such notice.
 #[derive(Clone, Copy, Debug, PartialEq, Eq)]
 pub enum NoticeFault {
+    /// There is no attribute.
     Nothing,
+    /// There are more than 64 attributes.
     TooMany,
+    /// The least place, from 0, whose name stood at an earlier place.
     Twice(usize),
+    /// Memory ran out.
     NoMemory,
 }
 
-impl Notice {
-    ghost use Rattle.std.specs.Prelude.{◌<◌, ◌≤◌, ◌↔◌, ℕ, [], Some, length, IfOk, OnOk, IsErrOf, IsPermutation};
-    ghost use Rattle.ev_notice.specs.Notice.{AreRising, first_twice};
+/// The most attributes of a notice.
+const MOST: usize = 64;
 
-    /// The notice of these attributes.
+impl Notice {
+    ghost use Rattle.std.specs.Prelude.{◌≡◌, ◌<◌, ◌≤◌, ◌↔◌, ℕ, [], Some, length, false, true, IfOk, OnOk, IsErrOf, IsPermutation, MatchOption};
+    ghost use Rattle.ev_notice.specs.Notice.{AreRising, IsNotice, first_twice, is_notice};
+
+    /// The notice of these attributes, given in any order. It sorts them in place and takes no memory.
     #[tactic(auto, using(crate::proofs::NoticeLaws::sorted_rising, crate::proofs::NoticeLaws::empty_once))]
     pub fn make(attributes: Vec<(Name, Value)>) -> Result<Notice, NoticeFault>
         ensures same { IfOk result (λ n. IsPermutation attributes.items n) }
         ensures rising { IfOk result (λ n. AreRising n) }
-        ensures nothing { IsErrOf result NoticeFault.Nothing ↔ (length attributes.items ≡ 0) }
+        ensures nothing { IsErrOf result NoticeFault.Nothing ↔ (attributes.items ≡ []) }
         ensures too_many { IsErrOf result NoticeFault.TooMany ↔ (64 < length attributes.items) }
         ensures twice { (i : ℕ) → IsErrOf result (NoticeFault.Twice i) ↔ ((length attributes.items ≤ 64) × (first_twice attributes.items ≡ Some i)) }
+        ensures memory { IsErrOf result NoticeFault.NoMemory → ⊥ }
     {
         if attributes.is_empty() {
             return Err(NoticeFault::Nothing);
         }
-        if attributes.len() > 64 {
+        if attributes.len() > MOST {
             return Err(NoticeFault::TooMany);
         }
         if let Some(i) = first_twice(&attributes) {
             return Err(NoticeFault::Twice(i));
         }
-        match sorted(attributes) {
-            Ok(attributes) => Ok(Notice { attributes }),
-            Err(_) => Err(NoticeFault::NoMemory),
-        }
+        let attributes = sorted(attributes);
+        settle(&attributes);
+        Ok(Notice { attributes })
     }
 
-    ghost use Rattle.std.specs.Prelude.{◌≡◌, MatchOption, true, false};
-    ghost use Rattle.ev_notice.specs.Notice.{is_notice};
-
-    /// The notice of attributes that are in order already.
+    /// The notice of attributes that stand in rising order of names already; `None` where they don't, or are none or
+    /// more than 64.
     #[tactic(auto, unfolding(crate::specs::Notice::is_notice))]
     pub fn of_rising(attributes: Vec<(Name, Value)>) -> Option<Notice>
         ensures { MatchOption result (is_notice attributes.items ≡ false) (λ n. (n ≡ attributes.items) × (is_notice attributes.items ≡ true)) }
     {
-        if attributes.len() > 0 && attributes.len() <= 64 && are_rising(&attributes) {
+        if !attributes.is_empty() && attributes.len() <= MOST && are_rising(&attributes) {
+            settle(&attributes);
             Some(Notice { attributes })
         } else {
             None
         }
     }
 
+    /// Its attributes by rising names.
+    #[tactic(auto, using(crate::proofs::Shapes::notice_told))]
     pub fn attributes(&self) -> &[(Name, Value)]
-        ensures { result.now ≡ self.now }
+        ensures same { result.now ≡ self.now }
+        ensures whole { IsNotice self.now }
+        ensures listed { is_notice self.now ≡ true }
     {
         &self.attributes
+    }
+
+    /// An equal notice.
+    pub fn copy(&self, alloc: Global) -> Result<Notice, NoMemory>
+        ensures { IfOk result (λ n. n ≡ self.now) }
+    {
+        let attributes = copied(alloc, &self.attributes)?;
+        Ok(Notice { attributes })
     }
 }
 
 ghost use Rattle.std.specs.Prelude.{◌≡◌, IfOk, IsPermutation};
 ghost use Rattle.std.specs.List.Sorted.{IsSortedBy};
-ghost use Rattle.ev_notice.specs.Notice.{is_name_less, has_name, first_twice, are_rising, AreRising};
+ghost use Rattle.ev_values.specs.Value.{IsValue};
+ghost use Rattle.ev_notice.specs.Notice.{AreNames, AreValues, is_name_less, has_name, first_twice, are_rising};
 
+// Whether one of the attributes has the name.
 fn has_name(seen: &[(Name, Value)], name: &Name) -> bool
     ensures { result ≡ has_name seen.now name.now }
 {
@@ -100,15 +124,16 @@ fn first_twice(attributes: &[(Name, Value)]) -> Option<usize>
     None
 }
 
-// The attributes by rising names.
-fn sorted(mut attributes: Vec<(Name, Value)>) -> Result<Vec<(Name, Value)>, NoMemory>
-    ensures same { IfOk result (λ v. IsPermutation attributes.items v.items) }
-    ensures sorted { IfOk result (λ v. IsSortedBy is_name_less v.items) }
+// The attributes by names.
+fn sorted(mut attributes: Vec<(Name, Value)>) -> Vec<(Name, Value)>
+    ensures same { IsPermutation attributes.items result.items }
+    ensures sorted { IsSortedBy is_name_less result.items }
 {
-    attributes.sort_by(|(a, _), (b, _)| a.bytes().cmp(b.bytes()))?;
-    Ok(attributes)
+    attributes.sort_unstable_by(|(a, _), (b, _)| a.bytes().cmp(b.bytes()));
+    attributes
 }
 
+// Whether the first name stands before the second.
 fn is_less(a: &(Name, Value), b: &(Name, Value)) -> bool
     ensures { result ≡ is_name_less a.now b.now }
 {
@@ -118,12 +143,53 @@ fn is_less(a: &(Name, Value), b: &(Name, Value)) -> bool
     }
 }
 
-#[tactic(auto, using(crate::proofs::Rises::short_rises))]
+// Whether each name stands before the next.
 fn are_rising(attributes: &[(Name, Value)]) -> bool
     ensures { result ≡ are_rising attributes.now }
 {
-    match attributes {
-        [first, second, ..] => is_less(first, second) && are_rising(&attributes[1..]),
-        _ => true,
+    let mut rest = attributes;
+    while let [first, second, ..] = rest {
+        if !is_less(first, second) {
+            return false;
+        }
+        rest = &rest[1..];
     }
+    true
+}
+
+// A value of the program is well formed.
+fn settle_value(value: &Value)
+    ensures { IsValue value.now }
+{
+    match value {
+        Value::Bool(_) => {}
+        Value::Int(number) => {
+            let _number = *number;
+        }
+        Value::Str(text) => {
+            let _bytes = text.bytes();
+        }
+    }
+}
+
+// So are all attributes.
+fn settle(attributes: &[(Name, Value)])
+    ensures names { AreNames attributes.now }
+    ensures values { AreValues attributes.now }
+{
+    for (name, value) in attributes {
+        let _bytes = name.bytes();
+        settle_value(value);
+    }
+}
+
+// Equal attributes.
+fn copied(alloc: Global, attributes: &[(Name, Value)]) -> Result<Vec<(Name, Value)>, NoMemory>
+    ensures { IfOk result (λ v. v.items ≡ attributes.now) }
+{
+    let mut copies = Vec::with_capacity(alloc, attributes.len())?;
+    for (name, value) in attributes {
+        copies.push((name.copy(alloc)?, value.copy(alloc)?))?;
+    }
+    Ok(copies)
 }

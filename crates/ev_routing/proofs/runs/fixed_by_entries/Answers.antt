@@ -1,0 +1,6 @@
+use Rattle.ev_run.proofs.Fixed.{run-once}
+use Rattle.ev_routing.specs.Routing.{routing_machine}
+use Rattle.ev_routing.proofs.runs.fixed_by_entries.Goals as goal
+
+pub returns : goal.returns
+returns hold c net = run-once (routing_machine hold.M.Matching.theory net)

@@ -1,0 +1,12 @@
+-- A least machine: a server adds up what it is told, and tells its neighbours.
+use Rattle.std.specs.Prelude.{true, false, ℕ, ◌+◌, ◌==◌, cond, [], ◌∷◌, Option, Some, None}
+use Rattle.ev_run.specs.Machine.{Machine, Input, Does, Takes, Outcome}
+
+-- its step
+abbrev pub counting_step : ℕ → ℕ → Input ℕ ℕ → Option (Outcome ℕ ℕ)
+counting_step server sum (Does amount) = Some (record { state = sum + amount; outs = λ link. amount ∷ [] })
+counting_step server sum (Takes from amount) = Some (record { state = sum + amount; outs = λ link. cond (link == from) [] (amount ∷ []) })
+
+-- the machine
+abbrev pub counting : Machine
+counting = record { State = ℕ; Task = ℕ; Message = ℕ; links = λ t. []; step = counting_step; servers = []; phase = λ t s a. None; through = λ t s k. true; staged = λ t s. false }

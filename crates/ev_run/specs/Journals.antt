@@ -1,0 +1,104 @@
+-- Journals of the single servers, and their merge.
+use Rattle.std.specs.Prelude.{◌≡◌, ℕ, suc, ◌≤◌, ◌<◌, ◌==◌, cond, List, [], ◌∷◌, ◌++◌, ◌⊎◌, length, Option, Some, None}
+use Rattle.ev_run.specs.Machine.{Has, at, Machine, Input, Does, Takes, Outcome, Stamped, Entry, unstamped, next_stamp, stamped, entry_of, act_phase}
+use Rattle.ev_run.specs.Network.{NetworkState, IsStep}
+use Rattle.ev_run.specs.Runs.{greatest, raised, IsQuiet, IsThrough, IsRun}
+
+-- xs is the beginning of ys
+abbrev pub IsPrefix : {T : Type 0} → List T → List T → Type 0
+IsPrefix {T} xs ys = (zs : List T) × (xs ++ zs ≡ ys)
+
+module _ (machine : Machine) where
+  -- what one server has in hand: its state and clock, and of each neighbour what it put for it and took from it
+  pub record Cell : Type 0 where
+    pub state : machine.State
+    pub clock : ℕ
+    pub put : ℕ → List (Stamped machine.Message)
+    pub took : ℕ → List (Stamped machine.Message)
+
+  -- what is taken of each neighbour after an input
+  abbrev pub took_after : (ℕ → List (Stamped machine.Message)) → Input machine.Task (Stamped machine.Message) → ℕ → List (Stamped machine.Message)
+  took_after took (Does task) = took
+  took_after took (Takes from message) = at took from (took from ++ message ∷ [])
+
+  -- a cell after an input with this outcome
+  abbrev pub cell_after : Cell → Input machine.Task (Stamped machine.Message) → Outcome machine.State machine.Message → Cell
+  cell_after cell input outcome = record {
+    state = outcome.state;
+    clock = next_stamp machine cell.clock input;
+    put = λ link. cell.put link ++ stamped machine (next_stamp machine cell.clock input) (outcome.outs link);
+    took = took_after cell.took input;
+  }
+
+  -- a command is of this phase
+  abbrev pub IsInPhase : ℕ → Option ℕ → Type 0
+  IsInPhase phase None = Unit {0}
+  IsInPhase phase (Some own) = own ≡ phase
+
+  -- a server's journal within a phase, replayed, leads from one cell to the other
+  abbrev pub IsReplay : ℕ → ℕ → Cell → List (Entry machine) → Cell → Type 0
+  IsReplay phase server cell [] end = cell ≡ end
+  IsReplay phase server cell (entry ∷ entries) end =
+      IsInPhase phase (act_phase machine server cell.state entry.act) × (input : Input machine.Task (Stamped machine.Message)) × (outcome : Outcome machine.State machine.Message) × (machine.step server cell.state (unstamped machine input) ≡ Some outcome) × (entry ≡ entry_of machine server cell.clock input outcome) × IsReplay phase server (cell_after cell input outcome) entries end
+
+  -- steps of the network one after the other, within a phase
+  abbrev pub IsPhaseRun : ℕ → NetworkState machine → List (Entry machine) → NetworkState machine → Type 0
+  IsPhaseRun phase network [] end = network ≡ end
+  IsPhaseRun phase network (entry ∷ entries) end = (next : NetworkState machine) × IsInPhase phase (act_phase machine entry.server (network.state entry.server) entry.act) × IsStep machine network entry next × IsPhaseRun phase next entries end
+
+  -- the network of all cells
+  abbrev pub network_of : (ℕ → Cell) → NetworkState machine
+  network_of cells = record { state = λ t. (cells t).state; clock = λ t. (cells t).clock; put = λ u t. (cells u).put t; taken = λ u t. length ((cells t).took u) }
+
+  -- the entries of one server
+  abbrev pub entries_of : ℕ → List (Entry machine) → List (Entry machine)
+  entries_of server [] = []
+  entries_of server (entry ∷ entries) = cond (entry.server == server) (entry ∷ entries_of server entries) (entries_of server entries)
+
+  -- by stamp, then by server
+  abbrev pub IsEarlier : Entry machine → Entry machine → Type 0
+  IsEarlier entry other = (entry.stamp < other.stamp) ⊎ ((entry.stamp ≡ other.stamp) × (entry.server < other.server))
+
+  -- each entry is earlier than all later ones
+  abbrev pub IsInOrder : List (Entry machine) → Type 0
+  IsInOrder [] = Unit {0}
+  IsInOrder (entry ∷ entries) = ((other : Entry machine) → Has other entries → IsEarlier entry other) × IsInOrder entries
+
+  -- the entries of all servers' journals, each once, by stamp and then by server
+  pub record IsMerge (journals : ℕ → List (Entry machine)) (merged : List (Entry machine)) : Type 0 where
+    pub order : IsInOrder merged
+    pub parts : (server : ℕ) → entries_of server merged ≡ journals server
+
+  -- the entries of one server, with stamps that rise
+  abbrev pub IsJournal : ℕ → List (Entry machine) → Type 0
+  IsJournal server [] = Unit {0}
+  IsJournal server (entry ∷ entries) = (entry.server ≡ server) × ((other : Entry machine) → Has other entries → entry.stamp < other.stamp) × IsJournal server entries
+
+  -- the cells at the opening
+  abbrev pub opening_cells : (ℕ → machine.State) → ℕ → Cell
+  opening_cells start server = record { state = start server; clock = 0; put = λ v. []; took = λ v. [] }
+
+  -- cells that enter a phase, with their clocks raised
+  abbrev pub entering : ℕ → (ℕ → Cell) → ℕ → Cell
+  entering clock cells server = record { state = (cells server).state; clock = clock; put = (cells server).put; took = (cells server).took }
+
+  -- a phase with all cells in hand: each server's journal of it replays from its cell to its cell after it, what each took of another is the beginning of what that put, and the journals have this merge
+  pub record IsPhaseInHand (phase : ℕ) (cells : ℕ → Cell) (journals : ℕ → List (Entry machine)) (merged : List (Entry machine)) (ends : ℕ → Cell) : Type 0 where
+    pub merge : IsMerge journals merged
+    pub replay : (server : ℕ) → IsReplay phase server (cells server) (journals server) (ends server)
+    pub took : (from to : ℕ) → IsPrefix ((ends to).took from) ((ends from).put to)
+
+  -- at the end of a phase all is quiet, and all its commands are taken
+  pub record IsPhaseEnded (phase : ℕ) (ends : ℕ → Cell) : Type 0 where
+    pub quiet : IsQuiet machine (network_of ends)
+    pub through : IsThrough machine (network_of ends) (suc phase)
+
+  -- between two phases: the entries so far are a run to w, they are the merge of the journals, and the cells stand at w with the clocks raised
+  pub record IsBetweenPhases (opening w : NetworkState machine) (last next : ℕ) (sofar : List (Entry machine)) (journals : ℕ → List (Entry machine)) (cells : ℕ → Cell) : Type 0 where
+    pub run : IsRun machine opening 0 sofar w last
+    pub merge : IsMerge journals sofar
+    pub low : (entry : Entry machine) → Has entry sofar → entry.stamp ≤ greatest machine w.clock machine.servers
+    pub stand : raised machine w ≡ network_of cells
+    pub quiet : IsQuiet machine w
+    pub through : IsThrough machine w next
+    pub phase : (last < next) ⊎ ((last ≡ next) × (raised machine w ≡ w))

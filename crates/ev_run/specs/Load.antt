@@ -1,0 +1,97 @@
+-- How far messages spread: what is on its way is weighed, and each taking makes it lighter.
+use Rattle.std.specs.Prelude.{◌≡◌, ℕ, suc, ◌*◌, ◌≤◌, ◌==◌, Bool, true, false, cond, List, [], length, drop, Some}
+use Rattle.ev_sets.specs.Numbers.{sum_over, count, IsDistinct}
+use Rattle.ev_run.specs.Machine.{Has, Machine, Input, Does, Takes, Outcome, Act, Did, Took, Entry}
+use Rattle.ev_run.specs.Network.{NetworkState}
+
+-- the sum of the sizes but that of one
+abbrev pub other_sizes : (ℕ → ℕ) → ℕ → List ℕ → ℕ
+other_sizes size but links = sum_over (λ link. cond (link == but) 0 (size link)) links
+
+module _ (machine : Machine) where
+  -- what the load is measured by
+  pub record Measure : Type 0 where
+    -- size a b: how many servers stand on b's side of the edge from a to b
+    pub size : ℕ → ℕ → ℕ
+    -- an advertisement message, which may make a filter message back
+    pub wide : machine.Message → Bool
+    -- the task that publishes what is staged
+    pub version : machine.Task → Bool
+    -- how many commands are left at a server
+    pub left : ℕ → machine.State → ℕ
+
+  module _ (measure : Measure) where
+    -- what is asked of a measure: the links are a tree with these sizes, and messages travel away from where they began
+    pub record MeasureLaws : Type 0 where
+      pub distinct : IsDistinct machine.servers
+      pub single : (a : ℕ) → IsDistinct (machine.links a)
+      pub linked : (a b : ℕ) → Has b (machine.links a) → Has a machine.servers
+      pub both : (a b : ℕ) → Has b (machine.links a) → Has a (machine.links b)
+      pub apart : (a : ℕ) → Has a (machine.links a) → ⊥
+      pub weighs : (a b : ℕ) → Has b (machine.links a) → measure.size a b ≡ suc (other_sizes (measure.size b) a (machine.links b))
+      pub total : (t : ℕ) → Has t machine.servers → suc (sum_over (measure.size t) (machine.links t)) ≡ length machine.servers
+      pub among : (t : ℕ) (s : machine.State) (d : Input machine.Task machine.Message) (r : Outcome machine.State machine.Message) → machine.step t s d ≡ Some r → Has t machine.servers
+      -- a step puts at most one message on a link
+      pub one : (t : ℕ) (s : machine.State) (d : Input machine.Task machine.Message) (r : Outcome machine.State machine.Message) → machine.step t s d ≡ Some r → (v : ℕ) → Has v (machine.links t) → length (r.outs v) ≤ 1
+      pub from : (t : ℕ) (s : machine.State) (u : ℕ) (x : machine.Message) (r : Outcome machine.State machine.Message) → machine.step t s (Takes u x) ≡ Some r → Has u (machine.links t)
+      pub silent : (t : ℕ) (s : machine.State) (a : machine.Task) (r : Outcome machine.State machine.Message) → machine.step t s (Does a) ≡ Some r → measure.version a ≡ true → (v : ℕ) → r.outs v ≡ []
+      -- a plain message makes plain ones, and none back
+      pub back : (t : ℕ) (s : machine.State) (u : ℕ) (x : machine.Message) (r : Outcome machine.State machine.Message) → machine.step t s (Takes u x) ≡ Some r → measure.wide x ≡ false → r.outs u ≡ []
+      pub plain : (t : ℕ) (s : machine.State) (u : ℕ) (x : machine.Message) (r : Outcome machine.State machine.Message) → machine.step t s (Takes u x) ≡ Some r → measure.wide x ≡ false → (v : ℕ) (y : machine.Message) → Has y (r.outs v) → measure.wide y ≡ false
+      -- a wide one makes a plain one back
+      pub back_plain : (t : ℕ) (s : machine.State) (u : ℕ) (x : machine.Message) (r : Outcome machine.State machine.Message) → machine.step t s (Takes u x) ≡ Some r → (y : machine.Message) → Has y (r.outs u) → measure.wide y ≡ false
+      -- a version publishes what is staged, another task takes a command
+      pub clears : (t : ℕ) (s : machine.State) (a : machine.Task) (r : Outcome machine.State machine.Message) → machine.step t s (Does a) ≡ Some r → measure.version a ≡ true → (machine.staged t s ≡ true) × (machine.staged t r.state ≡ false)
+      pub uses : (t : ℕ) (s : machine.State) (a : machine.Task) (r : Outcome machine.State machine.Message) → machine.step t s (Does a) ≡ Some r → measure.version a ≡ false → suc (measure.left t r.state) ≤ measure.left t s
+      pub keeps : (t : ℕ) (s : machine.State) (d : Input machine.Task machine.Message) (r : Outcome machine.State machine.Message) → machine.step t s d ≡ Some r → measure.left t r.state ≤ measure.left t s
+
+    -- the commands that are left
+    abbrev pub remaining : NetworkState machine → ℕ
+    remaining network = sum_over (λ t. measure.left t (network.state t)) machine.servers
+
+    -- how many takings a message on a link can lead to
+    abbrev pub weight_of : ℕ → ℕ → machine.Message → ℕ
+    weight_of a b message = cond (measure.wide message) (length machine.servers * measure.size a b) (measure.size a b)
+
+    -- the weight of what is on its way on a link
+    abbrev pub link_load : NetworkState machine → ℕ → ℕ → ℕ
+    link_load network a b = sum_over (λ stamped. weight_of a b stamped.message) (drop (network.taken a b) (network.put a b))
+
+    -- of a server: of all its links
+    abbrev pub server_load : NetworkState machine → ℕ → ℕ
+    server_load network a = sum_over (link_load network a) (machine.links a)
+
+    -- of the network: of all servers
+    abbrev pub load : NetworkState machine → ℕ
+    load network = sum_over (server_load network) machine.servers
+
+    -- how many servers have something staged
+    abbrev pub staged_count : NetworkState machine → ℕ
+    staged_count network = sum_over (λ t. count (machine.staged t (network.state t))) machine.servers
+
+    -- whether an act is a taking
+    abbrev pub is_taking : Act machine.Task → Bool
+    is_taking (Did task) = false
+    is_taking (Took from) = true
+
+    -- whether it is a version
+    abbrev pub is_version : Act machine.Task → Bool
+    is_version (Did task) = measure.version task
+    is_version (Took from) = false
+
+    -- whether it is a command
+    abbrev pub is_command : Act machine.Task → Bool
+    is_command (Did task) = cond (measure.version task) false true
+    is_command (Took from) = false
+
+    -- how many entries of a journal are takings
+    abbrev pub takings : List (Entry machine) → ℕ
+    takings entries = sum_over (λ entry. count (is_taking entry.act)) entries
+
+    -- how many are versions
+    abbrev pub versions : List (Entry machine) → ℕ
+    versions entries = sum_over (λ entry. count (is_version entry.act)) entries
+
+    -- how many are commands
+    abbrev pub commands : List (Entry machine) → ℕ
+    commands entries = sum_over (λ entry. count (is_command entry.act)) entries
