@@ -1,13 +1,10 @@
-// A library with one function.
+//! The forwarding table of a server: which interfaces have a filter that a notice matches.
 #![tactic(auto)]
 
-ghost use Rattle.std.specs.Prelude.{◌≡◌};
-ghost use Rattle.ev_counting.specs.Echo.{echo_of};
+mod change;
+mod route;
+mod table;
 
-// The `ensures` clause is the contract: what `echo` returns is `echo_of` of its argument, a definition
-// in `specs/Echo.antt`, which a caller's clause can cite too.
-pub fn echo(x: usize) -> usize
-    ensures { result ≡ echo_of x }
-{
-    x
-}
+pub use change::Change;
+pub use route::Route;
+pub use table::Table;

@@ -1,16 +1,12 @@
 -- What a change of one group does to the ids with their keys.
-use Rattle.std.proofs.Common.{◌≡◌, ◌+◌, ◌≤◌, ◌<◌, ℕ, Bool, true, false, cond, refl, sym, ap, ◌∙◌, arith, List, [], ◌∷◌, ◌++◌, length, map, get_or, Option, Some, None, Ordering}
+use Rattle.std.proofs.Common.{◌≡◌, ◌+◌, ◌≤◌, ◌<◌, ℕ, Bool, true, false, cond, refl, sym, ap, ◌∙◌, arith, List, [], ◌∷◌, ◌++◌, length, map, get_or, Some, None, Ordering}
 use Rattle.std.specs.Prelude.{Vec}
 use Rattle.std.specs.declared.alloc.Global.{Global}
-use Rattle.std.specs.Cmp.{IsEquivalence, IsTotalOrder, eq_by_cmp_equiv}
 use Rattle.std.specs.List.{remove, IsDistinct, AllByRecursion}
-use Rattle.std.specs.List.Sorted.{IsStrictlySortedBy}
 use Rattle.std.specs.Map.{lookup, set_value, remove_entry, keys_of}
 use Rattle.std.specs.BTreeMap.{insert_entry, is_at}
-use Rattle.std.specs.Ordering.{eq_by_cmp}
-use Rattle.std.proofs.lemmas.Map.{lookup-remove_entry}
 use Rattle.ev_index.specs.Pairs.{tally}
-use Rattle.ev_index.specs.Groups.{under, spread, keyed}
+use Rattle.ev_index.specs.Groups.{under, keyed}
 use Rattle.ev_index.proofs.Tallies.{tally-append, tally-remove, tally-none, tally-map}
 use Rattle.ev_index.proofs.Groups.{tally-under, spread-insert, spread-set, spread-remove, spread-absent}
 

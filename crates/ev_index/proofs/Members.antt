@@ -1,9 +1,9 @@
 -- Members of lists, rows and groups.
-use Rattle.std.proofs.Common.{◌≡◌, ◌+◌, ◌≤◌, ◌<◌, ◌⊎◌, inl, inr, ℕ, Bool, true, false, cond, refl, sym, ap, ◌∙◌, arith, List, [], ◌∷◌, ◌++◌, length, get_or, zero, suc}
+use Rattle.std.proofs.Common.{◌≡◌, ◌<◌, ◌⊎◌, inl, inr, ℕ, ap, arith, List, [], ◌∷◌, ◌++◌, length, get_or, zero, suc}
 use Rattle.std.specs.Prelude.{Vec}
 use Rattle.std.specs.declared.alloc.Global.{Global}
 use Rattle.ev_index.specs.Pairs.{IsIn}
-use Rattle.ev_index.specs.Groups.{under, spread, keyed, flat}
+use Rattle.ev_index.specs.Groups.{under, keyed, flat}
 
 pub in-append : {X : Type 0} (x : X) (xs ys : List X) → IsIn x (xs ++ ys) → IsIn x xs ⊎ IsIn x ys
 in-append x [] ys h = inr h

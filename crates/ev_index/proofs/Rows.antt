@@ -1,12 +1,12 @@
 -- Rows of parts, and what a value hits in a group.
-use Rattle.std.proofs.Common.{◌≡◌, ◌+◌, ◌≤◌, ◌<◌, ◌⊎◌, inl, inr, ℕ, Bool, true, false, cond, refl, sym, ap, ◌∙◌, arith, List, [], ◌∷◌, ◌++◌, length, get_or, take, zero, suc, add-one, append_assoc}
+use Rattle.std.proofs.Common.{◌≡◌, ◌+◌, ◌≤◌, ◌<◌, inl, inr, ℕ, Bool, true, false, cond, refl, sym, ap, ◌∙◌, arith, List, [], ◌∷◌, ◌++◌, length, get_or, take, zero, suc}
 use Rattle.std.proofs.Math.ListN.{set}
 use Rattle.std.specs.Prelude.{Vec}
 use Rattle.std.specs.declared.alloc.Global.{Global}
 use Rattle.std.specs.List.{filter}
 use Rattle.ev_values.specs.declared.value.Value.{Value}
-use Rattle.ev_index.specs.Pairs.{tally, Same, Test, Pair, passes, ids_met, IsIn}
-use Rattle.ev_index.specs.Groups.{under, spread, keyed, flat, ids_of}
+use Rattle.ev_index.specs.Pairs.{tally, Test, Pair, passes, ids_met, IsIn}
+use Rattle.ev_index.specs.Groups.{under, keyed, flat, ids_of}
 use Rattle.ev_index.proofs.Tallies.{tally-append}
 
 module _ {X P : Type 0} (part : X → List P) (p : P → Bool) where

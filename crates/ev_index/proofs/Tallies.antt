@@ -1,9 +1,8 @@
 -- Counting in lists.
-use Rattle.std.proofs.Common.{◌≡◌, ◌+◌, ◌≤◌, ◌<◌, ℕ, Bool, true, false, not, ◌&&◌, cond, refl, sym, ap, ◌∙◌, arith, List, [], ◌∷◌, ◌++◌, length, map, append_assoc}
-use Rattle.std.proofs.lemmas.Bool.Decides.{nat_tests}
+use Rattle.std.proofs.Common.{◌≡◌, ◌+◌, ◌≤◌, ◌<◌, ℕ, Bool, true, false, cond, refl, ap, ◌∙◌, arith, List, [], ◌∷◌, ◌++◌, length, map, append_assoc}
 use Rattle.std.specs.List.{remove}
-use Rattle.std.proofs.Common.{take, drop, get_or, zero, suc, add-one}
-use Rattle.ev_index.specs.Pairs.{tally, Same, Appends}
+use Rattle.std.proofs.Common.{take, get_or, zero, suc, add-one}
+use Rattle.ev_index.specs.Pairs.{tally, Appends}
 
 pub tally-append : {X : Type 0} (p : X → Bool) (xs ys : List X) → tally p (xs ++ ys) ≡ tally p xs + tally p ys
 tally-append p [] ys = omega arith

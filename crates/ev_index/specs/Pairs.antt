@@ -1,7 +1,6 @@
 -- What an index holds: pairs of a test and an id.
 use Rattle.std.specs.Prelude.{◌≡◌, ◌+◌, ℕ, Bool, List, [], ◌∷◌, ◌++◌, ◌⊎◌, cond, if◌then◌else◌}
 use Rattle.std.specs.declared.option.Option.{Option}
-use Rattle.std.specs.Coded.{Coded}
 use Rattle.ev_values.specs.declared.value.Kind.{Kind}
 use Rattle.ev_values.specs.declared.value.Value.{Value}
 use Rattle.ev_constraint.specs.declared.op.Op.{Op}
