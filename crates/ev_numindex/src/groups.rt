@@ -6,7 +6,6 @@ ghost use Rattle.ev_index.specs.Groups.{keyed, ids_of};
 ghost use Rattle.ev_numindex.specs.Keys.{same_key};
 ghost use Rattle.std.specs.BTreeMap.Range.{IsLeBy, IsLtBy, entries_between};
 ghost use Rattle.std.specs.Range.Bound.{IsForward};
-
 ghost use Rattle.std.specs.Ordering.{int_cmp};
 
 use ev_memory::NoMemory;

@@ -54,6 +54,7 @@ impl Row {
         put(alloc, &mut groups, key, id)?;
         Ok(Row { kind, op, groups })
     }
+
     ghost use Rattle.std.specs.Prelude.{◌≡◌, ◌++◌, ◌&&◌, ◌↔◌, OnOk, IsTrue};
     ghost use Rattle.ev_index.specs.Pairs.{ids_met};
     ghost use Rattle.ev_values.specs.Value.{same_kind};

@@ -27,12 +27,21 @@ fn numbers(rt: HostRuntime) -> Result<(), Fail> {
     index.add(&less, 2)?;
     index.add(&on(alloc, Kind::Int, Op::Ne, Some(Value::Int(4)))?, 3)?;
     index.add(&on(alloc, Kind::Int, Op::Any, None)?, 4)?;
-    assert_eq!(rt; met(alloc, &index, &Value::Int(5))?.as_slice(), [1, 3, 4].as_slice());
-    assert_eq!(rt; met(alloc, &index, &Value::Int(4))?.as_slice(), [2, 4].as_slice());
+    assert_eq!(rt;
+        met(alloc, &index, &Value::Int(5))?.as_slice(),
+        [1, 3, 4].as_slice()
+    );
+    assert_eq!(rt;
+        met(alloc, &index, &Value::Int(4))?.as_slice(),
+        [2, 4].as_slice()
+    );
     assert!(rt; met(alloc, &index, &Value::Bool(true))?.is_empty());
     assert!(rt; index.remove(&less, 2));
     assert!(rt; !index.remove(&less, 2));
-    assert_eq!(rt; met(alloc, &index, &Value::Int(4))?.as_slice(), [4].as_slice());
+    assert_eq!(rt;
+        met(alloc, &index, &Value::Int(4))?.as_slice(),
+        [4].as_slice()
+    );
     Ok(())
 }
 
@@ -43,7 +52,13 @@ fn truths(rt: HostRuntime) -> Result<(), Fail> {
     index.add(&on(alloc, Kind::Bool, Op::Eq, Some(Value::Bool(true)))?, 1)?;
     index.add(&on(alloc, Kind::Bool, Op::Ne, Some(Value::Bool(true)))?, 2)?;
     index.add(&on(alloc, Kind::Bool, Op::Any, None)?, 3)?;
-    assert_eq!(rt; met(alloc, &index, &Value::Bool(true))?.as_slice(), [1, 3].as_slice());
-    assert_eq!(rt; met(alloc, &index, &Value::Bool(false))?.as_slice(), [2, 3].as_slice());
+    assert_eq!(rt;
+        met(alloc, &index, &Value::Bool(true))?.as_slice(),
+        [1, 3].as_slice()
+    );
+    assert_eq!(rt;
+        met(alloc, &index, &Value::Bool(false))?.as_slice(),
+        [2, 3].as_slice()
+    );
     Ok(())
 }

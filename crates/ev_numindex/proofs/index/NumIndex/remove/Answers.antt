@@ -21,6 +21,9 @@ returns-in-Some-clause-there c = λ e p.
     ap (tally p) (sym c.self.view_is) ∙ less-one c.self.inside.rows.items c.in-Some.i old c.take.new.self _ (test_of c.args.constraint.now) c.args.id p (rw c.deref.ensures.value at c.in-Some.ensures.some.0) c.index_mut.ensures.value t (c.take.ensures.there e p)
 
 pub returns-in-None-clause-none : goal.returns-in-None-clause-none
-returns-in-None-clause-none c = λ _. (refl, λ m.
-    let k = to_z-of_z w64 c.key_of-key.result (search rules) ∙ c.key_of-key.ensures ∙ ap key_of c.operand.ensures in
-    not-in-rows c.args.constraint.now _ _ _ c.args.id c.self.inside.rows.items c.requires c.kind.ensures c.op-op.ensures.op k (rw c.deref.ensures.value at c.in-None.ensures.none) (subst (IsIn (test_of c.args.constraint.now, c.args.id)) (sym c.self.view_is) m))
+returns-in-None-clause-none c = λ _. (
+  refl,
+  λ m.
+      let k = to_z-of_z w64 c.key_of-key.result (search rules) ∙ c.key_of-key.ensures ∙ ap key_of c.operand.ensures in
+      not-in-rows c.args.constraint.now _ _ _ c.args.id c.self.inside.rows.items c.requires c.kind.ensures c.op-op.ensures.op k (rw c.deref.ensures.value at c.in-None.ensures.none) (subst (IsIn (test_of c.args.constraint.now, c.args.id)) (sym c.self.view_is) m),
+)
