@@ -1,12 +1,10 @@
-use Rattle.std.proofs.Common.{rules, ◌≡◌, ◌↔◌, ◌⊎◌, ◌<◌, [], ℕ, IfOk, OnOk, OnErr, IfSome, IfNone, IsTrue, length, slice_index_or, ◌+◌, ◌-◌, ◌*◌, ◌≤◌, ◌/◌, ◌%◌, Bool, true, false, nat_eq, nat_lt, List, ◌∷◌, ◌++◌, slice_set, bit_and, bit_or, Fits, w8, w32, w64, Bor, MutBor}
-use Rattle.std.specs.List.{Contains}
-use Rattle.ev_counting.specs.Table.{Held, IsMatched}
+use Rattle.std.proofs.Common.{◌≡◌, ◌∙◌, ap, sym, subst, Bool, true, false, not, List}
+use Rattle.std.specs.Prelude.{IsTrue}
+use Rattle.ev_counting.proofs.Sets.{one-of-two, two-of-two}
 use Rattle.ev_counting.proofs.table.is_same.Goals as goal
 
--- src/table.rt:43:1
 pub returns-then-not-is_before : goal.returns-then-not-is_before
-returns-then-not-is_before c = ?
+returns-then-not-is_before c = one-of-two c.args.a.now c.args.b.now c.is_before-then-not-is_before.result (sym c.is_before.ensures ∙ c.if-not-is_before.true) c.is_before-then-not-is_before.ensures
 
--- src/table.rt:43:1
 pub returns-else-not-is_before : goal.returns-else-not-is_before
-returns-else-not-is_before c = ?
+returns-else-not-is_before c = two-of-two c.args.a.now c.args.b.now c.is_before.result c.if-not-is_before.false c.is_before.ensures

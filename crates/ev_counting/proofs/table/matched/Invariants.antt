@@ -1,8 +1,6 @@
-use Rattle.std.proofs.Common.{◌≡◌, ◌<◌, ℕ, take}
-use Rattle.std.specs.Prelude.{◌↔◌}
-use Rattle.std.specs.List.{Contains}
-use Rattle.ev_counting.specs.Table.{IsMatched}
+use Rattle.std.proofs.Common.{take}
+use Rattle.ev_counting.specs.Table.{AreMatched}
 use Rattle.ev_counting.proofs.table.matched.Given as goal
 
-abbrev pub invariant-loop-iface : goal.invariant-loop-iface
-invariant-loop-iface l = (iface : ℕ) → Contains l.ifaces.items iface ↔ IsMatched l.notice (take l.iface-index l.held) iface
+abbrev pub invariant-loop-pair : goal.invariant-loop-pair
+invariant-loop-pair l = AreMatched l.notice (take l.pair-index l.held) l.ifaces.items

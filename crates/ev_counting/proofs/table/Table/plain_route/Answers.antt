@@ -1,8 +1,9 @@
-use Rattle.std.proofs.Common.{rules, ◌≡◌, ◌↔◌, ◌⊎◌, ◌<◌, [], ℕ, IfOk, OnOk, OnErr, IfSome, IfNone, IsTrue, length, slice_index_or, ◌+◌, ◌-◌, ◌*◌, ◌≤◌, ◌/◌, ◌%◌, Bool, true, false, nat_eq, nat_lt, List, ◌∷◌, ◌++◌, slice_set, bit_and, bit_or, Fits, w8, w32, w64, Bor, MutBor}
-use Rattle.std.specs.List.{Contains}
-use Rattle.ev_counting.specs.Table.{Held, IsMatched, IsHeldAfter, IsRouteOf}
+use Rattle.std.proofs.Common.{◌≡◌, ◌∙◌, sym, subst, List, ℕ}
+use Rattle.ev_counting.specs.Table.{Held, AreMatched, IsRouteOf}
+use Rattle.ev_counting.proofs.Sets.{to-route}
 use Rattle.ev_counting.proofs.table.Table.plain_route.Goals as goal
 
--- src/table.rt:127:5
 pub returns : goal.returns
-returns c = ?
+returns c =
+    let a = subst (λ (held : List Held). AreMatched c.args.notice.now held c.in_ok-ifaces.ifaces.items) (c.deref.ensures.value ∙ c.self.view_is) c.in_ok-ifaces.ensures in
+    to-route c.args.notice.now c.args.self.now c.in_ok-ifaces.ifaces.items c.to.result a c.to.ensures.rising c.to.ensures.same
