@@ -9,7 +9,7 @@ use Rattle.ev_notice.specs.Cover.{matches}
 use Rattle.ev_notice.specs.Before.{list_before}
 use Rattle.ev_notice.proofs.BeforeLaws.{before-irreflexive, before-total}
 use Rattle.std.specs.Prelude.{IsTrue}
-use Rattle.ev_counting.specs.Table.{Held, IsAdded, IsTaken, IsMatched, AreMatched, IsRouteOf}
+use Rattle.ev_counting.specs.Table.{Held, IsAdded, IsTaken, AreMatched, IsRouteOf}
 
 pub added-push : (xs : List Held) (x : Held) → IsAdded xs (xs ++ x ∷ []) x
 added-push xs x = record {

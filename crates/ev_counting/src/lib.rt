@@ -3,8 +3,12 @@
 
 mod change;
 mod route;
+mod scratch;
 mod table;
+#[cfg(test)]
+mod tests;
 
 pub use change::Change;
 pub use route::Route;
+pub use scratch::Scratch;
 pub use table::Table;

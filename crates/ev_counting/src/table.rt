@@ -5,6 +5,7 @@ ghost use Rattle.ev_counting.specs.Table.{Held, AreMatched, IsAdded, IsTaken};
 
 use crate::change::Change;
 use crate::route::Route;
+use crate::scratch::Scratch;
 use ev_memory::NoMemory;
 use ev_notice::{Filter, Notice, matches};
 use std::alloc::Global;
@@ -145,7 +146,15 @@ impl Table {
         })
     }
 
-    /// The interfaces with a filter that the notice matches, by a test of each filter.
+    /// The interfaces with a filter that the notice matches.
+    pub fn route(&self, notice: &Notice, scratch: &mut Scratch) -> Result<Route, NoMemory>
+        ensures { IfOk result (IsRouteOf notice.now self.now) }
+    {
+        scratch.found.clear();
+        self.plain_route(notice)
+    }
+
+    /// The same, by a test of each filter.
     pub fn plain_route(&self, notice: &Notice) -> Result<Route, NoMemory>
         ensures { IfOk result (IsRouteOf notice.now self.now) }
     {

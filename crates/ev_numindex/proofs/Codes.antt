@@ -1,5 +1,5 @@
 -- A key says the test that it is made of.
-use Rattle.std.proofs.Common.{◌≡◌, ◌==◌, ◌⊎◌, inl, inr, ap, ◌∙◌, ℕ, ℤ, Bool, true, false, refl, sym, arith, pos, Option}
+use Rattle.std.proofs.Common.{◌≡◌, ◌⊎◌, inl, inr, ap, ◌∙◌, ℤ, Bool, true, false, refl, sym, arith, pos, Option}
 use Rattle.std.specs.Prelude.{Some, None, if◌then◌else◌}
 use Rattle.std.proofs.lemmas.Int.{ints}
 use Rattle.std.specs.Ordering.{int_eq}
@@ -11,7 +11,7 @@ use Rattle.ev_constraint.specs.declared.op.Op.{Op}
 use Rattle.ev_constraint.specs.declared.op.Op.TheVariants as ops
 use Rattle.ev_constraint.specs.Constraint.{IsTest}
 use Rattle.ev_index.specs.Pairs.{Test}
-use Rattle.ev_numindex.specs.Keys.{key_of, truth_key, test_at, truth_test, any_test, no_test}
+use Rattle.ev_numindex.specs.Keys.{key_of, test_at, truth_test, any_test, no_test}
 
 abbrev IsNumber : Kind → Type 0
 IsNumber kind = (kind ≡ kinds.Int) ⊎ (kind ≡ kinds.Bool)

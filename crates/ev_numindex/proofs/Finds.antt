@@ -1,5 +1,5 @@
 -- Where a pair stands among the rows.
-use Rattle.std.proofs.Common.{◌≡◌, ◌<◌, ◌≤◌, ◌==◌, ◌&&◌, ◌∙◌, ap, sym, refl, ℕ, ℤ, Bool, true, false, arith, List, [], ◌∷◌, ◌++◌, ◌+◌, length, get_or, zero, suc, cond}
+use Rattle.std.proofs.Common.{◌≡◌, ◌<◌, ◌==◌, ◌&&◌, ◌∙◌, ap, sym, ℕ, ℤ, Bool, true, arith, List, [], ◌∷◌, ◌++◌, ◌+◌, length, get_or, zero, suc, cond}
 use Rattle.std.proofs.Math.ListN.{set}
 use Rattle.std.proofs.lemmas.Bool.Decides.{nat_tests}
 use Rattle.ev_values.specs.declared.value.Kind.{Kind}

@@ -1,10 +1,9 @@
 -- Which keys of a row have a test that a value passes.
-use Rattle.std.proofs.Common.{◌≡◌, ◌==◌, List, [], ◌∷◌, length, ◌&&◌, ap, ℕ, ℤ, Bool, true, false, not, refl, sym, arith, Ordering, pos}
+use Rattle.std.proofs.Common.{◌≡◌, ℤ, Bool, true, false, not, refl, arith, pos}
 use Rattle.std.proofs.lemmas.Int.{ints}
-use Rattle.std.proofs.lemmas.Bool.Decides.{nat_tests}
 use Rattle.std.specs.BTreeMap.Range.{range_contains}
 use Rattle.std.specs.declared.ops.Bound.TheVariants.{Included, Excluded, Unbounded}
-use Rattle.std.specs.Ordering.{int_cmp, int_eq, is_eq}
+use Rattle.std.specs.Ordering.{int_cmp, int_eq}
 use Rattle.ev_values.specs.declared.value.Kind.{Kind}
 use Rattle.ev_values.specs.declared.value.Value.{Value}
 use Rattle.ev_values.specs.declared.value.Kind.TheVariants as kinds
@@ -12,8 +11,6 @@ use Rattle.ev_values.specs.declared.value.Value.TheVariants as values
 use Rattle.ev_constraint.specs.declared.op.Op.{Op}
 use Rattle.ev_constraint.specs.declared.op.Op.TheVariants as ops
 use Rattle.std.specs.Prelude.{Some, None, if◌then◌else◌}
-use Rattle.ev_constraint.specs.Truths.{truth_satisfies}
-use Rattle.ev_constraint.specs.Numbers.{number_satisfies}
 use Rattle.ev_index.specs.Pairs.{passes}
 use Rattle.ev_numindex.specs.Keys.{same_key, truth_key, test_at, no_test}
 

@@ -1,4 +1,6 @@
 //! Worked rows of the index.
+ghost use Rattle.std.specs.Prelude.{◌≡◌, IfOk};
+
 use crate::NumIndex;
 use ev_constraint::{Constraint, Op};
 use ev_values::{Kind, Name, Value};
@@ -6,7 +8,9 @@ use std::alloc::Global;
 use std::rt::HostRuntime;
 use std::test::Fail;
 
-fn on(alloc: Global, kind: Kind, op: Op, operand: Option<Value>) -> Result<Constraint, Fail> {
+fn on(alloc: Global, kind: Kind, op: Op, operand: Option<Value>) -> Result<Constraint, Fail>
+    ensures { IfOk result (λ c. c.kind ≡ kind) }
+{
     let name = Name::read(alloc, b"x")?;
     Ok(Constraint::make(name, kind, op, operand)?)
 }

@@ -1,5 +1,4 @@
-use Rattle.std.proofs.Common.{◌≡◌, ◌∙◌, ap, sym, subst, Bool, true, false, not, List}
-use Rattle.std.specs.Prelude.{IsTrue}
+use Rattle.std.proofs.Common.{◌∙◌, sym}
 use Rattle.ev_counting.proofs.Sets.{one-of-two, two-of-two}
 use Rattle.ev_counting.proofs.table.is_same.Goals as goal
 

@@ -1,4 +1,4 @@
-use Rattle.std.proofs.Common.{◌≡◌, ◌<◌, sym, subst, List, length, get_or}
+use Rattle.std.proofs.Common.{sym, subst, List}
 use Rattle.ev_counting.specs.Table.{Held}
 use Rattle.ev_counting.proofs.Sets.{Falls, falls-more}
 use Rattle.ev_counting.proofs.table.take.Goals as goal

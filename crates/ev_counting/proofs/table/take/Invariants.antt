@@ -1,4 +1,4 @@
-use Rattle.std.proofs.Common.{◌≡◌, ℕ, length}
+use Rattle.std.proofs.Common.{length}
 use Rattle.ev_counting.proofs.Sets.{Falls}
 use Rattle.ev_counting.proofs.table.take.Given as goal
 

@@ -1,14 +1,10 @@
-use Rattle.std.proofs.Common.{◌≡◌, ◌+◌, ◌<◌, ◌≤◌, ◌==◌, ◌&&◌, ◌∙◌, ap, sym, refl, subst, arith, ℕ, ℤ, Bool, true, false, List, [], length}
+use Rattle.std.proofs.Common.{◌==◌, ◌&&◌, ◌∙◌, ap, sym, arith, ℤ}
 use Rattle.std.specs.Option.{option_copied}
-use Rattle.std.specs.Prelude.{Vec}
-use Rattle.std.specs.declared.alloc.Global.{Global}
 use Rattle.std.specs.Map.{keys_of}
 use Rattle.std.specs.Ordering.{int_cmp}
 use Rattle.std.proofs.lemmas.Map.Keys.{IsDistinct-from_sorted}
 use Rattle.ev_index.proofs.Keyed.{keyed-has, keyed-absent, keyed-missing}
-use Rattle.ev_index.proofs.Tallies.{tally-at}
 use Rattle.ev_index.specs.Pairs.{tally}
-use Rattle.ev_index.specs.Groups.{keyed}
 use Rattle.ev_numindex.specs.Keys.{same_key}
 use Rattle.ev_numindex.proofs.Keys.{same-one, same-same, not-same, none-met, some-met}
 use Rattle.ev_numindex.proofs.groups.has.Goals as goal

@@ -1,6 +1,5 @@
-use Rattle.std.proofs.Common.{◌≡◌, ◌<◌, ◌==◌, take, length, get_or, ap, arith, ℕ, cond, Bool, true, false, not, sym}
+use Rattle.std.proofs.Common.{◌==◌, arith}
 use Rattle.std.proofs.lemmas.Bool.Decides.{nat_tests}
-use Rattle.ev_index.specs.Pairs.{tally}
 use Rattle.ev_index.proofs.Tallies.{tally-more}
 use Rattle.ev_numindex.proofs.groups.place_of.Goals as goal
 

@@ -1,4 +1,4 @@
-use Rattle.std.proofs.Common.{◌≡◌, ap, ◌∙◌, sym, arith, ℕ, ℤ, List, []}
+use Rattle.std.proofs.Common.{ap, ◌∙◌, sym, arith, ℤ}
 use Rattle.std.proofs.lemmas.Bool.Decides.{nat_tests}
 use Rattle.ev_index.proofs.Keyed.{keyed-drop}
 use Rattle.ev_numindex.specs.Keys.{same_key}

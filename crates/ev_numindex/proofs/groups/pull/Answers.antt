@@ -1,4 +1,4 @@
-use Rattle.std.proofs.Common.{◌≡◌, ◌<◌, ◌==◌, ◌&&◌, ap, ◌∙◌, sym, refl, arith, ℕ, ℤ, Bool, true, false, List, [], length}
+use Rattle.std.proofs.Common.{◌==◌, ◌&&◌, ap, ◌∙◌, sym, refl, ℕ, ℤ, List}
 use Rattle.std.specs.Option.{option_copied_mut}
 use Rattle.std.specs.Prelude.{Vec}
 use Rattle.std.specs.declared.alloc.Global.{Global}

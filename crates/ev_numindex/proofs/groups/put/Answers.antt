@@ -1,4 +1,4 @@
-use Rattle.std.proofs.Common.{◌≡◌, refl, sym, ap, ◌∙◌, arith, ℕ, ℤ, List, length, ◌∷◌, ◌++◌, Some, None, OnErr, OnOk}
+use Rattle.std.proofs.Common.{sym, ap, ◌∙◌, arith, ℕ, ℤ, List, ◌∷◌, ◌++◌}
 use Rattle.std.proofs.lemmas.Int.{to_z-of_z}
 use Rattle.std.specs.Int.{w64}
 use Rattle.std.proofs.Common.{rules}

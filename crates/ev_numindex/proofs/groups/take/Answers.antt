@@ -1,4 +1,4 @@
-use Rattle.std.proofs.Common.{◌≡◌, arith, ℕ, ℤ}
+use Rattle.std.proofs.Common.{arith}
 use Rattle.ev_numindex.proofs.groups.take.Goals as goal
 
 pub returns-then-there-clause-there : goal.returns-then-there-clause-there

@@ -1,4 +1,4 @@
-use Rattle.std.proofs.Common.{◌≡◌, ◌++◌, ◌∙◌, ap, sym, ℤ, pos, true, false, not, OnOk, ℕ, arith, rules, refl, append-nil}
+use Rattle.std.proofs.Common.{sym, pos, not, arith, rules, append-nil}
 use Rattle.std.specs.Int.{w64}
 use Rattle.std.proofs.lemmas.Int.{to_z-of_z}
 use Rattle.std.specs.BTreeMap.Range.{range_contains}

@@ -1,4 +1,4 @@
-use Rattle.std.proofs.Common.{◌≡◌, ◌++◌, ◌∙◌, ap, sym, ℤ, pos, true, false, not, OnOk, ℕ, arith, rules, refl, append-nil}
+use Rattle.std.proofs.Common.{sym, pos, not, arith, append-nil}
 use Rattle.std.proofs.lemmas.Int.{to_z-of_z}
 use Rattle.ev_values.specs.declared.value.Kind.TheVariants as kinds
 use Rattle.ev_values.specs.declared.value.Value.TheVariants as values

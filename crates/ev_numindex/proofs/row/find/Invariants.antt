@@ -1,4 +1,4 @@
-use Rattle.std.proofs.Common.{◌≡◌, ◌<◌, ℕ}
+use Rattle.std.proofs.Common.{◌<◌, ℕ}
 use Rattle.std.specs.Prelude.{slice_index_or}
 use Rattle.ev_numindex.specs.declared.row.Row.{Row}
 use Rattle.ev_numindex.specs.Rows.{HasAt}

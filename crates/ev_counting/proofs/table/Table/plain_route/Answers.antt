@@ -1,5 +1,5 @@
-use Rattle.std.proofs.Common.{◌≡◌, ◌∙◌, sym, subst, List, ℕ}
-use Rattle.ev_counting.specs.Table.{Held, AreMatched, IsRouteOf}
+use Rattle.std.proofs.Common.{◌∙◌, subst, List}
+use Rattle.ev_counting.specs.Table.{Held, AreMatched}
 use Rattle.ev_counting.proofs.Sets.{to-route}
 use Rattle.ev_counting.proofs.table.Table.plain_route.Goals as goal
 

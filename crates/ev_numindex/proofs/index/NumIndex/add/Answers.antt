@@ -1,13 +1,13 @@
-use Rattle.std.proofs.Common.{◌≡◌, ◌<◌, ◌∙◌, ap, sym, refl, subst, arith, rules, ℕ, ℤ, Bool, true, false, List, length, get_or, cond, ◌+◌}
+use Rattle.std.proofs.Common.{◌≡◌, ◌∙◌, ap, arith, rules, ℕ, List, cond, ◌+◌}
 use Rattle.std.proofs.lemmas.Result.{on_ok_weaker, on_err_weaker}
 use Rattle.std.proofs.lemmas.Int.{to_z-of_z}
 use Rattle.std.specs.Int.{w64}
 use Rattle.ev_index.specs.Pairs.{tally, test_of, Test}
 use Rattle.ev_index.proofs.Rows.{flat-push}
 use Rattle.ev_numindex.specs.declared.row.Row.{Row}
-use Rattle.ev_numindex.specs.Keys.{key_of, test_at}
-use Rattle.ev_numindex.specs.Rows.{rows_pairs, row_pairs, IsRowOf}
-use Rattle.ev_numindex.proofs.Finds.{not-in-rows, the-test, more, less-one, as-before}
+use Rattle.ev_numindex.specs.Keys.{key_of}
+use Rattle.ev_numindex.specs.Rows.{rows_pairs, row_pairs}
+use Rattle.ev_numindex.proofs.Finds.{the-test, more, as-before}
 use Rattle.ev_numindex.proofs.index.NumIndex.add.Goals as goal
 
 pub returns-in-Some-clause-added : goal.returns-in-Some-clause-added

@@ -1,5 +1,4 @@
-use Rattle.std.proofs.Common.{◌≡◌, ◌++◌, ◌∙◌, sym, ap, refl, append-nil, arith}
-use Rattle.ev_values.specs.declared.value.Kind.TheVariants as kinds
+use Rattle.std.proofs.Common.{sym, append-nil}
 use Rattle.ev_index.proofs.Rows.{none-met-keyed}
 use Rattle.ev_numindex.specs.Keys.{test_at}
 use Rattle.ev_numindex.proofs.Meets.{other-truth, other-number, other-text}

@@ -1,7 +1,6 @@
-use Rattle.std.proofs.Common.{◌≡◌, ◌∙◌, ap, sym, arith, ℤ, ℕ, List, map, cond}
+use Rattle.std.proofs.Common.{◌∙◌, ap, sym, arith, ℤ, ℕ, map}
 use Rattle.std.proofs.lemmas.Result.{on_ok_weaker, on_err_weaker}
-use Rattle.ev_index.specs.Pairs.{tally, Same, Test, Pair}
-use Rattle.ev_index.specs.Groups.{keyed}
+use Rattle.ev_index.specs.Pairs.{Pair}
 use Rattle.ev_index.proofs.Keyed.{tally-said, keyed-said}
 use Rattle.ev_numindex.specs.Keys.{test_at}
 use Rattle.ev_numindex.proofs.row.Row.put.Goals as goal

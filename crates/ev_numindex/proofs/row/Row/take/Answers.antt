@@ -1,4 +1,4 @@
-use Rattle.std.proofs.Common.{◌≡◌, arith}
+use Rattle.std.proofs.Common.{arith}
 use Rattle.ev_index.proofs.Keyed.{tally-said}
 use Rattle.ev_numindex.specs.Keys.{test_at}
 use Rattle.ev_numindex.proofs.row.Row.take.Goals as goal
