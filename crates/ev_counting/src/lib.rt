@@ -1,0 +1,14 @@
+//! The forwarding table of a server: which interfaces have a filter that a notice matches.
+#![tactic(auto)]
+
+mod change;
+mod route;
+mod scratch;
+mod table;
+#[cfg(test)]
+mod tests;
+
+pub use change::Change;
+pub use route::Route;
+pub use scratch::Scratch;
+pub use table::Table;

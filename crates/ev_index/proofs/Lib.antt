@@ -1,0 +1,5 @@
+pub mod Tallies
+pub mod Groups
+pub mod Keyed
+pub mod Rows
+pub mod Members

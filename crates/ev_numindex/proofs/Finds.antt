@@ -1,0 +1,54 @@
+-- Where a pair stands among the rows.
+use Rattle.std.proofs.Common.{◌≡◌, ◌<◌, ◌==◌, ◌&&◌, ◌∙◌, ap, sym, ℕ, ℤ, Bool, true, arith, List, [], ◌∷◌, ◌++◌, ◌+◌, length, get_or, zero, suc, cond}
+use Rattle.std.proofs.Math.ListN.{set}
+use Rattle.std.proofs.lemmas.Bool.Decides.{nat_tests}
+use Rattle.ev_values.specs.declared.value.Kind.{Kind}
+use Rattle.ev_constraint.specs.declared.op.Op.{Op}
+use Rattle.ev_constraint.specs.Constraint.{ConstraintParts, IsConstraint}
+use Rattle.ev_index.specs.Pairs.{tally, IsIn, test_of, Test, Pair}
+use Rattle.ev_index.specs.Groups.{keyed}
+use Rattle.ev_index.proofs.Rows.{tally-in, flat-set}
+use Rattle.ev_index.proofs.Members.{in-flat, in-keyed}
+use Rattle.ev_numindex.specs.declared.row.Row.{Row}
+use Rattle.ev_numindex.specs.Keys.{same_key, key_of, test_at}
+use Rattle.ev_numindex.specs.Rows.{HasAt, IsNumeric, rows_pairs, row_pairs}
+use Rattle.ev_numindex.proofs.Keys.{same-self}
+use Rattle.ev_numindex.proofs.Codes.{decode, encode}
+
+itself : (k : ℤ) (id : ℕ) → (same_key k k && (id == id)) ≡ true
+itself k id = ap {B = Bool} (λ b. b && (id == id)) (same-self k) ∙ here id
+  where
+    here : (n : ℕ) → (n == n) ≡ true
+    here n = grind (arith, nat_tests)
+
+-- a pair of the rows stands in a row of its kind and operator, under its key
+in-rows : (c : ConstraintParts) (kind : Kind) (op : Op) (key : ℤ) (id : ℕ) (rows : List Row) → IsNumeric c → kind ≡ c.kind → op ≡ c.op → key ≡ key_of c.operand → ((k : ℕ) → k < length rows → (d : Row) → HasAt kind op key id (get_or rows k d) → ⊥) → (d : Row) → IsIn (test_of c, id) (rows_pairs rows) → ⊥
+in-rows c kind op key id rows n a b e none d m =
+    let r = in-flat row_pairs (test_of c, id) rows m in
+    let row = get_or rows r.place d in
+    let g = in-keyed (test_at row.kind row.op) (test_of c, id) row.groups.entries (r.there d) in
+    let t = decode row.kind row.op g.key (test_of c) n g.tells in
+    let p = λ (x : ℤ × ℕ). same_key key x.0 && (x.1 == id) in
+    let h : p (g.key, id) ≡ true = ap {B = Bool} (λ k. same_key key k && (id == id)) (t.key ∙ sym e) ∙ itself key id in
+    none r.place r.within d ((t.kinds_same ∙ sym a, t.ops_same ∙ sym b), tally-in p (g.key, id) (keyed (λ k. k) row.groups.entries) h g.there)
+
+pub the-test : (c : ConstraintParts) (kind : Kind) (op : Op) (k : ℤ) → IsNumeric c → IsConstraint c → kind ≡ c.kind → op ≡ c.op → k ≡ key_of c.operand → test_at kind op k ≡ test_of c
+the-test c kind op k n w a b e = ap {B = Test} (λ x. test_at x op k) a ∙ ap {B = Test} (λ x. test_at c.kind x k) b ∙ ap (test_at c.kind c.op) e ∙ encode c.kind c.op c.operand n w
+
+-- a pair more in one row
+pub more : (rows : List Row) (i : ℕ) (old new : Row) (t s : Test) (id : ℕ) (p : Pair → Bool) → i < length rows → old ≡ get_or rows i old → t ≡ s → tally p (row_pairs new) ≡ cond (p (t, id)) 1 0 + tally p (row_pairs old) → tally p (rows_pairs (set rows i new)) ≡ cond (p (s, id)) 1 0 + tally p (rows_pairs rows)
+more rows i old new t s id p l e g h = omega (arith, flat-set row_pairs p rows i new old l, ap {B = ℕ} (λ (r : Row). tally p (row_pairs r)) e, ap {B = ℕ} (λ (x : Test). cond (p (x, id)) 1 0) g, h)
+
+-- a pair less in one row
+pub less-one : (rows : List Row) (i : ℕ) (old new : Row) (t s : Test) (id : ℕ) (p : Pair → Bool) → i < length rows → old ≡ get_or rows i old → t ≡ s → tally p (row_pairs old) ≡ cond (p (t, id)) 1 0 + tally p (row_pairs new) → tally p (rows_pairs rows) ≡ cond (p (s, id)) 1 0 + tally p (rows_pairs (set rows i new))
+less-one rows i old new t s id p l e g h = omega (arith, flat-set row_pairs p rows i new old l, ap {B = ℕ} (λ (r : Row). tally p (row_pairs r)) e, ap {B = ℕ} (λ (x : Test). cond (p (x, id)) 1 0) g, h)
+
+-- the same pairs in one row
+pub as-before : (rows : List Row) (i : ℕ) (old new : Row) → i < length rows → old ≡ get_or rows i old → row_pairs new ≡ row_pairs old → rows_pairs (set rows i new) ≡ rows_pairs rows
+as-before [] i old new l e h = absurd (omega arith)
+as-before (r ∷ rows) zero old new l e h = ap (λ xs. xs ++ rows_pairs rows) (h ∙ ap row_pairs e)
+as-before (r ∷ rows) (suc i) old new l e h = ap (λ xs. row_pairs r ++ xs) (as-before rows i old new (omega arith) e h)
+
+pub not-in-rows : (c : ConstraintParts) (kind : Kind) (op : Op) (key : ℤ) (id : ℕ) (rows : List Row) → IsNumeric c → kind ≡ c.kind → op ≡ c.op → key ≡ key_of c.operand → ((k : ℕ) → k < length rows → (d : Row) → HasAt kind op key id (get_or rows k d) → ⊥) → IsIn (test_of c, id) (rows_pairs rows) → ⊥
+not-in-rows c kind op key id [] n a b e none m = m
+not-in-rows c kind op key id (r ∷ rows) n a b e none m = in-rows c kind op key id (r ∷ rows) n a b e none r m

@@ -1,0 +1,4 @@
+pub mod Keys
+pub mod Meets
+pub mod Codes
+pub mod Finds

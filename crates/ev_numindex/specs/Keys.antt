@@ -1,0 +1,46 @@
+-- Keys of groups: the operand, a truth value as 0 or 1, and 0 where there is none.
+use Rattle.std.specs.Prelude.{ℤ, pos, Bool, true, false, Option, Some, None, if◌then◌else◌}
+use Rattle.std.specs.Ordering.{int_cmp, int_eq, is_eq}
+use Rattle.ev_values.specs.declared.value.Kind.{Kind}
+use Rattle.ev_values.specs.declared.value.Kind.TheVariants as kinds
+use Rattle.ev_values.specs.declared.value.Value.{Value}
+use Rattle.ev_values.specs.declared.value.Value.TheVariants as values
+use Rattle.ev_constraint.specs.declared.op.Op.{Op}
+use Rattle.ev_constraint.specs.declared.op.Op.TheVariants as ops
+use Rattle.ev_index.specs.Pairs.{Test}
+
+abbrev pub same_key : ℤ → ℤ → Bool
+same_key a b = is_eq (int_cmp a b)
+
+abbrev pub truth_key : Bool → ℤ
+truth_key true = pos 1
+truth_key false = pos 0
+
+-- the key of an operand
+abbrev pub key_of : Option Value → ℤ
+key_of (Some (values.Int n)) = n
+key_of (Some (values.Bool b)) = truth_key b
+key_of operand = pos 0
+
+-- no constraint: a test of a key that no constraint has
+abbrev pub no_test : ℤ → Test
+no_test k = record { kind = kinds.Str; op = ops.Any; operand = Some (values.Int k) }
+
+abbrev pub truth_test : Op → ℤ → Test
+truth_test op k =
+    if int_eq k (pos 1) then record { kind = kinds.Bool; op = op; operand = Some (values.Bool true) }
+    else if int_eq k (pos 0) then record { kind = kinds.Bool; op = op; operand = Some (values.Bool false) }
+    else no_test k
+
+abbrev pub any_test : Kind → ℤ → Test
+any_test kind k = if int_eq k (pos 0) then record { kind = kind; op = ops.Any; operand = None } else no_test k
+
+-- the test of a key in a row of a kind and an operator
+abbrev pub test_at : Kind → Op → ℤ → Test
+test_at kinds.Bool ops.Any k = any_test kinds.Bool k
+test_at kinds.Int ops.Any k = any_test kinds.Int k
+test_at kinds.Bool ops.Eq k = truth_test ops.Eq k
+test_at kinds.Bool ops.Ne k = truth_test ops.Ne k
+test_at kinds.Bool op k = no_test k
+test_at kinds.Int op k = record { kind = kinds.Int; op = op; operand = Some (values.Int k) }
+test_at kinds.Str op k = no_test k

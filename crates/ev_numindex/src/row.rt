@@ -1,0 +1,131 @@
+//! A row: the groups of one kind and operator.
+ghost use Rattle.std.specs.Prelude.{◌≡◌, ◌≢◌, ◌++◌, ◌∷◌, ◌<◌, ◌⊎◌, [], true, false, OnOk, OnErr, IfOk, IfSome, IfNone, length, slice_index_or, ℕ};
+ghost use Rattle.ev_index.specs.Pairs.{ids_met};
+ghost use Rattle.ev_numindex.specs.Keys.{key_of};
+ghost use Rattle.std.specs.Option.{option_copied};
+ghost use Rattle.ev_numindex.specs.Rows.{IsRowOf, HasAt};
+
+use crate::groups::{has, put, take};
+use crate::meet::{meet_number, meet_truth, truth_key};
+use ev_constraint::Op;
+use ev_memory::NoMemory;
+use ev_values::{Kind, Value};
+use std::alloc::Global;
+use std::collections::BTreeMap;
+
+/// Ids in groups by operand, for one kind and operator.
+#[derive(Drop)]
+pub struct Row {
+    pub(crate) kind: Kind,
+    pub(crate) op: Op,
+    pub(crate) groups: BTreeMap<i64, Vec<u32>>,
+}
+
+/// The key of an operand.
+pub(crate) fn key_of(operand: Option<&Value>) -> i64
+    ensures { result ≡ key_of (option_copied operand.entry) }
+{
+    match operand {
+        Some(Value::Int(n)) => *n,
+        Some(Value::Bool(b)) => truth_key(*b),
+        _ => 0,
+    }
+}
+
+impl Row {
+    ghost use Rattle.std.specs.Prelude.{◌∷◌, [], IfOk};
+    ghost use Rattle.std.specs.Prelude.{◌==◌, nat_lt, OnErr, true, false};
+    ghost use Rattle.ev_index.specs.Pairs.{Same, tally};
+    ghost use Rattle.ev_index.specs.Groups.{keyed};
+    ghost use Rattle.ev_numindex.specs.Keys.{test_at, same_key};
+
+    /// The row of a kind and an operator with one id.
+    pub(crate) fn with(
+        alloc: Global,
+        kind: Kind,
+        op: Op,
+        key: &i64,
+        id: u32,
+    ) -> Result<Row, NoMemory>
+        ensures of { IfOk result (λ row. IsRowOf kind op row) }
+        ensures one { IfOk result (λ row. Same (row_pairs row) ((test_at kind op key.now, id) ∷ [])) }
+    {
+        let mut groups = BTreeMap::new(alloc);
+        put(alloc, &mut groups, key, id)?;
+        Ok(Row { kind, op, groups })
+    }
+
+    ghost use Rattle.std.specs.Prelude.{◌≡◌, ◌++◌, ◌&&◌, ◌↔◌, OnOk, IsTrue};
+    ghost use Rattle.ev_index.specs.Pairs.{ids_met};
+    ghost use Rattle.ev_values.specs.Value.{same_kind};
+    ghost use Rattle.ev_numindex.specs.Rows.{row_pairs, IsRowOf};
+
+    /// Whether the row has an id under a key.
+    fn has(&self, key: &i64, id: u32) -> bool
+        ensures { result ≡ nat_lt 0 (tally (λ x. same_key key.now x.0 && (x.1 == id)) (keyed (λ k. k) self.now.groups.entries)) }
+    {
+        has(&self.groups, key, id)
+    }
+
+    /// Puts an id under a key.
+    pub(crate) fn put(&mut self, alloc: Global, key: &i64, id: u32) -> Result<(), NoMemory>
+        ensures of { IsRowOf self.old.kind self.old.op self.new }
+        ensures added { OnOk result (Same (row_pairs self.new) ((test_at self.old.kind self.old.op key.now, id) ∷ row_pairs self.old)) }
+        ensures err { OnErr result (row_pairs self.new ≡ row_pairs self.old) }
+    {
+        put(alloc, &mut self.groups, key, id)
+    }
+
+    /// Takes an id from under a key; whether it was there.
+    pub(crate) fn take(&mut self, key: &i64, id: u32) -> bool
+        ensures of { IsRowOf self.old.kind self.old.op self.new }
+        ensures there { result ≡ true → Same (row_pairs self.old) ((test_at self.old.kind self.old.op key.now, id) ∷ row_pairs self.new) }
+        ensures none { result ≡ false → tally (λ x. same_key key.now x.0 && (x.1 == id)) (keyed (λ k. k) self.old.groups.entries) ≡ 0 }
+    {
+        take(&mut self.groups, key, id)
+    }
+
+    /// Whether it is the row of the kind and the operator.
+    fn is_of(&self, kind: Kind, op: Op) -> bool
+        ensures { IsTrue result ↔ IsRowOf kind op self.now }
+    {
+        self.kind.is(kind) && self.op == op
+    }
+
+    /// Appends the ids of the row whose test the value passes.
+    pub(crate) fn meet(&self, value: &Value, found: &mut Vec<u32>) -> Result<(), NoMemory>
+        ensures { OnOk result (found.new.items ≡ found.old.items ++ ids_met value.now (row_pairs self.now)) }
+    {
+        match (self.kind, value) {
+            (Kind::Bool, Value::Bool(x)) => meet_truth(&self.groups, self.op, *x, found),
+            (Kind::Int, Value::Int(x)) => meet_number(&self.groups, self.op, *x, found),
+            _ => Ok(()),
+        }
+    }
+}
+
+/// The place of the row of a kind and an operator.
+pub(crate) fn place(rows: &[Row], kind: Kind, op: Op) -> Option<usize>
+    ensures some { IfSome result (λ i. (i < length rows.now) × ((d : _) → IsRowOf kind op (slice_index_or rows.now i d))) }
+    ensures none { IfNone result ((k : ℕ) → k < length rows.now → (d : _) → IsRowOf kind op (slice_index_or rows.now k d) → ⊥) }
+{
+    for (i, row) in rows.iter().enumerate() {
+        if row.is_of(kind, op) {
+            return Some(i);
+        }
+    }
+    None
+}
+
+/// The place of a row that has an id under the key of a kind and an operator.
+pub(crate) fn find(rows: &[Row], kind: Kind, op: Op, key: &i64, id: u32) -> Option<usize>
+    ensures some { IfSome result (λ i. (i < length rows.now) × ((d : _) → HasAt kind op key.now id (slice_index_or rows.now i d))) }
+    ensures none { IfNone result ((k : ℕ) → k < length rows.now → (d : _) → HasAt kind op key.now id (slice_index_or rows.now k d) → ⊥) }
+{
+    for (i, row) in rows.iter().enumerate() {
+        if row.is_of(kind, op) && row.has(key, id) {
+            return Some(i);
+        }
+    }
+    None
+}
