@@ -10,8 +10,13 @@ pub struct StdSource<R: Read> {
 }
 
 impl<R: Read> StdSource<R> {
+    ghost use Rattle.std.specs.Prelude.{◌≡◌};
+
     /// A source over this reader, with no fault yet.
-    pub fn make(input: R) -> StdSource<R> {
+    pub fn make(input: R) -> StdSource<R>
+        ensures left { R.remaining result.input ≡ R.remaining input }
+        ensures faults { result.faults ≡ 0 }
+    {
         StdSource { input, faults: 0 }
     }
 }
@@ -40,8 +45,13 @@ pub struct StdSink<W: Write> {
 }
 
 impl<W: Write> StdSink<W> {
+    ghost use Rattle.std.specs.Prelude.{◌≡◌};
+
     /// A sink over this writer, with no fault yet.
-    pub fn make(output: W) -> StdSink<W> {
+    pub fn make(output: W) -> StdSink<W>
+        ensures written { W.contents result.output ≡ W.contents output }
+        ensures faults { result.faults ≡ 0 }
+    {
         StdSink { output, faults: 0 }
     }
 }
