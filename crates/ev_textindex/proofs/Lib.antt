@@ -1,0 +1,5 @@
+pub mod Keys
+pub mod Codes
+pub mod Finds
+pub mod Meets
+pub mod Said

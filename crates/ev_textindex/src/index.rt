@@ -1,0 +1,98 @@
+//! The index of str constraints.
+use crate::row::{Row, find, key_of, place};
+use ev_constraint::Constraint;
+use ev_memory::NoMemory;
+use ev_values::Value;
+use std::alloc::Global;
+use std::marker::Model;
+
+/// An index of str constraints: pairs of a constraint without its name and an id.
+#[derive(Drop)]
+pub struct TextIndex {
+    alloc: Global,
+    rows: Vec<Row>,
+}
+
+impl Model for TextIndex {
+    ghost use Rattle.std.specs.Prelude.{List};
+    ghost use Rattle.ev_index.specs.Pairs.{Pair};
+
+    ghost Value = { List Pair };
+
+    ghost use Rattle.ev_textindex.specs.Rows.{rows_pairs};
+
+    ghost view = { λ index. rows_pairs index.rows.items };
+}
+
+impl TextIndex {
+    ghost use Rattle.std.specs.Prelude.{◌≡◌, ◌++◌, ◌∷◌, [], true, false, OnOk, OnErr};
+    ghost use Rattle.ev_values.specs.declared.value.Kind.{Kind};
+    ghost use Rattle.ev_index.specs.Pairs.{Same, IsIn, test_of, ids_met};
+
+    /// An index of nothing.
+    pub fn new(alloc: Global) -> TextIndex
+        ensures { result ≡ [] }
+    {
+        TextIndex {
+            alloc,
+            rows: Vec::new(alloc),
+        }
+    }
+
+    /// Adds a pair.
+    pub fn add(&mut self, constraint: &Constraint, id: u32) -> Result<(), NoMemory>
+        requires { constraint.now.kind ≡ Kind.Str }
+        ensures added { OnOk result (Same self.new ((test_of constraint.now, id) ∷ self.old)) }
+        ensures err { OnErr result (self.new ≡ self.old) }
+    {
+        let op = constraint.op();
+        let key = key_of(constraint.operand());
+        match place(&self.rows, op) {
+            Some(i) => self.rows[i].put(self.alloc, key, id),
+            None => {
+                let row = Row::with(self.alloc, op, key, id)?;
+                self.rows.push(row)?;
+                Ok(())
+            }
+        }
+    }
+
+    /// Takes a pair away; whether it was there.
+    pub fn remove(&mut self, constraint: &Constraint, id: u32) -> bool
+        requires { constraint.now.kind ≡ Kind.Str }
+        ensures there { result ≡ true → Same self.old ((test_of constraint.now, id) ∷ self.new) }
+        ensures none { result ≡ false → (self.new ≡ self.old) × (IsIn (test_of constraint.now, id) self.old → ⊥) }
+    {
+        let op = constraint.op();
+        let key = key_of(constraint.operand());
+        match find(&self.rows, op, key, id) {
+            Some(i) => self.rows[i].take(key, id),
+            None => false,
+        }
+    }
+
+    /// Appends the ids of the pairs whose constraint the value satisfies.
+    pub fn hits(&self, value: &Value, found: &mut Vec<u32>) -> Result<(), NoMemory>
+        ensures { OnOk result (found.new.items ≡ found.old.items ++ ids_met value.now self.now) }
+    {
+        match value {
+            Value::Str(text) => walk(&self.rows, text.bytes(), found),
+            _ => Ok(()),
+        }
+    }
+}
+
+ghost use Rattle.std.specs.Prelude.{◌≡◌, ◌++◌, OnOk};
+ghost use Rattle.ev_values.specs.declared.value.Value.{Value};
+ghost use Rattle.ev_index.specs.Pairs.{ids_met};
+ghost use Rattle.ev_textindex.specs.Rows.{rows_pairs};
+
+/// Appends the ids of the rows whose test the text passes.
+fn walk(rows: &[Row], text: &[u8], found: &mut Vec<u32>) -> Result<(), NoMemory>
+    ensures { OnOk result (found.new.items ≡ found.old.items ++ ids_met (Value.Str text.now) (rows_pairs rows.now)) }
+{
+    for row in rows {
+        row.meet(text, found)?;
+    }
+    Ok(())
+}
