@@ -37,3 +37,12 @@ status_text (statuses.BadInput line kind) = codes "siena: line " ++ decimal line
 status_text statuses.ReadFault = codes "siena: the input could not be read" ++ 10 ∷ []
 status_text statuses.WriteFault = codes "siena: the output could not be written" ++ 10 ∷ []
 status_text statuses.NoMemory = codes "siena: out of memory" ++ 10 ∷ []
+
+-- the number with which the program ends
+abbrev pub status_number : Status → ℕ
+status_number statuses.Done = 0
+status_number statuses.Usage = 2
+status_number (statuses.BadInput line kind) = 3
+status_number statuses.ReadFault = 4
+status_number statuses.WriteFault = 5
+status_number statuses.NoMemory = 6

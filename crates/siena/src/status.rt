@@ -1,7 +1,7 @@
 //! How a run ends, and what it says of a fault.
 ghost use Rattle.std.specs.Prelude.{◌≡◌, ◌++◌, ◌∷◌, [], IfOk, OnOk, codes};
 ghost use Rattle.std.specs.Fmt.{decimal};
-ghost use Rattle.siena.specs.Status.{kind_text, status_text};
+ghost use Rattle.siena.specs.Status.{kind_text, status_number, status_text};
 
 use ev_memory::NoMemory;
 use itoa::Buffer;
@@ -46,7 +46,9 @@ pub enum Status {
 
 impl Status {
     /// The number with which the program ends.
-    pub fn number(self) -> u8 {
+    pub fn number(self) -> u8
+        ensures { result ≡ status_number self }
+    {
         match self {
             Status::Done => 0,
             Status::Usage => 2,

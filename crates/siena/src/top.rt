@@ -1,5 +1,5 @@
 //! The top call.
-ghost use Rattle.std.specs.Prelude.{◌≡◌, ◌≢◌, ◌↔◌, ◌≤◌, ℕ, [], IfOk, IfSome, IsErrOf, IsTrue, length};
+ghost use Rattle.std.specs.Prelude.{◌≡◌, ◌≢◌, ◌⊎◌, ◌↔◌, ◌≤◌, ℕ, [], IfOk, IfSome, IsErrOf, IsTrue, length};
 ghost use Rattle.std.specs.Io.KnownBytes.{IsAtEnd, Keeps};
 ghost use Rattle.ev_outside.specs.Cause.{Rose};
 ghost use Rattle.ev_outside.specs.Whole.{Gave};
@@ -94,6 +94,7 @@ pub fn quiet<S: Source, K: Sink>(
     ensures unbuilt { result.status ≡ Status.BadInput 0 Fault.Unbuilt → IfSome (S.left source.old) (λ input. IsBuilt input → ⊥) }
     ensures read { result.status ≡ Status.ReadFault → Rose (S.faults source.old) (S.faults source.new) }
     ensures write { result.status ≡ Status.WriteFault → Rose (K.faults sink.old) (K.faults sink.new) }
+    ensures complete { IsWalk words.now → IfSome (S.left source.old) (λ input. IsBuilt input → (Rose (S.faults source.old) (S.faults source.new) → ⊥) → (Rose (K.faults sink.old) (K.faults sink.new) → ⊥) → (result.status ≡ Status.Done) ⊎ (result.status ≡ Status.NoMemory)) }
     ensures reads { Gave (S.left source.old) (S.left source.new) (λ given. length given ≤ 8193) }
 {
     if !is_walk(words) {
