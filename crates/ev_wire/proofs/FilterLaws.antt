@@ -1,5 +1,5 @@
 -- Constraints, filters and advertisements, and their one text.
-use Rattle.std.proofs.Common.{◌≡◌, ◌<◌, ◌≤◌, ℕ, Bool, true, false, refl, sym, ap, subst, ◌∙◌, inl, inr, arith, List, [], ◌∷◌, ◌++◌, length, append_assoc}
+use Rattle.std.proofs.Common.{◌≡◌, ◌≤◌, ℕ, true, refl, sym, ap, subst, ◌∙◌, inl, inr, arith, List, [], ◌∷◌, ◌++◌, length, append_assoc}
 use Rattle.std.specs.Prelude.{Some, None, nat_le, nat_lt, ◌&&◌, codes, if◌then◌else◌}
 use Rattle.std.specs.declared.option.Option.{Option}
 use Rattle.std.specs.Str.{bytes_eq}
@@ -18,13 +18,13 @@ use Rattle.ev_constraint.specs.declared.op.Op.TheVariants as ops
 use Rattle.ev_constraint.specs.declared.constraint.BadConstraint.{BadConstraint}
 use Rattle.ev_constraint.specs.Constraint.{ConstraintParts, IsTest, IsConstraint}
 use Rattle.ev_constraint.specs.Faults.{fault_of}
-use Rattle.ev_notice.specs.Canonical.{AreConstraints, IsListed, is_listed, is_rising}
+use Rattle.ev_notice.specs.Canonical.{AreConstraints, is_listed, is_rising}
 use Rattle.ev_notice.proofs.Lists.{both}
 use Rattle.ev_notice.proofs.Shapes.{listed_told, listed_of}
 use Rattle.ev_wire.specs.ValueText.{op_word, kind_word, value_text}
 use Rattle.ev_wire.specs.NoticeText.{joined}
 use Rattle.ev_wire.specs.FilterText.{test_text, constraint_text, constraints_text, AreNamed, IsWhole, IsListText}
-use Rattle.ev_wire.specs.Reading.{◌>>=◌, whole}
+use Rattle.ev_wire.specs.Reading.{◌>>=◌}
 use Rattle.ev_wire.specs.Words.{word_at, space_at, head_at}
 use Rattle.ev_wire.specs.Values.{value_at}
 use Rattle.ev_wire.specs.Items.{items_at}

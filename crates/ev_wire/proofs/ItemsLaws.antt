@@ -1,12 +1,10 @@
 -- Joined members, read as they are written.
 use Rattle.std.proofs.Common.{◌≡◌, ◌⊎◌, inl, inr, ◌<◌, ℕ, zero, suc, Bool, true, false, refl, sym, ap, ◌∙◌, arith, List, [], ◌∷◌, ◌++◌, length, append_assoc}
-use Rattle.std.specs.Prelude.{Some, None, ◌==◌, ◌&&◌}
+use Rattle.std.specs.Prelude.{Some, ◌==◌}
 use Rattle.std.specs.declared.option.Option.{Option}
 use Rattle.std.proofs.lemmas.List.{append-nil}
 use Rattle.std.proofs.lemmas.Bool.Decides.{nat_tests}
-use Rattle.ev_notice.proofs.Lists.{both}
-use Rattle.ev_wire.specs.NoticeText.{joined, later}
-use Rattle.ev_wire.specs.Reading.{◌>>=◌}
+use Rattle.ev_wire.specs.NoticeText.{joined}
 use Rattle.ev_wire.specs.Items.{more_at, go_on, items_at}
 use Rattle.ev_wire.proofs.Options.{bind_some, pair_in, none_not}
 use Rattle.ev_wire.proofs.WordLaws.{IsStopped}

@@ -1,19 +1,15 @@
 -- Messages and their one text.
-use Rattle.std.proofs.Common.{◌≡◌, ◌^◌, ℕ, Bool, true, false, refl, sym, ap, subst, ◌∙◌, inl, inr, arith, List, [], ◌∷◌, ◌++◌, append_assoc}
+use Rattle.std.proofs.Common.{◌≡◌, ℕ, true, refl, sym, ap, subst, ◌∙◌, inl, inr, arith, List, [], ◌∷◌, ◌++◌, append_assoc}
 use Rattle.std.specs.Prelude.{Some, None, codes}
-use Rattle.std.specs.declared.option.Option.{Option}
 use Rattle.std.specs.Fmt.{decimal}
 use Rattle.std.specs.Str.{bytes_eq}
-use Rattle.std.specs.Int.{IsInRange}
-use Rattle.std.specs.List.{flat_map}
 use Rattle.ev_constraint.proofs.BytesLemmas.{bytes_eq-tells}
-use Rattle.ev_constraint.specs.Constraint.{ConstraintParts}
 use Rattle.ev_notice.specs.Notice.{Attribute, IsNotice}
 use Rattle.ev_wire.specs.declared.id.Id.{Id}
 use Rattle.ev_wire.specs.declared.message.Message.{Message}
 use Rattle.ev_wire.specs.declared.message.Message.TheVariants as messages
-use Rattle.ev_wire.specs.NoticeText.{notice_text, IsNoticeText}
-use Rattle.ev_wire.specs.MessageText.{change_text, changes_text, id_text, message_text, IsId, IsChange, IsSendable, AreWhole, IsSound, IsMessageText}
+use Rattle.ev_wire.specs.NoticeText.{notice_text}
+use Rattle.ev_wire.specs.MessageText.{changes_text, id_text, message_text, IsId, IsChange, IsSendable, AreWhole, IsSound, IsMessageText}
 use Rattle.ev_wire.specs.Reading.{◌>>=◌, whole}
 use Rattle.ev_wire.specs.Words.{word_at, space_at, number_at}
 use Rattle.ev_wire.specs.Notices.{notice_of}

@@ -1,20 +1,19 @@
 -- Notices and their one text.
-use Rattle.std.proofs.Common.{◌≡◌, ◌<◌, ◌≤◌, ℕ, Bool, true, false, refl, sym, ap, subst, ◌∙◌, arith, List, [], ◌∷◌, ◌++◌, length}
+use Rattle.std.proofs.Common.{◌≡◌, ◌≤◌, ℕ, true, refl, sym, ap, subst, ◌∙◌, arith, List, [], ◌∷◌, length}
 use Rattle.std.specs.Prelude.{Some, None, nat_le, nat_lt, ◌&&◌}
-use Rattle.std.specs.declared.option.Option.{Option}
 use Rattle.std.proofs.lemmas.List.{append-nil}
 use Rattle.std.proofs.lemmas.Bool.Decides.{nat_tests}
 use Rattle.ev_notice.specs.Notice.{Attribute, is_notice, are_rising, AreNames, AreValues, IsNotice}
 use Rattle.ev_notice.proofs.Lists.{both}
 use Rattle.ev_notice.proofs.Shapes.{notice_told, notice_of as shape}
 use Rattle.ev_wire.specs.NoticeText.{joined, attribute_text, notice_text, IsNoticeText}
-use Rattle.ev_wire.specs.Reading.{◌>>=◌, whole}
+use Rattle.ev_wire.specs.Reading.{whole}
 use Rattle.ev_wire.specs.Values.{attribute_at}
 use Rattle.ev_wire.specs.Items.{items_at}
 use Rattle.ev_wire.specs.Notices.{listed, notice_of}
 use Rattle.ev_wire.proofs.Options.{bind_some, tested, none_not, whole_is}
 use Rattle.ev_wire.proofs.ValueLaws.{IsAttribute, attribute_again, attribute_spelled}
-use Rattle.ev_wire.proofs.ItemsLaws.{Each, Joins, items_again, items_spelled}
+use Rattle.ev_wire.proofs.ItemsLaws.{Each, items_again, items_spelled}
 
 names_of : (n : List Attribute) → Each IsAttribute n → AreNames n
 names_of [] is = tt

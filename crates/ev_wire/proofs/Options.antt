@@ -1,8 +1,7 @@
 -- What an answer of a chain of readers tells of each.
-use Rattle.std.proofs.Common.{◌≡◌, ◌⊎◌, inl, inr, Bool, true, false, cond, refl, sym, ap, List, [], ◌∷◌, ℕ}
-use Rattle.std.specs.Prelude.{Some, None, IsErrOf, ◌==◌}
+use Rattle.std.proofs.Common.{◌≡◌, ◌⊎◌, inl, inr, Bool, true, false, cond, refl, ap, List, [], ◌∷◌, ℕ}
+use Rattle.std.specs.Prelude.{Some, None, IsErrOf}
 use Rattle.std.specs.declared.option.Option.{Option}
-use Rattle.std.proofs.lemmas.Bool.Decides.{nat_tests}
 use Rattle.std.specs.declared.result.Result.{Result}
 use Rattle.std.specs.declared.result.Result.TheVariants.{Ok, Err}
 use Rattle.ev_wire.specs.declared.fault.WireFault.{WireFault}

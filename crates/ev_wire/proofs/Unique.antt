@@ -1,6 +1,5 @@
 -- One text a value, one value a text.
 use Rattle.std.proofs.Common.{◌≡◌, ℕ, List, sym, ap, ◌∙◌}
-use Rattle.std.specs.Prelude.{Some}
 use Rattle.ev_constraint.specs.Constraint.{ConstraintParts}
 use Rattle.ev_notice.specs.Notice.{Attribute}
 use Rattle.ev_wire.specs.declared.message.Message.{Message}

@@ -1,7 +1,6 @@
 -- Words, names, kinds and numbers, read as they are written.
 use Rattle.std.proofs.Common.{◌≡◌, ◌<◌, ◌≤◌, ◌^◌, ℕ, suc, ℤ, Bool, true, false, not, cond, refl, sym, ap, subst, ◌∙◌, inl, inr, arith, List, [], ◌∷◌, ◌++◌, length, append_assoc, FitsSigned, rules}
-use Rattle.std.specs.Prelude.{Some, None, pos, negsuc, nat_le, nat_lt, codes, ◌&&◌, ◌||◌, ◌==◌}
-use Rattle.std.specs.declared.option.Option.{Option}
+use Rattle.std.specs.Prelude.{Some, pos, negsuc, nat_le, nat_lt, codes, ◌&&◌, ◌||◌, ◌==◌}
 use Rattle.std.specs.List.{list_all}
 use Rattle.std.specs.Int.{w64, IsInRange}
 use Rattle.std.specs.Char.{digit_value}
@@ -19,7 +18,7 @@ use Rattle.ev_values.specs.declared.value.Kind.TheVariants as kinds
 use Rattle.ev_notice.proofs.Lists.{both}
 use Rattle.ev_wire.specs.ValueText.{kind_word}
 use Rattle.ev_wire.specs.Reading.{◌>>=◌}
-use Rattle.ev_wire.specs.Words.{is_stop, word_at, space_at, name_at, named, kind_named, kind_at, head_at, int_of, counted, number_at}
+use Rattle.ev_wire.specs.Words.{is_stop, word_at, space_at, name_at, kind_named, kind_at, head_at, int_of, counted, number_at}
 use Rattle.ev_wire.proofs.Options.{bind_some, some_in, pair_in, choose, tested, none_not}
 use Rattle.ev_wire.proofs.IntLaws.{int_again, int_spelled}
 

@@ -1,5 +1,5 @@
 -- Lists that are taken out and added, in front of bytes.
-use Rattle.std.specs.Prelude.{◌==◌, ◌&&◌, ◌++◌, ◌+◌, ℕ, zero, suc, nat_lt, Bool, true, false, not, List, [], ◌∷◌, length, Some, None, if◌then◌else◌}
+use Rattle.std.specs.Prelude.{◌==◌, ◌&&◌, ◌++◌, ◌+◌, ℕ, zero, suc, nat_lt, Bool, true, false, List, [], ◌∷◌, length, Some, None, if◌then◌else◌}
 use Rattle.std.specs.declared.option.Option.{Option}
 use Rattle.ev_constraint.specs.Constraint.{ConstraintParts}
 use Rattle.ev_notice.specs.Before.{list_before}
@@ -57,11 +57,14 @@ abbrev pub apart : Lists → Lists → Bool
 apart out [] = true
 apart out (f ∷ rest) = leads f (from f out) && apart (from f out) rest
 
+-- whether the lists are a change
 unfoldable pub is_change : Lists → Lists → Bool
 is_change out add = rises out && (rises add && (apart out add && nat_lt 0 (length out + length add)))
 
+-- lists that are a change
 abbrev pub changed : Lists × Lists → Option (Lists × Lists)
 changed l = if is_change l.0 l.1 then Some l else None
 
+-- the change that the bytes spell
 unfoldable pub lists_of : ℕ → List ℕ → Option (Lists × Lists)
 lists_of most bytes = whole (both_at most bytes) >>= changed

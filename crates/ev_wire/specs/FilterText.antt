@@ -18,6 +18,7 @@ test_text op (Some u) = op_word op ++ 32 ∷ value_text u
 unfoldable pub constraint_text : ConstraintParts → List ℕ
 constraint_text c = c.name ++ 32 ∷ (kind_word c.kind ++ 32 ∷ test_text c.op c.operand)
 
+-- constraints, joined
 unfoldable pub constraints_text : List ConstraintParts → List ℕ
 constraints_text f = joined constraint_text f
 

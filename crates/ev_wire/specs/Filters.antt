@@ -15,6 +15,7 @@ use Rattle.ev_wire.specs.Words.{word_at, space_at, head_at}
 use Rattle.ev_wire.specs.Values.{value_at}
 use Rattle.ev_wire.specs.Items.{items_at}
 
+-- the operator of a word
 abbrev pub op_named : List ℕ → Option Op
 op_named w =
     if bytes_eq w (codes "any") then Some ops.Any
@@ -29,9 +30,11 @@ op_named w =
     else if bytes_eq w (codes "contains") then Some ops.Contains
     else None
 
+-- an operator in front, and what follows it
 unfoldable pub op_at : List ℕ → Option (Op × List ℕ)
 op_at bytes = op_named (word_at [] bytes).0 >>= λ o. Some (o, (word_at [] bytes).1)
 
+-- a space and a value in front, and what follows them
 abbrev pub some_at : Kind → List ℕ → Option (Option Value × List ℕ)
 some_at kind bytes = space_at bytes >>= λ r. value_at kind r.1 >>= λ v. Some (Some v.0, v.1)
 
@@ -40,13 +43,16 @@ unfoldable pub operand_at : Kind → Op → List ℕ → Option (Option Value ×
 operand_at kind ops.Any bytes = Some (None, bytes)
 operand_at kind op bytes = some_at kind bytes
 
+-- a constraint without a fault
 abbrev pub made : Option BadConstraint → ConstraintParts → List ℕ → Option (ConstraintParts × List ℕ)
 made None c rest = Some (c, rest)
 made (Some e) c rest = None
 
+-- a constraint in front, and what follows it
 unfoldable pub constraint_at : List ℕ → Option (ConstraintParts × List ℕ)
 constraint_at bytes = head_at bytes >>= λ h. space_at h.1 >>= λ r. op_at r.1 >>= λ o. operand_at h.0.1 o.0 o.1 >>= λ u. made (fault_of h.0.1 o.0 u.0) (record { name = h.0.0; kind = h.0.1; op = o.0; operand = u.0 }) u.1
 
+-- constraints that are a list of at most so many
 abbrev pub settled : ℕ → List ConstraintParts → Option (List ConstraintParts)
 settled most f = if is_listed most f then Some f else None
 
@@ -54,5 +60,6 @@ settled most f = if is_listed most f then Some f else None
 unfoldable pub list_at : ℕ → List ℕ → Option (List ConstraintParts × List ℕ)
 list_at most bytes = items_at constraint_at most [] bytes >>= λ x. settled most x.0 >>= λ f. Some (f, x.1)
 
+-- the list that the bytes spell
 unfoldable pub list_of : ℕ → List ℕ → Option (List ConstraintParts)
 list_of most bytes = whole (list_at most bytes)

@@ -9,6 +9,7 @@ more_at [] = (false, [])
 more_at (b ∷ []) = (false, b ∷ [])
 more_at (b ∷ c ∷ rest) = if b == 59 && c == 32 then (true, rest) else (false, b ∷ c ∷ rest)
 
+-- what was read, or what is read next
 abbrev pub go_on : {A : Type 0} → Bool × List ℕ → List A → (List ℕ → Option (List A × List ℕ)) → Option (List A × List ℕ)
 go_on (false, rest) read next = Some (read, rest)
 go_on (true, rest) read next = next rest

@@ -21,9 +21,11 @@ change_text sign f = 32 ∷ sign ∷ 123 ∷ (constraints_text f ++ 125 ∷ [])
 unfoldable pub changes_text : List (List ConstraintParts) → List (List ConstraintParts) → List ℕ
 changes_text out add = flat_map (change_text 45) out ++ flat_map (change_text 43) add
 
+-- publisher and ordinal, with a space (32) between them
 unfoldable pub id_text : Id → List ℕ
 id_text id = decimal id.publisher ++ 32 ∷ decimal id.ordinal
 
+-- a notice behind its id, or changes of filters or of advertisements, behind the word of the sort
 unfoldable pub message_text : Message → List ℕ
 message_text (messages.Notice id n) = codes "notice " ++ id_text id ++ 32 ∷ notice_text n
 message_text (messages.Subs out add) = codes "subs" ++ changes_text out add
@@ -46,6 +48,7 @@ IsSendable (messages.Notice id n) = IsId id
 IsSendable (messages.Subs out add) = IsChange out add
 IsSendable (messages.Advs out add) = IsChange out add
 
+-- each list is well formed
 abbrev pub AreWhole : ℕ → List (List ConstraintParts) → Type 0
 AreWhole most [] = Unit {0}
 AreWhole most (f ∷ rest) = IsWhole most f × AreWhole most rest

@@ -14,15 +14,19 @@ use Rattle.ev_wire.specs.Changes.{Lists, lists_of}
 unfoldable pub id_at : List ℕ → Option (Id × List ℕ)
 id_at bytes = number_at 1024 bytes >>= λ p. space_at p.1 >>= λ r. number_at 100000 r.1 >>= λ o. Some (record { publisher = p.0; ordinal = o.0 }, o.1)
 
+-- the id and the notice behind the word of the sort
 unfoldable pub notice_message_of : List ℕ → Option Message
 notice_message_of bytes = space_at bytes >>= λ r. id_at r.1 >>= λ i. space_at i.1 >>= λ s. notice_of s.1 >>= λ n. Some (messages.Notice i.0 n)
 
+-- a message of filters
 abbrev pub as_subs : Lists × Lists → Option Message
 as_subs l = Some (messages.Subs l.0 l.1)
 
+-- a message of advertisements
 abbrev pub as_advs : Lists × Lists → Option Message
 as_advs l = Some (messages.Advs l.0 l.1)
 
+-- a message by its first word
 abbrev pub tagged_of : List ℕ × List ℕ → Option Message
 tagged_of w =
     if bytes_eq w.0 (codes "notice") then notice_message_of w.1
@@ -30,5 +34,6 @@ tagged_of w =
     else if bytes_eq w.0 (codes "advs") then (lists_of 64 w.1 >>= as_advs)
     else None
 
+-- the message that the bytes spell
 unfoldable pub message_of : List ℕ → Option Message
 message_of bytes = tagged_of (word_at [] bytes)

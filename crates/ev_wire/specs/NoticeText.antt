@@ -18,6 +18,7 @@ joined text (x ∷ xs) = text x ++ later text xs
 unfoldable pub attribute_text : Attribute → List ℕ
 attribute_text a = a.0 ++ 32 ∷ kind_word (kind_of a.1) ++ 32 ∷ value_text a.1
 
+-- attributes, joined
 unfoldable pub notice_text : List Attribute → List ℕ
 notice_text n = joined attribute_text n
 

@@ -5,11 +5,13 @@ use Rattle.std.specs.declared.result.Result.{Result}
 use Rattle.ev_wire.specs.declared.fault.WireFault.{WireFault}
 use Rattle.ev_wire.specs.declared.fault.WireFault.TheVariants as faults
 
+-- what is read next, unless nothing was
 infixl 10 ◌>>=◌
 abbrev pub ◌>>=◌ : {A B : Type 0} → Option A → (A → Option B) → Option B
 (Some x) >>= f = f x
 None >>= f = None
 
+-- a fault told while reading: want of memory tells nothing, and else nothing is there to be read
 abbrev pub Fails : {Y : Type 0} → WireFault → Option Y → Type 0
 Fails faults.NoMemory read = Unit {0}
 Fails faults.Outside read = read ≡ None

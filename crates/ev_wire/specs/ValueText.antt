@@ -22,6 +22,7 @@ escape b =
 abbrev pub string_text : List ℕ → List ℕ
 string_text t = 34 ∷ flat_map escape t ++ 34 ∷ []
 
+-- the word of a truth value
 abbrev pub truth_word : Bool → List ℕ
 truth_word true = codes "true"
 truth_word false = codes "false"
@@ -32,11 +33,13 @@ value_text (values.Bool b) = truth_word b
 value_text (values.Int n) = signed_decimal n
 value_text (values.Str t) = string_text t
 
+-- the word of a kind
 abbrev pub kind_word : Kind → List ℕ
 kind_word kinds.Bool = codes "bool"
 kind_word kinds.Int = codes "int"
 kind_word kinds.Str = codes "str"
 
+-- the word of an operator
 abbrev pub op_word : Op → List ℕ
 op_word ops.Any = codes "any"
 op_word ops.Eq = codes "="

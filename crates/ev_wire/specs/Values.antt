@@ -30,6 +30,7 @@ body_at read false (b ∷ rest) =
     else if b == 10 || b == 9 then None
     else body_at (read ++ b ∷ []) false rest
 
+-- bytes that are a text
 abbrev pub checked : List ℕ × List ℕ → Option (List ℕ × List ℕ)
 checked x = if is_text x.0 then Some x else None
 
@@ -38,6 +39,7 @@ unfoldable pub text_at : List ℕ → Option (List ℕ × List ℕ)
 text_at [] = None
 text_at (b ∷ rest) = if b == 34 then body_at [] false rest >>= checked else None
 
+-- the truth value of a word
 abbrev pub truth_named : List ℕ → Option Bool
 truth_named w =
     if bytes_eq w (codes "true") then Some true
@@ -50,5 +52,6 @@ value_at kinds.Bool bytes = truth_named (word_at [] bytes).0 >>= λ b. Some (val
 value_at kinds.Int bytes = int_of (word_at [] bytes).0 >>= λ z. Some (values.Int z, (word_at [] bytes).1)
 value_at kinds.Str bytes = text_at bytes >>= λ t. Some (values.Str t.0, t.1)
 
+-- an attribute in front, and what follows it
 unfoldable pub attribute_at : List ℕ → Option (Attribute × List ℕ)
 attribute_at bytes = head_at bytes >>= λ h. space_at h.1 >>= λ r. value_at h.0.1 r.1 >>= λ v. Some ((h.0.0, v.0), v.1)

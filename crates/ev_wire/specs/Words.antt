@@ -23,6 +23,7 @@ abbrev pub space_at : List ℕ → Option (Unit {0} × List ℕ)
 space_at [] = None
 space_at (b ∷ rest) = if b == 32 then Some (tt, rest) else None
 
+-- the kind of a word
 abbrev pub kind_named : List ℕ → Option Kind
 kind_named w =
     if bytes_eq w (codes "bool") then Some kinds.Bool
@@ -30,6 +31,7 @@ kind_named w =
     else if bytes_eq w (codes "str") then Some kinds.Str
     else None
 
+-- a word that is a name
 abbrev pub named : List ℕ × List ℕ → Option (List ℕ × List ℕ)
 named w = if is_name w.0 then Some w else None
 
@@ -37,6 +39,7 @@ named w = if is_name w.0 then Some w else None
 unfoldable pub name_at : List ℕ → Option (List ℕ × List ℕ)
 name_at bytes = named (word_at [] bytes)
 
+-- a kind in front, and what follows it
 unfoldable pub kind_at : List ℕ → Option (Kind × List ℕ)
 kind_at bytes = kind_named (word_at [] bytes).0 >>= λ k. Some (k, (word_at [] bytes).1)
 
@@ -58,5 +61,6 @@ abbrev pub counted : ℕ → ℤ → Option ℕ
 counted most (pos n) = if nat_lt 0 n && nat_le n most then Some n else None
 counted most (negsuc n) = None
 
+-- a number from 1 to the greatest in front, and what follows it
 unfoldable pub number_at : ℕ → List ℕ → Option (ℕ × List ℕ)
 number_at most bytes = int_of (word_at [] bytes).0 >>= λ z. counted most z >>= λ n. Some (n, (word_at [] bytes).1)

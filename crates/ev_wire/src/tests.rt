@@ -1,8 +1,7 @@
 //! Worked rows: texts that are written, read again, and refused.
 use crate::{
-    Adverts, Bytes, Command, Delivery, Filters, Id, Message, Sent, WireFault, read_advert,
-    read_filter, read_message, read_notice, write_advert, write_filter, write_message,
-    write_notice,
+    Bytes, Command, Delivery, Filters, Id, Message, Sent, WireFault, read_advert, read_filter,
+    read_message, read_notice, write_advert, write_filter, write_message, write_notice,
 };
 use ev_notice::Notice;
 use ev_values::{Name, Value};
@@ -187,5 +186,53 @@ fn written(rt: HostRuntime) -> Result<(), Fail> {
         return Err(Fail::new("no subs"));
     };
     assert_eq!(rt; (out.as_slice().len(), add.as_slice().len()), (1, 1));
+    Ok(())
+}
+
+// A message that was read is written as it was.
+fn is_written_again(alloc: Global, bytes: &[u8]) -> Result<bool, Fail> {
+    match read_message(alloc, bytes) {
+        Ok(message) => Ok(write_message(alloc, &message)?.as_slice() == bytes),
+        Err(fault) => Ok(fault != WireFault::Outside),
+    }
+}
+
+#[test]
+fn messages_again(rt: HostRuntime) -> Result<(), Fail> {
+    for bytes in [
+        b"subs -{x int any} +{x int > 5}".as_slice(),
+        b"advs -{x int any; y int any} +{x int > 5}",
+        b"notice 7 12 a int 2; b int 1",
+    ] {
+        assert!(rt; is_written_again(rt.alloc(), bytes)?, "at {bytes:?}");
+    }
+    Ok(())
+}
+
+#[test]
+fn copies(rt: HostRuntime) -> Result<(), Fail> {
+    let alloc = rt.alloc();
+    let id = Id {
+        publisher: 7,
+        ordinal: 12,
+    };
+    let bytes = Bytes::of(Vec::from_slice(alloc, b"a int 2")?);
+    let delivery = Delivery { id, bytes }.copy(alloc)?;
+    assert_eq!(rt; delivery.id, id);
+    let sent = Sent {
+        to: 3,
+        bytes: delivery.bytes,
+    }
+    .copy(alloc)?;
+    assert_eq!(rt; sent.to, 3);
+    let notice = read_notice(alloc, sent.bytes.as_slice())?;
+    let command = Command::Publish(notice).copy(alloc)?;
+    let Command::Publish(notice) = &command else {
+        return Err(Fail::new("no publish command"));
+    };
+    assert_eq!(rt;
+        write_notice(alloc, notice)?.as_slice(),
+        b"a int 2".as_slice()
+    );
     Ok(())
 }
