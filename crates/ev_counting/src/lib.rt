@@ -2,8 +2,13 @@
 #![tactic(auto)]
 
 mod change;
+mod count;
+mod counters;
+mod entry;
+mod index;
 mod route;
 mod scratch;
+mod slots;
 mod table;
 #[cfg(test)]
 mod tests;
