@@ -2,8 +2,10 @@
 #![tactic(auto)]
 
 mod change;
+mod index;
 mod route;
 mod scratch;
+mod shelf;
 mod table;
 #[cfg(test)]
 mod tests;
