@@ -8,6 +8,7 @@ mod entry;
 mod index;
 mod route;
 mod scratch;
+mod shelf;
 mod slots;
 mod table;
 #[cfg(test)]
