@@ -21,6 +21,11 @@ held [] = []
 held (None ∷ slots) = held slots
 held (Some e ∷ slots) = pair_of e ∷ held slots
 
+-- an entry of this pair
+abbrev pub HasPair : Slot → Held → Type 0
+HasPair None pair = ⊥
+HasPair (Some e) pair = pair_of e ≡ pair
+
 -- what stands at a place
 abbrev pub slot_at : List Slot → ℕ → Slot
 slot_at slots k = slice_index_or slots k None
@@ -31,14 +36,14 @@ constraints_in None = []
 constraints_in (Some e) = e.filter
 
 -- a filter's constraints, each with the filter's number
-abbrev pub uses_of : ℕ → List ConstraintParts → List Use
-uses_of id [] = []
-uses_of id (c ∷ rest) = (c, id) ∷ uses_of id rest
+abbrev pub numbered : ℕ → List ConstraintParts → List Use
+numbered id [] = []
+numbered id (c ∷ rest) = (c, id) ∷ numbered id rest
 
 -- the constraints of all filters, where a filter's number is its place, counted on from i
 abbrev pub uses_from : ℕ → List Slot → List Use
 uses_from i [] = []
-uses_from i (slot ∷ slots) = uses_of i (constraints_in slot) ++ uses_from (suc i) slots
+uses_from i (slot ∷ slots) = numbered i (constraints_in slot) ++ uses_from (suc i) slots
 
 -- an entry has a constraint, and its interface stands at the place that it names
 pub record IsPlaced (ifaces : List ℕ) (e : Entry) : Type 0 where

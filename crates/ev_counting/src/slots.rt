@@ -1,8 +1,8 @@
 //! The places of a table.
-ghost use Rattle.std.specs.Prelude.{◌≡◌, ◌↔◌, ◌⊎◌, ◌<◌, ◌≤◌, ◌^◌, ◌++◌, ◌∷◌, [], ℕ, IfOk, OnOk, OnErr, IfSome, IfNone, IsTrue, length, slice_index_or, Some, None};
+ghost use Rattle.std.specs.Prelude.{◌≡◌, ◌↔◌, ◌⊎◌, ◌<◌, ◌≤◌, ◌^◌, ◌++◌, ◌∷◌, [], ℕ, IfOk, OnOk, OnErr, IfSome, IfNone, IsTrue, true, false, length, slice_index_or, Some, None};
 ghost use Rattle.std.specs.List.{Contains};
 ghost use Rattle.ev_counting.specs.declared.entry.Entry.{Entry};
-ghost use Rattle.ev_counting.specs.Slots.{pair_of, slot_at, held, KeepsPlaces};
+ghost use Rattle.ev_counting.specs.Slots.{pair_of, slot_at, held, KeepsPlaces, HasPair};
 
 use crate::entry::Entry;
 use ev_memory::NoMemory;
@@ -24,8 +24,7 @@ fn is_pair(entry: &Entry, iface: u32, filter: &Filter) -> bool
 
 /// Whether this pair stands at a place.
 pub(crate) fn has_pair(slot: &Option<Entry>, iface: u32, filter: &Filter) -> bool
-    ensures there { result ≡ true → (e : Entry) × (slot.now ≡ Some e) × (pair_of e ≡ (iface, filter.now)) }
-    ensures none { result ≡ false → (e : Entry) → slot.now ≡ Some e → pair_of e ≡ (iface, filter.now) → ⊥ }
+    ensures { IsTrue result ↔ HasPair slot.now (iface, filter.now) }
 {
     match slot {
         Some(entry) => is_pair(entry, iface, filter),

@@ -10,8 +10,8 @@ returns c =
     let counts = c.grow_counts.new.counts.items in
     let marks = c.grow_marks.new.marks.items in
     record {
-      filters_fit = omega (arith, length-map (count_in r) counts, c.in_ok-grow_counts.ensures.room);
-      ifaces_fit = omega (arith, length-map (λ m. m == r) marks, c.in_ok-grow_marks.ensures.room);
+      filters_fit = omega (arith, length-map counts (count_in r), c.in_ok-grow_counts.ensures.room);
+      ifaces_fit = omega (arith, length-map marks (λ m. m == r), c.in_ok-grow_marks.ensures.room);
       counts_none = λ k. count-of r counts k ∙ ap {B = ℕ} (count_in r) (c.in_ok-grow_counts.ensures.same k) ∙ c.next_round.ensures.counts k;
       marks_none = λ k. mark-of r marks k c.next_round.ensures.later ∙ ap {B = Bool} (λ m. m == r) (c.in_ok-grow_marks.ensures.same k) ∙ c.next_round.ensures.marks k;
     }
