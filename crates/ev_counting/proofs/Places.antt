@@ -1,5 +1,5 @@
 -- Places of a table: what they hold, and what a change of one place does.
-use Rattle.std.proofs.Common.{◌≡◌, ◌⊎◌, inl, inr, ◌+◌, ◌≤◌, ◌<◌, ◌∙◌, refl, sym, ap, arith, ℕ, Bool, true, false, cond, List, [], ◌∷◌, ◌++◌, length, get_or, zero, suc, Some, None}
+use Rattle.std.proofs.Common.{◌≡◌, ◌⊎◌, inl, inr, ◌+◌, ◌^◌, ◌≤◌, ◌<◌, ◌∙◌, refl, sym, ap, arith, ℕ, Bool, true, false, cond, List, [], ◌∷◌, ◌++◌, length, get_or, zero, suc, Some, None}
 use Rattle.std.proofs.Math.ListN.{set}
 use Rattle.std.specs.List.{Contains}
 use Rattle.ev_constraint.specs.Constraint.{ConstraintParts}
@@ -70,8 +70,12 @@ uses-push i (s ∷ slots) = ap (λ xs. numbered i (constraints_in s) ++ xs) (use
 pub keeps-same : (slots : List Slot) → length slots ≤ 2 ^ 32 → KeepsPlaces slots slots
 keeps-same slots h = record { slots = λ k. refl; pairs = refl; uses = refl; few = h }
 
-pub keeps-push : (slots : List Slot) → length (slots ++ None ∷ []) ≤ 2 ^ 32 → KeepsPlaces slots (slots ++ None ∷ [])
-keeps-push slots h = record { slots = λ k. get-push slots k None; pairs = held-push slots; uses = uses-push 0 slots; few = h }
+length-push : {X : Type 0} (xs : List X) (x : X) → length (xs ++ x ∷ []) ≡ suc (length xs)
+length-push [] x = refl
+length-push (y ∷ xs) x = ap suc (length-push xs x)
+
+pub keeps-push : (slots : List Slot) → length slots < 2 ^ 32 → KeepsPlaces slots (slots ++ None ∷ [])
+keeps-push slots h = let g : length (slots ++ None ∷ []) ≤ 2 ^ 32 = omega (arith, length-push {X = Slot} slots None, h) in record { slots = λ k. get-push slots k None; pairs = held-push slots; uses = uses-push 0 slots; few = g }
 
 -- another content of a place, where the filter's constraints are numbered from its place
 pub uses-set : (i j : ℕ) (slots : List Slot) (s : Slot) (p : Use → Bool) → j < length slots → tally p (uses_from i (set slots j s)) + tally p (numbered (i + j) (constraints_in (slot_at slots j))) ≡ tally p (uses_from i slots) + tally p (numbered (i + j) (constraints_in s))
@@ -135,3 +139,28 @@ falls-then a b c x f g = record {
   kept = λ z h. elim (f.kept z h) [ inl e ↦ inl e | inr m ↦ g.kept z m ];
   only = λ z h. f.only z (g.only z h);
 }
+
+-- what is read at a place is what stands there
+pub stands-here : {X : Type 0} (xs : List X) (k : ℕ) (x d : X) → k < length xs → x ≡ get_or xs k x → get_or xs k d ≡ x
+stands-here [] k x d h e = absurd (omega (arith, h))
+stands-here (y ∷ xs) zero x d h e = sym e
+stands-here (y ∷ xs) (suc k) x d h e = stands-here xs k x d (omega (arith, h)) e
+
+-- a place of this pair
+pub held-has : (slots : List Slot) (k : ℕ) (pair : Held) → HasPair (slot_at slots k) pair → Contains (held slots) pair
+held-has slots k pair h = go (slot_at slots k) refl h
+  where
+    go : (s : Slot) → slot_at slots k ≡ s → HasPair s pair → Contains (held slots) pair
+    go None e g = absurd g
+    go (Some d) e g = rw (sym g) (held-at slots k d e)
+
+within : (slots : List Slot) (k : ℕ) (e : Entry) → slot_at slots k ≡ Some e → k < length slots
+within [] zero e h = cc
+within [] (suc k) e h = cc
+within (s ∷ slots) zero e h = omega arith
+within (s ∷ slots) (suc k) e h = omega (arith, within slots k e h)
+
+pub held-none : (slots : List Slot) (pair : Held) → ((k : ℕ) → k < length slots → HasPair (slot_at slots k) pair → ⊥) → Contains (held slots) pair → ⊥
+held-none slots pair none h =
+    let s = held-from slots pair h in
+    none s.place (within slots s.place s.entry s.there) (rw s.there s.mine)

@@ -1,5 +1,5 @@
 -- The places of a table: each is free or has a filter with the interface that holds it.
-use Rattle.std.specs.Prelude.{◌≡◌, ◌<◌, ◌≤◌, ◌^◌, ℕ, suc, List, [], ◌∷◌, ◌++◌, length, slice_index_or, Some, None}
+use Rattle.std.specs.Prelude.{◌≡◌, ◌<◌, ◌≤◌, ◌^◌, ℕ, suc, List, [], ◌∷◌, ◌++◌, length, map, slice_index_or, Some, None}
 use Rattle.std.specs.declared.option.Option.{Option}
 use Rattle.ev_constraint.specs.Constraint.{ConstraintParts}
 use Rattle.ev_index.specs.Pairs.{Same}
@@ -37,8 +37,7 @@ constraints_in (Some e) = e.filter
 
 -- a filter's constraints, each with the filter's number
 abbrev pub numbered : ℕ → List ConstraintParts → List Use
-numbered id [] = []
-numbered id (c ∷ rest) = (c, id) ∷ numbered id rest
+numbered id constraints = map (λ c. (c, id)) constraints
 
 -- the constraints of all filters, where a filter's number is its place, counted on from i
 abbrev pub uses_from : ℕ → List Slot → List Use
@@ -51,10 +50,14 @@ pub record IsPlaced (ifaces : List ℕ) (e : Entry) : Type 0 where
   pub within : e.place < length ifaces
   pub there : slice_index_or ifaces e.place 0 ≡ e.iface
 
+-- each entry is placed
+abbrev pub ArePlaced : List ℕ → List Slot → Type 0
+ArePlaced ifaces slots = (k : ℕ) → (e : Entry) → slot_at slots k ≡ Some e → IsPlaced ifaces e
+
 -- what every table keeps: the index has exactly the constraints of its filters
 pub record IsSound (index : List Use) (slots : List Slot) (ifaces : List ℕ) : Type 0 where
   pub indexed : Same index (uses_from 0 slots)
-  pub placed : (k : ℕ) → (e : Entry) → slot_at slots k ≡ Some e → IsPlaced ifaces e
+  pub placed : ArePlaced ifaces slots
   pub few : length slots ≤ 2 ^ 32
 
 -- the same entries at the same places, with a free place more at most

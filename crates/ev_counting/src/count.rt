@@ -1,7 +1,7 @@
 //! Counting the hits of a notice.
 ghost use Rattle.std.specs.Prelude.{◌≡◌, ◌<◌, ◌≤◌, ◌==◌, ◌+◌, ℕ, true, false, cond, length, IfOk, Some};
 ghost use Rattle.ev_counting.specs.declared.entry.Entry.{Entry};
-ghost use Rattle.ev_counting.specs.Slots.{IsPlaced, slot_at};
+ghost use Rattle.ev_counting.specs.Slots.{ArePlaced};
 ghost use Rattle.ev_counting.specs.Counting.{Counts, count_at, is_marked, counted, marked, IsFresh, AreFull};
 
 use crate::counters::Counters;
@@ -36,11 +36,11 @@ fn count_hit(entry: &Entry, id: usize, counters: &mut Counters) -> bool
 pub(crate) fn count_hits(
     alloc: Global,
     slots: &[Option<Entry>],
-    found: &[u32],
     interfaces: &[u32],
+    found: &[u32],
     counters: &mut Counters,
 ) -> Result<Vec<u32>, NoMemory>
-    requires placed { (k : ℕ) → (e : Entry) → slot_at slots.now k ≡ Some e → IsPlaced interfaces.now e }
+    requires placed { ArePlaced interfaces.now slots.now }
     requires fresh { IsFresh (length slots.now) (length interfaces.now) counters.old }
     ensures { IfOk result (λ ifaces. AreFull slots.now found.now ifaces.items) }
 {
