@@ -1,1 +1,4 @@
 pub mod Sets
+pub mod Same
+pub mod Shelves
+pub mod Satisfied

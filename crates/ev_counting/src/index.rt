@@ -75,6 +75,8 @@ fn meet(
 ) -> Result<(), NoMemory>
     ensures { OnOk result (Appends found.old.items found.new.items (ids_satisfied ((name.now, value.now) ∷ []) (uses_of shelves.now.entries))) }
 {
+    // The keys rise, so there is no other shelf of that name.
+    let _size = shelves.len();
     match shelves.get(name.bytes()) {
         Some(shelf) => shelf.hits(value, found),
         None => Ok(()),

@@ -3,6 +3,7 @@
 
 mod change;
 mod index;
+mod pairs;
 mod route;
 mod scratch;
 mod shelf;
