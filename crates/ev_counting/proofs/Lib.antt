@@ -1,4 +1,5 @@
 pub mod Sets
 pub mod Same
+pub mod Apart
 pub mod Shelves
 pub mod Satisfied
