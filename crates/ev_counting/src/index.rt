@@ -56,7 +56,7 @@ fn put(
 }
 
 /// Takes a use from the shelf of its name; whether it was there.
-fn take(shelves: &mut BTreeMap<Key, Shelf>, constraint: &Constraint, id: u32) -> bool
+fn pull(shelves: &mut BTreeMap<Key, Shelf>, constraint: &Constraint, id: u32) -> bool
     ensures there { result ≡ true → Same (uses_of shelves.old.entries) ((constraint.now, id) ∷ uses_of shelves.new.entries) }
     ensures none { result ≡ false → Same (uses_of shelves.new.entries) (uses_of shelves.old.entries) × (IsIn (constraint.now, id) (uses_of shelves.old.entries) → ⊥) }
 {
@@ -64,6 +64,29 @@ fn take(shelves: &mut BTreeMap<Key, Shelf>, constraint: &Constraint, id: u32) ->
         Some(shelf) => shelf.remove(constraint, id),
         None => false,
     }
+}
+
+/// Takes an empty shelf away.
+fn prune(shelves: &mut BTreeMap<Key, Shelf>, name: &Name)
+    ensures { Same (uses_of shelves.new.entries) (uses_of shelves.old.entries) }
+{
+    if let Some(shelf) = shelves.get(name.bytes()) {
+        if shelf.is_empty() {
+            shelves.remove(name.bytes());
+        }
+    }
+}
+
+/// Takes a use from the shelf of its name, and the shelf where it was the last; whether it was there.
+fn take(shelves: &mut BTreeMap<Key, Shelf>, constraint: &Constraint, id: u32) -> bool
+    ensures there { result ≡ true → Same (uses_of shelves.old.entries) ((constraint.now, id) ∷ uses_of shelves.new.entries) }
+    ensures none { result ≡ false → Same (uses_of shelves.new.entries) (uses_of shelves.old.entries) × (IsIn (constraint.now, id) (uses_of shelves.old.entries) → ⊥) }
+{
+    let there = pull(shelves, constraint, id);
+    if there {
+        prune(shelves, constraint.name());
+    }
+    there
 }
 
 /// Appends the ids of the constraints that the attribute satisfies.
@@ -75,6 +98,8 @@ fn meet(
 ) -> Result<(), NoMemory>
     ensures { OnOk result (Appends found.old.items found.new.items (ids_satisfied ((name.now, value.now) ∷ []) (uses_of shelves.now.entries))) }
 {
+    // The keys rise, so there is no other shelf of that name.
+    let _size = shelves.len();
     match shelves.get(name.bytes()) {
         Some(shelf) => shelf.hits(value, found),
         None => Ok(()),

@@ -6,6 +6,7 @@ mod count;
 mod counters;
 mod entry;
 mod index;
+mod pairs;
 mod route;
 mod scratch;
 mod shelf;
