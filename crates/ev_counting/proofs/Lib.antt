@@ -5,3 +5,5 @@ pub mod Same
 pub mod Apart
 pub mod Shelves
 pub mod Satisfied
+pub mod Uses
+pub mod Sound

@@ -1,5 +1,5 @@
 //! The forwarding table of a server.
-ghost use Rattle.std.specs.Prelude.{◌≡◌, ◌++◌, ◌<◌, ◌≤◌, ◌^◌, [], ℕ, List, IfOk, OnOk, OnErr, Some, length};
+ghost use Rattle.std.specs.Prelude.{◌≡◌, ◌++◌, ◌<◌, ◌≤◌, ◌^◌, [], ℕ, List, IfOk, OnOk, OnErr, Some, None, length, slice_set};
 ghost use Rattle.ev_index.specs.Pairs.{Same};
 ghost use Rattle.ev_counting.specs.declared.entry.Entry.{Entry};
 ghost use Rattle.ev_counting.specs.Table.{AreMatched, IsAdded, IsTaken};
@@ -93,6 +93,17 @@ fn add(
     Ok(())
 }
 
+/// Sets the place of a filter free.
+fn free(slots: &mut Vec<Option<Entry>>, index: &mut Index, i: usize, filter: &Filter)
+    requires within { i < length slots.old.items }
+    requires few { length slots.old.items ≤ 2 ^ 32 }
+    ensures free { slots.new.items ≡ slice_set slots.old.items i None }
+    ensures index { (rest : List Use) → Same index.old (numbered i filter.now ++ rest) → Same index.new rest }
+{
+    withdraw(index, filter.constraints(), i as u32);
+    slots[i] = None;
+}
+
 /// Takes a pair away.
 fn take(slots: &mut Vec<Option<Entry>>, index: &mut Index, iface: u32, filter: &Filter)
     requires { (length slots.old.items ≤ 2 ^ 32) × Same index.old (uses_from 0 slots.old.items) }
@@ -103,8 +114,7 @@ fn take(slots: &mut Vec<Option<Entry>>, index: &mut Index, iface: u32, filter: &
 {
     for i in 0..slots.len() {
         if has_pair(&slots[i], iface, filter) {
-            withdraw(index, filter.constraints(), i as u32);
-            slots[i] = None;
+            free(slots, index, i, filter);
         }
     }
 }
