@@ -1,5 +1,5 @@
 -- Pairs of numbers and of texts, apart.
-use Rattle.std.proofs.Common.{◌≡◌, ◌+◌, ◌≤◌, ◌⊎◌, ◌∙◌, inl, inr, ℕ, Bool, true, false, not, refl, sym, ap, subst, arith, List, [], ◌∷◌, ◌++◌}
+use Rattle.std.proofs.Common.{◌≡◌, inl, inr, true, false, not, refl, sym, ap, subst, arith, List, [], ◌∷◌, ◌++◌}
 use Rattle.ev_index.specs.Pairs.{tally, Same, IsIn, Pair}
 use Rattle.ev_index.proofs.Tallies.{tally-append}
 use Rattle.ev_index.proofs.Rows.{tally-in}

@@ -4,7 +4,6 @@ use Rattle.std.specs.declared.cmp.Ordering.TheVariants.{Less, Equal, Greater}
 use Rattle.std.specs.Ordering.{is_eq}
 use Rattle.std.proofs.lemmas.Cmp.{tied_itself}
 use Rattle.std.proofs.lemmas.Bool.Decides.{nat_tests}
-use Rattle.ev_constraint.specs.Constraint.{ConstraintParts}
 use Rattle.ev_constraint.specs.Order.{constraint_cmp}
 use Rattle.ev_constraint.specs.OrderTotal.{constraint_total}
 use Rattle.ev_constraint.proofs.OrderLaws.{parts-tied}

@@ -1,5 +1,5 @@
 -- The ids of the constraints that the attributes satisfy.
-use Rattle.std.proofs.Common.{◌≡◌, ◌+◌, ◌&&◌, ◌∙◌, ℕ, Bool, true, false, cond, refl, sym, ap, subst, arith, List, [], ◌∷◌, ◌++◌, Some, None, Ordering}
+use Rattle.std.proofs.Common.{◌≡◌, ◌+◌, ◌&&◌, ◌∙◌, ℕ, Bool, true, false, cond, refl, sym, ap, subst, arith, List, [], ◌∷◌, ◌++◌, Some, None}
 use Rattle.std.specs.Prelude.{Vec}
 use Rattle.std.specs.declared.alloc.Global.{Global}
 use Rattle.std.specs.List.{IsDistinct}
@@ -9,7 +9,7 @@ use Rattle.std.specs.Str.{bytes_eq}
 use Rattle.std.proofs.lemmas.Cmp.{nat_list_cmp_total}
 use Rattle.std.proofs.lemmas.Map.Text.{is_eq-slice_cmp}
 use Rattle.std.specs.Cmp.Lexicographic.{slice_cmp}
-use Rattle.std.specs.declared.cmp.Ordering.TheVariants.{Less, Equal, Greater}
+use Rattle.std.specs.declared.cmp.Ordering.TheVariants.{Less}
 use Rattle.ev_values.specs.declared.value.Value.{Value}
 use Rattle.ev_constraint.specs.Constraint.{ConstraintParts, satisfies}
 use Rattle.ev_constraint.proofs.BytesLemmas.{bytes_eq-tells, bytes_eq-self}
@@ -17,7 +17,7 @@ use Rattle.ev_notice.specs.Notice.{Attribute, attribute_at, AreRising}
 use Rattle.ev_notice.specs.Cover.{attribute_satisfies}
 use Rattle.ev_notice.proofs.SideBySide.{later_rising}
 use Rattle.ev_index.specs.Pairs.{tally, Same, Appends, Test, Pair, passes, ids_met}
-use Rattle.ev_index.proofs.Tallies.{tally-append, tally-agree, tally-none, Appends-append}
+use Rattle.ev_index.proofs.Tallies.{tally-append, tally-agree, Appends-append}
 use Rattle.ev_textindex.specs.Keys.{same_bytes, at_key, key_cmp}
 use Rattle.ev_counting.specs.Index.{Use, is_satisfied, ids_satisfied}
 use Rattle.ev_counting.specs.Shelves.{constraint_of, uses_of}

@@ -1,19 +1,18 @@
 -- What a change of one shelf does to the uses of all.
-use Rattle.std.proofs.Common.{◌≡◌, ◌+◌, ◌≤◌, ◌&&◌, ◌∙◌, ℕ, Bool, true, false, cond, refl, sym, ap, subst, arith, List, [], ◌∷◌, ◌++◌, Some, None, Ordering}
+use Rattle.std.proofs.Common.{◌≡◌, ◌+◌, ◌&&◌, ◌∙◌, ℕ, Bool, true, false, cond, refl, sym, ap, subst, arith, List, [], ◌∷◌, Some, None}
 use Rattle.std.specs.Prelude.{Vec}
 use Rattle.std.specs.declared.alloc.Global.{Global}
-use Rattle.std.specs.declared.cmp.Ordering.TheVariants.{Less, Equal, Greater}
 use Rattle.std.specs.List.{IsDistinct, AllByRecursion}
 use Rattle.std.specs.Map.{lookup, set_value, remove_entry, keys_of}
 use Rattle.std.specs.BTreeMap.{insert_entry}
-use Rattle.std.specs.Ordering.{is_eq, nat_cmp}
+use Rattle.std.specs.Ordering.{is_eq}
 use Rattle.ev_constraint.specs.Constraint.{ConstraintParts}
-use Rattle.ev_index.specs.Pairs.{tally, Same, Test, Pair, IsIn, test_of}
+use Rattle.ev_index.specs.Pairs.{tally, Same, Pair, IsIn, test_of}
 use Rattle.ev_index.specs.Groups.{spread}
 use Rattle.ev_index.proofs.Tallies.{tally-append, tally-none}
 use Rattle.ev_index.proofs.Groups.{spread-insert, spread-set, spread-remove, spread-absent}
 use Rattle.ev_index.proofs.Rows.{tally-in}
-use Rattle.ev_textindex.specs.Keys.{same_bytes, at_key, key_cmp, bytes_of}
+use Rattle.ev_textindex.specs.Keys.{same_bytes, at_key, key_cmp}
 use Rattle.ev_textindex.proofs.Keys.{same-one, same-same, same-self}
 use Rattle.ev_counting.specs.Index.{Use}
 use Rattle.ev_counting.specs.Shelves.{constraint_of, named, uses_of}

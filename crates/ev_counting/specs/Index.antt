@@ -1,5 +1,5 @@
 -- The constraints of all filters, each with the number of its filter.
-use Rattle.std.specs.Prelude.{ℕ, Bool, List, [], ◌∷◌, cond, if◌then◌else◌}
+use Rattle.std.specs.Prelude.{ℕ, Bool, List, [], ◌∷◌, if◌then◌else◌}
 use Rattle.ev_constraint.specs.Constraint.{ConstraintParts}
 use Rattle.ev_notice.specs.Notice.{Attribute, attribute_at}
 use Rattle.ev_notice.specs.Cover.{attribute_satisfies}

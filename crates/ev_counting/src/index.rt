@@ -70,9 +70,10 @@ fn pull(shelves: &mut BTreeMap<Key, Shelf>, constraint: &Constraint, id: u32) ->
 fn prune(shelves: &mut BTreeMap<Key, Shelf>, name: &Name)
     ensures { Same (uses_of shelves.new.entries) (uses_of shelves.old.entries) }
 {
-    if let Some(shelf) = shelves.get(name.bytes()) {
+    let name = name.bytes();
+    if let Some(shelf) = shelves.get(name) {
         if shelf.is_empty() {
-            shelves.remove(name.bytes());
+            shelves.remove(name);
         }
     }
 }

@@ -1,4 +1,4 @@
-use Rattle.std.proofs.Common.{◌≡◌, ◌∙◌, ap, sym, true, ℕ, [], arith}
+use Rattle.std.proofs.Common.{◌≡◌, ◌∙◌, ap, sym, true, [], arith}
 use Rattle.std.proofs.lemmas.Bool.Decides.{nat_tests}
 use Rattle.ev_index.specs.Pairs.{tally}
 use Rattle.ev_counting.proofs.Apart.{none-counted}
