@@ -7,3 +7,4 @@ pub mod Shelves
 pub mod Satisfied
 pub mod Uses
 pub mod Sound
+pub mod Counted

@@ -154,7 +154,7 @@ held-has slots k pair h = go (slot_at slots k) refl h
     go None e g = absurd g
     go (Some d) e g = rw (sym g) (held-at slots k d e)
 
-within : (slots : List Slot) (k : ℕ) (e : Entry) → slot_at slots k ≡ Some e → k < length slots
+pub within : (slots : List Slot) (k : ℕ) (e : Entry) → slot_at slots k ≡ Some e → k < length slots
 within [] zero e h = cc
 within [] (suc k) e h = cc
 within (s ∷ slots) zero e h = omega arith

@@ -1,13 +1,24 @@
 //! Counting the hits of a notice.
 ghost use Rattle.std.specs.Prelude.{◌≡◌, ◌<◌, ◌≤◌, ◌==◌, ◌+◌, ℕ, true, false, cond, length, IfOk, Some};
 ghost use Rattle.ev_counting.specs.declared.entry.Entry.{Entry};
-ghost use Rattle.ev_counting.specs.Slots.{ArePlaced};
+ghost use Rattle.std.specs.Option.{option_copied};
+ghost use Rattle.ev_counting.specs.Slots.{ArePlaced, slot_at};
 ghost use Rattle.ev_counting.specs.Counting.{Counts, count_at, is_marked, counted, marked, IsFresh, AreFull};
 
 use crate::counters::Counters;
 use crate::entry::Entry;
 use ev_memory::NoMemory;
 use std::alloc::Global;
+
+/// The entry at a place.
+fn entry_at(slots: &[Option<Entry>], id: usize) -> Option<&Entry>
+    ensures { option_copied result ≡ slot_at slots.now id }
+{
+    match slots.get(id) {
+        Some(Some(entry)) => Some(entry),
+        _ => None,
+    }
+}
 
 /// Counts a filter once more, unless its interface is matched already; whether it is then counted as often as it has
 /// constraints, so that its interface is matched from now on.
@@ -47,7 +58,7 @@ pub(crate) fn count_hits(
     let mut ifaces = Vec::new(alloc);
     for id in found {
         let id = *id as usize;
-        if let Some(Some(entry)) = slots.get(id) {
+        if let Some(entry) = entry_at(slots, id) {
             if count_hit(entry, id, counters) {
                 ifaces.push(entry.iface)?;
             }

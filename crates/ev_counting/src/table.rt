@@ -1,5 +1,5 @@
 //! The forwarding table of a server.
-ghost use Rattle.std.specs.Prelude.{◌≡◌, ◌++◌, ◌<◌, ◌≤◌, ◌^◌, [], ℕ, List, IfOk, OnOk, OnErr, Some, None, length, slice_set};
+ghost use Rattle.std.specs.Prelude.{◌≡◌, ◌++◌, ◌∷◌, ◌<◌, ◌≤◌, ◌^◌, [], ℕ, List, IfOk, OnOk, OnErr, Some, None, length, slice_set};
 ghost use Rattle.ev_index.specs.Pairs.{Same};
 ghost use Rattle.ev_counting.specs.declared.entry.Entry.{Entry};
 ghost use Rattle.ev_counting.specs.Table.{AreMatched, IsAdded, IsTaken};
@@ -119,6 +119,30 @@ fn take(slots: &mut Vec<Option<Entry>>, index: &mut Index, iface: u32, filter: &
     }
 }
 
+/// Appends an entry like this one.
+fn append(
+    alloc: Global,
+    slots: &mut Vec<Option<Entry>>,
+    index: &mut Index,
+    entry: &Entry,
+) -> Result<(), NoMemory>
+    ensures few { OnOk result (length slots.old.items < 2 ^ 32) }
+    ensures appended { OnOk result (slots.new.items ≡ slots.old.items ++ Some entry.now ∷ []) }
+    ensures indexed { OnOk result (Same index.new (numbered (length slots.old.items) entry.now.filter ++ index.old)) }
+{
+    let Ok(id) = u32::try_from(slots.len()) else {
+        return Err(NoMemory);
+    };
+    let filter = entry.filter.copy(alloc)?;
+    enter(index, filter.constraints(), id)?;
+    slots.push(Some(Entry {
+        iface: entry.iface,
+        place: entry.place,
+        filter,
+    }))?;
+    Ok(())
+}
+
 /// The same entries, without the free places between them, with an index of their constraints.
 fn copied(
     alloc: Global,
@@ -133,16 +157,7 @@ fn copied(
     let mut index = Index::new(alloc);
     for slot in slots {
         if let Some(entry) = slot {
-            let Ok(id) = u32::try_from(copy.len()) else {
-                return Err(NoMemory);
-            };
-            let filter = entry.filter.copy(alloc)?;
-            enter(&mut index, filter.constraints(), id)?;
-            copy.push(Some(Entry {
-                iface: entry.iface,
-                place: entry.place,
-                filter,
-            }))?;
+            append(alloc, &mut copy, &mut index, entry)?;
         }
     }
     Ok((copy, index))

@@ -3,7 +3,7 @@ use Rattle.std.proofs.Math.ListN.{set}
 use Rattle.ev_counting.specs.Slots.{Slot, HasPair, slot_at}
 use Rattle.ev_counting.specs.Table.{Held}
 use Rattle.ev_counting.proofs.Places.{stands-here}
-use Rattle.ev_counting.proofs.Sound.{Taking, taking-free, taking-pass, taking-end}
+use Rattle.ev_counting.proofs.Sound.{Taking, taking-free, taking-pass, taking-end, differ}
 use Rattle.ev_counting.proofs.table.take.Goals.{then-has_pair, else-has_pair}
 use Rattle.ev_counting.proofs.table.take.Goals as goal
 
@@ -20,7 +20,7 @@ loop-i-preserved c =
           let t = taking-free old now c.loop-i.index w.free.new.index pair i l (rw here (c.has_pair.ensures.0 w.if-has_pair.true)) w.free.ensures.index c.loop-i.invariant in
           rw (w.slots-is, w.index-is) (subst (λ (xs : List Slot). Taking old xs w.free.new.index pair (i + 1)) (sym w.free.ensures.free) t))
       | else-has_pair w ↦ (
-          rw (w.slots-is, w.index-is) (taking-pass old now c.loop-i.index pair i (λ h. ?) c.loop-i.invariant))
+          rw (w.slots-is, w.index-is) (taking-pass old now c.loop-i.index pair i (λ h. differ c.has_pair.result (c.has_pair.ensures.1 (rw (sym here) h)) w.if-has_pair.false) c.loop-i.invariant))
     ]
 
 pub returns-clause-taken : goal.returns-clause-taken
