@@ -183,3 +183,11 @@ counting-end slots ifaces found c matched i l s = record {
     go : (k : ℕ) (e : Entry) → slot_at slots k ≡ Some e → length e.filter ≤ tally (λ x. x == k) found → (b : Bool) → is_marked c e.place ≡ b → Contains matched e.iface
     go k e h f true m = s.told k e h m
     go k e h f false m = absurd (omega (arith, f, (s.so_often k e h m).1, hits-all (λ x. x == k) i found l))
+
+-- a hit that does not make its filter's interface matched
+pub counting-less : (slots : List Slot) (ifaces found : List ℕ) (c new : Counts) (matched : List ℕ) (i : ℕ) (l : i < length found) (s : Counting slots ifaces found c matched i) (e : Entry) → slot_at slots (get_or found i 0) ≡ Some e → get_or found i 0 < length c.counts → (is_marked c e.place ≡ true → new ≡ c) → (is_marked c e.place ≡ false → (new ≡ counted c (get_or found i 0)) × (count_at c (get_or found i 0) + 1 < length e.filter)) → Counting slots ifaces found new matched (i + 1)
+counting-less slots ifaces found c new matched i l s e here room passed part = go (is_marked c e.place) refl
+  where
+    go : (b : Bool) → is_marked c e.place ≡ b → Counting slots ifaces found new matched (i + 1)
+    go true h = subst (λ (x : Counts). Counting slots ifaces found x matched (i + 1)) (sym (passed h)) (counting-passed slots ifaces found c matched i l s e here h)
+    go false h = subst (λ (x : Counts). Counting slots ifaces found x matched (i + 1)) (sym (part h).0) (counting-part slots ifaces found c matched i l s e here room h (part h).1)

@@ -8,3 +8,4 @@ pub mod Satisfied
 pub mod Uses
 pub mod Sound
 pub mod Counted
+pub mod Routed
