@@ -1,29 +1,24 @@
 -- Counting: a filter is matched where as many hits name it as it has constraints.
-use Rattle.std.specs.Prelude.{◌≡◌, ◌<◌, ◌≤◌, ◌==◌, ◌+◌, ℕ, List, length, Bool, true, false, map, slice_index_or, cond, Some, None}
-use Rattle.std.specs.Prelude.{slice_set}
+use Rattle.std.specs.Prelude.{◌≡◌, ◌<◌, ◌≤◌, ◌==◌, ◌+◌, ◌-◌, ◌^◌, ℕ, List, length, Bool, true, false, slice_index_or, slice_set}
 use Rattle.std.specs.List.{Contains}
 use Rattle.ev_index.specs.Pairs.{tally}
-use Rattle.ev_counting.specs.declared.counters.Counter.{Counter}
-use Rattle.ev_counting.specs.declared.entry.Entry.{Entry}
-use Rattle.ev_counting.specs.Slots.{Slot, slot_at}
+use Rattle.ev_counting.specs.declared.goal.Goal.{Goal}
+use Rattle.ev_counting.specs.Slots.{goal_at}
 
 -- how often each filter was counted in the round, and which interfaces are matched
 pub record Counts : Type 0 where
   pub counts : List ℕ
   pub marks : List Bool
 
--- what a counter says in a round: a counter of another round says nothing
-abbrev pub count_in : ℕ → Counter → ℕ
-count_in round c = cond (c.round == round) c.count 0
+-- what a counter says in the round of a base: how far it is above it
+abbrev pub count_in : ℕ → ℕ → ℕ
+count_in base counter = counter - base
 
--- a counter that was never used
-abbrev pub unused : Counter
-unused = record { round = 0; count = 0 }
-
--- no counter and no mark is of a later round
-pub record IsOfRounds (round : ℕ) (counts : List Counter) (marks : List ℕ) : Type 0 where
-  pub counted_by : (k : ℕ) → (slice_index_or counts k unused).round ≤ round
-  pub marked_by : (k : ℕ) → slice_index_or marks k 0 ≤ round
+-- no counter and no mark is of a later round, and the next count fits
+pub record IsOfRounds (base : ℕ) (counts marks : List ℕ) : Type 0 where
+  pub fits : base + 16 < 2 ^ 32
+  pub counted_by : (k : ℕ) → slice_index_or counts k 0 ≤ base + 16
+  pub marked_by : (k : ℕ) → slice_index_or marks k 0 ≤ base
 
 abbrev pub count_at : Counts → ℕ → ℕ
 count_at c id = slice_index_or c.counts id 0
@@ -46,15 +41,19 @@ pub record IsFresh (filters ifaces : ℕ) (c : Counts) : Type 0 where
   pub counts_none : (k : ℕ) → count_at c k ≡ 0
   pub marks_none : (k : ℕ) → is_marked c k ≡ false
 
--- the hits name the filter of the place as often as it has constraints
-pub record IsFull (slots : List Slot) (found : List ℕ) (iface : ℕ) : Type 0 where
+-- each goal of some constraints has at most 16, and names an interface's place
+pub record AreGoals (ifaces : ℕ) (goals : List Goal) : Type 0 where
+  pub few : (k : ℕ) → (goal_at goals k).constraints ≤ 16
+  pub placed : (k : ℕ) → 0 < (goal_at goals k).constraints → (goal_at goals k).place < ifaces
+
+-- the hits name a filter of the interface as often as it has constraints
+pub record IsFull (goals : List Goal) (ifaces found : List ℕ) (iface : ℕ) : Type 0 where
   pub id : ℕ
-  pub entry : Entry
-  pub there : slot_at slots id ≡ Some entry
-  pub mine : entry.iface ≡ iface
-  pub full : length entry.filter ≤ tally (λ x. x == id) found
+  pub some : 0 < (goal_at goals id).constraints
+  pub mine : slice_index_or ifaces (goal_at goals id).place 0 ≡ iface
+  pub full : (goal_at goals id).constraints ≤ tally (λ x. x == id) found
 
 -- the interfaces of exactly the filters that the hits name so often
-pub record AreFull (slots : List Slot) (found ifaces : List ℕ) : Type 0 where
-  pub sound : (iface : ℕ) → Contains ifaces iface → IsFull slots found iface
-  pub whole : (iface : ℕ) → IsFull slots found iface → Contains ifaces iface
+pub record AreFull (goals : List Goal) (ifaces found matched : List ℕ) : Type 0 where
+  pub sound : (iface : ℕ) → Contains matched iface → IsFull goals ifaces found iface
+  pub whole : (iface : ℕ) → IsFull goals ifaces found iface → Contains matched iface

@@ -6,6 +6,7 @@ use Rattle.ev_index.specs.Pairs.{Same}
 use Rattle.ev_counting.specs.Table.{Held}
 use Rattle.ev_counting.specs.Index.{Use}
 use Rattle.ev_counting.specs.declared.entry.Entry.{Entry}
+use Rattle.ev_counting.specs.declared.goal.Goal.{Goal}
 
 -- a free place, or an entry
 abbrev pub Slot : Type 0
@@ -35,6 +36,19 @@ abbrev pub constraints_in : Slot → List ConstraintParts
 constraints_in None = []
 constraints_in (Some e) = e.filter
 
+-- what it takes to match a place's filter: none of a free place
+abbrev pub goal_of : Slot → Goal
+goal_of None = record { place = 0; constraints = 0 }
+goal_of (Some e) = record { place = e.place; constraints = length e.filter }
+
+abbrev pub goal_at : List Goal → ℕ → Goal
+goal_at goals k = slice_index_or goals k (record { place = 0; constraints = 0 })
+
+-- each place has its goal
+pub record AreAimed (slots : List Slot) (goals : List Goal) : Type 0 where
+  pub enough : length slots ≤ length goals
+  pub aims : (k : ℕ) → goal_at goals k ≡ goal_of (slot_at slots k)
+
 -- a filter's constraints, each with the filter's number
 abbrev pub numbered : ℕ → List ConstraintParts → List Use
 numbered id constraints = map (λ c. (c, id)) constraints
@@ -44,9 +58,10 @@ abbrev pub uses_from : ℕ → List Slot → List Use
 uses_from i [] = []
 uses_from i (slot ∷ slots) = numbered i (constraints_in slot) ++ uses_from (suc i) slots
 
--- an entry has a constraint, and its interface stands at the place that it names
+-- an entry has 1 to 16 constraints, and its interface stands at the place that it names
 pub record IsPlaced (ifaces : List ℕ) (e : Entry) : Type 0 where
   pub some : 0 < length e.filter
+  pub few : length e.filter ≤ 16
   pub within : e.place < length ifaces
   pub there : slice_index_or ifaces e.place 0 ≡ e.iface
 
@@ -54,9 +69,10 @@ pub record IsPlaced (ifaces : List ℕ) (e : Entry) : Type 0 where
 abbrev pub ArePlaced : List ℕ → List Slot → Type 0
 ArePlaced ifaces slots = (k : ℕ) → (e : Entry) → slot_at slots k ≡ Some e → IsPlaced ifaces e
 
--- what every table keeps: the index has exactly the constraints of its filters
-pub record IsSound (index : List Use) (slots : List Slot) (ifaces : List ℕ) : Type 0 where
+-- what every table keeps: the index has exactly the constraints of its filters, and each filter has its goal
+pub record IsSound (index : List Use) (slots : List Slot) (goals : List Goal) (ifaces : List ℕ) : Type 0 where
   pub indexed : Same index (uses_from 0 slots)
+  pub aimed : AreAimed slots goals
   pub placed : ArePlaced ifaces slots
   pub few : length slots ≤ 2 ^ 32
 

@@ -5,6 +5,7 @@ mod change;
 mod count;
 mod counters;
 mod entry;
+mod goal;
 mod index;
 mod pairs;
 mod route;

@@ -2,9 +2,10 @@
 ghost use Rattle.std.specs.Prelude.{◌≡◌, ◌↔◌, ◌⊎◌, ◌<◌, ◌≤◌, ◌^◌, ◌++◌, ◌∷◌, [], ℕ, IfOk, OnOk, OnErr, IfSome, IfNone, IsTrue, true, false, length, slice_index_or, Some, None};
 ghost use Rattle.std.specs.List.{Contains};
 ghost use Rattle.ev_counting.specs.declared.entry.Entry.{Entry};
-ghost use Rattle.ev_counting.specs.Slots.{pair_of, slot_at, held, KeepsPlaces, HasPair};
+ghost use Rattle.ev_counting.specs.Slots.{pair_of, slot_at, held, KeepsPlaces, HasPair, AreAimed};
 
 use crate::entry::Entry;
+use crate::goal::{FREE, Goal};
 use ev_memory::NoMemory;
 use ev_notice::Filter;
 
@@ -57,10 +58,15 @@ fn free_place(slots: &[Option<Entry>]) -> Option<usize>
 }
 
 /// A free place, made where there is none; its number.
-pub(crate) fn vacate(slots: &mut Vec<Option<Entry>>) -> Result<u32, NoMemory>
-    requires { length slots.old.items ≤ 2 ^ 32 }
+pub(crate) fn vacate(
+    slots: &mut Vec<Option<Entry>>,
+    goals: &mut Vec<Goal>,
+) -> Result<u32, NoMemory>
+    requires few { length slots.old.items ≤ 2 ^ 32 }
+    requires aimed { AreAimed slots.old.items goals.old.items }
     ensures free { IfOk result (λ id. (id < length slots.new.items) × (slot_at slots.new.items id ≡ None)) }
     ensures kept { KeepsPlaces slots.old.items slots.new.items }
+    ensures aimed { AreAimed slots.new.items goals.new.items }
 {
     if let Some(i) = free_place(slots) {
         return Ok(i as u32);
@@ -68,6 +74,7 @@ pub(crate) fn vacate(slots: &mut Vec<Option<Entry>>) -> Result<u32, NoMemory>
     let Ok(id) = u32::try_from(slots.len()) else {
         return Err(NoMemory);
     };
+    goals.push(FREE)?;
     slots.push(None)?;
     Ok(id)
 }
@@ -88,4 +95,15 @@ pub(crate) fn interface_place(interfaces: &mut Vec<u32>, iface: u32) -> Result<u
         interfaces.push(iface)?;
     }
     Ok(number)
+}
+
+/// The goal of a filter whose interface has this place.
+pub(crate) fn goal(place: u32, filter: &Filter) -> Goal
+    ensures { result ≡ record { place = place; constraints = length filter.now } }
+{
+    let constraints = filter.constraints();
+    Goal {
+        place,
+        constraints: constraints.len() as u32,
+    }
 }

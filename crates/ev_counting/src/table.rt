@@ -4,15 +4,16 @@ ghost use Rattle.ev_index.specs.Pairs.{Same};
 ghost use Rattle.ev_counting.specs.declared.entry.Entry.{Entry};
 ghost use Rattle.ev_counting.specs.Table.{AreMatched, IsAdded, IsTaken};
 ghost use Rattle.ev_counting.specs.Index.{Use};
-ghost use Rattle.ev_counting.specs.Slots.{held, numbered, uses_from, slot_at, ArePlaced, IsSound};
+ghost use Rattle.ev_counting.specs.Slots.{held, numbered, uses_from, slot_at, goal_of, AreAimed, ArePlaced, IsSound};
 
 use crate::change::Change;
 use crate::count::count_hits;
 use crate::entry::Entry;
+use crate::goal::{FREE, Goal};
 use crate::index::Index;
 use crate::route::Route;
 use crate::scratch::Scratch;
-use crate::slots::{has_pair, holds, interface_place, vacate};
+use crate::slots::{goal, has_pair, holds, interface_place, vacate};
 use ev_constraint::Constraint;
 use ev_memory::NoMemory;
 use ev_notice::{Filter, Notice, matches};
@@ -29,6 +30,7 @@ pub struct Table {
     alloc: Global,
     interfaces: Vec<u32>,
     slots: Vec<Option<Entry>>,
+    goals: Vec<Goal>,
     index: Index,
 }
 
@@ -41,7 +43,7 @@ impl Model for Table {
 
     ghost view = { λ table. held table.slots.items };
 
-    ghost invariant = { λ table. IsSound table.index table.slots.items table.interfaces.items };
+    ghost invariant = { λ table. IsSound table.index table.slots.items table.goals.items table.interfaces.items };
 }
 
 /// Takes a filter's constraints out of the index.
@@ -67,67 +69,61 @@ fn enter(index: &mut Index, constraints: &[Constraint], id: u32) -> Result<(), N
     Ok(())
 }
 
-/// Adds a pair that is not there.
-fn add(
-    alloc: Global,
-    interfaces: &mut Vec<u32>,
-    slots: &mut Vec<Option<Entry>>,
-    index: &mut Index,
-    iface: u32,
-    filter: &Filter,
-) -> Result<(), NoMemory>
-    requires { IsSound index.old slots.old.items interfaces.old.items }
-    ensures sound { IsSound index.new slots.new.items interfaces.new.items }
-    ensures added { OnOk result (IsAdded (held slots.old.items) (held slots.new.items) (iface, filter.now)) }
-    ensures err { OnErr result (held slots.new.items ≡ held slots.old.items) }
-{
-    let copy = filter.copy(alloc)?;
-    let place = interface_place(interfaces, iface)?;
-    let id = vacate(slots)?;
-    enter(index, filter.constraints(), id)?;
-    slots[id as usize] = Some(Entry {
-        iface,
-        place,
-        filter: copy,
-    });
-    Ok(())
-}
-
 /// Sets the place of a filter free.
-fn free(slots: &mut Vec<Option<Entry>>, index: &mut Index, i: usize, filter: &Filter)
+fn free(
+    slots: &mut Vec<Option<Entry>>,
+    goals: &mut Vec<Goal>,
+    index: &mut Index,
+    i: usize,
+    filter: &Filter,
+)
     requires within { i < length slots.old.items }
     requires few { length slots.old.items ≤ 2 ^ 32 }
+    requires aimed { AreAimed slots.old.items goals.old.items }
     ensures free { slots.new.items ≡ slice_set slots.old.items i None }
+    ensures aimed { AreAimed slots.new.items goals.new.items }
     ensures index { (rest : List Use) → Same index.old (numbered i filter.now ++ rest) → Same index.new rest }
 {
     withdraw(index, filter.constraints(), i as u32);
     slots[i] = None;
+    goals[i] = FREE;
 }
 
 /// Takes a pair away.
-fn take(slots: &mut Vec<Option<Entry>>, index: &mut Index, iface: u32, filter: &Filter)
-    requires { (length slots.old.items ≤ 2 ^ 32) × Same index.old (uses_from 0 slots.old.items) }
+fn take(
+    slots: &mut Vec<Option<Entry>>,
+    goals: &mut Vec<Goal>,
+    index: &mut Index,
+    iface: u32,
+    filter: &Filter,
+)
+    requires few { length slots.old.items ≤ 2 ^ 32 }
+    requires aimed { AreAimed slots.old.items goals.old.items }
+    requires indexed { Same index.old (uses_from 0 slots.old.items) }
     ensures few { length slots.new.items ≤ 2 ^ 32 }
+    ensures aimed { AreAimed slots.new.items goals.new.items }
     ensures indexed { Same index.new (uses_from 0 slots.new.items) }
     ensures placed { (k : ℕ) → (e : Entry) → slot_at slots.new.items k ≡ Some e → slot_at slots.old.items k ≡ Some e }
     ensures taken { IsTaken (held slots.old.items) (held slots.new.items) (iface, filter.now) }
 {
     for i in 0..slots.len() {
         if has_pair(&slots[i], iface, filter) {
-            free(slots, index, i, filter);
+            free(slots, goals, index, i, filter);
         }
     }
 }
 
-/// Appends an entry like this one.
+/// Appends an entry like this one, with its goal.
 fn append(
     alloc: Global,
     slots: &mut Vec<Option<Entry>>,
+    goals: &mut Vec<Goal>,
     index: &mut Index,
     entry: &Entry,
 ) -> Result<(), NoMemory>
     ensures few { OnOk result (length slots.old.items < 2 ^ 32) }
     ensures appended { OnOk result (slots.new.items ≡ slots.old.items ++ Some entry.now ∷ []) }
+    ensures aimed { OnOk result (goals.new.items ≡ goals.old.items ++ goal_of (Some entry.now) ∷ []) }
     ensures indexed { OnOk result (Same index.new (numbered (length slots.old.items) entry.now.filter ++ index.old)) }
 {
     let Ok(id) = u32::try_from(slots.len()) else {
@@ -135,6 +131,7 @@ fn append(
     };
     let filter = entry.filter.copy(alloc)?;
     enter(index, filter.constraints(), id)?;
+    goals.push(goal(entry.place, &filter))?;
     slots.push(Some(Entry {
         iface: entry.iface,
         place: entry.place,
@@ -143,24 +140,35 @@ fn append(
     Ok(())
 }
 
-/// The same entries, without the free places between them, with an index of their constraints.
-fn copied(
-    alloc: Global,
-    slots: &[Option<Entry>],
-) -> Result<(Vec<Option<Entry>>, Index), NoMemory>
-    ensures few { IfOk result (λ copy. length copy.0.items ≤ 2 ^ 32) }
-    ensures same { IfOk result (λ copy. held copy.0.items ≡ held slots.now) }
-    ensures indexed { IfOk result (λ copy. Same copy.1 (uses_from 0 copy.0.items)) }
-    ensures placed { IfOk result (λ copy. (interfaces : List ℕ) → ArePlaced interfaces slots.now → ArePlaced interfaces copy.0.items) }
+/// The entries, goals and index of a table.
+#[derive(Drop)]
+struct Parts {
+    slots: Vec<Option<Entry>>,
+    goals: Vec<Goal>,
+    index: Index,
+}
+
+/// The same entries, without the free places between them, with their goals and an index of their constraints.
+fn copied(alloc: Global, slots: &[Option<Entry>]) -> Result<Parts, NoMemory>
+    ensures few { IfOk result (λ copy. length copy.slots.items ≤ 2 ^ 32) }
+    ensures same { IfOk result (λ copy. held copy.slots.items ≡ held slots.now) }
+    ensures aimed { IfOk result (λ copy. AreAimed copy.slots.items copy.goals.items) }
+    ensures indexed { IfOk result (λ copy. Same copy.index (uses_from 0 copy.slots.items)) }
+    ensures placed { IfOk result (λ copy. (interfaces : List ℕ) → ArePlaced interfaces slots.now → ArePlaced interfaces copy.slots.items) }
 {
     let mut copy = Vec::new(alloc);
+    let mut goals = Vec::new(alloc);
     let mut index = Index::new(alloc);
     for slot in slots {
         if let Some(entry) = slot {
-            append(alloc, &mut copy, &mut index, entry)?;
+            append(alloc, &mut copy, &mut goals, &mut index, entry)?;
         }
     }
-    Ok((copy, index))
+    Ok(Parts {
+        slots: copy,
+        goals,
+        index,
+    })
 }
 
 /// The interfaces of the pairs whose filter the notice matches, as often as they have one.
@@ -193,6 +201,7 @@ impl Table {
             alloc,
             interfaces: Vec::new(alloc),
             slots: Vec::new(alloc),
+            goals: Vec::new(alloc),
             index: Index::new(alloc),
         }
     }
@@ -221,21 +230,30 @@ impl Table {
         if holds(&self.slots, iface, filter) {
             return Ok(());
         }
-        add(
-            self.alloc,
-            &mut self.interfaces,
-            &mut self.slots,
-            &mut self.index,
+        let copy = filter.copy(self.alloc)?;
+        let place = interface_place(&mut self.interfaces, iface)?;
+        let id = vacate(&mut self.slots, &mut self.goals)?;
+        enter(&mut self.index, filter.constraints(), id)?;
+        self.goals[id as usize] = goal(place, filter);
+        self.slots[id as usize] = Some(Entry {
             iface,
-            filter,
-        )
+            place,
+            filter: copy,
+        });
+        Ok(())
     }
 
     /// Takes a pair away.
     fn take(&mut self, iface: u32, filter: &Filter)
         ensures { IsTaken self.old self.new (iface, filter.now) }
     {
-        take(&mut self.slots, &mut self.index, iface, filter)
+        take(
+            &mut self.slots,
+            &mut self.goals,
+            &mut self.index,
+            iface,
+            filter,
+        )
     }
 
     /// A table of the same pairs.
@@ -243,12 +261,13 @@ impl Table {
         ensures { IfOk result (λ table. table ≡ self.now) }
     {
         let interfaces = Vec::from_slice(self.alloc, &self.interfaces)?;
-        let (slots, index) = copied(self.alloc, &self.slots)?;
+        let parts = copied(self.alloc, &self.slots)?;
         Ok(Table {
             alloc: self.alloc,
             interfaces,
-            slots,
-            index,
+            slots: parts.slots,
+            goals: parts.goals,
+            index: parts.index,
         })
     }
 
@@ -261,10 +280,10 @@ impl Table {
         self.index.hits(notice, &mut scratch.found)?;
         scratch
             .counters
-            .begin(self.slots.len(), self.interfaces.len())?;
+            .begin(self.goals.len(), self.interfaces.len())?;
         let ifaces = count_hits(
             self.alloc,
-            &self.slots,
+            &self.goals,
             &self.interfaces,
             &scratch.found,
             &mut scratch.counters,
