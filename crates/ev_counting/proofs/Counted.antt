@@ -6,21 +6,21 @@ use Rattle.std.specs.List.{Contains}
 use Rattle.std.proofs.lemmas.List.Elements.{Contains-push, Contains-push_cases, Contains-append_left}
 use Rattle.ev_index.specs.Pairs.{tally}
 use Rattle.ev_index.proofs.Tallies.{tally-append, tally-more}
-use Rattle.ev_counting.specs.declared.entry.Entry.{Entry}
-use Rattle.ev_counting.specs.Slots.{Slot, slot_at, IsPlaced, ArePlaced}
-use Rattle.ev_counting.specs.Counting.{Counts, count_at, is_marked, counted, marked, IsFresh, IsFull, AreFull}
+use Rattle.ev_counting.specs.declared.goal.Goal.{Goal}
+use Rattle.ev_counting.specs.Slots.{goal_at}
+use Rattle.ev_counting.specs.Counting.{Counts, count_at, is_marked, counted, marked, IsFresh, AreGoals, IsFull, AreFull}
 use Rattle.ev_counting.proofs.Sound.{differ}
 
 -- how many of the first hits name the filter
 abbrev pub hits_of : ℕ → ℕ → List ℕ → ℕ
 hits_of k i found = tally (λ x. x == k) (take i found)
 
-pub record Counting (slots : List Slot) (ifaces found : List ℕ) (c : Counts) (matched : List ℕ) (i : ℕ) : Type 0 where
-  pub filters_fit : length slots ≤ length c.counts
+pub record Counting (goals : List Goal) (ifaces found : List ℕ) (c : Counts) (matched : List ℕ) (i : ℕ) : Type 0 where
+  pub filters_fit : length goals ≤ length c.counts
   pub ifaces_fit : length ifaces ≤ length c.marks
-  pub so_often : (k : ℕ) → (e : Entry) → slot_at slots k ≡ Some e → is_marked c e.place ≡ false → (count_at c k ≡ hits_of k i found) × (hits_of k i found < length e.filter)
-  pub told : (k : ℕ) → (e : Entry) → slot_at slots k ≡ Some e → is_marked c e.place ≡ true → Contains matched e.iface
-  pub sound : (iface : ℕ) → Contains matched iface → IsFull slots found iface
+  pub so_often : (k : ℕ) → 0 < (goal_at goals k).constraints → is_marked c (goal_at goals k).place ≡ false → (count_at c k ≡ hits_of k i found) × (hits_of k i found < (goal_at goals k).constraints)
+  pub told : (k : ℕ) → 0 < (goal_at goals k).constraints → is_marked c (goal_at goals k).place ≡ true → Contains matched (get_or ifaces (goal_at goals k).place 0)
+  pub sound : (iface : ℕ) → Contains matched iface → IsFull goals ifaces found iface
 
 same-of : (a b : ℕ) → (a == b) ≡ true → a ≡ b
 same-of a b h = grind (arith, nat_tests)
@@ -55,12 +55,12 @@ hits-all p zero (x ∷ found) l = absurd (omega (arith, l))
 hits-all p (suc i) [] l = refl
 hits-all p (suc i) (x ∷ found) l = omega (arith, hits-all p i found (omega (arith, l)))
 
-pub counting-start : (slots : List Slot) (ifaces found : List ℕ) (c : Counts) → IsFresh (length slots) (length ifaces) c → ArePlaced ifaces slots → Counting slots ifaces found c [] 0
-counting-start slots ifaces found c f a = record {
+pub counting-start : (goals : List Goal) (ifaces found : List ℕ) (c : Counts) → IsFresh (length goals) (length ifaces) c → Counting goals ifaces found c [] 0
+counting-start goals ifaces found c f = record {
   filters_fit = f.filters_fit;
   ifaces_fit = f.ifaces_fit;
-  so_often = λ k e h m. (f.counts_none k ∙ sym (none k found), omega (arith, none k found, (a k e h).some));
-  told = λ k e h m. absurd (differ (is_marked c e.place) m (f.marks_none e.place));
+  so_often = λ k h m. (f.counts_none k ∙ sym (none k found), omega (arith, none k found, h));
+  told = λ k h m. absurd (differ (is_marked c (goal_at goals k).place) m (f.marks_none (goal_at goals k).place));
   sound = λ iface h. absurd (omega (arith, h.1));
 }
   where
@@ -68,126 +68,109 @@ counting-start slots ifaces found c f a = record {
     none k [] = refl
     none k (x ∷ found) = refl
 
-module _ (slots : List Slot) (ifaces found : List ℕ) (c : Counts) (matched : List ℕ) (i : ℕ) (l : i < length found) (s : Counting slots ifaces found c matched i) where
+module _ (goals : List Goal) (ifaces found : List ℕ) (c : Counts) (matched : List ℕ) (i : ℕ) (l : i < length found) (s : Counting goals ifaces found c matched i) where
   abbrev id : ℕ
   id = get_or found i 0
 
-  -- the hit names no filter
-  pub counting-none : ((e : Entry) → slot_at slots id ≡ Some e → ⊥) → Counting slots ifaces found c matched (i + 1)
-  counting-none none = record {
+  abbrev place_at : ℕ → ℕ
+  place_at k = (goal_at goals k).place
+
+  same-place : (k : ℕ) → id ≡ k → place_at id ≡ place_at k
+  same-place k g = ap {B = ℕ} place_at g
+
+  -- its interface is matched already
+  counting-passed : is_marked c (place_at id) ≡ true → Counting goals ifaces found c matched (i + 1)
+  counting-passed y = record {
     filters_fit = s.filters_fit;
     ifaces_fit = s.ifaces_fit;
-    so_often = λ k e h m. (
-      let o = hit-other k i found l (λ g. none e (ap {B = Slot} (slot_at slots) g ∙ h)) in
-      let t = s.so_often k e h m in
+    so_often = λ k h m. (
+      let o = hit-other k i found l (λ g. differ (is_marked c (place_at id)) y (ap {B = Bool} (is_marked c) (same-place k g) ∙ m)) in
+      let t = s.so_often k h m in
       (omega (arith, o, t.0), omega (arith, o, t.1)));
     told = s.told;
     sound = s.sound;
   }
 
-  module _ (e : Entry) (here : slot_at slots id ≡ Some e) where
-    same-entry : (k : ℕ) (d : Entry) → slot_at slots k ≡ Some d → id ≡ k → e ≡ d
-    same-entry k d h g = let q : Some e ≡ Some d = sym here ∙ ap {B = Slot} (slot_at slots) g ∙ h in cc
+  module _ (room : id < length c.counts) (some : 0 < (goal_at goals id).constraints) (unmarked : is_marked c (place_at id) ≡ false) where
+    at-same : (k : ℕ) → id ≡ k → count_at (counted c id) k ≡ count_at c k + 1
+    at-same k g = ap {B = ℕ} (count_at (counted c id)) (sym g) ∙ get_or-set_same c.counts id (count_at c id + 1) 0 room ∙ ap {B = ℕ} (λ j. count_at c j + 1) g
 
-    -- its interface is matched already
-    pub counting-passed : is_marked c e.place ≡ true → Counting slots ifaces found c matched (i + 1)
-    counting-passed y = record {
-      filters_fit = s.filters_fit;
+    at-other : (k : ℕ) → (id ≡ k → ⊥) → count_at (counted c id) k ≡ count_at c k
+    at-other k n = get_or-set_other c.counts id k (count_at c id + 1) 0 (λ g. n (sym g))
+
+    -- it is counted, and has more constraints than that
+    counting-part : count_at c id + 1 < (goal_at goals id).constraints → Counting goals ifaces found (counted c id) matched (i + 1)
+    counting-part few = record {
+      filters_fit = omega (arith, s.filters_fit, length-set c.counts id (count_at c id + 1));
       ifaces_fit = s.ifaces_fit;
-      so_often = λ k d h m. (
-        let o = hit-other k i found l (λ g. differ (is_marked c e.place) y (ap {B = Bool} (λ (x : Entry). is_marked c x.place) (same-entry k d h g) ∙ m)) in
-        let t = s.so_often k d h m in
-        (omega (arith, o, t.0), omega (arith, o, t.1)));
+      so_often = λ k h m. go k h m (id == k) refl;
       told = s.told;
       sound = s.sound;
     }
+      where
+        go : (k : ℕ) → 0 < (goal_at goals k).constraints → is_marked c (place_at k) ≡ false → (b : Bool) → (id == k) ≡ b → (count_at (counted c id) k ≡ hits_of k (i + 1) found) × (hits_of k (i + 1) found < (goal_at goals k).constraints)
+        go k h m true w =
+            let g = same-of id k w in
+            let t = s.so_often k h m in
+            let o = hit-same k i found l g in
+            let a = at-same k g in
+            let f = ap {B = ℕ} (λ j. count_at c j + 1) g in
+            let z = ap {B = ℕ} (λ j. (goal_at goals j).constraints) g in
+            (omega (arith, t.0, o, a), omega (arith, t.0, o, few, f, z))
+        go k h m false w =
+            let n = other-of id k w in
+            let t = s.so_often k h m in
+            let o = hit-other k i found l n in
+            let a = at-other k n in
+            (omega (arith, t.0, o, a), omega (arith, o, t.1))
 
-    module _ (room : id < length c.counts) (unmarked : is_marked c e.place ≡ false) where
-      at-same : (k : ℕ) → id ≡ k → count_at (counted c id) k ≡ count_at c k + 1
-      at-same k g = ap {B = ℕ} (count_at (counted c id)) (sym g) ∙ get_or-set_same c.counts id (count_at c id + 1) 0 room ∙ ap {B = ℕ} (λ j. count_at c j + 1) g
+    -- it is counted as often as it has constraints
+    pub counting-full : place_at id < length ifaces → count_at c id + 1 ≡ (goal_at goals id).constraints → Counting goals ifaces found (marked (counted c id) (place_at id)) (matched ++ get_or ifaces (place_at id) 0 ∷ []) (i + 1)
+    counting-full within full = record {
+      filters_fit = omega (arith, s.filters_fit, length-set c.counts id (count_at c id + 1));
+      ifaces_fit = omega (arith, s.ifaces_fit, length-set c.marks (place_at id) true);
+      so_often = λ k h m. (
+        let other : place_at id ≡ place_at k → ⊥ = λ g. differ (is_marked (marked c (place_at id)) (place_at k)) (now-marked (place_at k) g) m in
+        let before : is_marked c (place_at k) ≡ false = sym (still (place_at k) other) ∙ m in
+        let n : id ≡ k → ⊥ = λ g. other (same-place k g) in
+        let t = s.so_often k h before in
+        let o = hit-other k i found l n in
+        let a = at-other k n in
+        (omega (arith, t.0, o, a), omega (arith, o, t.1)));
+      told = λ k h m. tells k h m (place_at id == place_at k) refl;
+      sound = λ iface h. elim (Contains-push_cases matched (get_or ifaces (place_at id) 0) iface h) [
+        | inl g ↦ s.sound iface g
+        | inr g ↦ record { id = id; some = some; mine = g; full = enough }
+      ];
+    }
+      where
+        now-marked : (p : ℕ) → place_at id ≡ p → is_marked (marked c (place_at id)) p ≡ true
+        now-marked p g = ap {B = Bool} (is_marked (marked c (place_at id))) (sym g) ∙ get_or-set_same c.marks (place_at id) true false (omega (arith, within, s.ifaces_fit))
 
-      at-other : (k : ℕ) → (id ≡ k → ⊥) → count_at (counted c id) k ≡ count_at c k
-      at-other k n = get_or-set_other c.counts id k (count_at c id + 1) 0 (λ g. n (sym g))
+        still : (p : ℕ) → (place_at id ≡ p → ⊥) → is_marked (marked c (place_at id)) p ≡ is_marked c p
+        still p n = get_or-set_other c.marks (place_at id) p true false (λ g. n (sym g))
 
-      -- it is counted, and has more constraints than that
-      pub counting-part : count_at c id + 1 < length e.filter → Counting slots ifaces found (counted c id) matched (i + 1)
-      counting-part few = record {
-        filters_fit = omega (arith, s.filters_fit, length-set c.counts id (count_at c id + 1));
-        ifaces_fit = s.ifaces_fit;
-        so_often = λ k d h m. go k d h m (id == k) refl;
-        told = s.told;
-        sound = s.sound;
-      }
-        where
-          go : (k : ℕ) (d : Entry) → slot_at slots k ≡ Some d → is_marked c d.place ≡ false → (b : Bool) → (id == k) ≡ b → (count_at (counted c id) k ≡ hits_of k (i + 1) found) × (hits_of k (i + 1) found < length d.filter)
-          go k d h m true w =
-              let g = same-of id k w in
-              let t = s.so_often k d h m in
-              let o = hit-same k i found l g in
-              let a = at-same k g in
-              let f = ap {B = ℕ} (λ j. count_at c j + 1) g in
-              let z = ap {B = ℕ} (λ (x : Entry). length x.filter) (same-entry k d h g) in
-              (omega (arith, t.0, o, a), omega (arith, t.0, o, few, f, z))
-          go k d h m false w =
-              let n = other-of id k w in
-              let t = s.so_often k d h m in
-              let o = hit-other k i found l n in
-              let a = at-other k n in
-              (omega (arith, t.0, o, a), omega (arith, o, t.1))
+        enough : (goal_at goals id).constraints ≤ tally (λ x. x == id) found
+        enough = omega (arith, full, (s.so_often id some unmarked).0, hit-same id i found l refl, hits-few (λ x. x == id) (i + 1) found)
 
-      -- it is counted as often as it has constraints
-      pub counting-full : ArePlaced ifaces slots → count_at c id + 1 ≡ length e.filter → Counting slots ifaces found (marked (counted c id) e.place) (matched ++ e.iface ∷ []) (i + 1)
-      counting-full placed full = record {
-        filters_fit = omega (arith, s.filters_fit, length-set c.counts id (count_at c id + 1));
-        ifaces_fit = omega (arith, s.ifaces_fit, length-set c.marks e.place true);
-        so_often = λ k d h m. (
-          let other : e.place ≡ d.place → ⊥ = λ g. differ (is_marked (marked c e.place) d.place) (now-marked d.place g) m in
-          let before : is_marked c d.place ≡ false = sym (still d.place other) ∙ m in
-          let n : id ≡ k → ⊥ = λ g. other (ap {B = ℕ} (λ (x : Entry). x.place) (same-entry k d h g)) in
-          let t = s.so_often k d h before in
-          let o = hit-other k i found l n in
-          let a = at-other k n in
-          (omega (arith, t.0, o, a), omega (arith, o, t.1)));
-        told = λ k d h m. tells k d h m (e.place == d.place) refl;
-        sound = λ iface h. elim (Contains-push_cases matched e.iface iface h) [
-          | inl g ↦ s.sound iface g
-          | inr g ↦ record { id = id; entry = e; there = here; mine = g; full = enough }
-        ];
-      }
-        where
-          within-marks : e.place < length c.marks
-          within-marks = omega (arith, (placed id e here).within, s.ifaces_fit)
+        tells : (k : ℕ) → 0 < (goal_at goals k).constraints → is_marked (marked c (place_at id)) (place_at k) ≡ true → (b : Bool) → (place_at id == place_at k) ≡ b → Contains (matched ++ get_or ifaces (place_at id) 0 ∷ []) (get_or ifaces (place_at k) 0)
+        tells k h m true w = subst (Contains (matched ++ get_or ifaces (place_at id) 0 ∷ [])) (ap {B = ℕ} (λ p. get_or ifaces p 0) (same-of (place_at id) (place_at k) w)) (Contains-push matched (get_or ifaces (place_at id) 0))
+        tells k h m false w = Contains-append_left matched (get_or ifaces (place_at id) 0 ∷ []) (get_or ifaces (place_at k) 0) (s.told k h (sym (still (place_at k) (other-of (place_at id) (place_at k) w)) ∙ m))
 
-          now-marked : (p : ℕ) → e.place ≡ p → is_marked (marked c e.place) p ≡ true
-          now-marked p g = ap {B = Bool} (is_marked (marked c e.place)) (sym g) ∙ get_or-set_same c.marks e.place true false within-marks
+  -- a hit that does not make its filter's interface matched
+  pub counting-less : (new : Counts) → id < length c.counts → 0 < (goal_at goals id).constraints → (is_marked c (place_at id) ≡ true → new ≡ c) → (is_marked c (place_at id) ≡ false → (new ≡ counted c id) × (count_at c id + 1 < (goal_at goals id).constraints)) → Counting goals ifaces found new matched (i + 1)
+  counting-less new room some passed part = go (is_marked c (place_at id)) refl
+    where
+      go : (b : Bool) → is_marked c (place_at id) ≡ b → Counting goals ifaces found new matched (i + 1)
+      go true h = subst (λ (x : Counts). Counting goals ifaces found x matched (i + 1)) (sym (passed h)) (counting-passed h)
+      go false h = subst (λ (x : Counts). Counting goals ifaces found x matched (i + 1)) (sym (part h).0) (counting-part room some h (part h).1)
 
-          still : (p : ℕ) → (e.place ≡ p → ⊥) → is_marked (marked c e.place) p ≡ is_marked c p
-          still p n = get_or-set_other c.marks e.place p true false (λ g. n (sym g))
-
-          enough : length e.filter ≤ tally (λ x. x == id) found
-          enough = omega (arith, full, (s.so_often id e here unmarked).0, hit-same id i found l refl, hits-few (λ x. x == id) (i + 1) found)
-
-          tells : (k : ℕ) (d : Entry) → slot_at slots k ≡ Some d → is_marked (marked c e.place) d.place ≡ true → (b : Bool) → (e.place == d.place) ≡ b → Contains (matched ++ e.iface ∷ []) d.iface
-          tells k d h m true w =
-              let g = same-of e.place d.place w in
-              let q : e.iface ≡ d.iface = sym (placed id e here).there ∙ ap {B = ℕ} (λ p. get_or ifaces p 0) g ∙ (placed k d h).there in
-              subst (Contains (matched ++ e.iface ∷ [])) q (Contains-push matched e.iface)
-          tells k d h m false w = Contains-append_left matched (e.iface ∷ []) d.iface (s.told k d h (sym (still d.place (other-of e.place d.place w)) ∙ m))
-
-pub counting-end : (slots : List Slot) (ifaces found : List ℕ) (c : Counts) (matched : List ℕ) (i : ℕ) → length found ≤ i → Counting slots ifaces found c matched i → AreFull slots found matched
-counting-end slots ifaces found c matched i l s = record {
+pub counting-end : (goals : List Goal) (ifaces found : List ℕ) (c : Counts) (matched : List ℕ) (i : ℕ) → length found ≤ i → Counting goals ifaces found c matched i → AreFull goals ifaces found matched
+counting-end goals ifaces found c matched i l s = record {
   sound = s.sound;
-  whole = λ iface f. subst (Contains matched) f.mine (go f.id f.entry f.there f.full (is_marked c f.entry.place) refl);
+  whole = λ iface f. subst (Contains matched) f.mine (go f.id f.some f.full (is_marked c (goal_at goals f.id).place) refl);
 }
   where
-    go : (k : ℕ) (e : Entry) → slot_at slots k ≡ Some e → length e.filter ≤ tally (λ x. x == k) found → (b : Bool) → is_marked c e.place ≡ b → Contains matched e.iface
-    go k e h f true m = s.told k e h m
-    go k e h f false m = absurd (omega (arith, f, (s.so_often k e h m).1, hits-all (λ x. x == k) i found l))
-
--- a hit that does not make its filter's interface matched
-pub counting-less : (slots : List Slot) (ifaces found : List ℕ) (c new : Counts) (matched : List ℕ) (i : ℕ) (l : i < length found) (s : Counting slots ifaces found c matched i) (e : Entry) → slot_at slots (get_or found i 0) ≡ Some e → get_or found i 0 < length c.counts → (is_marked c e.place ≡ true → new ≡ c) → (is_marked c e.place ≡ false → (new ≡ counted c (get_or found i 0)) × (count_at c (get_or found i 0) + 1 < length e.filter)) → Counting slots ifaces found new matched (i + 1)
-counting-less slots ifaces found c new matched i l s e here room passed part = go (is_marked c e.place) refl
-  where
-    go : (b : Bool) → is_marked c e.place ≡ b → Counting slots ifaces found new matched (i + 1)
-    go true h = subst (λ (x : Counts). Counting slots ifaces found x matched (i + 1)) (sym (passed h)) (counting-passed slots ifaces found c matched i l s e here h)
-    go false h = subst (λ (x : Counts). Counting slots ifaces found x matched (i + 1)) (sym (part h).0) (counting-part slots ifaces found c matched i l s e here room h (part h).1)
+    go : (k : ℕ) → 0 < (goal_at goals k).constraints → (goal_at goals k).constraints ≤ tally (λ x. x == k) found → (b : Bool) → is_marked c (goal_at goals k).place ≡ b → Contains matched (get_or ifaces (goal_at goals k).place 0)
+    go k h f true m = s.told k h m
+    go k h f false m = absurd (omega (arith, f, (s.so_often k h m).1, hits-all (λ x. x == k) i found l))

@@ -6,14 +6,16 @@ use Rattle.ev_constraint.specs.Constraint.{ConstraintParts}
 use Rattle.ev_notice.specs.Notice.{Attribute}
 use Rattle.ev_notice.specs.Cover.{matches}
 use Rattle.ev_index.specs.Pairs.{tally, Same, Appends}
-use Rattle.ev_index.proofs.Tallies.{tally-append, tally-map, tally-agree, tally-none, tally-le}
+use Rattle.ev_index.proofs.Tallies.{tally-append, tally-map, tally-agree, tally-none, tally-le, tally-at}
+use Rattle.ev_counting.specs.declared.goal.Goal.{Goal}
 use Rattle.ev_counting.specs.declared.entry.Entry.{Entry}
 use Rattle.ev_counting.specs.Table.{Held, AreMatched, IsMatched}
 use Rattle.ev_counting.specs.Index.{Use, is_satisfied, ids_satisfied}
-use Rattle.ev_counting.specs.Slots.{Slot, pair_of, held, slot_at, constraints_in, numbered, uses_from}
-use Rattle.ev_counting.specs.Counting.{IsFull, AreFull}
+use Rattle.ev_counting.specs.Slots.{Slot, pair_of, held, slot_at, constraints_in, numbered, uses_from, goal_of, goal_at, AreAimed, ArePlaced}
+use Rattle.ev_counting.specs.Counting.{AreGoals, IsFull, AreFull}
 use Rattle.ev_counting.proofs.Satisfied.{tally-satisfied}
-use Rattle.ev_counting.proofs.Places.{held-at, held-from}
+use Rattle.ev_counting.proofs.Rounds.{same-round}
+use Rattle.ev_counting.proofs.Places.{held-at, held-from, within}
 
 -- the uses of a filter that are satisfied and have this number
 abbrev met : List Attribute → ℕ → Use → Bool
@@ -98,16 +100,58 @@ count-matches : (n : List Attribute) (f : List ConstraintParts) → length f ≤
 unfolding matches
 count-matches n f h = count-all (is_satisfied n) f h
 
-pub full-matched : (n : List Attribute) (slots : List Slot) (found ifaces : List ℕ) → ((k : ℕ) → tally (λ x. x == k) found ≡ tally (is_satisfied n) (constraints_in (slot_at slots k))) → AreFull slots found ifaces → AreMatched n (held slots) ifaces
-full-matched n slots found ifaces tell a = record {
-  sound = λ iface h. (
-    let f = a.sound iface h in
-    let t : tally (λ x. x == f.id) found ≡ tally (is_satisfied n) f.entry.filter = tell f.id ∙ ap {B = ℕ} (λ s. tally (is_satisfied n) (constraints_in s)) f.there in
-    (f.entry.filter, subst (λ j. Contains (held slots) (j, f.entry.filter)) f.mine (held-at slots f.id f.entry f.there), count-matches n f.entry.filter (omega (arith, t, f.full))));
+-- each hit names a filter
+pub hits-known : (n : List Attribute) (slots : List Slot) (goals : List Goal) (found : List ℕ) → AreAimed slots goals → ((k : ℕ) → tally (λ x. x == k) found ≡ tally (is_satisfied n) (constraints_in (slot_at slots k))) → (i : ℕ) → i < length found → (get_or found i 0 < length goals) × (0 < (goal_at goals (get_or found i 0)).constraints)
+hits-known n slots goals found aimed tell i l = go (slot_at slots id) refl
+  where
+    id : ℕ
+    id = get_or found i 0
+
+    some : 1 ≤ tally (is_satisfied n) (constraints_in (slot_at slots id))
+    some = omega (arith, tell id, tally-at (λ x. x == id) found i 0 l (same-round id))
+
+    go : (s : Slot) → slot_at slots id ≡ s → (id < length goals) × (0 < (goal_at goals id).constraints)
+    go None e = absurd (omega (arith, some, ap {B = ℕ} (λ s. tally (is_satisfied n) (constraints_in s)) e))
+    go (Some d) e =
+        let t = ap {B = ℕ} (λ s. tally (is_satisfied n) (constraints_in s)) e in
+        let g : (goal_at goals id).constraints ≡ length d.filter = ap {B = ℕ} (λ (x : Goal). x.constraints) (aimed.aims id ∙ ap {B = Goal} goal_of e) in
+        (omega (arith, within slots id d e, aimed.enough), omega (arith, some, t, g, tally-le (is_satisfied n) d.filter))
+
+-- the goals of a table
+pub sound-goals : (slots : List Slot) (goals : List Goal) (ifaces : List ℕ) → AreAimed slots goals → ArePlaced ifaces slots → AreGoals (length ifaces) goals
+sound-goals slots goals ifaces aimed placed = record {
+  few = λ k. few k (slot_at slots k) refl;
+  placed = λ k h. there k (slot_at slots k) refl h;
+}
+  where
+    few : (k : ℕ) (s : Slot) → slot_at slots k ≡ s → (goal_at goals k).constraints ≤ 16
+    few k None e = omega (arith, ap {B = ℕ} (λ (x : Goal). x.constraints) (aimed.aims k ∙ ap {B = Goal} goal_of e))
+    few k (Some d) e = omega (arith, ap {B = ℕ} (λ (x : Goal). x.constraints) (aimed.aims k ∙ ap {B = Goal} goal_of e), (placed k d e).few)
+
+    there : (k : ℕ) (s : Slot) → slot_at slots k ≡ s → 0 < (goal_at goals k).constraints → (goal_at goals k).place < length ifaces
+    there k None e h = absurd (omega (arith, h, ap {B = ℕ} (λ (x : Goal). x.constraints) (aimed.aims k ∙ ap {B = Goal} goal_of e)))
+    there k (Some d) e h = omega (arith, ap {B = ℕ} (λ (x : Goal). x.place) (aimed.aims k ∙ ap {B = Goal} goal_of e), (placed k d e).within)
+
+pub full-matched : (n : List Attribute) (slots : List Slot) (goals : List Goal) (ifaces found matched : List ℕ) → AreAimed slots goals → ArePlaced ifaces slots → ((k : ℕ) → tally (λ x. x == k) found ≡ tally (is_satisfied n) (constraints_in (slot_at slots k))) → AreFull goals ifaces found matched → AreMatched n (held slots) matched
+full-matched n slots goals ifaces found matched aimed placed tell a = record {
+  sound = λ iface h. (let f = a.sound iface h in is f.id (slot_at slots f.id) refl f.some iface f.mine f.full);
   whole = λ iface h. (
     let s = held-from slots (iface, h.0) h.1 in
-    let t : tally (λ x. x == s.place) found ≡ tally (is_satisfied n) s.entry.filter = tell s.place ∙ ap {B = ℕ} (λ x. tally (is_satisfied n) (constraints_in x)) s.there in
-    let m : s.entry.filter ≡ h.0 = ap {B = List ConstraintParts} (λ (x : Held). x.1) s.mine in
-    let c = matches-count n s.entry.filter (rw m h.2) in
-    a.whole iface (record { id = s.place; entry = s.entry; there = s.there; mine = ap {B = ℕ} (λ (x : Held). x.0) s.mine; full = omega (arith, c, t) }));
+    let e = s.entry in
+    let t : tally (λ x. x == s.place) found ≡ tally (is_satisfied n) e.filter = tell s.place ∙ ap {B = ℕ} (λ x. tally (is_satisfied n) (constraints_in x)) s.there in
+    let m : e.filter ≡ h.0 = ap {B = List ConstraintParts} (λ (x : Held). x.1) s.mine in
+    let c = matches-count n e.filter (rw m h.2) in
+    let g = aimed.aims s.place ∙ ap {B = Goal} goal_of s.there in
+    let q = placed s.place e s.there in
+    let z = ap {B = ℕ} (λ (x : Goal). x.constraints) g in
+    let mine = ap {B = ℕ} (λ (x : Goal). get_or ifaces x.place 0) g ∙ q.there ∙ ap {B = ℕ} (λ (x : Held). x.0) s.mine in
+    a.whole iface (record { id = s.place; some = omega (arith, z, q.some); mine = mine; full = omega (arith, c, t, z) }));
 }
+  where
+    is : (k : ℕ) (s : Slot) → slot_at slots k ≡ s → 0 < (goal_at goals k).constraints → (iface : ℕ) → get_or ifaces (goal_at goals k).place 0 ≡ iface → (goal_at goals k).constraints ≤ tally (λ x. x == k) found → IsMatched n (held slots) iface
+    is k None e some iface mine full = absurd (omega (arith, some, ap {B = ℕ} (λ (x : Goal). x.constraints) (aimed.aims k ∙ ap {B = Goal} goal_of e)))
+    is k (Some d) e some iface mine full =
+        let g = aimed.aims k ∙ ap {B = Goal} goal_of e in
+        let t : tally (λ x. x == k) found ≡ tally (is_satisfied n) d.filter = tell k ∙ ap {B = ℕ} (λ s. tally (is_satisfied n) (constraints_in s)) e in
+        let i : d.iface ≡ iface = sym (placed k d e).there ∙ sym (ap {B = ℕ} (λ (x : Goal). get_or ifaces x.place 0) g) ∙ mine in
+        (d.filter, subst (λ j. Contains (held slots) (j, d.filter)) i (held-at slots k d e), count-matches n d.filter (omega (arith, t, full, ap {B = ℕ} (λ (x : Goal). x.constraints) g)))

@@ -1,25 +1,37 @@
-use Rattle.std.proofs.Common.{◌≡◌, ◌∙◌, ap, sym, subst, ℕ, List, []}
-use Rattle.ev_index.specs.Pairs.{Appends}
+use Rattle.std.proofs.Common.{◌≡◌, ◌<◌, ◌==◌, ◌∙◌, sym, subst, ℕ, List, [], length, get_or}
+use Rattle.ev_index.specs.Pairs.{tally, Appends}
+use Rattle.ev_counting.specs.declared.goal.Goal.{Goal}
 use Rattle.ev_counting.specs.Table.{Held, AreMatched}
-use Rattle.ev_counting.specs.Index.{ids_satisfied}
-use Rattle.ev_counting.specs.Slots.{Slot, held}
+use Rattle.ev_counting.specs.Index.{is_satisfied, ids_satisfied}
+use Rattle.ev_counting.specs.Slots.{held, constraints_in, slot_at, goal_at}
 use Rattle.ev_counting.specs.Counting.{AreFull}
 use Rattle.ev_counting.proofs.Sets.{to-route}
-use Rattle.ev_counting.proofs.Routed.{hits-tell, full-matched}
+use Rattle.ev_counting.proofs.Routed.{hits-tell, hits-known, full-matched}
 use Rattle.ev_counting.proofs.table.Table.route.Goals as goal
 
-pub count_hits-requires-clause-placed : goal.count_hits-requires-clause-placed
-count_hits-requires-clause-placed c = rw (c.deref.ensures.value, c.deref-2.ensures.value) c.self.invariant.placed
+pub count_hits-requires-clause-known : goal.count_hits-requires-clause-known
+count_hits-requires-clause-known c =
+    let n = c.args.notice.now in
+    let slots = c.self.inside.slots.items in
+    let goals = c.self.inside.goals.items in
+    let found = c.hits.new.found.items in
+    let index = c.self.inside.index in
+    let app = subst (λ (old : List ℕ). Appends old found (ids_satisfied n index)) c.clear.ensures.items c.in_ok-hits.ensures in
+    let tell = hits-tell n slots index found c.self.invariant.indexed app in
+    rw (c.deref.ensures.value, c.deref-3.ensures.value) (hits-known n slots goals found c.self.invariant.aimed tell)
 
 pub returns : goal.returns
 returns c =
     let n = c.args.notice.now in
     let slots = c.self.inside.slots.items in
+    let goals = c.self.inside.goals.items in
+    let ifaces = c.self.inside.interfaces.items in
     let found = c.hits.new.found.items in
     let index = c.self.inside.index in
-    let ifaces = c.in_ok-ifaces.ifaces.items in
+    let matched = c.in_ok-ifaces.ifaces.items in
     let app = subst (λ (old : List ℕ). Appends old found (ids_satisfied n index)) c.clear.ensures.items c.in_ok-hits.ensures in
-    let full : AreFull slots found ifaces = subst (λ (x : List Slot). AreFull x found ifaces) c.deref.ensures.value (subst (λ (x : List ℕ). AreFull c.deref.result.now x ifaces) c.deref-3.ensures.value c.in_ok-ifaces.ensures) in
-    let a = full-matched n slots found ifaces (hits-tell n slots index found c.self.invariant.indexed app) full in
-    let b = subst (λ (held : List Held). AreMatched n held ifaces) c.self.view_is a in
-    to-route n c.args.self.now ifaces c.to.result b c.to.ensures.rising c.to.ensures.same
+    let tell = hits-tell n slots index found c.self.invariant.indexed app in
+    let full : AreFull goals ifaces found matched = subst (λ (x : List Goal). AreFull x ifaces found matched) c.deref.ensures.value (subst (λ (x : List ℕ). AreFull c.deref.result.now x found matched) c.deref-2.ensures.value (subst (λ (x : List ℕ). AreFull c.deref.result.now c.deref-2.result.now x matched) c.deref-3.ensures.value c.in_ok-ifaces.ensures)) in
+    let a = full-matched n slots goals ifaces found matched c.self.invariant.aimed c.self.invariant.placed tell full in
+    let b = subst (λ (held : List Held). AreMatched n held matched) c.self.view_is a in
+    to-route n c.args.self.now matched c.to.result b c.to.ensures.rising c.to.ensures.same
