@@ -44,3 +44,42 @@ fn texts(rt: HostRuntime) -> Result<(), Fail> {
     assert_eq!(rt; met(alloc, &index, b"abc")?.as_slice(), [3, 4].as_slice());
     Ok(())
 }
+
+#[test]
+fn operators(rt: HostRuntime) -> Result<(), Fail> {
+    let alloc = rt.alloc();
+    let mut index = TextIndex::new(alloc);
+    let orders = [
+        (Op::Ne, 0),
+        (Op::Lt, 1),
+        (Op::Le, 2),
+        (Op::Eq, 3),
+        (Op::Gt, 4),
+        (Op::Ge, 5),
+    ];
+    let patterns = [
+        (Op::Any, 6),
+        (Op::Contains, 7),
+        (Op::Prefix, 8),
+        (Op::Suffix, 9),
+    ];
+    for (op, id) in orders.iter().chain(patterns.iter()) {
+        index.add(&on(alloc, *op, b"m")?, *id)?;
+    }
+    assert_eq!(rt;
+        met(alloc, &index, b"m")?.as_slice(),
+        [2, 3, 5, 6, 7, 8, 9].as_slice()
+    );
+    assert_eq!(rt;
+        met(alloc, &index, b"alarm")?.as_slice(),
+        [0, 1, 2, 6, 7, 9].as_slice()
+    );
+    assert_eq!(rt;
+        met(alloc, &index, b"map")?.as_slice(),
+        [0, 4, 5, 6, 7, 8].as_slice()
+    );
+    let mut found = Vec::new(alloc);
+    index.hits(&Value::Int(1), &mut found)?;
+    assert!(rt; found.is_empty());
+    Ok(())
+}
