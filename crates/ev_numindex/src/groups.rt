@@ -8,6 +8,7 @@ ghost use Rattle.std.specs.BTreeMap.Range.{IsLeBy, IsLtBy, entries_between};
 ghost use Rattle.std.specs.Range.Bound.{IsForward};
 ghost use Rattle.std.specs.Ordering.{int_cmp};
 
+use ev_index::append_ids;
 use ev_memory::NoMemory;
 use std::alloc::Global;
 use std::collections::BTreeMap;
@@ -114,7 +115,7 @@ pub(crate) fn walk(
     ensures { OnOk result (found.new.items ≡ found.old.items ++ ids_of (entries_between int_cmp from to groups.now.entries)) }
 {
     for (_, ids) in groups.range((from, to)) {
-        found.extend_from_slice(ids)?;
+        append_ids(found, ids)?;
     }
     Ok(())
 }

@@ -9,6 +9,7 @@ ghost use Rattle.ev_numindex.specs.Keys.{test_at, same_key, truth_key};
 
 use crate::groups::walk;
 use ev_constraint::Op;
+use ev_index::append_ids;
 use ev_memory::NoMemory;
 use std::collections::BTreeMap;
 use std::ops::Bound;
@@ -30,7 +31,7 @@ fn walk_others(
 {
     for (other, ids) in groups {
         if *key != *other {
-            found.extend_from_slice(ids)?;
+            append_ids(found, ids)?;
         }
     }
     Ok(())

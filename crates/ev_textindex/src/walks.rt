@@ -10,6 +10,7 @@ ghost use Rattle.ev_textindex.specs.Keys.{at_key, is_below, is_above};
 use crate::bytes::has_part;
 use crate::edge::{Edge, is_above, is_below};
 use crate::groups::Key;
+use ev_index::append_ids;
 use ev_memory::NoMemory;
 use std::collections::BTreeMap;
 
@@ -26,7 +27,7 @@ pub(crate) fn walk_one(
     let Some(ids) = groups.get(key) else {
         return Ok(());
     };
-    found.extend_from_slice(ids)?;
+    append_ids(found, ids)?;
     Ok(())
 }
 
@@ -40,7 +41,7 @@ pub(crate) fn walk_others(
 {
     for (other, ids) in groups {
         if key != other.as_slice() {
-            found.extend_from_slice(ids)?;
+            append_ids(found, ids)?;
         }
     }
     Ok(())
@@ -59,7 +60,7 @@ pub(crate) fn walk_below(
         if !is_below(key, x, edge) {
             return Ok(());
         }
-        found.extend_from_slice(ids)?;
+        append_ids(found, ids)?;
     }
     Ok(())
 }
@@ -77,7 +78,7 @@ pub(crate) fn walk_above(
         if !is_above(key, x, edge) {
             return Ok(());
         }
-        found.extend_from_slice(ids)?;
+        append_ids(found, ids)?;
     }
     Ok(())
 }
@@ -120,7 +121,7 @@ pub(crate) fn walk_parts(
 {
     for (key, ids) in groups {
         if has_part(x, key) {
-            found.extend_from_slice(ids)?;
+            append_ids(found, ids)?;
         }
     }
     Ok(())

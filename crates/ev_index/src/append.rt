@@ -1,0 +1,14 @@
+//! Appending the ids of a group.
+ghost use Rattle.std.specs.Prelude.{◌≡◌, ◌++◌, OnOk};
+
+use ev_memory::NoMemory;
+
+/// Appends the ids of a group to those that were found. Most groups have one or two, so it pushes them one by one.
+pub fn append_ids(found: &mut Vec<u32>, ids: &[u32]) -> Result<(), NoMemory>
+    ensures { OnOk result (found.new.items ≡ found.old.items ++ ids.now) }
+{
+    for id in ids {
+        found.push(*id)?;
+    }
+    Ok(())
+}
