@@ -24,7 +24,7 @@ loop-key-preserved c =
     let steps = c.in-Some.ensures.steps in
     let within = ap (is_below c.args.edge c.args.x.now) (sym c.deref.ensures.value) ∙ sym c.is_below.ensures ∙ c.if-not-is_below.false in
     let step = ap {B = List ℕ} (ids_at q) steps ∙ ids-step q (c.in-Some.key.now, c.in-Some.ids.now) c.next.new.self within in
-    let items = c.in_ok-extend_from_slice.ensures.items ∙ ap (λ ids. c.loop-key.found.items ++ ids) c.deref-in-loop-key.ensures.value in (
+    let items = c.in_ok-append_ids.ensures ∙ ap (λ ids. c.loop-key.found.items ++ ids) c.deref-in-loop-key.ensures.value in (
       ap (λ xs. xs ++ ids_at q c.next.new.self) items ∙ append_assoc c.loop-key.found.items c.in-Some.ids.now.items (ids_at q c.next.new.self) ∙ ap (λ ids. c.loop-key.found.items ++ ids) (sym step) ∙ c.loop-key.invariant.0,
       sorted_tail key_cmp c.in-Some.key.now (keys_of c.next.new.self) (subst (λ (es : List (Vec ℕ Global × Vec ℕ Global)). IsStrictlySortedBy key_cmp (keys_of es)) steps c.loop-key.invariant.1),
     )

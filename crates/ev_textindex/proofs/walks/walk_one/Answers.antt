@@ -16,4 +16,4 @@ returns-in_default c =
 pub returns : goal.returns
 returns c =
     let there = ids-there (at_key c.args.key.now) (λ a b. is_eq (key_cmp a b)) (same-same c.args.key.now) c.in-Some.ids.now c.args.groups.now.entries (IsDistinct-from_sorted key_cmp (keys_of c.args.groups.now.entries) c.len-size.ensures.ordered) (sym c.get.ensures.value ∙ ap option_copied c.in-Some.is) in
-    c.in_ok-extend_from_slice.ensures.items ∙ ap (λ ids. c.args.found.now.items ++ ids) (c.deref.ensures.value ∙ sym there)
+    c.in_ok-append_ids.ensures ∙ ap (λ ids. c.args.found.now.items ++ ids) (c.deref.ensures.value ∙ sym there)
