@@ -27,7 +27,7 @@ loop-key-preserved c =
     let e : Vec ℕ Global × Vec ℕ Global = (c.in-Some.key.now, c.in-Some.ids.now) in
     let within = ap (is_above c.args.edge c.args.x.now) (sym c.deref.ensures.value) ∙ sym c.is_above.ensures ∙ c.if-not-is_above.false in
     let items = c.in_ok-append_ids.ensures ∙ ap (λ ids. c.loop-key.found.items ++ ids) c.deref-in-loop-key.ensures.value in
-    let more = appended c.loop-key.found.items c.extend_from_slice.new.self.items c.in-Some.ids.now.items items in (
-      fewer-left c.args.found.now.items c.loop-key.found.items c.extend_from_slice.new.self.items (ids_at q c.loop-key.key-iterator.iter) (ids_at q c.next.new.self.iter) (ids_at q c.args.groups.now.entries) c.in-Some.ids.now.items c.loop-key.invariant.0 more (λ p. ap {B = ℕ} (λ es. tally p (ids_at q es)) steps ∙ ids-last p q c.next.new.self.iter e within),
+    let more = appended c.loop-key.found.items c.append_ids.new.found.items c.in-Some.ids.now.items items in (
+      fewer-left c.args.found.now.items c.loop-key.found.items c.append_ids.new.found.items (ids_at q c.loop-key.key-iterator.iter) (ids_at q c.next.new.self.iter) (ids_at q c.args.groups.now.entries) c.in-Some.ids.now.items c.loop-key.invariant.0 more (λ p. ap {B = ℕ} (λ es. tally p (ids_at q es)) steps ∙ ids-last p q c.next.new.self.iter e within),
       sorted-front c.next.new.self.iter e (subst (λ (es : List (Vec ℕ Global × Vec ℕ Global)). IsStrictlySortedBy key_cmp (keys_of es)) steps c.loop-key.invariant.1),
     )
