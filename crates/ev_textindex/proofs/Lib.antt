@@ -7,3 +7,4 @@ pub mod Appended
 pub mod Walked
 pub mod Ordered
 pub mod Probes
+pub mod Beyond

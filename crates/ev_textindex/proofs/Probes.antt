@@ -37,16 +37,8 @@ pub none-yet : (b : Bool) (m : ℕ) → (b && nat_lt m 0) ≡ false
 none-yet b m = grind (arith, nat_tests)
 
 -- each is at most as long as the text
-pub prefix-all : (x k : List ℕ) → (has_prefix x k && nat_lt (length k) (length x + 1)) ≡ has_prefix x k
-prefix-all x k = go (has_prefix x k) refl
-  where
-    go : (b : Bool) → has_prefix x k ≡ b → (b && nat_lt (length k) (length x + 1)) ≡ b
-    go true h = let t = has_prefix-tells x k h in let l = ap {B = ℕ} length t.1 ∙ length-append k t.0 in grind (arith, nat_tests, l)
-    go false h = refl
+pub prefix-within : (x k : List ℕ) → has_prefix x k ≡ true → length k ≤ length x
+prefix-within x k h = let t = has_prefix-tells x k h in omega (arith, ap {B = ℕ} length t.1, length-append k t.0)
 
-pub suffix-all : (x k : List ℕ) → (has_suffix x k && nat_lt (length k) (length x + 1)) ≡ has_suffix x k
-suffix-all x k = go (has_suffix x k) refl
-  where
-    go : (b : Bool) → has_suffix x k ≡ b → (b && nat_lt (length k) (length x + 1)) ≡ b
-    go true h = let t = has_suffix-tells x k h in let l = ap {B = ℕ} length t.1 ∙ length-append t.0 k in grind (arith, nat_tests, l)
-    go false h = refl
+pub suffix-within : (x k : List ℕ) → has_suffix x k ≡ true → length k ≤ length x
+suffix-within x k h = let t = has_suffix-tells x k h in omega (arith, ap {B = ℕ} length t.1, length-append t.0 k)

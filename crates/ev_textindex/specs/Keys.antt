@@ -1,5 +1,5 @@
 -- Keys of groups: the bytes of the operand, and none where there is no operand.
-use Rattle.std.specs.Prelude.{ℕ, Bool, not, List, [], ◌∷◌, Option, Some, None, Vec}
+use Rattle.std.specs.Prelude.{ℕ, Bool, not, nat_lt, length, List, [], ◌∷◌, Option, Some, None, Vec}
 use Rattle.std.specs.declared.alloc.Global.{Global}
 use Rattle.std.specs.declared.cmp.Ordering.{Ordering}
 use Rattle.std.specs.Ordering.{nat_cmp, is_eq}
@@ -10,7 +10,8 @@ use Rattle.ev_values.specs.declared.value.Value.TheVariants as values
 use Rattle.ev_constraint.specs.declared.op.Op.{Op}
 use Rattle.ev_constraint.specs.declared.op.Op.TheVariants as ops
 use Rattle.ev_constraint.specs.Bytes.{less}
-use Rattle.ev_index.specs.Pairs.{Test}
+use Rattle.ev_index.specs.Pairs.{Test, tally}
+use Rattle.ev_index.specs.Groups.{keyed}
 use Rattle.ev_textindex.specs.declared.edge.Edge.{Edge}
 use Rattle.ev_textindex.specs.declared.edge.Edge.TheVariants as edges
 
@@ -26,6 +27,10 @@ at_key u k = same_bytes u k.items
 
 abbrev pub key_cmp : Vec ℕ Global → Vec ℕ Global → Ordering
 key_cmp a b = slice_cmp nat_cmp a.items b.items
+
+-- how many ids stand under keys of more bytes than so many
+abbrev pub ids_beyond : ℕ → List (Vec ℕ Global × Vec ℕ Global) → ℕ
+ids_beyond n es = tally (λ x. nat_lt n (length x.0)) (keyed bytes_of es)
 
 -- the key of an operand
 abbrev pub key_of : Option Value → List ℕ

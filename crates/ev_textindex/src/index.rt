@@ -1,5 +1,6 @@
 //! The index of str constraints.
-use crate::row::{Row, find, key_of, place};
+use crate::row::{Row, key_of};
+use crate::rows::{find, place};
 use ev_constraint::Constraint;
 use ev_memory::NoMemory;
 use ev_values::Value;

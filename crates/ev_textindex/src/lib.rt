@@ -7,6 +7,7 @@ mod groups;
 mod index;
 mod meet;
 mod row;
+mod rows;
 #[cfg(test)]
 mod tests;
 mod walks;

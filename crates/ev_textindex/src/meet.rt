@@ -3,6 +3,7 @@ ghost use Rattle.std.specs.Prelude.{◌≡◌, OnOk};
 ghost use Rattle.ev_values.specs.declared.value.Value.{Value};
 ghost use Rattle.ev_index.specs.Pairs.{Appends, ids_met};
 ghost use Rattle.ev_index.specs.Groups.{keyed};
+ghost use Rattle.ev_textindex.specs.Keys.{ids_beyond};
 ghost use Rattle.ev_textindex.specs.Rows.{said};
 
 use crate::edge::Edge;
@@ -17,10 +18,12 @@ use std::collections::BTreeMap;
 /// Appends the ids of the groups of a row whose test the text passes.
 pub(crate) fn meet(
     groups: &BTreeMap<Key, Vec<u32>>,
+    longest: usize,
     op: Op,
     x: &[u8],
     found: &mut Vec<u32>,
 ) -> Result<(), NoMemory>
+    requires { ids_beyond longest groups.now.entries ≡ 0 }
     ensures { OnOk result (Appends found.old.items found.new.items (ids_met (Value.Str x.now) (keyed (said op) groups.now.entries))) }
 {
     match op {
@@ -31,8 +34,8 @@ pub(crate) fn meet(
         Op::Eq => walk_one(groups, x, found),
         Op::Ne => walk_others(groups, x, found),
         Op::Any => walk_one(groups, &[], found),
-        Op::Prefix => walk_prefixes(groups, x, found),
-        Op::Suffix => walk_suffixes(groups, x, found),
+        Op::Prefix => walk_prefixes(groups, longest, x, found),
+        Op::Suffix => walk_suffixes(groups, longest, x, found),
         Op::Contains => walk_parts(groups, x, found),
     }
 }

@@ -1,8 +1,7 @@
 //! A row: the groups of one operator.
-ghost use Rattle.std.specs.Prelude.{◌≡◌, ◌<◌, IfSome, IfNone, length, slice_index_or, ℕ};
+ghost use Rattle.std.specs.Prelude.{◌≡◌};
 ghost use Rattle.std.specs.Option.{option_copied};
-ghost use Rattle.ev_textindex.specs.Keys.{key_of};
-ghost use Rattle.ev_textindex.specs.Rows.{HasAt};
+ghost use Rattle.ev_textindex.specs.Keys.{key_of, ids_beyond};
 
 use crate::groups::{Key, has, put, take};
 use crate::meet::meet;
@@ -17,6 +16,9 @@ use std::collections::BTreeMap;
 pub struct Row {
     pub(crate) op: Op,
     pub(crate) groups: BTreeMap<Key, Vec<u32>>,
+    /// No key with an id is longer. What is taken away leaves it as it is.
+    pub(crate) longest: usize,
+    ghost fits: { ids_beyond longest groups.entries ≡ 0 },
 }
 
 /// The key of an operand.
@@ -43,11 +45,15 @@ impl Row {
     {
         let mut groups = BTreeMap::new(alloc);
         put(alloc, &mut groups, key, id)?;
-        Ok(Row { op, groups })
+        Ok(Row {
+            op,
+            groups,
+            longest: key.len(),
+        })
     }
 
     /// Whether the row has an id under a key.
-    fn has(&self, key: &[u8], id: u32) -> bool
+    pub(crate) fn has(&self, key: &[u8], id: u32) -> bool
         ensures { result ≡ nat_lt 0 (tally (λ x. same_bytes key.now x.0 && (x.1 == id)) (keyed bytes_of self.now.groups.entries)) }
     {
         has(&self.groups, key, id)
@@ -59,6 +65,7 @@ impl Row {
         ensures added { OnOk result (Same (row_pairs self.new) ((test_at self.old.op key.now, id) ∷ row_pairs self.old)) }
         ensures err { OnErr result (row_pairs self.new ≡ row_pairs self.old) }
     {
+        self.longest = self.longest.max(key.len());
         put(alloc, &mut self.groups, key, id)
     }
 
@@ -72,7 +79,7 @@ impl Row {
     }
 
     /// Whether it is the row of the operator.
-    fn is_of(&self, op: Op) -> bool
+    pub(crate) fn is_of(&self, op: Op) -> bool
         ensures { IsTrue result ↔ (self.now.op ≡ op) }
     {
         self.op == op
@@ -82,31 +89,6 @@ impl Row {
     pub(crate) fn meet(&self, text: &[u8], found: &mut Vec<u32>) -> Result<(), NoMemory>
         ensures { OnOk result (Appends found.old.items found.new.items (ids_met (Value.Str text.now) (row_pairs self.now))) }
     {
-        meet(&self.groups, self.op, text, found)
+        meet(&self.groups, self.longest, self.op, text, found)
     }
-}
-
-/// The place of the row of an operator.
-pub(crate) fn place(rows: &[Row], op: Op) -> Option<usize>
-    ensures { IfSome result (λ i. (i < length rows.now) × ((d : _) → (slice_index_or rows.now i d).op ≡ op)) }
-{
-    for (i, row) in rows.iter().enumerate() {
-        if row.is_of(op) {
-            return Some(i);
-        }
-    }
-    None
-}
-
-/// The place of a row that has an id under the key of an operator.
-pub(crate) fn find(rows: &[Row], op: Op, key: &[u8], id: u32) -> Option<usize>
-    ensures some { IfSome result (λ i. (i < length rows.now) × ((d : _) → HasAt op key.now id (slice_index_or rows.now i d))) }
-    ensures none { IfNone result ((k : ℕ) → k < length rows.now → (d : _) → HasAt op key.now id (slice_index_or rows.now k d) → ⊥) }
-{
-    for (i, row) in rows.iter().enumerate() {
-        if row.is_of(op) && row.has(key, id) {
-            return Some(i);
-        }
-    }
-    None
 }

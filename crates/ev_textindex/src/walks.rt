@@ -5,7 +5,7 @@ ghost use Rattle.std.specs.Str.{bytes_eq};
 ghost use Rattle.ev_constraint.specs.Bytes.{has_prefix, has_suffix, has_part};
 ghost use Rattle.ev_index.specs.Pairs.{Appends};
 ghost use Rattle.ev_index.specs.Groups.{ids_of};
-ghost use Rattle.ev_textindex.specs.Keys.{at_key, is_below, is_above};
+ghost use Rattle.ev_textindex.specs.Keys.{at_key, ids_beyond, is_below, is_above};
 
 use crate::bytes::has_part;
 use crate::edge::{Edge, is_above, is_below};
@@ -83,29 +83,37 @@ pub(crate) fn walk_above(
     Ok(())
 }
 
-/// Appends the ids of the keys that a text begins with, by one look-up for each beginning.
+/// Appends the ids of the keys that a text begins with, by one look-up for each beginning that isn't longer than
+/// any key.
 pub(crate) fn walk_prefixes(
     groups: &BTreeMap<Key, Vec<u32>>,
+    longest: usize,
     x: &[u8],
     found: &mut Vec<u32>,
 ) -> Result<(), NoMemory>
+    requires { ids_beyond longest groups.now.entries ≡ 0 }
     ensures { OnOk result (Appends found.old.items found.new.items (ids_of (filter (λ e. has_prefix x.now e.0.items) groups.now.entries))) }
 {
-    for n in 0..x.len() + 1 {
+    let most = x.len().min(longest);
+    for n in 0..most + 1 {
         walk_one(groups, &x[..n], found)?;
     }
     Ok(())
 }
 
-/// Appends the ids of the keys that a text ends with, by one look-up for each ending.
+/// Appends the ids of the keys that a text ends with, by one look-up for each ending that isn't longer than any
+/// key.
 pub(crate) fn walk_suffixes(
     groups: &BTreeMap<Key, Vec<u32>>,
+    longest: usize,
     x: &[u8],
     found: &mut Vec<u32>,
 ) -> Result<(), NoMemory>
+    requires { ids_beyond longest groups.now.entries ≡ 0 }
     ensures { OnOk result (Appends found.old.items found.new.items (ids_of (filter (λ e. has_suffix x.now e.0.items) groups.now.entries))) }
 {
-    for n in 0..x.len() + 1 {
+    let most = x.len().min(longest);
+    for n in 0..most + 1 {
         walk_one(groups, &x[x.len() - n..], found)?;
     }
     Ok(())
