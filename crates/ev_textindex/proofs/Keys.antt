@@ -43,3 +43,9 @@ some-met u id xs i h e = tally-at (λ x. same_bytes u u && (x == id)) xs i 0 h (
   where
     here : (n : ℕ) → (n == n) ≡ true
     here n = grind (arith, nat_tests)
+
+pub same-tells : (a b : List ℕ) → same_bytes a b ≡ true → a ≡ b
+same-tells a b h = exact_bytes a b (equal (slice_cmp nat_cmp a b) h)
+
+pub same-told : (a b : List ℕ) → a ≡ b → same_bytes a b ≡ true
+same-told a b e = ap {B = Bool} (λ c. same_bytes a c) (sym e) ∙ same-self a

@@ -4,3 +4,6 @@ pub mod Finds
 pub mod Meets
 pub mod Said
 pub mod Appended
+pub mod Walked
+pub mod Ordered
+pub mod Probes

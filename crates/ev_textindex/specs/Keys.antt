@@ -1,5 +1,5 @@
 -- Keys of groups: the bytes of the operand, and none where there is no operand.
-use Rattle.std.specs.Prelude.{ℕ, Bool, List, [], ◌∷◌, Option, Some, None, Vec}
+use Rattle.std.specs.Prelude.{ℕ, Bool, not, List, [], ◌∷◌, Option, Some, None, Vec}
 use Rattle.std.specs.declared.alloc.Global.{Global}
 use Rattle.std.specs.declared.cmp.Ordering.{Ordering}
 use Rattle.std.specs.Ordering.{nat_cmp, is_eq}
@@ -9,7 +9,10 @@ use Rattle.ev_values.specs.declared.value.Value.{Value}
 use Rattle.ev_values.specs.declared.value.Value.TheVariants as values
 use Rattle.ev_constraint.specs.declared.op.Op.{Op}
 use Rattle.ev_constraint.specs.declared.op.Op.TheVariants as ops
+use Rattle.ev_constraint.specs.Bytes.{less}
 use Rattle.ev_index.specs.Pairs.{Test}
+use Rattle.ev_textindex.specs.declared.edge.Edge.{Edge}
+use Rattle.ev_textindex.specs.declared.edge.Edge.TheVariants as edges
 
 abbrev pub bytes_of : Vec ℕ Global → List ℕ
 bytes_of k = k.items
@@ -41,3 +44,13 @@ any_test (b ∷ k) = no_test (b ∷ k)
 abbrev pub test_at : Op → List ℕ → Test
 test_at ops.Any k = any_test k
 test_at op k = record { kind = kinds.Str; op = op; operand = Some (values.Str k) }
+
+-- the key is above the text, or equal where that counts
+abbrev pub is_above : Edge → List ℕ → List ℕ → Bool
+is_above edges.Included x k = not (less k x)
+is_above edges.Excluded x k = less x k
+
+-- the key is below the text, or equal where that counts
+abbrev pub is_below : Edge → List ℕ → List ℕ → Bool
+is_below edges.Included x k = not (less x k)
+is_below edges.Excluded x k = less k x

@@ -82,14 +82,14 @@ impl TextIndex {
     }
 }
 
-ghost use Rattle.std.specs.Prelude.{◌≡◌, ◌++◌, OnOk};
+ghost use Rattle.std.specs.Prelude.{◌≡◌, OnOk};
 ghost use Rattle.ev_values.specs.declared.value.Value.{Value};
-ghost use Rattle.ev_index.specs.Pairs.{ids_met};
+ghost use Rattle.ev_index.specs.Pairs.{Appends, ids_met};
 ghost use Rattle.ev_textindex.specs.Rows.{rows_pairs};
 
 /// Appends the ids of the rows whose test the text passes.
 fn walk(rows: &[Row], text: &[u8], found: &mut Vec<u32>) -> Result<(), NoMemory>
-    ensures { OnOk result (found.new.items ≡ found.old.items ++ ids_met (Value.Str text.now) (rows_pairs rows.now)) }
+    ensures { OnOk result (Appends found.old.items found.new.items (ids_met (Value.Str text.now) (rows_pairs rows.now))) }
 {
     for row in rows {
         row.meet(text, found)?;

@@ -32,7 +32,7 @@ pub(crate) fn key_of<'a>(operand: Option<&'a Value>) -> &'a [u8]
 impl Row {
     ghost use Rattle.std.specs.Prelude.{◌∷◌, ◌++◌, ◌==◌, ◌&&◌, ◌↔◌, [], IfOk, OnOk, OnErr, IsTrue, nat_lt, true, false};
     ghost use Rattle.ev_values.specs.declared.value.Value.{Value};
-    ghost use Rattle.ev_index.specs.Pairs.{Same, tally, ids_met};
+    ghost use Rattle.ev_index.specs.Pairs.{Same, Appends, tally, ids_met};
     ghost use Rattle.ev_index.specs.Groups.{keyed};
     ghost use Rattle.ev_textindex.specs.Keys.{test_at, same_bytes, bytes_of};
     ghost use Rattle.ev_textindex.specs.Rows.{row_pairs};
@@ -80,7 +80,7 @@ impl Row {
 
     /// Appends the ids of the row whose test the text passes.
     pub(crate) fn meet(&self, text: &[u8], found: &mut Vec<u32>) -> Result<(), NoMemory>
-        ensures { OnOk result (found.new.items ≡ found.old.items ++ ids_met (Value.Str text.now) (row_pairs self.now)) }
+        ensures { OnOk result (Appends found.old.items found.new.items (ids_met (Value.Str text.now) (row_pairs self.now))) }
     {
         meet(&self.groups, self.op, text, found)
     }

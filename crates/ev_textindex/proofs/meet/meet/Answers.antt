@@ -1,11 +1,87 @@
-use Rattle.std.proofs.Common.{refl}
+use Rattle.std.proofs.Common.{◌∙◌, ◌++◌, [], ap, refl, not, ℕ}
+use Rattle.std.specs.Prelude.{Vec}
+use Rattle.std.specs.declared.alloc.Global.{Global}
+use Rattle.std.specs.Str.{bytes_eq}
+use Rattle.std.proofs.lemmas.Result.{on_ok_weaker}
+use Rattle.ev_constraint.specs.Bytes.{has_prefix, has_suffix, has_part}
+use Rattle.ev_constraint.specs.declared.op.Op.TheVariants as ops
 use Rattle.ev_values.specs.declared.value.Value.TheVariants as values
-use Rattle.ev_index.specs.Pairs.{passes}
-use Rattle.ev_index.proofs.Rows.{met-keyed}
+use Rattle.ev_index.specs.Pairs.{ids_met}
+use Rattle.ev_index.specs.Groups.{keyed}
+use Rattle.ev_textindex.specs.declared.edge.Edge.TheVariants as edges
+use Rattle.ev_textindex.specs.Keys.{at_key, is_above, is_below}
 use Rattle.ev_textindex.specs.Rows.{said}
+use Rattle.ev_textindex.proofs.Appended.{appended, those-appended}
+use Rattle.ev_textindex.proofs.Walked.{ids_at}
+use Rattle.ev_textindex.proofs.Meets.{any-key, equal-key, met-in}
 use Rattle.ev_textindex.proofs.meet.meet.Goals as goal
 
-pub returns : goal.returns
-returns c =
-    let e = met-keyed (values.Str c.args.x.now) (said c.args.op) (λ k. passes (values.Str c.args.x.now) (said c.args.op k)) c.args.groups.now.entries (λ k. refl) in
-    rw e at c.walk.ensures
+pub returns-in-Any : goal.returns-in-Any
+returns-in-Any c =
+    let q = at_key [] in
+    let es = c.args.groups.now.entries in
+    let met = met-in c.args.op ops.Any c.args.x.now q es c.in-Any.is (λ k. any-key c.args.x.now k.items) in
+    on_ok_weaker c.walk_one-in-Any.result (λ h. appended c.args.found.now.items c.walk_one-in-Any.new.found.items (ids_met (values.Str c.args.x.now) (keyed (said c.args.op) es)) (h ∙ ap (λ ids. c.args.found.now.items ++ ids) met)) c.walk_one-in-Any.ensures
+
+pub returns-in-Eq : goal.returns-in-Eq
+returns-in-Eq c =
+    let q = at_key c.args.x.now in
+    let es = c.args.groups.now.entries in
+    let met = met-in c.args.op ops.Eq c.args.x.now q es c.in-Eq.is (λ k. equal-key c.args.x.now k.items) in
+    on_ok_weaker c.walk_one.result (λ h. appended c.args.found.now.items c.walk_one.new.found.items (ids_met (values.Str c.args.x.now) (keyed (said c.args.op) es)) (h ∙ ap (λ ids. c.args.found.now.items ++ ids) met)) c.walk_one.ensures
+
+pub returns-in-Ne : goal.returns-in-Ne
+returns-in-Ne c =
+    let q = λ (k : Vec ℕ Global). not (bytes_eq c.args.x.now k.items) in
+    let es = c.args.groups.now.entries in
+    let met = met-in c.args.op ops.Ne c.args.x.now q es c.in-Ne.is (λ k. refl) in
+    on_ok_weaker c.walk_others.result (λ h. appended c.args.found.now.items c.walk_others.new.found.items (ids_met (values.Str c.args.x.now) (keyed (said c.args.op) es)) (h ∙ ap (λ ids. c.args.found.now.items ++ ids) met)) c.walk_others.ensures
+
+pub returns-in-Lt : goal.returns-in-Lt
+returns-in-Lt c =
+    let q = λ (k : Vec ℕ Global). is_above edges.Excluded c.args.x.now k.items in
+    let es = c.args.groups.now.entries in
+    let met = met-in c.args.op ops.Lt c.args.x.now q es c.in-Lt.is (λ k. refl) in
+    on_ok_weaker c.walk_above.result (λ h. those-appended c.args.found.now.items c.walk_above.new.found.items (ids_at q es) (ids_met (values.Str c.args.x.now) (keyed (said c.args.op) es)) h met) c.walk_above.ensures
+
+pub returns-in-Le : goal.returns-in-Le
+returns-in-Le c =
+    let q = λ (k : Vec ℕ Global). is_above edges.Included c.args.x.now k.items in
+    let es = c.args.groups.now.entries in
+    let met = met-in c.args.op ops.Le c.args.x.now q es c.in-Le.is (λ k. refl) in
+    on_ok_weaker c.walk_above-in-Le.result (λ h. those-appended c.args.found.now.items c.walk_above-in-Le.new.found.items (ids_at q es) (ids_met (values.Str c.args.x.now) (keyed (said c.args.op) es)) h met) c.walk_above-in-Le.ensures
+
+pub returns-in-Gt : goal.returns-in-Gt
+returns-in-Gt c =
+    let q = λ (k : Vec ℕ Global). is_below edges.Excluded c.args.x.now k.items in
+    let es = c.args.groups.now.entries in
+    let met = met-in c.args.op ops.Gt c.args.x.now q es c.in-Gt.is (λ k. refl) in
+    on_ok_weaker c.walk_below.result (λ h. appended c.args.found.now.items c.walk_below.new.found.items (ids_met (values.Str c.args.x.now) (keyed (said c.args.op) es)) (h ∙ ap (λ ids. c.args.found.now.items ++ ids) met)) c.walk_below.ensures
+
+pub returns-in-Ge : goal.returns-in-Ge
+returns-in-Ge c =
+    let q = λ (k : Vec ℕ Global). is_below edges.Included c.args.x.now k.items in
+    let es = c.args.groups.now.entries in
+    let met = met-in c.args.op ops.Ge c.args.x.now q es c.in-Ge.is (λ k. refl) in
+    on_ok_weaker c.walk_below-in-Ge.result (λ h. appended c.args.found.now.items c.walk_below-in-Ge.new.found.items (ids_met (values.Str c.args.x.now) (keyed (said c.args.op) es)) (h ∙ ap (λ ids. c.args.found.now.items ++ ids) met)) c.walk_below-in-Ge.ensures
+
+pub returns-in-Prefix : goal.returns-in-Prefix
+returns-in-Prefix c =
+    let q = λ (k : Vec ℕ Global). has_prefix c.args.x.now k.items in
+    let es = c.args.groups.now.entries in
+    let met = met-in c.args.op ops.Prefix c.args.x.now q es c.in-Prefix.is (λ k. refl) in
+    on_ok_weaker c.walk_prefixes.result (λ h. those-appended c.args.found.now.items c.walk_prefixes.new.found.items (ids_at q es) (ids_met (values.Str c.args.x.now) (keyed (said c.args.op) es)) h met) c.walk_prefixes.ensures
+
+pub returns-in-Suffix : goal.returns-in-Suffix
+returns-in-Suffix c =
+    let q = λ (k : Vec ℕ Global). has_suffix c.args.x.now k.items in
+    let es = c.args.groups.now.entries in
+    let met = met-in c.args.op ops.Suffix c.args.x.now q es c.in-Suffix.is (λ k. refl) in
+    on_ok_weaker c.walk_suffixes.result (λ h. those-appended c.args.found.now.items c.walk_suffixes.new.found.items (ids_at q es) (ids_met (values.Str c.args.x.now) (keyed (said c.args.op) es)) h met) c.walk_suffixes.ensures
+
+pub returns-in-Contains : goal.returns-in-Contains
+returns-in-Contains c =
+    let q = λ (k : Vec ℕ Global). has_part c.args.x.now k.items in
+    let es = c.args.groups.now.entries in
+    let met = met-in c.args.op ops.Contains c.args.x.now q es c.in-Contains.is (λ k. refl) in
+    on_ok_weaker c.walk_parts.result (λ h. appended c.args.found.now.items c.walk_parts.new.found.items (ids_met (values.Str c.args.x.now) (keyed (said c.args.op) es)) (h ∙ ap (λ ids. c.args.found.now.items ++ ids) met)) c.walk_parts.ensures

@@ -1,0 +1,127 @@
+//! Walks over the groups of a row, and what each appends.
+ghost use Rattle.std.specs.Prelude.{◌≡◌, ◌++◌, not, OnOk};
+ghost use Rattle.std.specs.List.{filter};
+ghost use Rattle.std.specs.Str.{bytes_eq};
+ghost use Rattle.ev_constraint.specs.Bytes.{has_prefix, has_suffix, has_part};
+ghost use Rattle.ev_index.specs.Pairs.{Appends};
+ghost use Rattle.ev_index.specs.Groups.{ids_of};
+ghost use Rattle.ev_textindex.specs.Keys.{at_key, is_below, is_above};
+
+use crate::bytes::has_part;
+use crate::edge::{Edge, is_above, is_below};
+use crate::groups::Key;
+use ev_memory::NoMemory;
+use std::collections::BTreeMap;
+
+/// Appends the ids of one key.
+pub(crate) fn walk_one(
+    groups: &BTreeMap<Key, Vec<u32>>,
+    key: &[u8],
+    found: &mut Vec<u32>,
+) -> Result<(), NoMemory>
+    ensures { OnOk result (found.new.items ≡ found.old.items ++ ids_of (filter (λ e. at_key key.now e.0) groups.now.entries)) }
+{
+    // The keys rise, so there is no other such group.
+    let _size = groups.len();
+    let Some(ids) = groups.get(key) else {
+        return Ok(());
+    };
+    found.extend_from_slice(ids)?;
+    Ok(())
+}
+
+/// Appends the ids of all keys but one.
+pub(crate) fn walk_others(
+    groups: &BTreeMap<Key, Vec<u32>>,
+    key: &[u8],
+    found: &mut Vec<u32>,
+) -> Result<(), NoMemory>
+    ensures { OnOk result (found.new.items ≡ found.old.items ++ ids_of (filter (λ e. not (bytes_eq key.now e.0.items)) groups.now.entries)) }
+{
+    for (other, ids) in groups {
+        if key != other.as_slice() {
+            found.extend_from_slice(ids)?;
+        }
+    }
+    Ok(())
+}
+
+/// Appends the ids of the keys below a text, from the least on up to the first that isn't.
+pub(crate) fn walk_below(
+    groups: &BTreeMap<Key, Vec<u32>>,
+    x: &[u8],
+    edge: Edge,
+    found: &mut Vec<u32>,
+) -> Result<(), NoMemory>
+    ensures { OnOk result (found.new.items ≡ found.old.items ++ ids_of (filter (λ e. is_below edge x.now e.0.items) groups.now.entries)) }
+{
+    for (key, ids) in groups.iter() {
+        if !is_below(key, x, edge) {
+            return Ok(());
+        }
+        found.extend_from_slice(ids)?;
+    }
+    Ok(())
+}
+
+/// Appends the ids of the keys above a text, from the greatest on down to the first that isn't.
+pub(crate) fn walk_above(
+    groups: &BTreeMap<Key, Vec<u32>>,
+    x: &[u8],
+    edge: Edge,
+    found: &mut Vec<u32>,
+) -> Result<(), NoMemory>
+    ensures { OnOk result (Appends found.old.items found.new.items (ids_of (filter (λ e. is_above edge x.now e.0.items) groups.now.entries))) }
+{
+    for (key, ids) in groups.iter().rev() {
+        if !is_above(key, x, edge) {
+            return Ok(());
+        }
+        found.extend_from_slice(ids)?;
+    }
+    Ok(())
+}
+
+/// Appends the ids of the keys that a text begins with, by one look-up for each beginning.
+pub(crate) fn walk_prefixes(
+    groups: &BTreeMap<Key, Vec<u32>>,
+    x: &[u8],
+    found: &mut Vec<u32>,
+) -> Result<(), NoMemory>
+    ensures { OnOk result (Appends found.old.items found.new.items (ids_of (filter (λ e. has_prefix x.now e.0.items) groups.now.entries))) }
+{
+    for n in 0..x.len() + 1 {
+        walk_one(groups, &x[..n], found)?;
+    }
+    Ok(())
+}
+
+/// Appends the ids of the keys that a text ends with, by one look-up for each ending.
+pub(crate) fn walk_suffixes(
+    groups: &BTreeMap<Key, Vec<u32>>,
+    x: &[u8],
+    found: &mut Vec<u32>,
+) -> Result<(), NoMemory>
+    ensures { OnOk result (Appends found.old.items found.new.items (ids_of (filter (λ e. has_suffix x.now e.0.items) groups.now.entries))) }
+{
+    for n in 0..x.len() + 1 {
+        walk_one(groups, &x[x.len() - n..], found)?;
+    }
+    Ok(())
+}
+
+/// Appends the ids of the keys that stand in a text, each key tested once.
+pub(crate) fn walk_parts(
+    groups: &BTreeMap<Key, Vec<u32>>,
+    x: &[u8],
+    found: &mut Vec<u32>,
+) -> Result<(), NoMemory>
+    ensures { OnOk result (found.new.items ≡ found.old.items ++ ids_of (filter (λ e. has_part x.now e.0.items) groups.now.entries)) }
+{
+    for (key, ids) in groups {
+        if has_part(x, key) {
+            found.extend_from_slice(ids)?;
+        }
+    }
+    Ok(())
+}
