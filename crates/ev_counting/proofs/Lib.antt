@@ -4,6 +4,7 @@ pub mod Places
 pub mod Same
 pub mod Apart
 pub mod Shelves
+pub mod Idle
 pub mod Satisfied
 pub mod Uses
 pub mod Sound

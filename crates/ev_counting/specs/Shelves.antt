@@ -1,6 +1,7 @@
 -- Constraints by name: on a shelf those of one name, without the name.
 use Rattle.std.specs.Prelude.{◌≡◌, ℕ, Bool, not, List, [], ◌∷◌, Vec}
 use Rattle.std.specs.declared.alloc.Global.{Global}
+use Rattle.std.specs.Str.{bytes_eq}
 use Rattle.ev_constraint.specs.Constraint.{ConstraintParts}
 use Rattle.ev_values.specs.Value.{same_kind}
 use Rattle.ev_values.specs.declared.value.Kind.TheVariants as kinds
@@ -20,6 +21,23 @@ named name (x ∷ rest) = (constraint_of name x.0, x.1) ∷ named name rest
 -- the uses of all shelves
 abbrev pub uses_of : List (Vec ℕ Global × List Pair) → List Use
 uses_of shelves = spread (λ k pairs. named k.items pairs) shelves
+
+-- the name, where nothing is on its shelf
+abbrev pub idle : Vec ℕ Global → List Pair → List (Vec ℕ Global)
+idle k [] = k ∷ []
+idle k (x ∷ pairs) = []
+
+-- the names of the shelves with nothing on them
+abbrev pub idle_names : List (Vec ℕ Global × List Pair) → List (Vec ℕ Global)
+idle_names shelves = spread idle shelves
+
+-- something is on each shelf
+abbrev pub AreUsed : List (Vec ℕ Global × List Pair) → Type 0
+AreUsed shelves = idle_names shelves ≡ []
+
+-- something is on each shelf but that of the name
+abbrev pub AreUsedBut : List ℕ → List (Vec ℕ Global × List Pair) → Type 0
+AreUsedBut name shelves = tally (λ k. not (bytes_eq name k.items)) (idle_names shelves) ≡ 0
 
 -- the test is one of strs
 abbrev pub is_text : Pair → Bool

@@ -7,8 +7,9 @@ use Rattle.std.specs.Map.{keys_of}
 use Rattle.std.proofs.lemmas.Map.Keys.{IsDistinct-from_sorted}
 use Rattle.ev_index.specs.Pairs.{Pair, tally}
 use Rattle.ev_textindex.specs.Keys.{key_cmp}
-use Rattle.ev_counting.specs.Shelves.{uses_of}
+use Rattle.ev_counting.specs.Shelves.{uses_of, idle_names}
 use Rattle.ev_counting.proofs.Shelves.{shelf-less, shelf-same, in-shelf, in-no-shelf}
+use Rattle.ev_counting.proofs.Idle.{used-but, used-others}
 use Rattle.ev_counting.proofs.index.pull.Goals as goal
 
 pub returns-in-Some-clause-there : goal.returns-in-Some-clause-there
@@ -30,3 +31,13 @@ returns-in-None-clause-none c = λ _. (
   λ p. ap {B = ℕ} (λ (m : BTreeMap (Vec ℕ Global) (List Pair)). tally p (uses_of m.entries)) c.get_mut.follows.holds-at-none,
   in-no-shelf c.bytes.result.now c.args.constraint.now c.args.id c.args.shelves.now.entries (c.bytes.ensures.bytes ∙ c.name.ensures) (sym c.get_mut.ensures.value ∙ ap option_copied_mut c.in-None.is),
 )
+
+pub returns-in-Some-clause-used : goal.returns-in-Some-clause-used
+returns-in-Some-clause-used c =
+    let here = sym c.get_mut.ensures.value ∙ ap option_copied_mut c.in-Some.is in
+    used-but c.bytes.result.now c.args.constraint.now.name c.in-Some.shelf.now c.remove.new.self c.args.shelves.now.entries (c.get_mut.follows.lender c.remove.new.self).entries (c.bytes.ensures.bytes ∙ c.name.ensures) here (c.get_mut.follows.holds c.remove.new.self).0
+
+pub returns-in-None-clause-used : goal.returns-in-None-clause-used
+returns-in-None-clause-used c = λ u.
+    let e = ap {B = List (Vec ℕ Global)} (λ (m : BTreeMap (Vec ℕ Global) (List Pair)). idle_names m.entries) c.get_mut.follows.holds-at-none in
+    used-others c.args.constraint.now.name c.get_mut.follows.lender-at-none.entries (e ∙ u)

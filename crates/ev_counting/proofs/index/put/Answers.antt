@@ -5,8 +5,11 @@ use Rattle.std.specs.BTreeMap.{BTreeMap, insert_entry}
 use Rattle.std.specs.Option.{option_copied_mut}
 use Rattle.std.proofs.lemmas.Result.{on_ok_weaker, on_err_weaker}
 use Rattle.ev_index.specs.Pairs.{Same, Pair, test_of}
-use Rattle.ev_textindex.specs.Keys.{key_cmp}
+use Rattle.ev_textindex.specs.Keys.{key_cmp, at_key}
 use Rattle.ev_counting.proofs.Shelves.{shelf-more, shelf-same, shelf-new}
+use Rattle.ev_counting.proofs.Idle.{either, some-there, used-set, used-same, used-new}
+use Rattle.std.specs.Map.{lookup}
+use Rattle.std.proofs.Common.{◌≡◌, None}
 use Rattle.ev_counting.proofs.index.put.Goals as goal
 
 pub returns-in-Some-clause-added : goal.returns-in-Some-clause-added
@@ -27,3 +30,24 @@ returns-clause-added c =
     let entries = c.in_ok-insert.ensures.entries ∙ ap {B = List (Vec ℕ Global × List Pair)} (λ (m : BTreeMap (Vec ℕ Global) (List Pair)). insert_entry key_cmp m.entries key c.add-2.new.self) c.get_mut.follows.holds-at-none in
     let one = subst (λ (old : List Pair). Same c.add-2.new.self ((test_of c.args.constraint.now, c.args.id) ∷ old)) c.new-shelf.ensures c.in_ok-add.ensures.added in
     shelf-new c.bytes-name.result.now c.args.constraint.now c.args.id key c.add-2.new.self es c.insert.new.self.entries (c.bytes-name.ensures.bytes ∙ c.name.ensures) c.in_ok-key.ensures.items none entries one
+
+pub returns-in-Some-clause-used : goal.returns-in-Some-clause-used
+returns-in-Some-clause-used c = λ u.
+    let here = sym c.get_mut.ensures.value ∙ ap option_copied_mut c.in-Some.is in
+    let name = c.bytes-name.result.now in
+    let old = c.in-Some.shelf.now in
+    let new = c.add.new.self in
+    let es = c.args.shelves.now.entries in
+    let fs = (c.get_mut.follows.lender new).entries in
+    let set = (c.get_mut.follows.holds new).0 in
+    either c.add.result c.add.ensures.added c.add.ensures.err (λ s. used-set name old new es fs here set (some-there (test_of c.args.constraint.now, c.args.id) new old s) u) (λ e. used-same name old new es fs here set e u)
+
+pub returns-clause-used : goal.returns-clause-used
+returns-clause-used c =
+    let none = sym c.get_mut.ensures.value ∙ ap option_copied_mut c.in_default.is in
+    let key = c.in_ok-key.key in
+    let es = c.args.shelves.now.entries in
+    let absent = subst (λ (u : List ℕ). lookup (at_key u) es ≡ None) (sym c.in_ok-key.ensures.items) none in
+    let entries = c.in_ok-insert.ensures.entries ∙ ap {B = List (Vec ℕ Global × List Pair)} (λ (m : BTreeMap (Vec ℕ Global) (List Pair)). insert_entry key_cmp m.entries key c.add-2.new.self) c.get_mut.follows.holds-at-none in
+    let one = subst (λ (old : List Pair). Same c.add-2.new.self ((test_of c.args.constraint.now, c.args.id) ∷ old)) c.new-shelf.ensures c.in_ok-add.ensures.added in
+    used-new key c.add-2.new.self (test_of c.args.constraint.now, c.args.id) es c.insert.new.self.entries absent entries one
