@@ -8,3 +8,4 @@ pub mod Walked
 pub mod Ordered
 pub mod Probes
 pub mod Beyond
+pub mod Parts
