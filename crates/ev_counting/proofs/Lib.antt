@@ -1,1 +1,11 @@
 pub mod Sets
+pub mod Rounds
+pub mod Places
+pub mod Same
+pub mod Apart
+pub mod Shelves
+pub mod Satisfied
+pub mod Uses
+pub mod Sound
+pub mod Counted
+pub mod Routed

@@ -71,14 +71,14 @@ matched-none n xs = record { sound = λ iface h. absurd (omega (arith, h.1)); wh
     none (x ∷ xs) f iface h = absurd (omega (arith, h.1))
 
 -- the next pair's filter is matched, or not
-step : (xs : List Held) (i : ℕ) (d : Held) → i < length xs → take (i + 1) xs ≡ take i xs ++ get_or xs i d ∷ []
-step xs i d l = ap {B = List Held} (λ k. take k xs) (add-one i) ∙ go xs i l
+pub step : {X : Type 0} (xs : List X) (i : ℕ) (d : X) → i < length xs → take (i + 1) xs ≡ take i xs ++ get_or xs i d ∷ []
+step {X = X} xs i d l = ap {B = List X} (λ k. take k xs) (add-one i) ∙ go xs i l
   where
-    go : (xs : List Held) (i : ℕ) → i < length xs → take (suc i) xs ≡ take i xs ++ get_or xs i d ∷ []
+    go : (xs : List X) (i : ℕ) → i < length xs → take (suc i) xs ≡ take i xs ++ get_or xs i d ∷ []
     go [] i l = absurd (omega (arith, l))
     go (x ∷ xs) zero l = one xs
       where
-        one : (xs : List Held) → x ∷ take 0 xs ≡ x ∷ []
+        one : (xs : List X) → x ∷ take 0 xs ≡ x ∷ []
         one [] = refl
         one (y ∷ ys) = refl
     go (x ∷ xs) (suc i) l = ap (λ ys. x ∷ ys) (go xs i (omega (arith, l)))
@@ -107,12 +107,6 @@ matched-no n ys ifaces pair a m = record {
     differ : (b : Bool) → b ≡ true → b ≡ false → ⊥
     differ true h g = cc
     differ false h g = cc
-
-pub next-yes : (n : List Attribute) (xs : List Held) (ifaces : List ℕ) (i : ℕ) (d : Held) → i < length xs → AreMatched n (take i xs) ifaces → matches n (get_or xs i d).1 ≡ true → AreMatched n (take (i + 1) xs) (ifaces ++ (get_or xs i d).0 ∷ [])
-next-yes n xs ifaces i d l a m = subst (λ (ys : List Held). AreMatched n ys (ifaces ++ (get_or xs i d).0 ∷ [])) (sym (step xs i d l)) (matched-yes n (take i xs) ifaces (get_or xs i d) a m)
-
-pub next-no : (n : List Attribute) (xs : List Held) (ifaces : List ℕ) (i : ℕ) (d : Held) → i < length xs → AreMatched n (take i xs) ifaces → matches n (get_or xs i d).1 ≡ false → AreMatched n (take (i + 1) xs) ifaces
-next-no n xs ifaces i d l a m = subst (λ (ys : List Held). AreMatched n ys ifaces) (sym (step xs i d l)) (matched-no n (take i xs) ifaces (get_or xs i d) a m)
 
 pub to-route : (n : List Attribute) (held : List Held) (ifaces route : List ℕ) → AreMatched n held ifaces → IsStrictlyIncreasing route → ((iface : ℕ) → (Contains route iface → Contains ifaces iface) × (Contains ifaces iface → Contains route iface)) → IsRouteOf n held route
 to-route n held ifaces route a r s = record {

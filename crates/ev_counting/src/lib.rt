@@ -2,8 +2,15 @@
 #![tactic(auto)]
 
 mod change;
+mod count;
+mod counters;
+mod entry;
+mod index;
+mod pairs;
 mod route;
 mod scratch;
+mod shelf;
+mod slots;
 mod table;
 #[cfg(test)]
 mod tests;

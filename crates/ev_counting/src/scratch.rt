@@ -1,10 +1,15 @@
 //! Room that routes are counted in.
+use crate::counters::Counters;
 use std::alloc::Global;
 
 /// Room for the counting of one notice after another. Any table may use it.
+///
+/// It is not cleared between notices, and grows only where a table has more filters or interfaces, or a notice more
+/// hits, than any before.
 #[derive(Drop)]
 pub struct Scratch {
     pub(crate) found: Vec<u32>,
+    pub(crate) counters: Counters,
 }
 
 impl Scratch {
@@ -12,6 +17,7 @@ impl Scratch {
     pub fn new(alloc: Global) -> Scratch {
         Scratch {
             found: Vec::new(alloc),
+            counters: Counters::new(alloc),
         }
     }
 }

@@ -1,164 +1,282 @@
 //! The forwarding table of a server.
-ghost use Rattle.std.specs.Prelude.{◌≡◌, ◌↔◌, ◌⊎◌, ◌<◌, [], ℕ, IfOk, OnOk, OnErr, IfSome, IfNone, IsTrue, length, slice_index_or};
-ghost use Rattle.std.specs.List.{Contains};
-ghost use Rattle.ev_counting.specs.Table.{Held, AreMatched, IsAdded, IsTaken};
+ghost use Rattle.std.specs.Prelude.{◌≡◌, ◌++◌, ◌∷◌, ◌<◌, ◌≤◌, ◌^◌, [], ℕ, List, IfOk, OnOk, OnErr, Some, None, length, slice_set};
+ghost use Rattle.ev_index.specs.Pairs.{Same};
+ghost use Rattle.ev_counting.specs.declared.entry.Entry.{Entry};
+ghost use Rattle.ev_counting.specs.Table.{AreMatched, IsAdded, IsTaken};
+ghost use Rattle.ev_counting.specs.Index.{Use};
+ghost use Rattle.ev_counting.specs.Slots.{held, numbered, uses_from, slot_at, ArePlaced, IsSound};
 
 use crate::change::Change;
+use crate::count::count_hits;
+use crate::entry::Entry;
+use crate::index::Index;
 use crate::route::Route;
 use crate::scratch::Scratch;
+use crate::slots::{has_pair, holds, interface_place, vacate};
+use ev_constraint::Constraint;
 use ev_memory::NoMemory;
 use ev_notice::{Filter, Notice, matches};
 use std::alloc::Global;
 use std::marker::Model;
 
 /// Which interface holds which filter: a set of pairs.
+///
+/// Each filter has a number, its place. The constraints of all filters lie in an index by name, where equal constraints
+/// stand together with the numbers of their filters, so a notice is tested once against each. The table numbers the
+/// interfaces that it was told of, and keeps these numbers; a copy keeps them too.
 #[derive(Drop)]
 pub struct Table {
     alloc: Global,
-    held: Vec<(u32, Filter)>,
+    interfaces: Vec<u32>,
+    slots: Vec<Option<Entry>>,
+    index: Index,
 }
 
 impl Model for Table {
     ghost use Rattle.std.specs.Prelude.{List};
     ghost use Rattle.ev_counting.specs.Table.{Held};
+    ghost use Rattle.ev_counting.specs.Slots.{held, IsSound};
 
     ghost Value = { List Held };
 
-    ghost view = { λ table. table.held.items };
+    ghost view = { λ table. held table.slots.items };
+
+    ghost invariant = { λ table. IsSound table.index table.slots.items table.interfaces.items };
 }
 
-/// Whether two filters are one.
-fn is_same(a: &Filter, b: &Filter) -> bool
-    ensures { IsTrue result ↔ (a.now ≡ b.now) }
+/// Takes a filter's constraints out of the index.
+fn withdraw(index: &mut Index, constraints: &[Constraint], id: u32)
+    ensures { (rest : List Use) → Same index.old (numbered id constraints.now ++ rest) → Same index.new rest }
 {
-    !a.is_before(b) && !b.is_before(a)
+    for constraint in constraints {
+        let _there = index.remove(constraint, id);
+    }
 }
 
-/// Whether a pair is this one.
-fn is_pair(pair: &(u32, Filter), iface: u32, filter: &Filter) -> bool
-    ensures { IsTrue result ↔ (pair.now ≡ (iface, filter.now)) }
+/// Puts a filter's constraints into the index: all, or none.
+fn enter(index: &mut Index, constraints: &[Constraint], id: u32) -> Result<(), NoMemory>
+    ensures entered { OnOk result (Same index.new (numbered id constraints.now ++ index.old)) }
+    ensures err { OnErr result (Same index.new index.old) }
 {
-    pair.0 == iface && is_same(&pair.1, filter)
-}
-
-/// The place of a pair.
-fn place(held: &[(u32, Filter)], iface: u32, filter: &Filter) -> Option<usize>
-    ensures some { IfSome result (λ i. (i < length held.now) × ((d : Held) → slice_index_or held.now i d ≡ (iface, filter.now))) }
-    ensures none { IfNone result (Contains held.now (iface, filter.now) → ⊥) }
-{
-    for (i, pair) in held.iter().enumerate() {
-        if is_pair(pair, iface, filter) {
-            return Some(i);
+    for (i, constraint) in constraints.iter().enumerate() {
+        if let Err(fault) = index.add(constraint, id) {
+            withdraw(index, &constraints[..i], id);
+            return Err(fault);
         }
     }
-    None
+    Ok(())
+}
+
+/// Adds a pair that is not there.
+fn add(
+    alloc: Global,
+    interfaces: &mut Vec<u32>,
+    slots: &mut Vec<Option<Entry>>,
+    index: &mut Index,
+    iface: u32,
+    filter: &Filter,
+) -> Result<(), NoMemory>
+    requires { IsSound index.old slots.old.items interfaces.old.items }
+    ensures sound { IsSound index.new slots.new.items interfaces.new.items }
+    ensures added { OnOk result (IsAdded (held slots.old.items) (held slots.new.items) (iface, filter.now)) }
+    ensures err { OnErr result (held slots.new.items ≡ held slots.old.items) }
+{
+    let copy = filter.copy(alloc)?;
+    let place = interface_place(interfaces, iface)?;
+    let id = vacate(slots)?;
+    enter(index, filter.constraints(), id)?;
+    slots[id as usize] = Some(Entry {
+        iface,
+        place,
+        filter: copy,
+    });
+    Ok(())
+}
+
+/// Sets the place of a filter free.
+fn free(slots: &mut Vec<Option<Entry>>, index: &mut Index, i: usize, filter: &Filter)
+    requires within { i < length slots.old.items }
+    requires few { length slots.old.items ≤ 2 ^ 32 }
+    ensures free { slots.new.items ≡ slice_set slots.old.items i None }
+    ensures index { (rest : List Use) → Same index.old (numbered i filter.now ++ rest) → Same index.new rest }
+{
+    withdraw(index, filter.constraints(), i as u32);
+    slots[i] = None;
+}
+
+/// Takes a pair away.
+fn take(slots: &mut Vec<Option<Entry>>, index: &mut Index, iface: u32, filter: &Filter)
+    requires { (length slots.old.items ≤ 2 ^ 32) × Same index.old (uses_from 0 slots.old.items) }
+    ensures few { length slots.new.items ≤ 2 ^ 32 }
+    ensures indexed { Same index.new (uses_from 0 slots.new.items) }
+    ensures placed { (k : ℕ) → (e : Entry) → slot_at slots.new.items k ≡ Some e → slot_at slots.old.items k ≡ Some e }
+    ensures taken { IsTaken (held slots.old.items) (held slots.new.items) (iface, filter.now) }
+{
+    for i in 0..slots.len() {
+        if has_pair(&slots[i], iface, filter) {
+            free(slots, index, i, filter);
+        }
+    }
+}
+
+/// Appends an entry like this one.
+fn append(
+    alloc: Global,
+    slots: &mut Vec<Option<Entry>>,
+    index: &mut Index,
+    entry: &Entry,
+) -> Result<(), NoMemory>
+    ensures few { OnOk result (length slots.old.items < 2 ^ 32) }
+    ensures appended { OnOk result (slots.new.items ≡ slots.old.items ++ Some entry.now ∷ []) }
+    ensures indexed { OnOk result (Same index.new (numbered (length slots.old.items) entry.now.filter ++ index.old)) }
+{
+    let Ok(id) = u32::try_from(slots.len()) else {
+        return Err(NoMemory);
+    };
+    let filter = entry.filter.copy(alloc)?;
+    enter(index, filter.constraints(), id)?;
+    slots.push(Some(Entry {
+        iface: entry.iface,
+        place: entry.place,
+        filter,
+    }))?;
+    Ok(())
+}
+
+/// The same entries, without the free places between them, with an index of their constraints.
+fn copied(
+    alloc: Global,
+    slots: &[Option<Entry>],
+) -> Result<(Vec<Option<Entry>>, Index), NoMemory>
+    ensures few { IfOk result (λ copy. length copy.0.items ≤ 2 ^ 32) }
+    ensures same { IfOk result (λ copy. held copy.0.items ≡ held slots.now) }
+    ensures indexed { IfOk result (λ copy. Same copy.1 (uses_from 0 copy.0.items)) }
+    ensures placed { IfOk result (λ copy. (interfaces : List ℕ) → ArePlaced interfaces slots.now → ArePlaced interfaces copy.0.items) }
+{
+    let mut copy = Vec::new(alloc);
+    let mut index = Index::new(alloc);
+    for slot in slots {
+        if let Some(entry) = slot {
+            append(alloc, &mut copy, &mut index, entry)?;
+        }
+    }
+    Ok((copy, index))
 }
 
 /// The interfaces of the pairs whose filter the notice matches, as often as they have one.
-fn matched(alloc: Global, held: &[(u32, Filter)], notice: &Notice) -> Result<Vec<u32>, NoMemory>
-    ensures { IfOk result (λ ifaces. AreMatched notice.now held.now ifaces.items) }
+fn matched(
+    alloc: Global,
+    slots: &[Option<Entry>],
+    notice: &Notice,
+) -> Result<Vec<u32>, NoMemory>
+    ensures { IfOk result (λ ifaces. AreMatched notice.now (held slots.now) ifaces.items) }
 {
     let mut ifaces = Vec::new(alloc);
-    for pair in held {
-        if matches(&pair.1, notice) {
-            ifaces.push(pair.0)?;
+    for slot in slots {
+        if let Some(entry) = slot {
+            if matches(&entry.filter, notice) {
+                ifaces.push(entry.iface)?;
+            }
         }
     }
     Ok(ifaces)
 }
 
-/// The same pairs.
-fn copied(alloc: Global, held: &[(u32, Filter)]) -> Result<Vec<(u32, Filter)>, NoMemory>
-    ensures { IfOk result (λ copy. copy.items ≡ held.now) }
-{
-    let mut copy = Vec::new(alloc);
-    for (iface, filter) in held {
-        let filter = filter.copy(alloc)?;
-        copy.push((*iface, filter))?;
-    }
-    Ok(copy)
-}
-
-/// Adds a pair.
-fn add(
-    alloc: Global,
-    held: &mut Vec<(u32, Filter)>,
-    iface: u32,
-    filter: &Filter,
-) -> Result<(), NoMemory>
-    ensures added { OnOk result (IsAdded held.old.items held.new.items (iface, filter.now)) }
-    ensures err { OnErr result (held.new.items ≡ held.old.items) }
-{
-    match place(held, iface, filter) {
-        Some(_) => Ok(()),
-        None => {
-            let filter = filter.copy(alloc)?;
-            held.push((iface, filter))?;
-            Ok(())
-        }
-    }
-}
-
-/// Takes a pair away.
-fn take(held: &mut Vec<(u32, Filter)>, iface: u32, filter: &Filter)
-    ensures { IsTaken held.old.items held.new.items (iface, filter.now) }
-{
-    while let Some(i) = place(held, iface, filter) {
-        held.remove(i);
-    }
-}
-
 impl Table {
     ghost use Rattle.ev_counting.specs.Table.{IsApplied, IsRouteOf};
 
-    /// A table of no pairs.
+    /// A table of no pairs. It takes no memory.
     pub fn new(alloc: Global) -> Table
         ensures { result ≡ [] }
     {
         Table {
             alloc,
-            held: Vec::new(alloc),
+            interfaces: Vec::new(alloc),
+            slots: Vec::new(alloc),
+            index: Index::new(alloc),
         }
     }
 
     /// Adds a pair or takes one away. Where the pair is there already, or is not there, nothing changes.
+    ///
+    /// It looks at each pair once, and at the constraints of the change's filter alone.
     pub fn apply(&mut self, change: &Change) -> Result<(), NoMemory>
         ensures applied { OnOk result (IsApplied change.now self.old self.new) }
         ensures err { OnErr result (self.new ≡ self.old) }
     {
         match change {
-            Change::Add { iface, filter } => add(self.alloc, &mut self.held, *iface, filter),
+            Change::Add { iface, filter } => self.add(*iface, filter),
             Change::Remove { iface, filter } => {
-                take(&mut self.held, *iface, filter);
+                self.take(*iface, filter);
                 Ok(())
             }
         }
+    }
+
+    /// Adds a pair.
+    fn add(&mut self, iface: u32, filter: &Filter) -> Result<(), NoMemory>
+        ensures added { OnOk result (IsAdded self.old self.new (iface, filter.now)) }
+        ensures err { OnErr result (self.new ≡ self.old) }
+    {
+        if holds(&self.slots, iface, filter) {
+            return Ok(());
+        }
+        add(
+            self.alloc,
+            &mut self.interfaces,
+            &mut self.slots,
+            &mut self.index,
+            iface,
+            filter,
+        )
+    }
+
+    /// Takes a pair away.
+    fn take(&mut self, iface: u32, filter: &Filter)
+        ensures { IsTaken self.old self.new (iface, filter.now) }
+    {
+        take(&mut self.slots, &mut self.index, iface, filter)
     }
 
     /// A table of the same pairs.
     pub fn copy(&self) -> Result<Table, NoMemory>
         ensures { IfOk result (λ table. table ≡ self.now) }
     {
-        let held = copied(self.alloc, &self.held)?;
+        let interfaces = Vec::from_slice(self.alloc, &self.interfaces)?;
+        let (slots, index) = copied(self.alloc, &self.slots)?;
         Ok(Table {
             alloc: self.alloc,
-            held,
+            interfaces,
+            slots,
+            index,
         })
     }
 
-    /// The interfaces with a filter that the notice matches.
+    /// The interfaces with a filter that the notice matches. After the scratch's first growth it takes memory for its
+    /// answer alone.
     pub fn route(&self, notice: &Notice, scratch: &mut Scratch) -> Result<Route, NoMemory>
         ensures { IfOk result (IsRouteOf notice.now self.now) }
     {
         scratch.found.clear();
-        self.plain_route(notice)
+        self.index.hits(notice, &mut scratch.found)?;
+        scratch
+            .counters
+            .begin(self.slots.len(), self.interfaces.len())?;
+        let ifaces = count_hits(
+            self.alloc,
+            &self.slots,
+            &self.interfaces,
+            &scratch.found,
+            &mut scratch.counters,
+        )?;
+        Ok(Route::to(ifaces))
     }
 
     /// The same, by a test of each filter.
     pub fn plain_route(&self, notice: &Notice) -> Result<Route, NoMemory>
         ensures { IfOk result (IsRouteOf notice.now self.now) }
     {
-        let ifaces = matched(self.alloc, &self.held, notice)?;
+        let ifaces = matched(self.alloc, &self.slots, notice)?;
         Ok(Route::to(ifaces))
     }
 }

@@ -1,8 +1,7 @@
 -- A key says the test that it is made of.
-use Rattle.std.proofs.Common.{◌≡◌, ap, ◌∙◌, ℕ, Bool, true, false, refl, sym, List, [], ◌∷◌, Option}
+use Rattle.std.proofs.Common.{◌≡◌, ap, ◌∙◌, ℕ, refl, sym, List, [], ◌∷◌, Option}
 use Rattle.std.specs.Prelude.{Some, None}
 use Rattle.ev_values.specs.declared.value.Value.{Value}
-use Rattle.ev_values.specs.declared.value.Kind.{Kind}
 use Rattle.ev_values.specs.declared.value.Kind.TheVariants as kinds
 use Rattle.ev_values.specs.declared.value.Value.TheVariants as values
 use Rattle.ev_constraint.specs.declared.op.Op.{Op}

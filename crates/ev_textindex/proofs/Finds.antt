@@ -1,5 +1,5 @@
 -- Where a pair stands among the rows.
-use Rattle.std.proofs.Common.{◌≡◌, ◌<◌, ◌≤◌, ◌==◌, ◌&&◌, ◌∙◌, ap, sym, refl, ℕ, Bool, true, false, arith, List, [], ◌∷◌, ◌++◌, ◌+◌, length, get_or, zero, suc, cond}
+use Rattle.std.proofs.Common.{◌≡◌, ◌<◌, ◌≤◌, ◌==◌, ◌&&◌, ◌∙◌, ap, sym, ℕ, Bool, true, arith, List, [], ◌∷◌, ◌++◌, ◌+◌, length, get_or, zero, suc, cond}
 use Rattle.std.proofs.Common.{subst}
 use Rattle.std.proofs.Math.ListN.{set}
 use Rattle.std.specs.Prelude.{Vec}

@@ -3,3 +3,4 @@ pub mod Codes
 pub mod Finds
 pub mod Meets
 pub mod Said
+pub mod Appended

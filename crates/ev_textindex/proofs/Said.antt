@@ -1,9 +1,9 @@
 -- Ids with the tests of their keys, and ids with the bytes of their keys.
-use Rattle.std.proofs.Common.{◌≡◌, ◌∙◌, ap, sym, refl, ℕ, Bool, List, [], ◌∷◌, ◌++◌, map, arith}
+use Rattle.std.proofs.Common.{◌≡◌, ◌∙◌, ap, refl, ℕ, Bool, List, [], ◌∷◌, ◌++◌, map}
 use Rattle.std.specs.Prelude.{Vec}
 use Rattle.std.specs.declared.alloc.Global.{Global}
 use Rattle.ev_constraint.specs.declared.op.Op.{Op}
-use Rattle.ev_index.specs.Pairs.{tally, Pair, Test}
+use Rattle.ev_index.specs.Pairs.{tally, Pair}
 use Rattle.ev_index.specs.Groups.{keyed, under}
 use Rattle.ev_index.proofs.Tallies.{tally-map}
 use Rattle.ev_textindex.specs.Keys.{test_at, bytes_of}

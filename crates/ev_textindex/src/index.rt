@@ -25,9 +25,9 @@ impl Model for TextIndex {
 }
 
 impl TextIndex {
-    ghost use Rattle.std.specs.Prelude.{◌≡◌, ◌++◌, ◌∷◌, [], true, false, OnOk, OnErr};
+    ghost use Rattle.std.specs.Prelude.{◌≡◌, ◌∷◌, [], true, false, OnOk, OnErr};
     ghost use Rattle.ev_values.specs.declared.value.Kind.{Kind};
-    ghost use Rattle.ev_index.specs.Pairs.{Same, IsIn, test_of, ids_met};
+    ghost use Rattle.ev_index.specs.Pairs.{Same, Appends, IsIn, test_of, ids_met};
 
     /// An index of nothing.
     pub fn new(alloc: Global) -> TextIndex
@@ -73,7 +73,7 @@ impl TextIndex {
 
     /// Appends the ids of the pairs whose constraint the value satisfies.
     pub fn hits(&self, value: &Value, found: &mut Vec<u32>) -> Result<(), NoMemory>
-        ensures { OnOk result (found.new.items ≡ found.old.items ++ ids_met value.now self.now) }
+        ensures { OnOk result (Appends found.old.items found.new.items (ids_met value.now self.now)) }
     {
         match value {
             Value::Str(text) => walk(&self.rows, text.bytes(), found),

@@ -1,21 +1,23 @@
-use Rattle.std.proofs.Common.{◌≡◌, ◌+◌, ◌∙◌, ap, sym, subst, Bool, ℕ, List, [], ◌∷◌, ◌++◌, take, get_or}
+use Rattle.std.proofs.Common.{◌≡◌, ◌+◌, ◌∙◌, ap, sym, subst, Bool, ℕ, List, [], ◌∷◌, ◌++◌, take, get_or, Some, None}
 use Rattle.ev_notice.specs.Cover.{matches}
 use Rattle.ev_counting.specs.Table.{Held, AreMatched}
-use Rattle.ev_counting.proofs.Sets.{next-yes, next-no}
-use Rattle.ev_counting.proofs.table.matched.Goals.{then-matches+in_ok-push, else-matches}
+use Rattle.ev_counting.specs.Slots.{held}
+use Rattle.ev_counting.proofs.Places.{stands-here}
+use Rattle.ev_counting.proofs.Sound.{next-yes, next-no, next-none}
+use Rattle.ev_counting.proofs.table.matched.Goals.{in-Some+then-matches+in_ok-push, in-Some+else-matches, in_default}
 use Rattle.ev_counting.proofs.table.matched.Goals as goal
 
-pub loop-pair-preserved : goal.loop-pair-preserved
-loop-pair-preserved c =
+pub loop-slot-preserved : goal.loop-slot-preserved
+loop-slot-preserved c =
     let n = c.args.notice.now in
-    let held = c.args.held.now in
-    let i = c.loop-pair.pair-index in
-    let pair = c.pair-item.result in
-    let here : matches n (get_or held i pair).1 ≡ c.matches.result = ap {B = Bool} (λ (x : Held). matches n x.1) (sym c.pair-item.is) ∙ sym c.matches.ensures in
-    elim c.if-matches.branch [
-      | then-matches+in_ok-push w ↦ (
-          let a = next-yes n held c.loop-pair.ifaces.items i pair c.loop-pair-test.true c.loop-pair.invariant (here ∙ w.if-matches.true) in
-          let b : w.push.new.self.items ≡ c.loop-pair.ifaces.items ++ (get_or held i pair).0 ∷ [] = w.in_ok-push.ensures.items ∙ ap {B = List ℕ} (λ (x : Held). c.loop-pair.ifaces.items ++ x.0 ∷ []) c.pair-item.is in
-          rw w.ifaces-is (subst (AreMatched n (take (i + 1) held)) (sym b) a))
-      | else-matches w ↦ (rw w.ifaces-is (next-no n held c.loop-pair.ifaces.items i pair c.loop-pair-test.true c.loop-pair.invariant (here ∙ w.if-matches.false)))
+    let slots = c.args.slots.now in
+    let i = c.loop-slot.slot-index in
+    let l = c.loop-slot-test.true in
+    let here = stands-here slots i c.slot-item.result None l c.slot-item.is in
+    elim c.match-slot.branch [
+      | in-Some+then-matches+in_ok-push w ↦ (
+          let a = next-yes n slots c.loop-slot.ifaces.items i w.in-Some.entry l (here ∙ w.in-Some.is) (sym w.matches.ensures ∙ w.if-matches.true) c.loop-slot.invariant in
+          rw w.ifaces-is (subst (AreMatched n (held (take (i + 1) slots))) (sym w.in_ok-push.ensures.items) a))
+      | in-Some+else-matches w ↦ rw w.ifaces-is (next-no n slots c.loop-slot.ifaces.items i w.in-Some.entry l (here ∙ w.in-Some.is) (sym w.matches.ensures ∙ w.if-matches.false) c.loop-slot.invariant)
+      | in_default w ↦ rw w.ifaces-is (next-none n slots c.loop-slot.ifaces.items i l (here ∙ w.in_default.is) c.loop-slot.invariant)
     ]

@@ -1,10 +1,29 @@
-use Rattle.std.proofs.Common.{sym, subst, List}
+use Rattle.std.proofs.Common.{◌≡◌, ◌+◌, ◌<◌, ◌≤◌, arith, sym, subst, List, length, None}
+use Rattle.std.proofs.Math.ListN.{set}
+use Rattle.ev_counting.specs.Slots.{Slot, HasPair, slot_at}
 use Rattle.ev_counting.specs.Table.{Held}
-use Rattle.ev_counting.proofs.Sets.{Falls, falls-more}
+use Rattle.ev_counting.proofs.Places.{stands-here}
+use Rattle.ev_counting.proofs.Sound.{Taking, taking-free, taking-pass, taking-end, differ}
+use Rattle.ev_counting.proofs.table.take.Goals.{then-has_pair, else-has_pair}
 use Rattle.ev_counting.proofs.table.take.Goals as goal
 
 pub loop-i-preserved : goal.loop-i-preserved
 loop-i-preserved c =
+    let old = c.args.slots.now.items in
+    let now = c.loop-i.slots.items in
+    let i = c.loop-i.i in
     let pair : Held = (c.args.iface, c.args.filter.now) in
-    let f = falls-more c.args.held.now.items c.loop-i.held.items pair c.in-Some.i c.loop-i.invariant (rw c.deref.ensures.value at c.in-Some.ensures.some.0) (rw c.deref.ensures.value at c.in-Some.ensures.some.1) in
-    subst (λ (xs : List Held). Falls c.args.held.now.items xs pair) (sym c.remove.ensures.items) f
+    let l : i < length now = omega (arith, c.loop-i-test.true, c.len-i-end.ensures, c.loop-i.invariant.size) in
+    let here = stands-here now i c.index.result.now None l c.index.ensures in
+    elim c.if-has_pair.branch [
+      | then-has_pair w ↦ (
+          let t = taking-free old now c.loop-i.index w.free.new.index pair i l (rw here (c.has_pair.ensures.0 w.if-has_pair.true)) w.free.ensures.index c.loop-i.invariant in
+          rw (w.slots-is, w.index-is) (subst (λ (xs : List Slot). Taking old xs w.free.new.index pair (i + 1)) (sym w.free.ensures.free) t))
+      | else-has_pair w ↦ (
+          rw (w.slots-is, w.index-is) (taking-pass old now c.loop-i.index pair i (λ h. differ c.has_pair.result (c.has_pair.ensures.1 (rw (sym here) h)) w.if-has_pair.false) c.loop-i.invariant))
+    ]
+
+pub returns-clause-taken : goal.returns-clause-taken
+returns-clause-taken c =
+    let end : length c.args.slots.now.items ≤ c.loop-i.i = omega (arith, c.loop-i-test.false, c.len-i-end.ensures) in
+    taking-end c.args.slots.now.items c.loop-i.slots.items c.loop-i.index (c.args.iface, c.args.filter.now) c.loop-i.i end c.loop-i.invariant

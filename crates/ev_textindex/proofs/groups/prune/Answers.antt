@@ -4,7 +4,7 @@ use Rattle.std.specs.declared.alloc.Global.{Global}
 use Rattle.std.proofs.Common.{ap, ◌∙◌, sym, arith}
 use Rattle.std.proofs.lemmas.Bool.Decides.{nat_tests}
 use Rattle.ev_index.proofs.Keyed.{keyed-drop}
-use Rattle.ev_textindex.specs.Keys.{same_bytes, at_key, key_cmp, bytes_of}
+use Rattle.ev_textindex.specs.Keys.{at_key, bytes_of}
 use Rattle.std.specs.Option.{option_copied}
 use Rattle.ev_textindex.proofs.Keys.{same-one, empty}
 use Rattle.ev_textindex.proofs.groups.prune.Goals as goal

@@ -1,7 +1,4 @@
 use Rattle.std.proofs.Common.{sym, ap, ◌∙◌, arith, ℕ, List, ◌∷◌, ◌++◌}
-use Rattle.std.proofs.lemmas.Int.{to_z-of_z}
-use Rattle.std.specs.Int.{w64}
-use Rattle.std.proofs.Common.{rules}
 use Rattle.std.proofs.Common.{◌≡◌, ◌+◌, subst, cond, None}
 use Rattle.std.specs.Map.{lookup}
 use Rattle.ev_index.specs.Pairs.{tally}
@@ -11,7 +8,7 @@ use Rattle.std.specs.Prelude.{Vec, []}
 use Rattle.std.specs.declared.alloc.Global.{Global}
 use Rattle.std.specs.BTreeMap.{BTreeMap, insert_entry}
 use Rattle.ev_index.proofs.Keyed.{keyed-new, keyed-push, keyed-same}
-use Rattle.ev_textindex.specs.Keys.{same_bytes, at_key, key_cmp, bytes_of}
+use Rattle.ev_textindex.specs.Keys.{at_key, key_cmp, bytes_of}
 use Rattle.ev_textindex.proofs.Keys.{same-one}
 use Rattle.ev_textindex.proofs.groups.put.Goals as goal
 

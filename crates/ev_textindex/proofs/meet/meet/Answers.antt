@@ -1,4 +1,4 @@
-use Rattle.std.proofs.Common.{◌≡◌, refl}
+use Rattle.std.proofs.Common.{refl}
 use Rattle.ev_values.specs.declared.value.Value.TheVariants as values
 use Rattle.ev_index.specs.Pairs.{passes}
 use Rattle.ev_index.proofs.Rows.{met-keyed}

@@ -1,4 +1,4 @@
-use Rattle.std.proofs.Common.{◌≡◌, ◌∙◌, ap, arith, rules, ℕ, List, cond, ◌+◌}
+use Rattle.std.proofs.Common.{◌≡◌, ◌∙◌, ap, arith, ℕ, List, cond, ◌+◌}
 use Rattle.std.proofs.lemmas.Result.{on_ok_weaker, on_err_weaker}
 use Rattle.ev_index.specs.Pairs.{tally, test_of, Test}
 use Rattle.ev_index.proofs.Rows.{flat-push}

@@ -1,4 +1,4 @@
-use Rattle.std.proofs.Common.{◌≡◌, ◌∙◌, ap, sym, refl, subst, rules}
+use Rattle.std.proofs.Common.{◌≡◌, ◌∙◌, ap, sym, refl, subst}
 use Rattle.ev_index.specs.Pairs.{tally, test_of, IsIn}
 use Rattle.ev_textindex.specs.declared.row.Row.{Row}
 use Rattle.ev_textindex.specs.Keys.{key_of}

@@ -1,4 +1,4 @@
-use Rattle.std.proofs.Common.{◌≡◌, ◌∙◌, ap, sym, arith, ℕ, List, map}
+use Rattle.std.proofs.Common.{◌∙◌, ap, sym, arith, ℕ, List, map}
 use Rattle.std.proofs.lemmas.Result.{on_ok_weaker, on_err_weaker}
 use Rattle.ev_index.specs.Pairs.{Pair}
 use Rattle.ev_textindex.specs.Keys.{test_at}

@@ -1,4 +1,4 @@
-use Rattle.std.proofs.Common.{◌≡◌, arith}
+use Rattle.std.proofs.Common.{arith}
 use Rattle.ev_textindex.specs.Keys.{test_at}
 use Rattle.ev_textindex.proofs.Said.{tally-tests}
 use Rattle.ev_textindex.proofs.row.Row.take.Goals as goal

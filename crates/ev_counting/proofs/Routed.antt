@@ -1,0 +1,113 @@
+-- What is counted is what matches.
+use Rattle.std.proofs.Common.{◌≡◌, ◌+◌, ◌≤◌, ◌<◌, ◌==◌, ◌&&◌, ◌∙◌, refl, sym, ap, subst, arith, ℕ, Bool, true, false, cond, List, [], ◌∷◌, ◌++◌, length, get_or, zero, suc, Some, None}
+use Rattle.std.proofs.lemmas.Bool.Decides.{nat_tests}
+use Rattle.std.specs.List.{Contains, list_all}
+use Rattle.ev_constraint.specs.Constraint.{ConstraintParts}
+use Rattle.ev_notice.specs.Notice.{Attribute}
+use Rattle.ev_notice.specs.Cover.{matches}
+use Rattle.ev_index.specs.Pairs.{tally, Same, Appends}
+use Rattle.ev_index.proofs.Tallies.{tally-append, tally-map, tally-agree, tally-none, tally-le}
+use Rattle.ev_counting.specs.declared.entry.Entry.{Entry}
+use Rattle.ev_counting.specs.Table.{Held, AreMatched, IsMatched}
+use Rattle.ev_counting.specs.Index.{Use, is_satisfied, ids_satisfied}
+use Rattle.ev_counting.specs.Slots.{Slot, pair_of, held, slot_at, constraints_in, numbered, uses_from}
+use Rattle.ev_counting.specs.Counting.{IsFull, AreFull}
+use Rattle.ev_counting.proofs.Satisfied.{tally-satisfied}
+use Rattle.ev_counting.proofs.Places.{held-at, held-from}
+
+-- the uses of a filter that are satisfied and have this number
+abbrev met : List Attribute → ℕ → Use → Bool
+met n k = λ u. is_satisfied n u.0 && u.1 == k
+
+met-own : (n : List Attribute) (i : ℕ) (cs : List ConstraintParts) → tally (met n i) (numbered i cs) ≡ tally (is_satisfied n) cs
+met-own n i cs = tally-map (λ (c : ConstraintParts). (c, i)) (met n i) cs ∙ tally-agree (λ c. is_satisfied n c && i == i) (is_satisfied n) cs (λ c. own (is_satisfied n c))
+  where
+    own : (b : Bool) → (b && i == i) ≡ b
+    own b = grind (arith, nat_tests)
+
+met-other : (n : List Attribute) (i k : ℕ) (cs : List ConstraintParts) → (i == k) ≡ false → tally (met n k) (numbered i cs) ≡ 0
+met-other n i k cs h = tally-map (λ (c : ConstraintParts). (c, i)) (met n k) cs ∙ tally-none (λ c. is_satisfied n c && i == k) cs (λ c. other (is_satisfied n c))
+  where
+    other : (b : Bool) → (b && i == k) ≡ false
+    other true = h
+    other false = refl
+
+past : (n : List Attribute) (j : ℕ) → tally (is_satisfied n) (constraints_in (slot_at [] j)) ≡ 0
+past n zero = refl
+past n (suc j) = refl
+
+met-before : (n : List Attribute) (i k : ℕ) (slots : List Slot) → k < i → tally (met n k) (uses_from i slots) ≡ 0
+met-before n i k [] h = refl
+met-before n i k (s ∷ slots) h =
+    let o : (i == k) ≡ false = grind (arith, nat_tests) in
+    omega (arith, tally-append (met n k) (numbered i (constraints_in s)) (uses_from (suc i) slots), met-other n i k (constraints_in s) o, met-before n (suc i) k slots (omega (arith, h)))
+
+met-at : (n : List Attribute) (i j : ℕ) (slots : List Slot) → tally (met n (i + j)) (uses_from i slots) ≡ tally (is_satisfied n) (constraints_in (slot_at slots j))
+met-at n i j [] = sym (past n j)
+met-at n i zero (s ∷ slots) =
+    let z : i + 0 ≡ i = omega arith in
+    let a = tally-append (met n i) (numbered i (constraints_in s)) (uses_from (suc i) slots) in
+    let b = met-own n i (constraints_in s) in
+    let c = met-before n (suc i) i slots (omega arith) in
+    let d = ap {B = ℕ} (λ k. tally (met n k) (uses_from i (s ∷ slots))) z in
+    omega (arith, a, b, c, d)
+met-at n i (suc j) (s ∷ slots) =
+    let z : i + suc j ≡ suc i + j = omega arith in
+    let o : (i == suc i + j) ≡ false = grind (arith, nat_tests) in
+    let a = tally-append (met n (suc i + j)) (numbered i (constraints_in s)) (uses_from (suc i) slots) in
+    let b = met-other n i (suc i + j) (constraints_in s) o in
+    let c = met-at n (suc i) j slots in
+    let d = ap {B = ℕ} (λ k. tally (met n k) (uses_from i (s ∷ slots))) z in
+    omega (arith, a, b, c, d)
+
+-- the hits name a filter as often as it has constraints that the notice satisfies
+pub hits-tell : (n : List Attribute) (slots : List Slot) (index : List Use) (found : List ℕ) → Same index (uses_from 0 slots) → Appends [] found (ids_satisfied n index) → (k : ℕ) → tally (λ x. x == k) found ≡ tally (is_satisfied n) (constraints_in (slot_at slots k))
+hits-tell n slots index found same app k =
+    let q = λ (x : ℕ). x == k in
+    let a = ap {B = ℕ} (tally q) app.whole in
+    let b = app.same q in
+    let c = tally-satisfied q n index in
+    let d = same (met n k) in
+    let e = met-at n 0 k slots in
+    let z : 0 + k ≡ k = omega arith in
+    let f = ap {B = ℕ} (λ j. tally (met n j) (uses_from 0 slots)) z in
+    omega (arith, a, b, c, d, e, f)
+
+-- a filter is matched where as many of its constraints are satisfied as it has
+all-count : {X : Type 0} (p : X → Bool) (xs : List X) → list_all p xs ≡ true → length xs ≤ tally p xs
+all-count p [] h = omega arith
+all-count p (x ∷ xs) h = go (p x) refl h (all-count p xs)
+  where
+    go : (b : Bool) → p x ≡ b → (b && list_all p xs) ≡ true → (list_all p xs ≡ true → length xs ≤ tally p xs) → length (x ∷ xs) ≤ tally p (x ∷ xs)
+    go true e g r = omega (arith, r g, ap {B = ℕ} (λ b. cond b 1 0) e)
+    go false e g r = cc
+
+count-all : {X : Type 0} (p : X → Bool) (xs : List X) → length xs ≤ tally p xs → list_all p xs ≡ true
+count-all p [] h = refl
+count-all p (x ∷ xs) h = go (p x) refl (count-all p xs)
+  where
+    go : (b : Bool) → p x ≡ b → (length xs ≤ tally p xs → list_all p xs ≡ true) → (b && list_all p xs) ≡ true
+    go true e r = r (omega (arith, h, ap {B = ℕ} (λ b. cond b 1 0) e))
+    go false e r = absurd (omega (arith, h, tally-le p xs, ap {B = ℕ} (λ b. cond b 1 0) e))
+
+matches-count : (n : List Attribute) (f : List ConstraintParts) → matches n f ≡ true → length f ≤ tally (is_satisfied n) f
+unfolding matches
+matches-count n f h = all-count (is_satisfied n) f h
+
+count-matches : (n : List Attribute) (f : List ConstraintParts) → length f ≤ tally (is_satisfied n) f → matches n f ≡ true
+unfolding matches
+count-matches n f h = count-all (is_satisfied n) f h
+
+pub full-matched : (n : List Attribute) (slots : List Slot) (found ifaces : List ℕ) → ((k : ℕ) → tally (λ x. x == k) found ≡ tally (is_satisfied n) (constraints_in (slot_at slots k))) → AreFull slots found ifaces → AreMatched n (held slots) ifaces
+full-matched n slots found ifaces tell a = record {
+  sound = λ iface h. (
+    let f = a.sound iface h in
+    let t : tally (λ x. x == f.id) found ≡ tally (is_satisfied n) f.entry.filter = tell f.id ∙ ap {B = ℕ} (λ s. tally (is_satisfied n) (constraints_in s)) f.there in
+    (f.entry.filter, subst (λ j. Contains (held slots) (j, f.entry.filter)) f.mine (held-at slots f.id f.entry f.there), count-matches n f.entry.filter (omega (arith, t, f.full))));
+  whole = λ iface h. (
+    let s = held-from slots (iface, h.0) h.1 in
+    let t : tally (λ x. x == s.place) found ≡ tally (is_satisfied n) s.entry.filter = tell s.place ∙ ap {B = ℕ} (λ x. tally (is_satisfied n) (constraints_in x)) s.there in
+    let m : s.entry.filter ≡ h.0 = ap {B = List ConstraintParts} (λ (x : Held). x.1) s.mine in
+    let c = matches-count n s.entry.filter (rw m h.2) in
+    a.whole iface (record { id = s.place; entry = s.entry; there = s.there; mine = ap {B = ℕ} (λ (x : Held). x.0) s.mine; full = omega (arith, c, t) }));
+}
