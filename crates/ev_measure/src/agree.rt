@@ -94,7 +94,7 @@ impl Trial {
     fn new(alloc: Global, seed: u64, tally: Tally) -> Result<Trial, Fault> {
         let mut random = Random::seeded(seed);
         let plan = small_plan(&mut random);
-        let maker = Maker::new(alloc, seed, plan)?;
+        let maker = Maker::new(alloc, random.next(), plan)?;
         Ok(Trial {
             alloc,
             random,

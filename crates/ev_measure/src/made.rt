@@ -66,10 +66,13 @@ const OPS: [Op; 10] = [
     Op::Contains,
 ];
 
+/// The operators of a workload of texts.
 const PATTERN_OPS: [Op; 4] = [Op::Prefix, Op::Suffix, Op::Contains, Op::Eq];
 
+/// Numbers at the ends of int, and about nought.
 const END_NUMBERS: [i64; 6] = [i64::MIN, i64::MIN + 1, -1, 0, i64::MAX - 1, i64::MAX];
 
+/// The empty text, a text of one byte, one of one letter in two bytes, and one that is no piece of a word.
 const END_TEXTS: [&[u8]; 4] = [b"", b"b", b"\xC3\xA9", b"zz"];
 
 /// Makes filters and notices.
@@ -136,6 +139,7 @@ impl Maker {
         }
     }
 
+    /// An operator of the kind, as often as the workload has it.
     fn op(&mut self, kind: Kind) -> Op {
         let count = op_count(kind);
         match self.plan.subject {
@@ -146,10 +150,12 @@ impl Maker {
         }
     }
 
+    /// Whether the next number or text is at an end of its kind.
     fn is_end(&mut self) -> bool {
         self.plan.ends && self.random.once_in(8)
     }
 
+    /// A number.
     fn number(&mut self) -> i64 {
         if self.is_end() {
             *self.random.pick(&END_NUMBERS)
@@ -158,6 +164,7 @@ impl Maker {
         }
     }
 
+    /// A text of a notice.
     fn text(&mut self) -> Result<Text, Fault> {
         if self.is_end() {
             return Ok(Text::read(self.alloc, self.random.pick(&END_TEXTS))?);
@@ -167,6 +174,7 @@ impl Maker {
         Ok(Text::read(self.alloc, &bytes)?)
     }
 
+    /// A value of the kind.
     fn value(&mut self, kind: Kind) -> Result<Value, Fault> {
         Ok(match kind {
             Kind::Bool => Value::Bool(self.random.once_in(2)),
@@ -175,17 +183,20 @@ impl Maker {
         })
     }
 
+    /// A piece of a word.
     fn pattern(&mut self, place: Place) -> Result<Value, Fault> {
         let word = self.words.one(&mut self.random);
         let bytes = piece(&mut self.random, word, place);
         Ok(Value::Str(Text::read(self.alloc, bytes)?))
     }
 
+    /// A word.
     fn word(&mut self) -> Result<Value, Fault> {
         let word = self.words.one(&mut self.random);
         Ok(Value::Str(Text::read(self.alloc, word)?))
     }
 
+    /// An operand of the operator.
     fn operand(&mut self, kind: Kind, op: Op) -> Result<Option<Value>, Fault> {
         Ok(match (op, kind) {
             (Op::Any, _) => None,
@@ -197,12 +208,14 @@ impl Maker {
         })
     }
 
+    /// The name at a place.
     fn name(&self, place: usize) -> Result<Name, Fault>
         requires { place < 24 }
     {
         Ok(Name::read(self.alloc, NAMES[place])?)
     }
 
+    /// A constraint.
     fn constraint(&mut self) -> Result<Constraint, Fault> {
         let place = self.random.below(self.plan.names);
         let kind = self.constraint_kind_at(place);
