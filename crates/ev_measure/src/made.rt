@@ -66,6 +66,20 @@ const OPS: [Op; 10] = [
     Op::Contains,
 ];
 
+/// The operators of int where they are as frequent as in use.
+const USUAL_OPS_OF_INT: [Op; 5] = [Op::Eq, Op::Eq, Op::Eq, Op::Lt, Op::Gt];
+
+/// The operators of str where they are as frequent as in use.
+const USUAL_OPS_OF_STR: [Op; 7] = [
+    Op::Eq,
+    Op::Eq,
+    Op::Eq,
+    Op::Eq,
+    Op::Prefix,
+    Op::Suffix,
+    Op::Contains,
+];
+
 /// The operators of a workload of texts.
 const PATTERN_OPS: [Op; 4] = [Op::Prefix, Op::Suffix, Op::Contains, Op::Eq];
 
@@ -120,7 +134,7 @@ impl Maker {
     /// The kind of most values of a name, or one time in ten another.
     fn kind_at(&mut self, place: usize) -> Kind {
         let most = match self.plan.subject {
-            Subject::Mixed => KINDS[place % 10],
+            Subject::Usual | Subject::Mixed => KINDS[place % 10],
             Subject::Numbers => Kind::Int,
             Subject::Texts => return Kind::Str,
         };
@@ -135,7 +149,16 @@ impl Maker {
     fn constraint_kind_at(&mut self, place: usize) -> Kind {
         match self.plan.subject {
             Subject::Numbers => Kind::Int,
-            Subject::Mixed | Subject::Texts => self.kind_at(place),
+            Subject::Usual | Subject::Mixed | Subject::Texts => self.kind_at(place),
+        }
+    }
+
+    /// An operator of the kind, as often as applications use it.
+    fn usual_op(&mut self, kind: Kind) -> Op {
+        match kind {
+            Kind::Bool => Op::Eq,
+            Kind::Int => *self.random.pick(&USUAL_OPS_OF_INT),
+            Kind::Str => *self.random.pick(&USUAL_OPS_OF_STR),
         }
     }
 
@@ -143,6 +166,8 @@ impl Maker {
     fn op(&mut self, kind: Kind) -> Op {
         let count = op_count(kind);
         match self.plan.subject {
+            Subject::Usual if self.random.once_in(20) => *self.random.pick(&OPS[..count]),
+            Subject::Usual => self.usual_op(kind),
             Subject::Mixed if self.random.once_in(3) => Op::Eq,
             Subject::Mixed => *self.random.pick(&OPS[1..count]),
             Subject::Numbers => *self.random.pick(&OPS[..count]),
@@ -196,6 +221,21 @@ impl Maker {
         Ok(Value::Str(Text::read(self.alloc, word)?))
     }
 
+    /// Whether operators and limits are as in use.
+    fn is_usual(&self) -> bool {
+        self.plan.subject == Subject::Usual
+    }
+
+    /// A limit that few numbers are below: in the lower half of the numbers.
+    fn limit(&mut self) -> i64 {
+        self.number() / 2
+    }
+
+    /// A limit that few numbers are above: in the upper half.
+    fn top(&mut self) -> i64 {
+        (self.plan.numbers as i64).saturating_sub(self.limit())
+    }
+
     /// An operand of the operator.
     fn operand(&mut self, kind: Kind, op: Op) -> Result<Option<Value>, Fault> {
         Ok(match (op, kind) {
@@ -204,6 +244,8 @@ impl Maker {
             (Op::Suffix, _) => Some(self.pattern(Place::Last)?),
             (Op::Contains, _) => Some(self.pattern(Place::Within)?),
             (_, Kind::Str) if !self.is_end() => Some(self.word()?),
+            (Op::Lt | Op::Le, Kind::Int) if self.is_usual() => Some(Value::Int(self.limit())),
+            (Op::Gt | Op::Ge, Kind::Int) if self.is_usual() => Some(Value::Int(self.top())),
             _ => Some(self.value(kind)?),
         })
     }

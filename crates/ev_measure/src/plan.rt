@@ -4,6 +4,11 @@ ghost use Rattle.std.specs.Prelude.{◌+◌, ◌<◌, ◌≤◌};
 /// Of what kinds the values and the constraints are.
 #[derive(Clone, Copy, Debug, PartialEq, Eq)]
 pub enum Subject {
+    /// Half are int, a tenth bool, the rest str, and a tenth of the values and of the constraints are of another kind than
+    /// most of their name. Of the operators of int `=` is three in five, `<` and `>` one in five each, with limits that a
+    /// quarter of the numbers pass; of str `=` is four in seven, prefix, suffix and contains one in seven each; of bool
+    /// `=` is all. One constraint in twenty has any operator of its kind instead.
+    Usual,
     /// Half are int, a tenth bool and the rest str; a third of the operators are `=`. A tenth of the values and of the
     /// constraints are of another kind than most of their name.
     Mixed,

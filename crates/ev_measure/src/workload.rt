@@ -25,7 +25,21 @@ pub struct Workload {
     ghost some_interfaces: { 0 < interfaces },
 }
 
-/// Filters of up to six constraints on twenty names, and notices of eight attributes.
+/// Filters of up to six constraints on twenty names, and notices of eight attributes, with operators as in use.
+const USUAL: Plan = Plan {
+    subject: Subject::Usual,
+    constraints: 6,
+    names: 20,
+    further: 0,
+    attributes: 8,
+    numbers: 1000,
+    words: 200,
+    letters: 16,
+    joined: 1,
+    ends: false,
+};
+
+/// The same with the operators more alike.
 const MIXED: Plan = Plan {
     subject: Subject::Mixed,
     constraints: 6,
@@ -68,7 +82,17 @@ const TEXTS: Plan = Plan {
 };
 
 /// The workloads, in the order of the figures.
-pub const WORKLOADS: [Workload; 3] = [
+pub const WORKLOADS: [Workload; 4] = [
+    Workload {
+        name: "usual",
+        seed: 4,
+        filters: 4000,
+        interfaces: 512,
+        notices: 20_000,
+        scanned: 2000,
+        changes: 201,
+        plan: USUAL,
+    },
     Workload {
         name: "mixed",
         seed: 1,
