@@ -1,5 +1,5 @@
 -- Counting the hits of a notice, one after another.
-use Rattle.std.proofs.Common.{◌≡◌, ◌≢◌, ◌⊎◌, inl, inr, ◌+◌, ◌≤◌, ◌<◌, ◌==◌, ◌∙◌, refl, sym, ap, subst, arith, ℕ, Bool, true, false, cond, List, [], ◌∷◌, ◌++◌, length, take, get_or, zero, suc, Some, None}
+use Rattle.std.proofs.Common.{◌≡◌, ◌≢◌, ◌⊎◌, inl, inr, ◌+◌, ◌-◌, ◌≤◌, ◌<◌, ◌==◌, ◌∙◌, refl, sym, ap, subst, arith, ℕ, Bool, true, false, cond, List, [], ◌∷◌, ◌++◌, length, take, get_or, zero, suc, Some, None}
 use Rattle.std.proofs.lemmas.Bool.Decides.{nat_tests}
 use Rattle.std.proofs.lemmas.List.{get_or-set_same, get_or-set_other, length-set}
 use Rattle.std.specs.List.{Contains}
@@ -8,7 +8,8 @@ use Rattle.ev_index.specs.Pairs.{tally}
 use Rattle.ev_index.proofs.Tallies.{tally-append, tally-more}
 use Rattle.ev_counting.specs.declared.goal.Goal.{Goal}
 use Rattle.ev_counting.specs.Slots.{goal_at}
-use Rattle.ev_counting.specs.Counting.{Counts, count_at, is_marked, counted, marked, IsFresh, AreGoals, IsFull, AreFull}
+use Rattle.ev_counting.specs.Counting.{Counts, count_at, is_marked, counted, marked, IsOfRounds, IsFresh, AreGoals, IsFull, AreFull}
+use Rattle.ev_counting.proofs.Rounds.{same-round, rounds-counted, rounds-marked}
 use Rattle.ev_counting.proofs.Sound.{differ}
 
 -- how many of the first hits name the filter
@@ -16,6 +17,7 @@ abbrev pub hits_of : ℕ → ℕ → List ℕ → ℕ
 hits_of k i found = tally (λ x. x == k) (take i found)
 
 pub record Counting (goals : List Goal) (ifaces found : List ℕ) (c : Counts) (matched : List ℕ) (i : ℕ) : Type 0 where
+  pub rounds : IsOfRounds c
   pub filters_fit : length goals ≤ length c.counts
   pub ifaces_fit : length ifaces ≤ length c.marks
   pub so_often : (k : ℕ) → 0 < (goal_at goals k).constraints → is_marked c (goal_at goals k).place ≡ false → (count_at c k ≡ hits_of k i found) × (hits_of k i found < (goal_at goals k).constraints)
@@ -55,8 +57,9 @@ hits-all p zero (x ∷ found) l = absurd (omega (arith, l))
 hits-all p (suc i) [] l = refl
 hits-all p (suc i) (x ∷ found) l = omega (arith, hits-all p i found (omega (arith, l)))
 
-pub counting-start : (goals : List Goal) (ifaces found : List ℕ) (c : Counts) → IsFresh (length goals) (length ifaces) c → Counting goals ifaces found c [] 0
-counting-start goals ifaces found c f = record {
+pub counting-start : (goals : List Goal) (ifaces found : List ℕ) (c : Counts) → IsOfRounds c → IsFresh (length goals) (length ifaces) c → Counting goals ifaces found c [] 0
+counting-start goals ifaces found c rounds f = record {
+  rounds = rounds;
   filters_fit = f.filters_fit;
   ifaces_fit = f.ifaces_fit;
   so_often = λ k h m. (f.counts_none k ∙ sym (none k found), omega (arith, none k found, h));
@@ -68,7 +71,7 @@ counting-start goals ifaces found c f = record {
     none k [] = refl
     none k (x ∷ found) = refl
 
-module _ (goals : List Goal) (ifaces found : List ℕ) (c : Counts) (matched : List ℕ) (i : ℕ) (l : i < length found) (s : Counting goals ifaces found c matched i) where
+module _ (goals : List Goal) (ifaces found : List ℕ) (c : Counts) (matched : List ℕ) (i : ℕ) (l : i < length found) (short : (goal_at goals (get_or found i 0)).constraints ≤ 16) (s : Counting goals ifaces found c matched i) where
   abbrev id : ℕ
   id = get_or found i 0
 
@@ -81,6 +84,7 @@ module _ (goals : List Goal) (ifaces found : List ℕ) (c : Counts) (matched : L
   -- its interface is matched already
   counting-passed : is_marked c (place_at id) ≡ true → Counting goals ifaces found c matched (i + 1)
   counting-passed y = record {
+    rounds = s.rounds;
     filters_fit = s.filters_fit;
     ifaces_fit = s.ifaces_fit;
     so_often = λ k h m. (
@@ -93,15 +97,22 @@ module _ (goals : List Goal) (ifaces found : List ℕ) (c : Counts) (matched : L
 
   module _ (room : id < length c.counts) (some : 0 < (goal_at goals id).constraints) (unmarked : is_marked c (place_at id) ≡ false) where
     at-same : (k : ℕ) → id ≡ k → count_at (counted c id) k ≡ count_at c k + 1
-    at-same k g = ap {B = ℕ} (count_at (counted c id)) (sym g) ∙ get_or-set_same c.counts id (count_at c id + 1) 0 room ∙ ap {B = ℕ} (λ j. count_at c j + 1) g
+    at-same k g =
+        let a = get_or-set_same c.counts id (c.base + (count_at c id + 1)) 0 room in
+        let b : count_at (counted c id) id ≡ count_at c id + 1 = omega (arith, a) in
+        ap {B = ℕ} (count_at (counted c id)) (sym g) ∙ b ∙ ap {B = ℕ} (λ j. count_at c j + 1) g
 
     at-other : (k : ℕ) → (id ≡ k → ⊥) → count_at (counted c id) k ≡ count_at c k
-    at-other k n = get_or-set_other c.counts id k (count_at c id + 1) 0 (λ g. n (sym g))
+    at-other k n = ap {B = ℕ} (λ v. v - c.base) (get_or-set_other c.counts id k (c.base + (count_at c id + 1)) 0 (λ g. n (sym g)))
+
+    few-so-far : count_at c id < 16
+    few-so-far = let t = s.so_often id some unmarked in omega (arith, t.0, t.1, short)
 
     -- it is counted, and has more constraints than that
     counting-part : count_at c id + 1 < (goal_at goals id).constraints → Counting goals ifaces found (counted c id) matched (i + 1)
     counting-part few = record {
-      filters_fit = omega (arith, s.filters_fit, length-set c.counts id (count_at c id + 1));
+      rounds = rounds-counted c id few-so-far s.rounds;
+      filters_fit = omega (arith, s.filters_fit, length-set c.counts id (c.base + (count_at c id + 1)));
       ifaces_fit = s.ifaces_fit;
       so_often = λ k h m. go k h m (id == k) refl;
       told = s.told;
@@ -127,8 +138,9 @@ module _ (goals : List Goal) (ifaces found : List ℕ) (c : Counts) (matched : L
     -- it is counted as often as it has constraints
     pub counting-full : place_at id < length ifaces → count_at c id + 1 ≡ (goal_at goals id).constraints → Counting goals ifaces found (marked (counted c id) (place_at id)) (matched ++ get_or ifaces (place_at id) 0 ∷ []) (i + 1)
     counting-full within full = record {
-      filters_fit = omega (arith, s.filters_fit, length-set c.counts id (count_at c id + 1));
-      ifaces_fit = omega (arith, s.ifaces_fit, length-set c.marks (place_at id) true);
+      rounds = rounds-marked (counted c id) (place_at id) (rounds-counted c id few-so-far s.rounds);
+      filters_fit = omega (arith, s.filters_fit, length-set c.counts id (c.base + (count_at c id + 1)));
+      ifaces_fit = omega (arith, s.ifaces_fit, length-set c.marks (place_at id) c.base);
       so_often = λ k h m. (
         let other : place_at id ≡ place_at k → ⊥ = λ g. differ (is_marked (marked c (place_at id)) (place_at k)) (now-marked (place_at k) g) m in
         let before : is_marked c (place_at k) ≡ false = sym (still (place_at k) other) ∙ m in
@@ -145,10 +157,10 @@ module _ (goals : List Goal) (ifaces found : List ℕ) (c : Counts) (matched : L
     }
       where
         now-marked : (p : ℕ) → place_at id ≡ p → is_marked (marked c (place_at id)) p ≡ true
-        now-marked p g = ap {B = Bool} (is_marked (marked c (place_at id))) (sym g) ∙ get_or-set_same c.marks (place_at id) true false (omega (arith, within, s.ifaces_fit))
+        now-marked p g = ap {B = Bool} (is_marked (marked c (place_at id))) (sym g) ∙ ap {B = Bool} (λ m. m == c.base) (get_or-set_same c.marks (place_at id) c.base 0 (omega (arith, within, s.ifaces_fit))) ∙ same-round c.base
 
         still : (p : ℕ) → (place_at id ≡ p → ⊥) → is_marked (marked c (place_at id)) p ≡ is_marked c p
-        still p n = get_or-set_other c.marks (place_at id) p true false (λ g. n (sym g))
+        still p n = ap {B = Bool} (λ m. m == c.base) (get_or-set_other c.marks (place_at id) p c.base 0 (λ g. n (sym g)))
 
         enough : (goal_at goals id).constraints ≤ tally (λ x. x == id) found
         enough = omega (arith, full, (s.so_often id some unmarked).0, hit-same id i found l refl, hits-few (λ x. x == id) (i + 1) found)

@@ -5,34 +5,36 @@ use Rattle.ev_index.specs.Pairs.{tally}
 use Rattle.ev_counting.specs.declared.goal.Goal.{Goal}
 use Rattle.ev_counting.specs.Slots.{goal_at}
 
--- how often each filter was counted in the round, and which interfaces are matched
+-- the base of a round, a counter for each filter and a mark for each interface
 pub record Counts : Type 0 where
+  pub base : ℕ
   pub counts : List ℕ
-  pub marks : List Bool
+  pub marks : List ℕ
 
--- what a counter says in the round of a base: how far it is above it
-abbrev pub count_in : ℕ → ℕ → ℕ
-count_in base counter = counter - base
+abbrev pub counts_of : ℕ → List ℕ → List ℕ → Counts
+counts_of base counts marks = record { base = base; counts = counts; marks = marks }
 
--- no counter and no mark is of a later round, and the next count fits
-pub record IsOfRounds (base : ℕ) (counts marks : List ℕ) : Type 0 where
-  pub fits : base + 16 < 2 ^ 32
-  pub counted_by : (k : ℕ) → slice_index_or counts k 0 ≤ base + 16
-  pub marked_by : (k : ℕ) → slice_index_or marks k 0 ≤ base
-
+-- how often a filter was counted in the round: how far its counter is above the base
 abbrev pub count_at : Counts → ℕ → ℕ
-count_at c id = slice_index_or c.counts id 0
+count_at c id = slice_index_or c.counts id 0 - c.base
 
+-- an interface is matched: its mark is the base
 abbrev pub is_marked : Counts → ℕ → Bool
-is_marked c place = slice_index_or c.marks place false
+is_marked c place = slice_index_or c.marks place 0 == c.base
 
 -- one more for a filter
 abbrev pub counted : Counts → ℕ → Counts
-counted c id = record c { counts = slice_set c.counts id (count_at c id + 1) }
+counted c id = record c { counts = slice_set c.counts id (c.base + (count_at c id + 1)) }
 
 -- the interface is matched
 abbrev pub marked : Counts → ℕ → Counts
-marked c place = record c { marks = slice_set c.marks place true }
+marked c place = record c { marks = slice_set c.marks place c.base }
+
+-- no counter and no mark is of a later round, and the counts of this one fit
+pub record IsOfRounds (c : Counts) : Type 0 where
+  pub fits : c.base + 16 < 2 ^ 32
+  pub counted_by : (k : ℕ) → slice_index_or c.counts k 0 ≤ c.base + 16
+  pub marked_by : (k : ℕ) → slice_index_or c.marks k 0 ≤ c.base
 
 -- nothing is counted and no interface matched, with room for this many filters and interfaces
 pub record IsFresh (filters ifaces : ℕ) (c : Counts) : Type 0 where
@@ -45,6 +47,10 @@ pub record IsFresh (filters ifaces : ℕ) (c : Counts) : Type 0 where
 pub record AreGoals (ifaces : ℕ) (goals : List Goal) : Type 0 where
   pub few : (k : ℕ) → (goal_at goals k).constraints ≤ 16
   pub placed : (k : ℕ) → 0 < (goal_at goals k).constraints → (goal_at goals k).place < ifaces
+
+-- each hit names a filter
+abbrev pub AreKnown : List Goal → List ℕ → Type 0
+AreKnown goals found = (i : ℕ) → i < length found → (slice_index_or found i 0 < length goals) × (0 < (goal_at goals (slice_index_or found i 0)).constraints)
 
 -- the hits name a filter of the interface as often as it has constraints
 pub record IsFull (goals : List Goal) (ifaces found : List ℕ) (iface : ℕ) : Type 0 where

@@ -1,7 +1,6 @@
 //! Counting the hits of a notice.
-ghost use Rattle.std.specs.Prelude.{◌≡◌, ◌<◌, ◌≤◌, ◌+◌, ℕ, true, false, length, slice_index_or, IfOk};
-ghost use Rattle.ev_counting.specs.Slots.{goal_at};
-ghost use Rattle.ev_counting.specs.Counting.{count_at, is_marked, counted, marked, IsFresh, AreGoals, AreFull};
+ghost use Rattle.std.specs.Prelude.{◌≡◌, ◌<◌, ◌≤◌, ◌+◌, ◌^◌, [], true, false, length, IfOk, OnOk};
+ghost use Rattle.ev_counting.specs.Counting.{counts_of, count_at, is_marked, counted, marked, IsOfRounds, IsFresh, AreGoals, AreFull, AreKnown};
 
 use crate::counters::Counters;
 use crate::goal::Goal;
@@ -10,28 +9,59 @@ use std::alloc::Global;
 
 /// Counts a filter once more, unless its interface is matched already; whether it is then counted as often as it has
 /// constraints, so that its interface is matched from now on.
-fn count_hit(goal: Goal, id: usize, counters: &mut Counters) -> bool
-    requires known { id < length counters.old.counts }
-    requires placed { goal.place < length counters.old.marks }
+fn count_hit(goal: Goal, id: usize, base: u32, counts: &mut [u32], marks: &mut [u32]) -> bool
+    requires known { id < length counts.old }
+    requires placed { goal.place < length marks.old }
     requires short { goal.constraints ≤ 16 }
-    requires few { is_marked counters.old goal.place ≡ false → count_at counters.old id < goal.constraints }
-    ensures passed { is_marked counters.old goal.place ≡ true → (result ≡ false) × (counters.new ≡ counters.old) }
-    ensures part { is_marked counters.old goal.place ≡ false → result ≡ false → (counters.new ≡ counted counters.old id) × (count_at counters.old id + 1 < goal.constraints) }
-    ensures full { is_marked counters.old goal.place ≡ false → result ≡ true → (counters.new ≡ marked (counted counters.old id) goal.place) × (count_at counters.old id + 1 ≡ goal.constraints) }
+    requires fits { base + 16 < 2 ^ 32 }
+    requires few { is_marked (counts_of base counts.old marks.old) goal.place ≡ false → count_at (counts_of base counts.old marks.old) id < goal.constraints }
+    ensures passed { is_marked (counts_of base counts.old marks.old) goal.place ≡ true → (result ≡ false) × (counts_of base counts.new marks.new ≡ counts_of base counts.old marks.old) }
+    ensures part { is_marked (counts_of base counts.old marks.old) goal.place ≡ false → result ≡ false → (counts_of base counts.new marks.new ≡ counted (counts_of base counts.old marks.old) id) × (count_at (counts_of base counts.old marks.old) id + 1 < goal.constraints) }
+    ensures full { is_marked (counts_of base counts.old marks.old) goal.place ≡ false → result ≡ true → (counts_of base counts.new marks.new ≡ marked (counted (counts_of base counts.old marks.old) id) goal.place) × (count_at (counts_of base counts.old marks.old) id + 1 ≡ goal.constraints) }
 {
     let place = goal.place as usize;
-    if counters.is_marked(place) {
+    if marks[place] == base {
         return false;
     }
-    if counters.count(id) != goal.constraints {
+    let count = counts[id].max(base) + 1;
+    counts[id] = count;
+    if count - base != goal.constraints {
         return false;
     }
-    counters.mark(place);
+    marks[place] = base;
     true
 }
 
 /// The interfaces of the filters that the hits name as often as they have constraints. An interface that is matched is
 /// counted no further.
+fn count_all(
+    matched: &mut Vec<u32>,
+    goals: &[Goal],
+    ifaces: &[u32],
+    found: &[u32],
+    base: u32,
+    counts: &mut [u32],
+    marks: &mut [u32],
+) -> Result<(), NoMemory>
+    requires goals { AreGoals (length ifaces.now) goals.now }
+    requires known { AreKnown goals.now found.now }
+    requires rounds { IsOfRounds (counts_of base counts.old marks.old) }
+    requires fresh { IsFresh (length goals.now) (length ifaces.now) (counts_of base counts.old marks.old) }
+    requires none { matched.old.items ≡ [] }
+    ensures rounds { IsOfRounds (counts_of base counts.new marks.new) }
+    ensures full { OnOk result (AreFull goals.now ifaces.now found.now matched.new.items) }
+{
+    for id in found {
+        let id = *id as usize;
+        let goal = goals[id];
+        if count_hit(goal, id, base, counts, marks) {
+            matched.push(ifaces[goal.place as usize])?;
+        }
+    }
+    Ok(())
+}
+
+/// The same in the round of the counters.
 pub(crate) fn count_hits(
     alloc: Global,
     goals: &[Goal],
@@ -40,17 +70,20 @@ pub(crate) fn count_hits(
     counters: &mut Counters,
 ) -> Result<Vec<u32>, NoMemory>
     requires goals { AreGoals (length ifaces.now) goals.now }
-    requires known { (i : ℕ) → i < length found.now → (slice_index_or found.now i 0 < length goals.now) × (0 < (goal_at goals.now (slice_index_or found.now i 0)).constraints) }
+    requires known { AreKnown goals.now found.now }
     requires fresh { IsFresh (length goals.now) (length ifaces.now) counters.old }
     ensures { IfOk result (λ matched. AreFull goals.now ifaces.now found.now matched.items) }
 {
     let mut matched = Vec::new(alloc);
-    for id in found {
-        let id = *id as usize;
-        let goal = goals[id];
-        if count_hit(goal, id, counters) {
-            matched.push(ifaces[goal.place as usize])?;
-        }
-    }
+    let base = counters.base;
+    count_all(
+        &mut matched,
+        goals,
+        ifaces,
+        found,
+        base,
+        &mut counters.counts,
+        &mut counters.marks,
+    )?;
     Ok(matched)
 }

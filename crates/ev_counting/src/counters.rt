@@ -12,28 +12,24 @@ const MOST: u32 = 16;
 /// those of earlier rounds say nothing, and an interface is marked by the base of the round.
 #[derive(Drop)]
 pub struct Counters {
-    base: u32,
-    counts: Vec<u32>,
-    marks: Vec<u32>,
+    pub(crate) base: u32,
+    pub(crate) counts: Vec<u32>,
+    pub(crate) marks: Vec<u32>,
 }
 
 impl Model for Counters {
-    ghost use Rattle.std.specs.Prelude.{map, ◌==◌};
-    ghost use Rattle.ev_counting.specs.Counting.{Counts, count_in, IsOfRounds};
+    ghost use Rattle.ev_counting.specs.Counting.{Counts, counts_of, IsOfRounds};
 
     ghost Value = { Counts };
 
-    ghost view = { λ c. record {
-        counts = map (count_in c.base) c.counts.items;
-        marks = map (λ m. m == c.base) c.marks.items;
-    } };
+    ghost view = { λ c. counts_of c.base c.counts.items c.marks.items };
 
-    ghost invariant = { λ c. IsOfRounds c.base c.counts.items c.marks.items };
+    ghost invariant = { λ c. IsOfRounds (counts_of c.base c.counts.items c.marks.items) };
 }
 
 impl Counters {
-    ghost use Rattle.std.specs.Prelude.{◌≡◌, ◌+◌, ◌-◌, ◌^◌, ◌<◌, ℕ, false, length, OnOk};
-    ghost use Rattle.ev_counting.specs.Counting.{IsFresh, count_at, is_marked, counted, marked};
+    ghost use Rattle.std.specs.Prelude.{OnOk};
+    ghost use Rattle.ev_counting.specs.Counting.{IsFresh};
 
     /// No counters yet. It takes no memory.
     pub(crate) fn new(alloc: Global) -> Counters {
@@ -53,46 +49,18 @@ impl Counters {
         grow(&mut self.marks, ifaces)?;
         Ok(())
     }
-
-    /// Counts a filter once more; how often it is counted now.
-    pub(crate) fn count(&mut self, id: usize) -> u32
-        requires known { id < length self.old.counts }
-        requires few { count_at self.old id < 16 }
-        ensures count { result ≡ count_at self.old id + 1 }
-        ensures counted { self.new ≡ counted self.old id }
-    {
-        let count = self.counts[id].max(self.base) + 1;
-        self.counts[id] = count;
-        count - self.base
-    }
-
-    /// Whether the interface at this place is matched.
-    pub(crate) fn is_marked(&self, place: usize) -> bool
-        requires { place < length self.now.marks }
-        ensures { result ≡ is_marked self.now place }
-    {
-        self.marks[place] == self.base
-    }
-
-    /// The interface at this place is matched from now on.
-    pub(crate) fn mark(&mut self, place: usize)
-        requires { place < length self.old.marks }
-        ensures { self.new ≡ marked self.old place }
-    {
-        self.marks[place] = self.base;
-    }
 }
 
-ghost use Rattle.std.specs.Prelude.{◌≡◌, ◌≤◌, ◌<◌, ◌==◌, ℕ, false, OnOk, length, slice_index_or};
-ghost use Rattle.ev_counting.specs.Counting.{count_in, IsOfRounds};
+ghost use Rattle.std.specs.Prelude.{◌≡◌, ◌≤◌, ◌<◌, ℕ, false, OnOk, length, slice_index_or};
+ghost use Rattle.ev_counting.specs.Counting.{counts_of, count_at, is_marked, IsOfRounds};
 
 /// The next round: no counter and no mark is of it.
 fn next_round(base: &mut u32, counts: &mut Vec<u32>, marks: &mut Vec<u32>)
-    requires { IsOfRounds base.old counts.old.items marks.old.items }
+    requires { IsOfRounds (counts_of base.old counts.old.items marks.old.items) }
     ensures later { 0 < base.new }
-    ensures kept { IsOfRounds base.new counts.new.items marks.new.items }
-    ensures counts { (k : ℕ) → count_in base.new (slice_index_or counts.new.items k 0) ≡ 0 }
-    ensures marks { (k : ℕ) → (slice_index_or marks.new.items k 0 == base.new) ≡ false }
+    ensures kept { IsOfRounds (counts_of base.new counts.new.items marks.new.items) }
+    ensures counts { (k : ℕ) → count_at (counts_of base.new counts.new.items marks.new.items) k ≡ 0 }
+    ensures marks { (k : ℕ) → is_marked (counts_of base.new counts.new.items marks.new.items) k ≡ false }
 {
     if *base > u32::MAX - 3 * MOST {
         *base = 0;

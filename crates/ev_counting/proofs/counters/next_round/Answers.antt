@@ -1,10 +1,10 @@
 use Rattle.std.proofs.Common.{◌≡◌, ◌+◌, ◌<◌, ◌^◌, arith}
-use Rattle.ev_counting.specs.Counting.{IsOfRounds}
+use Rattle.ev_counting.specs.Counting.{counts_of, IsOfRounds}
 use Rattle.ev_counting.proofs.Rounds.{none-later, next-rounds, next-counts, next-marks}
 use Rattle.ev_counting.proofs.counters.next_round.Goals.{Joined-base, then-base, else-base}
 use Rattle.ev_counting.proofs.counters.next_round.Goals as goal
 
-before : (c : Joined-base) → IsOfRounds c.if-base.base c.if-base.counts.items c.if-base.marks.items
+before : (c : Joined-base) → IsOfRounds (counts_of c.if-base.base c.if-base.counts.items c.if-base.marks.items)
 before c = elim c.if-base.branch [
   | then-base w ↦ rw (w.base-is, w.counts-is, w.marks-is) (none-later _ _ w.clear.ensures.items w.clear-then-base.ensures.items)
   | else-base w ↦ rw (w.base-is, w.counts-is, w.marks-is) c.requires

@@ -1,5 +1,0 @@
-use Rattle.ev_counting.proofs.Counted.{Counting}
-use Rattle.ev_counting.proofs.count.count_hits.Given as goal
-
-abbrev pub invariant-loop-id : goal.invariant-loop-id
-invariant-loop-id l = Counting l.goals l.ifaces l.found l.counters l.matched.items l.id-index
