@@ -83,8 +83,8 @@ pub(crate) fn walk_above(
     Ok(())
 }
 
-/// Appends the ids of the keys that a text begins with, by one look-up for each beginning that isn't longer than
-/// any key.
+/// Appends the ids of the keys that a text begins with, by one look-up for each beginning up to the length of
+/// the longest key.
 pub(crate) fn walk_prefixes(
     groups: &BTreeMap<Key, Vec<u32>>,
     longest: usize,
@@ -101,8 +101,8 @@ pub(crate) fn walk_prefixes(
     Ok(())
 }
 
-/// Appends the ids of the keys that a text ends with, by one look-up for each ending that isn't longer than any
-/// key.
+/// Appends the ids of the keys that a text ends with, by one look-up for each ending up to the length of the
+/// longest key.
 pub(crate) fn walk_suffixes(
     groups: &BTreeMap<Key, Vec<u32>>,
     longest: usize,
