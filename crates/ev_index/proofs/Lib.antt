@@ -3,3 +3,4 @@ pub mod Groups
 pub mod Keyed
 pub mod Rows
 pub mod Members
+pub mod Found

@@ -40,12 +40,18 @@ fn walk_others(
 /// Appends the ids of one key.
 fn walk_one(
     groups: &BTreeMap<i64, Vec<u32>>,
-    key: i64,
+    key: &i64,
     found: &mut Vec<u32>,
 ) -> Result<(), NoMemory>
-    ensures { OnOk result (found.new.items ≡ found.old.items ++ ids_of (filter (λ e. same_key key e.0) groups.now.entries)) }
+    ensures { OnOk result (found.new.items ≡ found.old.items ++ ids_of (filter (λ e. same_key key.now e.0) groups.now.entries)) }
 {
-    walk(groups, Bound::Included(key), Bound::Included(key), found)
+    // The keys rise, so there is no other such group.
+    let _size = groups.len();
+    let Some(ids) = groups.get(key) else {
+        return Ok(());
+    };
+    append_ids(found, ids)?;
+    Ok(())
 }
 
 /// Appends the ids of the groups of an int row whose test the number passes.
@@ -58,8 +64,8 @@ pub(crate) fn meet_number(
     ensures { OnOk result (found.new.items ≡ found.old.items ++ ids_met (Value.Int x) (keyed (test_at Kind.Int op) groups.now.entries)) }
 {
     match op {
-        Op::Any => walk_one(groups, 0, found),
-        Op::Eq => walk_one(groups, x, found),
+        Op::Any => walk_one(groups, &0, found),
+        Op::Eq => walk_one(groups, &x, found),
         Op::Ne => walk_others(groups, &x, found),
         Op::Lt => walk(groups, Bound::Excluded(x), Bound::Unbounded, found),
         Op::Le => walk(groups, Bound::Included(x), Bound::Unbounded, found),
@@ -79,9 +85,9 @@ pub(crate) fn meet_truth(
     ensures { OnOk result (found.new.items ≡ found.old.items ++ ids_met (Value.Bool x) (keyed (test_at Kind.Bool op) groups.now.entries)) }
 {
     match op {
-        Op::Any => walk_one(groups, 0, found),
-        Op::Eq => walk_one(groups, truth_key(x), found),
-        Op::Ne => walk_one(groups, truth_key(!x), found),
+        Op::Any => walk_one(groups, &0, found),
+        Op::Eq => walk_one(groups, &truth_key(x), found),
+        Op::Ne => walk_one(groups, &truth_key(!x), found),
         _ => Ok(()),
     }
 }

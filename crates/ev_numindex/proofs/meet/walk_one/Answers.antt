@@ -1,0 +1,19 @@
+use Rattle.std.proofs.Common.{◌∙◌, ◌++◌, ap, sym, ℕ, ℤ, List, append-nil}
+use Rattle.std.specs.Option.{option_copied}
+use Rattle.std.specs.Map.{keys_of}
+use Rattle.std.specs.Ordering.{int_cmp}
+use Rattle.std.proofs.lemmas.Map.Keys.{IsDistinct-from_sorted}
+use Rattle.ev_index.proofs.Found.{ids-there, ids-absent}
+use Rattle.ev_numindex.specs.Keys.{same_key}
+use Rattle.ev_numindex.proofs.Keys.{same-same}
+use Rattle.ev_numindex.proofs.meet.walk_one.Goals as goal
+
+pub returns-in_default : goal.returns-in_default
+returns-in_default c =
+    let none = ids-absent {K = ℤ} (same_key c.args.key.now) c.args.groups.now.entries (sym c.get.ensures.value ∙ ap option_copied c.in_default.is) in
+    sym (append-nil c.args.found.now.items) ∙ ap (λ (ids : List ℕ). c.args.found.now.items ++ ids) (sym none)
+
+pub returns : goal.returns
+returns c =
+    let there = ids-there {K = ℤ} (same_key c.args.key.now) same_key (same-same c.args.key.now) c.in-Some.ids.now c.args.groups.now.entries (IsDistinct-from_sorted int_cmp (keys_of c.args.groups.now.entries) c.len-size.ensures.ordered) (sym c.get.ensures.value ∙ ap option_copied c.in-Some.is) in
+    c.in_ok-append_ids.ensures ∙ ap (λ (ids : List ℕ). c.args.found.now.items ++ ids) (c.deref.ensures.value ∙ sym there)
