@@ -4,7 +4,7 @@
 mod bytes;
 mod edge;
 mod groups;
-mod index;
+mod plain;
 mod meet;
 mod row;
 mod rows;
@@ -12,4 +12,4 @@ mod rows;
 mod tests;
 mod walks;
 
-pub use index::TextIndex;
+pub use plain::Rows as TextIndex;

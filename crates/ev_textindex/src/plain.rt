@@ -9,12 +9,12 @@ use std::marker::Model;
 
 /// An index of str constraints: pairs of a constraint without its name and an id.
 #[derive(Drop)]
-pub struct TextIndex {
+pub struct Rows {
     alloc: Global,
     rows: Vec<Row>,
 }
 
-impl Model for TextIndex {
+impl Model for Rows {
     ghost use Rattle.std.specs.Prelude.{List};
     ghost use Rattle.ev_index.specs.Pairs.{Pair};
 
@@ -25,16 +25,16 @@ impl Model for TextIndex {
     ghost view = { λ index. rows_pairs index.rows.items };
 }
 
-impl TextIndex {
+impl Rows {
     ghost use Rattle.std.specs.Prelude.{◌≡◌, ◌∷◌, [], true, false, OnOk, OnErr};
     ghost use Rattle.ev_values.specs.declared.value.Kind.{Kind};
     ghost use Rattle.ev_index.specs.Pairs.{Same, Appends, IsIn, test_of, ids_met};
 
     /// An index of nothing.
-    pub fn new(alloc: Global) -> TextIndex
+    pub fn new(alloc: Global) -> Rows
         ensures { result ≡ [] }
     {
-        TextIndex {
+        Rows {
             alloc,
             rows: Vec::new(alloc),
         }

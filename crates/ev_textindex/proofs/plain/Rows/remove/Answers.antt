@@ -3,7 +3,7 @@ use Rattle.ev_index.specs.Pairs.{tally, test_of, IsIn}
 use Rattle.ev_textindex.specs.declared.row.Row.{Row}
 use Rattle.ev_textindex.specs.Keys.{key_of}
 use Rattle.ev_textindex.proofs.Finds.{not-in-rows, the-test, less-one}
-use Rattle.ev_textindex.proofs.index.TextIndex.remove.Goals as goal
+use Rattle.ev_textindex.proofs.plain.Rows.remove.Goals as goal
 
 pub returns-in-Some-clause-there : goal.returns-in-Some-clause-there
 returns-in-Some-clause-there c = λ e p.

@@ -7,7 +7,7 @@ use Rattle.ev_textindex.specs.declared.row.Row.{Row}
 use Rattle.ev_textindex.specs.Rows.{rows_pairs}
 use Rattle.ev_textindex.proofs.Appended.{those-appended, nothing-appended}
 use Rattle.ev_textindex.proofs.Meets.{nothing-met}
-use Rattle.ev_textindex.proofs.index.TextIndex.hits.Goals as goal
+use Rattle.ev_textindex.proofs.plain.Rows.hits.Goals as goal
 
 pub returns-in-Str : goal.returns-in-Str
 returns-in-Str c =

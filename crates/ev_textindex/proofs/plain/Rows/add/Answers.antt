@@ -6,7 +6,7 @@ use Rattle.ev_textindex.specs.declared.row.Row.{Row}
 use Rattle.ev_textindex.specs.Keys.{key_of}
 use Rattle.ev_textindex.specs.Rows.{rows_pairs, row_pairs}
 use Rattle.ev_textindex.proofs.Finds.{the-test, more, as-before}
-use Rattle.ev_textindex.proofs.index.TextIndex.add.Goals as goal
+use Rattle.ev_textindex.proofs.plain.Rows.add.Goals as goal
 
 pub returns-in-Some-clause-added : goal.returns-in-Some-clause-added
 returns-in-Some-clause-added c =
