@@ -4,6 +4,7 @@
 mod bytes;
 mod edge;
 mod groups;
+mod head;
 mod plain;
 mod meet;
 mod row;
