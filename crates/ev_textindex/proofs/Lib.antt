@@ -9,3 +9,7 @@ pub mod Ordered
 pub mod Probes
 pub mod Beyond
 pub mod Parts
+pub mod Shelved
+pub mod Headed
+pub mod Probed
+pub mod Covered

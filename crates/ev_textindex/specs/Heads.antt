@@ -1,5 +1,5 @@
 -- Patterns by their head: a number made of the first two bytes of a prefix or a part, and of the last two of a suffix.
-use Rattle.std.specs.Prelude.{ℕ, Bool, true, false, not, ◌≡◌, ◌==◌, ◌&&◌, ◌||◌, ◌+◌, ◌-◌, ◌*◌, length, drop, List, [], ◌∷◌, if◌then◌else◌}
+use Rattle.std.specs.Prelude.{ℕ, Bool, true, false, not, ◌≡◌, ◌==◌, ◌&&◌, ◌||◌, ◌+◌, ◌-◌, ◌*◌, length, take, drop, List, [], ◌∷◌, if◌then◌else◌}
 use Rattle.ev_values.specs.declared.value.Kind.{Kind}
 use Rattle.ev_values.specs.declared.value.Kind.TheVariants as kinds
 use Rattle.ev_values.specs.declared.value.Value.{Value}
@@ -83,6 +83,18 @@ has_two [] h = false
 has_two (a ∷ []) h = false
 has_two (a ∷ b ∷ x) h = (two ops.Contains a b == h) || has_two (b ∷ x) h
 
+-- the heads of operands that a text may begin with
+abbrev pub is_at_begin : List ℕ → ℕ → Bool
+is_at_begin x h = is_among (mark ops.Prefix) (head_first ops.Prefix (take 1 x)) (head_first ops.Prefix x) h
+
+-- of those that it may end with
+abbrev pub is_at_end : List ℕ → ℕ → Bool
+is_at_end x h = is_among (mark ops.Suffix) (head_first ops.Suffix (last_bytes 1 x)) (head_first ops.Suffix (last_bytes 2 x)) h
+
+-- and of those that may stand in it
+abbrev pub is_inside : List ℕ → ℕ → Bool
+is_inside x h = (mark ops.Contains == h) || (has_one x h || has_two x h)
+
 -- the operator of a pattern
 abbrev pub is_pattern_op : Op → Bool
 is_pattern_op ops.Prefix = true
@@ -98,7 +110,11 @@ is_pattern_at kind op = false
 abbrev pub is_pattern : Pair → Bool
 is_pattern x = is_pattern_at x.0.kind x.0.op
 
+-- the list has nothing but patterns
+abbrev pub AreAllPatterns : List Pair → Type 0
+AreAllPatterns pairs = tally (λ x. not (is_pattern x)) pairs ≡ 0
+
 -- the first list has no pattern, and the second nothing else
 pub record AreApart (others patterns : List Pair) : Type 0 where
   pub others_only : tally is_pattern others ≡ 0
-  pub patterns_only : tally (λ x. not (is_pattern x)) patterns ≡ 0
+  pub patterns_only : AreAllPatterns patterns

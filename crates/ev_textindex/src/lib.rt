@@ -5,8 +5,10 @@ mod bytes;
 mod edge;
 mod groups;
 mod head;
+mod heads;
 mod plain;
 mod meet;
+mod patterns;
 mod row;
 mod rows;
 #[cfg(test)]

@@ -28,6 +28,7 @@ impl Model for Rows {
 impl Rows {
     ghost use Rattle.std.specs.Prelude.{◌≡◌, ◌∷◌, [], true, false, OnOk, OnErr};
     ghost use Rattle.ev_values.specs.declared.value.Kind.{Kind};
+    ghost use Rattle.ev_values.specs.declared.value.Value.{Value};
     ghost use Rattle.ev_index.specs.Pairs.{Same, Appends, IsIn, test_of, ids_met};
 
     /// An index of nothing.
@@ -70,6 +71,13 @@ impl Rows {
             Some(i) => self.rows[i].take(key, id),
             None => false,
         }
+    }
+
+    /// Appends the ids of the pairs whose test the text passes.
+    pub(crate) fn meet(&self, text: &[u8], found: &mut Vec<u32>) -> Result<(), NoMemory>
+        ensures { OnOk result (Appends found.old.items found.new.items (ids_met (Value.Str text.now) self.now)) }
+    {
+        walk(&self.rows, text, found)
     }
 
     /// Appends the ids of the pairs whose constraint the value satisfies.
