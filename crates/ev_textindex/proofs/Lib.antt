@@ -13,3 +13,4 @@ pub mod Shelved
 pub mod Headed
 pub mod Probed
 pub mod Covered
+pub mod Apart

@@ -110,11 +110,19 @@ is_pattern_at kind op = false
 abbrev pub is_pattern : Pair → Bool
 is_pattern x = is_pattern_at x.0.kind x.0.op
 
+abbrev pub is_other_at : Kind → Op → Bool
+is_other_at kinds.Str op = not (is_pattern_op op)
+is_other_at kind op = false
+
+-- the test is another one of strs
+abbrev pub is_other : Pair → Bool
+is_other x = is_other_at x.0.kind x.0.op
+
 -- the list has nothing but patterns
 abbrev pub AreAllPatterns : List Pair → Type 0
 AreAllPatterns pairs = tally (λ x. not (is_pattern x)) pairs ≡ 0
 
--- the first list has no pattern, and the second nothing else
+-- the first list has tests of strs that are no patterns, and the second patterns, and neither has anything else
 pub record AreApart (others patterns : List Pair) : Type 0 where
-  pub others_only : tally is_pattern others ≡ 0
+  pub others_only : tally (λ x. not (is_other x)) others ≡ 0
   pub patterns_only : AreAllPatterns patterns

@@ -6,6 +6,7 @@ mod edge;
 mod groups;
 mod head;
 mod heads;
+mod index;
 mod plain;
 mod meet;
 mod patterns;
@@ -15,4 +16,4 @@ mod rows;
 mod tests;
 mod walks;
 
-pub use plain::Rows as TextIndex;
+pub use index::TextIndex;

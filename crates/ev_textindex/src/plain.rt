@@ -1,15 +1,14 @@
-//! The index of str constraints.
+//! The constraints in rows, a row for each operator.
 use crate::row::{Row, key_of};
 use crate::rows::{find, place};
 use ev_constraint::Constraint;
 use ev_memory::NoMemory;
-use ev_values::Value;
 use std::alloc::Global;
 use std::marker::Model;
 
-/// An index of str constraints: pairs of a constraint without its name and an id.
+/// Pairs of a str constraint without its name and an id, in a row for each operator.
 #[derive(Drop)]
-pub struct Rows {
+pub(crate) struct Rows {
     alloc: Global,
     rows: Vec<Row>,
 }
@@ -31,8 +30,8 @@ impl Rows {
     ghost use Rattle.ev_values.specs.declared.value.Value.{Value};
     ghost use Rattle.ev_index.specs.Pairs.{Same, Appends, IsIn, test_of, ids_met};
 
-    /// An index of nothing.
-    pub fn new(alloc: Global) -> Rows
+    /// No rows.
+    pub(crate) fn new(alloc: Global) -> Rows
         ensures { result ≡ [] }
     {
         Rows {
@@ -42,7 +41,7 @@ impl Rows {
     }
 
     /// Adds a pair.
-    pub fn add(&mut self, constraint: &Constraint, id: u32) -> Result<(), NoMemory>
+    pub(crate) fn add(&mut self, constraint: &Constraint, id: u32) -> Result<(), NoMemory>
         requires { constraint.now.kind ≡ Kind.Str }
         ensures added { OnOk result (Same self.new ((test_of constraint.now, id) ∷ self.old)) }
         ensures err { OnErr result (self.new ≡ self.old) }
@@ -60,7 +59,7 @@ impl Rows {
     }
 
     /// Takes a pair away; whether it was there.
-    pub fn remove(&mut self, constraint: &Constraint, id: u32) -> bool
+    pub(crate) fn remove(&mut self, constraint: &Constraint, id: u32) -> bool
         requires { constraint.now.kind ≡ Kind.Str }
         ensures there { result ≡ true → Same self.old ((test_of constraint.now, id) ∷ self.new) }
         ensures none { result ≡ false → (self.new ≡ self.old) × (IsIn (test_of constraint.now, id) self.old → ⊥) }
@@ -78,16 +77,6 @@ impl Rows {
         ensures { OnOk result (Appends found.old.items found.new.items (ids_met (Value.Str text.now) self.now)) }
     {
         walk(&self.rows, text, found)
-    }
-
-    /// Appends the ids of the pairs whose constraint the value satisfies.
-    pub fn hits(&self, value: &Value, found: &mut Vec<u32>) -> Result<(), NoMemory>
-        ensures { OnOk result (Appends found.old.items found.new.items (ids_met value.now self.now)) }
-    {
-        match value {
-            Value::Str(text) => walk(&self.rows, text.bytes(), found),
-            _ => Ok(()),
-        }
     }
 }
 

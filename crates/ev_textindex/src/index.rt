@@ -1,0 +1,84 @@
+//! The index of str constraints.
+use crate::head::is_pattern;
+use crate::heads::Heads;
+use crate::patterns::meet_patterns;
+use crate::plain::Rows;
+use ev_constraint::Constraint;
+use ev_memory::NoMemory;
+use ev_values::Value;
+use std::alloc::Global;
+use std::marker::Model;
+
+/// An index of str constraints: pairs of a constraint without its name and an id.
+#[derive(Drop)]
+pub struct TextIndex {
+    rows: Rows,
+    patterns: Heads,
+}
+
+impl Model for TextIndex {
+    ghost use Rattle.std.specs.Prelude.{List, ◌++◌};
+    ghost use Rattle.ev_index.specs.Pairs.{Pair};
+    ghost use Rattle.ev_textindex.specs.Heads.{AreApart};
+
+    ghost Value = { List Pair };
+
+    ghost view = { λ index. index.rows ++ index.patterns };
+
+    ghost invariant = { λ index. AreApart index.rows index.patterns };
+}
+
+impl TextIndex {
+    ghost use Rattle.std.specs.Prelude.{◌≡◌, ◌∷◌, [], true, false, OnOk, OnErr};
+    ghost use Rattle.ev_values.specs.declared.value.Kind.{Kind};
+    ghost use Rattle.ev_index.specs.Pairs.{Same, Appends, IsIn, test_of, ids_met};
+
+    /// An index of nothing.
+    pub fn new(alloc: Global) -> TextIndex
+        ensures { result ≡ [] }
+    {
+        TextIndex {
+            rows: Rows::new(alloc),
+            patterns: Heads::new(alloc),
+        }
+    }
+
+    /// Adds a pair.
+    pub fn add(&mut self, constraint: &Constraint, id: u32) -> Result<(), NoMemory>
+        requires { constraint.now.kind ≡ Kind.Str }
+        ensures added { OnOk result (Same self.new ((test_of constraint.now, id) ∷ self.old)) }
+        ensures err { OnErr result (self.new ≡ self.old) }
+    {
+        if is_pattern(constraint.op()) {
+            self.patterns.add(constraint, id)
+        } else {
+            self.rows.add(constraint, id)
+        }
+    }
+
+    /// Takes a pair away; whether it was there.
+    pub fn remove(&mut self, constraint: &Constraint, id: u32) -> bool
+        requires { constraint.now.kind ≡ Kind.Str }
+        ensures there { result ≡ true → Same self.old ((test_of constraint.now, id) ∷ self.new) }
+        ensures none { result ≡ false → (self.new ≡ self.old) × (IsIn (test_of constraint.now, id) self.old → ⊥) }
+    {
+        if is_pattern(constraint.op()) {
+            self.patterns.remove(constraint, id)
+        } else {
+            self.rows.remove(constraint, id)
+        }
+    }
+
+    /// Appends the ids of the pairs whose constraint the value satisfies.
+    pub fn hits(&self, value: &Value, found: &mut Vec<u32>) -> Result<(), NoMemory>
+        ensures { OnOk result (Appends found.old.items found.new.items (ids_met value.now self.now)) }
+    {
+        match value {
+            Value::Str(text) => {
+                self.rows.meet(text.bytes(), found)?;
+                meet_patterns(&self.patterns, text.bytes(), found)
+            }
+            _ => Ok(()),
+        }
+    }
+}
