@@ -1,6 +1,6 @@
 -- What is appended.
 use Rattle.std.proofs.Common.{◌≡◌, ◌+◌, ◌∙◌, ap, refl, sym, arith, List, [], ◌∷◌, ◌++◌, ℕ, Bool, append-nil, append_assoc}
-use Rattle.ev_index.specs.Pairs.{Appends, tally}
+use Rattle.ev_index.specs.Pairs.{Appends, Same, tally}
 use Rattle.ev_index.proofs.Tallies.{tally-append}
 
 pub appended : (old new ids : List ℕ) → new ≡ old ++ ids → Appends old new ids
@@ -40,3 +40,6 @@ more-appended old new newer ids some all h g e = record {
 
 pub those-appended : (old new ids all : List ℕ) → Appends old new ids → ids ≡ all → Appends old new all
 those-appended old new ids all h e = record { tail = h.tail; whole = h.whole; same = λ p. h.same p ∙ ap (tally p) e }
+
+pub the-same-appended : (old new ids all : List ℕ) → Appends old new ids → Same ids all → Appends old new all
+the-same-appended old new ids all h e = record { tail = h.tail; whole = h.whole; same = λ p. h.same p ∙ e p }

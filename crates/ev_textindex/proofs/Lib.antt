@@ -9,3 +9,8 @@ pub mod Ordered
 pub mod Probes
 pub mod Beyond
 pub mod Parts
+pub mod Shelved
+pub mod Headed
+pub mod Probed
+pub mod Covered
+pub mod Apart

@@ -35,22 +35,3 @@ equal-key x u = go (same_bytes x u) (bytes_eq x u) refl refl
 -- the ids of the keys that pass what the operator asks
 pub met-in : (op asked : Op) (x : List ℕ) (q : Vec ℕ Global → Bool) (es : List (Vec ℕ Global × Vec ℕ Global)) → op ≡ asked → ((k : Vec ℕ Global) → q k ≡ passes (values.Str x) (said asked k)) → ids_at q es ≡ ids_met (values.Str x) (keyed (said op) es)
 met-in op asked x q es e h = met-keyed (values.Str x) (said asked) q es h ∙ ap {B = List ℕ} (λ (o : Op). ids_met (values.Str x) (keyed (said o) es)) (sym e)
-
-any-other : (v : Value) → ((t : List ℕ) → v ≡ values.Str t → ⊥) → (k : List ℕ) → passes v (any_test k) ≡ false
-any-other (values.Str t) h k = absurd (h t refl)
-any-other (values.Bool b) h [] = refl
-any-other (values.Bool b) h (c ∷ k) = refl
-any-other (values.Int n) h [] = refl
-any-other (values.Int n) h (c ∷ k) = refl
-
--- a value of another kind
-other : (v : Value) → ((t : List ℕ) → v ≡ values.Str t → ⊥) → (op : Op) (k : List ℕ) → passes v (test_at op k) ≡ false
-other (values.Str t) h op k = absurd (h t refl)
-other (values.Bool b) h ops.Any k = any-other (values.Bool b) h k
-other (values.Bool b) h op k = refl
-other (values.Int n) h ops.Any k = any-other (values.Int n) h k
-other (values.Int n) h op k = refl
-
-pub nothing-met : (v : Value) → ((t : List ℕ) → v ≡ values.Str t → ⊥) → (rows : List Row) → ids_met v (rows_pairs rows) ≡ []
-nothing-met v h [] = refl
-nothing-met v h (r ∷ rows) = met-append v (row_pairs r) (rows_pairs rows) ∙ ap (λ ids. ids ++ ids_met v (rows_pairs rows)) (none-met-keyed v (said r.op) r.groups.entries (λ k. other v h r.op k.items)) ∙ nothing-met v h rows

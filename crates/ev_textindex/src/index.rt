@@ -1,6 +1,8 @@
 //! The index of str constraints.
-use crate::row::{Row, key_of};
-use crate::rows::{find, place};
+use crate::head::is_pattern;
+use crate::heads::Heads;
+use crate::patterns::meet_patterns;
+use crate::plain::Rows;
 use ev_constraint::Constraint;
 use ev_memory::NoMemory;
 use ev_values::Value;
@@ -10,19 +12,20 @@ use std::marker::Model;
 /// An index of str constraints: pairs of a constraint without its name and an id.
 #[derive(Drop)]
 pub struct TextIndex {
-    alloc: Global,
-    rows: Vec<Row>,
+    rows: Rows,
+    patterns: Heads,
 }
 
 impl Model for TextIndex {
-    ghost use Rattle.std.specs.Prelude.{List};
+    ghost use Rattle.std.specs.Prelude.{List, ◌++◌};
     ghost use Rattle.ev_index.specs.Pairs.{Pair};
+    ghost use Rattle.ev_textindex.specs.Heads.{AreApart};
 
     ghost Value = { List Pair };
 
-    ghost use Rattle.ev_textindex.specs.Rows.{rows_pairs};
+    ghost view = { λ index. index.rows ++ index.patterns };
 
-    ghost view = { λ index. rows_pairs index.rows.items };
+    ghost invariant = { λ index. AreApart index.rows index.patterns };
 }
 
 impl TextIndex {
@@ -35,8 +38,8 @@ impl TextIndex {
         ensures { result ≡ [] }
     {
         TextIndex {
-            alloc,
-            rows: Vec::new(alloc),
+            rows: Rows::new(alloc),
+            patterns: Heads::new(alloc),
         }
     }
 
@@ -46,15 +49,10 @@ impl TextIndex {
         ensures added { OnOk result (Same self.new ((test_of constraint.now, id) ∷ self.old)) }
         ensures err { OnErr result (self.new ≡ self.old) }
     {
-        let op = constraint.op();
-        let key = key_of(constraint.operand());
-        match place(&self.rows, op) {
-            Some(i) => self.rows[i].put(self.alloc, key, id),
-            None => {
-                let row = Row::with(self.alloc, op, key, id)?;
-                self.rows.push(row)?;
-                Ok(())
-            }
+        if is_pattern(constraint.op()) {
+            self.patterns.add(constraint, id)
+        } else {
+            self.rows.add(constraint, id)
         }
     }
 
@@ -64,11 +62,10 @@ impl TextIndex {
         ensures there { result ≡ true → Same self.old ((test_of constraint.now, id) ∷ self.new) }
         ensures none { result ≡ false → (self.new ≡ self.old) × (IsIn (test_of constraint.now, id) self.old → ⊥) }
     {
-        let op = constraint.op();
-        let key = key_of(constraint.operand());
-        match find(&self.rows, op, key, id) {
-            Some(i) => self.rows[i].take(key, id),
-            None => false,
+        if is_pattern(constraint.op()) {
+            self.patterns.remove(constraint, id)
+        } else {
+            self.rows.remove(constraint, id)
         }
     }
 
@@ -77,23 +74,11 @@ impl TextIndex {
         ensures { OnOk result (Appends found.old.items found.new.items (ids_met value.now self.now)) }
     {
         match value {
-            Value::Str(text) => walk(&self.rows, text.bytes(), found),
+            Value::Str(text) => {
+                self.rows.meet(text.bytes(), found)?;
+                meet_patterns(&self.patterns, text.bytes(), found)
+            }
             _ => Ok(()),
         }
     }
-}
-
-ghost use Rattle.std.specs.Prelude.{◌≡◌, OnOk};
-ghost use Rattle.ev_values.specs.declared.value.Value.{Value};
-ghost use Rattle.ev_index.specs.Pairs.{Appends, ids_met};
-ghost use Rattle.ev_textindex.specs.Rows.{rows_pairs};
-
-/// Appends the ids of the rows whose test the text passes.
-fn walk(rows: &[Row], text: &[u8], found: &mut Vec<u32>) -> Result<(), NoMemory>
-    ensures { OnOk result (Appends found.old.items found.new.items (ids_met (Value.Str text.now) (rows_pairs rows.now))) }
-{
-    for row in rows {
-        row.meet(text, found)?;
-    }
-    Ok(())
 }

@@ -4,8 +4,12 @@
 mod bytes;
 mod edge;
 mod groups;
+mod head;
+mod heads;
 mod index;
+mod plain;
 mod meet;
+mod patterns;
 mod row;
 mod rows;
 #[cfg(test)]

@@ -7,12 +7,15 @@ ghost use Rattle.ev_index.specs.Pairs.{Appends};
 ghost use Rattle.ev_index.specs.Groups.{ids_of};
 ghost use Rattle.ev_textindex.specs.Keys.{at_key, ids_beyond, is_below, is_above};
 
-use crate::bytes::has_part;
+use crate::bytes::{begins_with, ends_with, has_part};
 use crate::edge::{Edge, is_above, is_below};
 use crate::groups::Key;
 use ev_index::append_ids;
 use ev_memory::NoMemory;
 use std::collections::BTreeMap;
+
+/// So many keys are sooner tested one by one than a text's beginnings or endings are looked up.
+const FEW: usize = 16;
 
 /// Appends the ids of one key.
 pub(crate) fn walk_one(
@@ -83,9 +86,9 @@ pub(crate) fn walk_above(
     Ok(())
 }
 
-/// Appends the ids of the keys that a text begins with, by one look-up for each beginning up to the length of
-/// the longest key.
-pub(crate) fn walk_prefixes(
+/// Appends the ids of the keys that a text begins with, by one look-up for each beginning that isn't longer than
+/// any key.
+fn probe_prefixes(
     groups: &BTreeMap<Key, Vec<u32>>,
     longest: usize,
     x: &[u8],
@@ -101,9 +104,9 @@ pub(crate) fn walk_prefixes(
     Ok(())
 }
 
-/// Appends the ids of the keys that a text ends with, by one look-up for each ending up to the length of the
-/// longest key.
-pub(crate) fn walk_suffixes(
+/// Appends the ids of the keys that a text ends with, by one look-up for each ending that isn't longer than any
+/// key.
+fn probe_suffixes(
     groups: &BTreeMap<Key, Vec<u32>>,
     longest: usize,
     x: &[u8],
@@ -133,4 +136,70 @@ pub(crate) fn walk_parts(
         }
     }
     Ok(())
+}
+
+/// Appends the ids of the keys that a text begins with, each key tested once.
+fn test_prefixes(
+    groups: &BTreeMap<Key, Vec<u32>>,
+    x: &[u8],
+    found: &mut Vec<u32>,
+) -> Result<(), NoMemory>
+    ensures { OnOk result (found.new.items ≡ found.old.items ++ ids_of (filter (λ e. has_prefix x.now e.0.items) groups.now.entries)) }
+{
+    for (key, ids) in groups {
+        if begins_with(x, key) {
+            append_ids(found, ids)?;
+        }
+    }
+    Ok(())
+}
+
+/// Appends the ids of the keys that a text ends with, each key tested once.
+fn test_suffixes(
+    groups: &BTreeMap<Key, Vec<u32>>,
+    x: &[u8],
+    found: &mut Vec<u32>,
+) -> Result<(), NoMemory>
+    ensures { OnOk result (found.new.items ≡ found.old.items ++ ids_of (filter (λ e. has_suffix x.now e.0.items) groups.now.entries)) }
+{
+    for (key, ids) in groups {
+        if ends_with(x, key) {
+            append_ids(found, ids)?;
+        }
+    }
+    Ok(())
+}
+
+/// Appends the ids of the keys that a text begins with.
+pub(crate) fn walk_prefixes(
+    groups: &BTreeMap<Key, Vec<u32>>,
+    longest: usize,
+    x: &[u8],
+    found: &mut Vec<u32>,
+) -> Result<(), NoMemory>
+    requires { ids_beyond longest groups.now.entries ≡ 0 }
+    ensures { OnOk result (Appends found.old.items found.new.items (ids_of (filter (λ e. has_prefix x.now e.0.items) groups.now.entries))) }
+{
+    if groups.len() <= FEW {
+        test_prefixes(groups, x, found)
+    } else {
+        probe_prefixes(groups, longest, x, found)
+    }
+}
+
+/// Appends the ids of the keys that a text ends with.
+pub(crate) fn walk_suffixes(
+    groups: &BTreeMap<Key, Vec<u32>>,
+    longest: usize,
+    x: &[u8],
+    found: &mut Vec<u32>,
+) -> Result<(), NoMemory>
+    requires { ids_beyond longest groups.now.entries ≡ 0 }
+    ensures { OnOk result (Appends found.old.items found.new.items (ids_of (filter (λ e. has_suffix x.now e.0.items) groups.now.entries))) }
+{
+    if groups.len() <= FEW {
+        test_suffixes(groups, x, found)
+    } else {
+        probe_suffixes(groups, longest, x, found)
+    }
 }

@@ -1,23 +1,30 @@
-use Rattle.std.proofs.Common.{◌≡◌, ◌∙◌, ap, sym, List, ℕ}
+use Rattle.std.proofs.Common.{◌≡◌, ◌∙◌, ◌++◌, ap, sym, List, ℕ}
 use Rattle.std.proofs.lemmas.Result.{on_ok_weaker}
 use Rattle.ev_values.specs.declared.value.Value.{Value}
 use Rattle.ev_values.specs.declared.value.Value.TheVariants as values
 use Rattle.ev_index.specs.Pairs.{ids_met}
-use Rattle.ev_textindex.specs.declared.row.Row.{Row}
-use Rattle.ev_textindex.specs.Rows.{rows_pairs}
+use Rattle.ev_index.proofs.Rows.{met-append}
+use Rattle.ev_index.proofs.Tallies.{Appends-append}
 use Rattle.ev_textindex.proofs.Appended.{those-appended, nothing-appended}
-use Rattle.ev_textindex.proofs.Meets.{nothing-met}
+use Rattle.ev_textindex.proofs.Apart.{nothing-met}
 use Rattle.ev_textindex.proofs.index.TextIndex.hits.Goals as goal
 
-pub returns-in-Str : goal.returns-in-Str
-returns-in-Str c =
+pub returns-in_ok-meet-in-Str : goal.returns-in_ok-meet-in-Str
+returns-in_ok-meet-in-Str c =
     let v = c.args.value.now in
-    let text : values.Str c.bytes.result.now ≡ v = ap values.Str c.bytes.ensures.bytes ∙ sym c.in-Str.is in
-    let rows = c.deref.ensures.value in
-    let met : ids_met (values.Str c.bytes.result.now) (rows_pairs c.deref.result.now) ≡ ids_met v c.args.self.now = ap {B = List ℕ} (λ (x : Value). ids_met x (rows_pairs c.deref.result.now)) text ∙ ap {B = List ℕ} (λ (r : List Row). ids_met v (rows_pairs r)) rows ∙ ap (ids_met v) c.self.view_is in
-    on_ok_weaker c.walk.result (λ h. those-appended c.args.found.now.items c.walk.new.found.items (ids_met (values.Str c.bytes.result.now) (rows_pairs c.deref.result.now)) (ids_met v c.args.self.now) h met) c.walk.ensures
+    let old = c.args.found.now.items in
+    let between = c.meet.new.found.items in
+    let new = c.meet_patterns.new.found.items in
+    let rows = c.self.inside.rows in
+    let patterns = c.self.inside.patterns in
+    let a = ids_met (values.Str c.bytes.result.now) rows in
+    let b = ids_met (values.Str c.bytes-in-Str.result.now) patterns in
+    let s : values.Str c.bytes.result.now ≡ v = ap values.Str c.bytes.ensures.bytes ∙ sym c.in-Str.is in
+    let t : values.Str c.bytes-in-Str.result.now ≡ v = ap values.Str c.bytes-in-Str.ensures.bytes ∙ sym c.in-Str.is in
+    let e : a ++ b ≡ ids_met v c.args.self.now = ap {B = List ℕ} (λ (x : Value). ids_met x rows ++ b) s ∙ ap {B = List ℕ} (λ (x : Value). ids_met v rows ++ ids_met x patterns) t ∙ sym (met-append v rows patterns) ∙ ap (ids_met v) c.self.view_is in
+    on_ok_weaker c.meet_patterns.result (λ h. those-appended old new (a ++ b) (ids_met v c.args.self.now) (Appends-append old between new a b c.in_ok-meet-in-Str.ensures h) e) c.meet_patterns.ensures
 
 pub returns-in_default : goal.returns-in_default
 returns-in_default c =
     let v = c.args.value.now in
-    nothing-appended c.args.found.now.items (ids_met v c.args.self.now) (ap (ids_met v) (sym c.self.view_is) ∙ nothing-met v c.in_default.not-Str c.self.inside.rows.items)
+    nothing-appended c.args.found.now.items (ids_met v c.args.self.now) (ap (ids_met v) (sym c.self.view_is) ∙ nothing-met v c.in_default.not-Str c.self.inside.rows c.self.inside.patterns c.self.invariant)

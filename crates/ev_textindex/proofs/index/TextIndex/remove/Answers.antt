@@ -1,23 +1,26 @@
-use Rattle.std.proofs.Common.{◌≡◌, ◌∙◌, ap, sym, refl, subst}
-use Rattle.ev_index.specs.Pairs.{tally, test_of, IsIn}
-use Rattle.ev_textindex.specs.declared.row.Row.{Row}
-use Rattle.ev_textindex.specs.Keys.{key_of}
-use Rattle.ev_textindex.proofs.Finds.{not-in-rows, the-test, less-one}
+use Rattle.std.proofs.Common.{◌∙◌, ap, sym, ◌++◌}
+use Rattle.ev_index.specs.Pairs.{test_of}
+use Rattle.ev_textindex.proofs.Apart.{less-others, less-patterns, no-other, no-pattern, pattern-of}
 use Rattle.ev_textindex.proofs.index.TextIndex.remove.Goals as goal
 
-pub returns-in-Some-clause-there : goal.returns-in-Some-clause-there
-returns-in-Some-clause-there c = λ e p.
-    let k = c.key_of-key.ensures ∙ ap key_of c.operand.ensures in
-    let old = c.index_mut.result.now in
-    let s = rw c.deref.ensures.value at (c.in-Some.ensures.some.1 old) in
-    let op : old.op ≡ c.args.constraint.now.op = ap (λ (r : Row). r.op) c.index_mut.ensures.value ∙ s.0 ∙ c.op-op.ensures.op in
-    let t = the-test c.args.constraint.now old.op _ c.requires c.op-op.ensures.whole op k in
-    ap (tally p) (sym c.self.view_is) ∙ less-one c.self.inside.rows.items c.in-Some.i old c.take.new.self _ (test_of c.args.constraint.now) c.args.id p (rw c.deref.ensures.value at c.in-Some.ensures.some.0) c.index_mut.ensures.value t (c.take.ensures.there e p)
+pub returns-then-is_pattern-clause-there : goal.returns-then-is_pattern-clause-there
+returns-then-is_pattern-clause-there c = λ e. less-patterns c.self.inside.rows c.self.inside.patterns c.args.self.now c.self.view_is (test_of c.args.constraint.now, c.args.id) c.remove.new.self (c.remove.ensures.there e)
 
-pub returns-in-None-clause-none : goal.returns-in-None-clause-none
-returns-in-None-clause-none c = λ _. (
-  refl,
-  λ m.
-      let k = c.key_of-key.ensures ∙ ap key_of c.operand.ensures in
-      not-in-rows c.args.constraint.now _ _ c.args.id c.self.inside.rows.items c.requires c.op-op.ensures.op k (rw c.deref.ensures.value at c.in-None.ensures.none) (subst (IsIn (test_of c.args.constraint.now, c.args.id)) (sym c.self.view_is) m),
-)
+pub returns-then-is_pattern-clause-none : goal.returns-then-is_pattern-clause-none
+returns-then-is_pattern-clause-none c = λ e.
+    let n = c.remove.ensures.none e in
+    let k = pattern-of c.args.constraint.now c.op.result c.args.id c.requires c.op.ensures.op ∙ sym c.is_pattern.ensures ∙ c.if-is_pattern.true in (
+      ap (λ xs. c.self.inside.rows ++ xs) n.0 ∙ c.self.view_is,
+      no-pattern c.self.inside.rows c.self.inside.patterns c.args.self.now c.self.view_is (test_of c.args.constraint.now, c.args.id) k c.self.invariant.others_only n.1,
+    )
+
+pub returns-else-is_pattern-clause-there : goal.returns-else-is_pattern-clause-there
+returns-else-is_pattern-clause-there c = λ e. less-others c.self.inside.rows c.self.inside.patterns c.args.self.now c.self.view_is (test_of c.args.constraint.now, c.args.id) c.remove-else-is_pattern.new.self (c.remove-else-is_pattern.ensures.there e)
+
+pub returns-else-is_pattern-clause-none : goal.returns-else-is_pattern-clause-none
+returns-else-is_pattern-clause-none c = λ e.
+    let n = c.remove-else-is_pattern.ensures.none e in
+    let k = pattern-of c.args.constraint.now c.op.result c.args.id c.requires c.op.ensures.op ∙ sym c.is_pattern.ensures ∙ c.if-is_pattern.false in (
+      ap (λ xs. xs ++ c.self.inside.patterns) n.0 ∙ c.self.view_is,
+      no-other c.self.inside.rows c.self.inside.patterns c.args.self.now c.self.view_is (test_of c.args.constraint.now, c.args.id) k c.self.invariant.patterns_only n.1,
+    )

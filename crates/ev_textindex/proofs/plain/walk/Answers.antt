@@ -7,7 +7,7 @@ use Rattle.ev_index.proofs.Tallies.{tally-append}
 use Rattle.ev_textindex.specs.declared.row.Row.{Row}
 use Rattle.ev_textindex.specs.Rows.{rows_pairs, row_pairs}
 use Rattle.ev_textindex.proofs.Appended.{fewer-left}
-use Rattle.ev_textindex.proofs.index.walk.Goals as goal
+use Rattle.ev_textindex.proofs.plain.walk.Goals as goal
 
 pub loop-row-preserved : goal.loop-row-preserved
 loop-row-preserved c =

@@ -1,0 +1,23 @@
+use Rattle.std.proofs.Common.{◌≡◌, ◌∙◌, ap, sym, refl, subst}
+use Rattle.ev_index.specs.Pairs.{tally, test_of, IsIn}
+use Rattle.ev_textindex.specs.declared.row.Row.{Row}
+use Rattle.ev_textindex.specs.Keys.{key_of}
+use Rattle.ev_textindex.proofs.Finds.{not-in-rows, the-test, less-one}
+use Rattle.ev_textindex.proofs.plain.Rows.remove.Goals as goal
+
+pub returns-in-Some-clause-there : goal.returns-in-Some-clause-there
+returns-in-Some-clause-there c = λ e p.
+    let k = c.key_of-key.ensures ∙ ap key_of c.operand.ensures in
+    let old = c.index_mut.result.now in
+    let s = rw c.deref.ensures.value at (c.in-Some.ensures.some.1 old) in
+    let op : old.op ≡ c.args.constraint.now.op = ap (λ (r : Row). r.op) c.index_mut.ensures.value ∙ s.0 ∙ c.op-op.ensures.op in
+    let t = the-test c.args.constraint.now old.op _ c.requires c.op-op.ensures.whole op k in
+    ap (tally p) (sym c.self.view_is) ∙ less-one c.self.inside.rows.items c.in-Some.i old c.take.new.self _ (test_of c.args.constraint.now) c.args.id p (rw c.deref.ensures.value at c.in-Some.ensures.some.0) c.index_mut.ensures.value t (c.take.ensures.there e p)
+
+pub returns-in-None-clause-none : goal.returns-in-None-clause-none
+returns-in-None-clause-none c = λ _. (
+  refl,
+  λ m.
+      let k = c.key_of-key.ensures ∙ ap key_of c.operand.ensures in
+      not-in-rows c.args.constraint.now _ _ c.args.id c.self.inside.rows.items c.requires c.op-op.ensures.op k (rw c.deref.ensures.value at c.in-None.ensures.none) (subst (IsIn (test_of c.args.constraint.now, c.args.id)) (sym c.self.view_is) m),
+)
