@@ -166,7 +166,6 @@ impl Maker {
     fn op(&mut self, kind: Kind) -> Op {
         let count = op_count(kind);
         match self.plan.subject {
-            Subject::Usual if self.random.once_in(20) => *self.random.pick(&OPS[..count]),
             Subject::Usual => self.usual_op(kind),
             Subject::Mixed if self.random.once_in(3) => Op::Eq,
             Subject::Mixed => *self.random.pick(&OPS[1..count]),
