@@ -293,6 +293,7 @@ impl Maker {
     /// The number of an interface, one of so many.
     pub fn iface(&mut self, interfaces: u32) -> u32
         requires { 0 < interfaces }
+        ensures { result < interfaces }
     {
         self.random.below(interfaces as usize) as u32
     }
