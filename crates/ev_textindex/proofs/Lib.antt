@@ -14,3 +14,4 @@ pub mod Headed
 pub mod Probed
 pub mod Covered
 pub mod Apart
+pub mod Idle

@@ -1,7 +1,7 @@
 -- What a change of one shelf does to the pairs of all, and where a pair stands.
 use Rattle.std.proofs.Common.{◌≡◌, ◌+◌, ◌==◌, ◌∙◌, ◌⊎◌, subst, inl, inr, ℕ, Bool, true, false, not, cond, refl, sym, ap, arith, List, [], ◌∷◌, ◌++◌, Some, None, Ordering}
 use Rattle.std.specs.List.{IsDistinct, AllByRecursion}
-use Rattle.std.specs.Map.{lookup, set_value, keys_of}
+use Rattle.std.specs.Map.{lookup, set_value, remove_entry, keys_of}
 use Rattle.std.specs.BTreeMap.{insert_entry}
 use Rattle.std.specs.declared.cmp.Ordering.TheVariants.{Less, Equal, Greater}
 use Rattle.std.specs.Ordering.{nat_cmp, is_eq}
@@ -11,7 +11,7 @@ use Rattle.std.proofs.lemmas.Bool.Decides.{nat_tests}
 use Rattle.ev_index.specs.Pairs.{tally, Same, Pair, IsIn}
 use Rattle.ev_index.specs.Groups.{spread}
 use Rattle.ev_index.proofs.Tallies.{tally-append, tally-none}
-use Rattle.ev_index.proofs.Groups.{spread-insert, spread-set}
+use Rattle.ev_index.proofs.Groups.{spread-insert, spread-set, spread-remove}
 use Rattle.ev_index.proofs.Rows.{tally-in}
 use Rattle.ev_index.proofs.Members.{in-append}
 use Rattle.ev_textindex.specs.Heads.{head_of, shelved, on_shelf, filed, is_placed, AreFiled}
@@ -109,6 +109,13 @@ filed-kept h old new es fs e f n a = omega (arith, filed-set h old new es fs e f
 
 pub filed-new : (h : ℕ) (x : Pair) (new : List Pair) (es fs : List (ℕ × List Pair)) → lookup (at_head h) es ≡ None → fs ≡ insert_entry nat_cmp es h new → h ≡ head_of x → Same new (x ∷ []) → AreFiled es → AreFiled fs
 filed-new h x new es fs e f r s a = omega (arith, ap {B = ℕ} (λ (xs : List (ℕ × List Pair)). tally is_misplaced (filed xs)) f, spread-insert {K = ℕ} {X = List Pair} {P = ℕ × Pair} on_shelf is_misplaced nat_cmp h new es e, tally-on is_misplaced h new, s (λ y. is_misplaced (h, y)), right-shelf h x r, a)
+
+-- an empty shelf goes
+pub shelf-gone : (h : ℕ) (old : List Pair) (es fs : List (ℕ × List Pair)) → lookup (at_head h) es ≡ Some old → old ≡ [] → fs ≡ remove_entry (at_head h) es → Same (shelved fs) (shelved es)
+shelf-gone h old es fs e n f = λ p. omega (arith, ap {B = ℕ} (λ (xs : List (ℕ × List Pair)). tally p (shelved xs)) f, spread-remove {K = ℕ} {X = List Pair} {P = Pair} (λ _ pairs. pairs) p (at_head h) (tally p) old es (λ k pairs _. refl) e, ap (tally p) n)
+
+pub filed-gone : (h : ℕ) (old : List Pair) (es fs : List (ℕ × List Pair)) → lookup (at_head h) es ≡ Some old → fs ≡ remove_entry (at_head h) es → AreFiled es → AreFiled fs
+filed-gone h old es fs e f a = omega (arith, ap {B = ℕ} (λ (xs : List (ℕ × List Pair)). tally is_misplaced (filed xs)) f, spread-remove {K = ℕ} {X = List Pair} {P = ℕ × Pair} on_shelf is_misplaced (at_head h) (count h is_misplaced) old es (of-shelf h is_misplaced) e, a)
 
 -- a pair stands on the shelf of its head
 of-head : (k : ℕ) (x : Pair) (pairs : List Pair) → tally is_misplaced (on_shelf k pairs) ≡ 0 → IsIn x pairs → k ≡ head_of x

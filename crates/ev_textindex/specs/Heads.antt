@@ -63,6 +63,28 @@ is_placed y = y.0 == head_of y.1
 abbrev pub AreFiled : List (ℕ × List Pair) → Type 0
 AreFiled es = tally (λ y. not (is_placed y)) (filed es) ≡ 0
 
+-- the head, where nothing is on its shelf
+abbrev pub idle : ℕ → List Pair → List ℕ
+idle h [] = h ∷ []
+idle h (x ∷ pairs) = []
+
+-- the heads of the shelves with nothing on them
+abbrev pub idle_heads : List (ℕ × List Pair) → List ℕ
+idle_heads es = spread idle es
+
+-- something is on each shelf
+abbrev pub AreUsed : List (ℕ × List Pair) → Type 0
+AreUsed es = idle_heads es ≡ []
+
+-- something is on each shelf but that of the head
+abbrev pub AreUsedBut : ℕ → List (ℕ × List Pair) → Type 0
+AreUsedBut h es = tally (λ k. not (h == k)) (idle_heads es) ≡ 0
+
+-- each pair is on the shelf of its head, and something on each shelf
+pub record AreShelves (es : List (ℕ × List Pair)) : Type 0 where
+  pub filed : AreFiled es
+  pub used : AreUsed es
+
 -- the ids of the pairs of some heads whose test the value passes
 abbrev pub ids_headed : (ℕ → Bool) → Value → List Pair → List ℕ
 ids_headed s v [] = []

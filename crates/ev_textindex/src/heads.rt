@@ -3,10 +3,10 @@ ghost use Rattle.std.specs.Prelude.{◌≡◌, ◌∷◌, [], true, false, OnOk,
 ghost use Rattle.ev_constraint.specs.declared.op.Op.{Op};
 ghost use Rattle.ev_values.specs.declared.value.Kind.{Kind};
 ghost use Rattle.ev_index.specs.Pairs.{Same, IsIn, test_of};
-ghost use Rattle.ev_textindex.specs.Heads.{head_of, shelved, AreFiled};
+ghost use Rattle.ev_textindex.specs.Heads.{head_of, shelved, AreFiled, AreUsed, AreUsedBut};
 
 use crate::head::head_at;
-use crate::plain::Rows;
+use crate::shelf::Shelf;
 use crate::row::key_of;
 use ev_constraint::Constraint;
 use ev_memory::NoMemory;
@@ -18,19 +18,19 @@ use std::marker::Model;
 #[derive(Drop)]
 pub(crate) struct Heads {
     alloc: Global,
-    shelves: BTreeMap<u32, Rows>,
+    shelves: BTreeMap<u32, Shelf>,
 }
 
 impl Model for Heads {
     ghost use Rattle.std.specs.Prelude.{List};
     ghost use Rattle.ev_index.specs.Pairs.{Pair};
-    ghost use Rattle.ev_textindex.specs.Heads.{shelved, AreFiled};
+    ghost use Rattle.ev_textindex.specs.Heads.{shelved, AreShelves};
 
     ghost Value = { List Pair };
 
     ghost view = { λ heads. shelved heads.shelves.entries };
 
-    ghost invariant = { λ heads. AreFiled heads.shelves.entries };
+    ghost invariant = { λ heads. AreShelves heads.shelves.entries };
 }
 
 /// The head of a constraint's operand.
@@ -43,7 +43,7 @@ fn head_of(constraint: &Constraint) -> u32
 /// Puts a pair on the shelf of its head.
 fn put(
     alloc: Global,
-    shelves: &mut BTreeMap<u32, Rows>,
+    shelves: &mut BTreeMap<u32, Shelf>,
     constraint: &Constraint,
     id: u32,
 ) -> Result<(), NoMemory>
@@ -51,29 +51,63 @@ fn put(
     ensures added { OnOk result (Same (shelved shelves.new.entries) ((test_of constraint.now, id) ∷ shelved shelves.old.entries)) }
     ensures err { OnErr result (shelved shelves.new.entries ≡ shelved shelves.old.entries) }
     ensures filed { AreFiled shelves.old.entries → AreFiled shelves.new.entries }
+    ensures used { AreUsed shelves.old.entries → AreUsed shelves.new.entries }
 {
     let head = head_of(constraint);
     if let Some(shelf) = shelves.get_mut(&head) {
         return shelf.add(constraint, id);
     }
-    let mut shelf = Rows::new(alloc);
+    let mut shelf = Shelf::new(alloc);
     shelf.add(constraint, id)?;
     shelves.insert(head, shelf)?;
     Ok(())
 }
 
 /// Takes a pair from the shelf of its head; whether it was there.
-fn pull(shelves: &mut BTreeMap<u32, Rows>, constraint: &Constraint, id: u32) -> bool
+fn pull(shelves: &mut BTreeMap<u32, Shelf>, constraint: &Constraint, id: u32) -> bool
     requires kind { constraint.now.kind ≡ Kind.Str }
     requires filed { AreFiled shelves.old.entries }
     ensures there { result ≡ true → Same (shelved shelves.old.entries) ((test_of constraint.now, id) ∷ shelved shelves.new.entries) }
     ensures none { result ≡ false → (shelved shelves.new.entries ≡ shelved shelves.old.entries) × (IsIn (test_of constraint.now, id) (shelved shelves.old.entries) → ⊥) }
     ensures filed { AreFiled shelves.new.entries }
+    ensures used { AreUsed shelves.old.entries → AreUsedBut (head_of (test_of constraint.now, id)) shelves.new.entries }
+    ensures kept { result ≡ false → AreUsed shelves.old.entries → AreUsed shelves.new.entries }
 {
     match shelves.get_mut(&head_of(constraint)) {
         Some(shelf) => shelf.remove(constraint, id),
         None => false,
     }
+}
+
+/// Takes an empty shelf away.
+fn prune(shelves: &mut BTreeMap<u32, Shelf>, head: u32)
+    ensures same { Same (shelved shelves.new.entries) (shelved shelves.old.entries) }
+    ensures filed { AreFiled shelves.old.entries → AreFiled shelves.new.entries }
+    ensures used { AreUsedBut head shelves.old.entries → AreUsed shelves.new.entries }
+{
+    // The keys rise, so there is no other shelf of that head.
+    let _size = shelves.len();
+    if let Some(shelf) = shelves.get(&head) {
+        if shelf.is_empty() {
+            shelves.remove(&head);
+        }
+    }
+}
+
+/// Takes a pair from the shelf of its head, and the shelf where it was the last; whether it was there.
+fn take(shelves: &mut BTreeMap<u32, Shelf>, constraint: &Constraint, id: u32) -> bool
+    requires kind { constraint.now.kind ≡ Kind.Str }
+    requires filed { AreFiled shelves.old.entries }
+    ensures there { result ≡ true → Same (shelved shelves.old.entries) ((test_of constraint.now, id) ∷ shelved shelves.new.entries) }
+    ensures none { result ≡ false → (shelved shelves.new.entries ≡ shelved shelves.old.entries) × (IsIn (test_of constraint.now, id) (shelved shelves.old.entries) → ⊥) }
+    ensures filed { AreFiled shelves.new.entries }
+    ensures used { AreUsed shelves.old.entries → AreUsed shelves.new.entries }
+{
+    let there = pull(shelves, constraint, id);
+    if there {
+        prune(shelves, head_of(constraint));
+    }
+    there
 }
 
 impl Heads {
@@ -108,7 +142,7 @@ impl Heads {
         ensures there { result ≡ true → Same self.old ((test_of constraint.now, id) ∷ self.new) }
         ensures none { result ≡ false → (self.new ≡ self.old) × (IsIn (test_of constraint.now, id) self.old → ⊥) }
     {
-        pull(&mut self.shelves, constraint, id)
+        take(&mut self.shelves, constraint, id)
     }
 
     /// Appends the ids of the pairs of one head whose test the text passes.

@@ -12,6 +12,7 @@ mod meet;
 mod patterns;
 mod row;
 mod rows;
+mod shelf;
 #[cfg(test)]
 mod tests;
 mod walks;
