@@ -1,14 +1,14 @@
 -- Counting the hits of a notice, one after another.
-use Rattle.std.proofs.Common.{◌≡◌, ◌≢◌, ◌⊎◌, inl, inr, ◌+◌, ◌-◌, ◌≤◌, ◌<◌, ◌==◌, ◌∙◌, refl, sym, ap, subst, arith, ℕ, Bool, true, false, cond, List, [], ◌∷◌, ◌++◌, length, take, get_or, zero, suc, Some, None}
+use Rattle.std.proofs.Common.{◌≡◌, inl, inr, ◌+◌, ◌-◌, ◌≤◌, ◌<◌, ◌==◌, ◌∙◌, refl, sym, ap, subst, arith, ℕ, Bool, true, false, cond, List, [], ◌∷◌, ◌++◌, length, take, get_or, zero, suc}
 use Rattle.std.proofs.lemmas.Bool.Decides.{nat_tests}
 use Rattle.std.proofs.lemmas.List.{get_or-set_same, get_or-set_other, length-set}
 use Rattle.std.specs.List.{Contains}
 use Rattle.std.proofs.lemmas.List.Elements.{Contains-push, Contains-push_cases, Contains-append_left}
 use Rattle.ev_index.specs.Pairs.{tally}
-use Rattle.ev_index.proofs.Tallies.{tally-append, tally-more}
+use Rattle.ev_index.proofs.Tallies.{tally-more}
 use Rattle.ev_counting.specs.declared.goal.Goal.{Goal}
 use Rattle.ev_counting.specs.Slots.{goal_at}
-use Rattle.ev_counting.specs.Counting.{Counts, count_at, is_marked, counted, marked, IsOfRounds, IsFresh, AreGoals, IsFull, AreFull}
+use Rattle.ev_counting.specs.Counting.{Counts, count_at, is_marked, counted, marked, IsOfRounds, IsFresh, IsFull, AreFull}
 use Rattle.ev_counting.proofs.Rounds.{same-round, rounds-counted, rounds-marked}
 use Rattle.ev_counting.proofs.Sound.{differ}
 
@@ -88,9 +88,9 @@ module _ (goals : List Goal) (ifaces found : List ℕ) (c : Counts) (matched : L
     filters_fit = s.filters_fit;
     ifaces_fit = s.ifaces_fit;
     so_often = λ k h m. (
-      let o = hit-other k i found l (λ g. differ (is_marked c (place_at id)) y (ap {B = Bool} (is_marked c) (same-place k g) ∙ m)) in
-      let t = s.so_often k h m in
-      (omega (arith, o, t.0), omega (arith, o, t.1)));
+        let o = hit-other k i found l (λ g. differ (is_marked c (place_at id)) y (ap {B = Bool} (is_marked c) (same-place k g) ∙ m)) in
+        let t = s.so_often k h m in
+        (omega (arith, o, t.0), omega (arith, o, t.1)));
     told = s.told;
     sound = s.sound;
   }
@@ -142,13 +142,13 @@ module _ (goals : List Goal) (ifaces found : List ℕ) (c : Counts) (matched : L
       filters_fit = omega (arith, s.filters_fit, length-set c.counts id (c.base + (count_at c id + 1)));
       ifaces_fit = omega (arith, s.ifaces_fit, length-set c.marks (place_at id) c.base);
       so_often = λ k h m. (
-        let other : place_at id ≡ place_at k → ⊥ = λ g. differ (is_marked (marked c (place_at id)) (place_at k)) (now-marked (place_at k) g) m in
-        let before : is_marked c (place_at k) ≡ false = sym (still (place_at k) other) ∙ m in
-        let n : id ≡ k → ⊥ = λ g. other (same-place k g) in
-        let t = s.so_often k h before in
-        let o = hit-other k i found l n in
-        let a = at-other k n in
-        (omega (arith, t.0, o, a), omega (arith, o, t.1)));
+          let other : place_at id ≡ place_at k → ⊥ = λ g. differ (is_marked (marked c (place_at id)) (place_at k)) (now-marked (place_at k) g) m in
+          let before : is_marked c (place_at k) ≡ false = sym (still (place_at k) other) ∙ m in
+          let n : id ≡ k → ⊥ = λ g. other (same-place k g) in
+          let t = s.so_often k h before in
+          let o = hit-other k i found l n in
+          let a = at-other k n in
+          (omega (arith, t.0, o, a), omega (arith, o, t.1)));
       told = λ k h m. tells k h m (place_at id == place_at k) refl;
       sound = λ iface h. elim (Contains-push_cases matched (get_or ifaces (place_at id) 0) iface h) [
         | inl g ↦ s.sound iface g

@@ -1,9 +1,8 @@
 -- Places of a table: what they hold, and what a change of one place does.
-use Rattle.std.proofs.Common.{◌≡◌, ◌⊎◌, inl, inr, ◌+◌, ◌^◌, ◌≤◌, ◌<◌, ◌∙◌, refl, sym, ap, arith, ℕ, Bool, true, false, cond, List, [], ◌∷◌, ◌++◌, length, get_or, zero, suc, Some, None}
+use Rattle.std.proofs.Common.{◌≡◌, ◌⊎◌, inl, inr, ◌+◌, ◌^◌, ◌≤◌, ◌<◌, ◌∙◌, refl, sym, ap, arith, ℕ, Bool, List, [], ◌∷◌, ◌++◌, length, get_or, zero, suc, Some, None}
 use Rattle.std.proofs.Math.ListN.{set}
 use Rattle.std.specs.List.{Contains}
-use Rattle.ev_constraint.specs.Constraint.{ConstraintParts}
-use Rattle.ev_index.specs.Pairs.{tally, Same}
+use Rattle.ev_index.specs.Pairs.{tally}
 use Rattle.ev_index.proofs.Tallies.{tally-append}
 use Rattle.ev_counting.specs.declared.entry.Entry.{Entry}
 use Rattle.ev_counting.specs.Table.{Held, IsAdded}

@@ -1,5 +1,5 @@
 -- Counters and marks of rounds.
-use Rattle.std.proofs.Common.{◌≡◌, ◌+◌, ◌-◌, ◌≤◌, ◌<◌, ◌^◌, ◌==◌, refl, sym, ap, ◌∙◌, arith, ℕ, Bool, true, false, List, [], ◌∷◌, ◌++◌, length, map, get_or, zero, suc}
+use Rattle.std.proofs.Common.{◌≡◌, ◌+◌, ◌≤◌, ◌<◌, ◌^◌, ◌==◌, refl, ap, arith, ℕ, true, false, List, [], ◌∷◌, ◌++◌, get_or, zero, suc}
 use Rattle.std.proofs.Math.ListN.{set}
 use Rattle.std.proofs.lemmas.Bool.Decides.{nat_tests}
 use Rattle.ev_counting.specs.Counting.{Counts, counts_of, count_at, is_marked, counted, marked, IsOfRounds}

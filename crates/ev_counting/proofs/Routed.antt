@@ -1,5 +1,5 @@
 -- What is counted is what matches.
-use Rattle.std.proofs.Common.{◌≡◌, ◌+◌, ◌≤◌, ◌<◌, ◌==◌, ◌&&◌, ◌∙◌, refl, sym, ap, subst, arith, ℕ, Bool, true, false, cond, List, [], ◌∷◌, ◌++◌, length, get_or, zero, suc, Some, None}
+use Rattle.std.proofs.Common.{◌≡◌, ◌+◌, ◌≤◌, ◌<◌, ◌==◌, ◌&&◌, ◌∙◌, refl, sym, ap, subst, arith, ℕ, Bool, true, false, cond, List, [], ◌∷◌, length, get_or, zero, suc, Some, None}
 use Rattle.std.proofs.lemmas.Bool.Decides.{nat_tests}
 use Rattle.std.specs.List.{Contains, list_all}
 use Rattle.ev_constraint.specs.Constraint.{ConstraintParts}
@@ -8,11 +8,10 @@ use Rattle.ev_notice.specs.Cover.{matches}
 use Rattle.ev_index.specs.Pairs.{tally, Same, Appends}
 use Rattle.ev_index.proofs.Tallies.{tally-append, tally-map, tally-agree, tally-none, tally-le, tally-at}
 use Rattle.ev_counting.specs.declared.goal.Goal.{Goal}
-use Rattle.ev_counting.specs.declared.entry.Entry.{Entry}
 use Rattle.ev_counting.specs.Table.{Held, AreMatched, IsMatched}
 use Rattle.ev_counting.specs.Index.{Use, is_satisfied, ids_satisfied}
-use Rattle.ev_counting.specs.Slots.{Slot, pair_of, held, slot_at, constraints_in, numbered, uses_from, goal_of, goal_at, AreAimed, ArePlaced}
-use Rattle.ev_counting.specs.Counting.{AreGoals, IsFull, AreFull}
+use Rattle.ev_counting.specs.Slots.{Slot, held, slot_at, constraints_in, numbered, uses_from, goal_of, goal_at, AreAimed, ArePlaced}
+use Rattle.ev_counting.specs.Counting.{AreGoals, AreFull}
 use Rattle.ev_counting.proofs.Satisfied.{tally-satisfied}
 use Rattle.ev_counting.proofs.Rounds.{same-round}
 use Rattle.ev_counting.proofs.Places.{held-at, held-from, within}
@@ -136,16 +135,16 @@ pub full-matched : (n : List Attribute) (slots : List Slot) (goals : List Goal) 
 full-matched n slots goals ifaces found matched aimed placed tell a = record {
   sound = λ iface h. (let f = a.sound iface h in is f.id (slot_at slots f.id) refl f.some iface f.mine f.full);
   whole = λ iface h. (
-    let s = held-from slots (iface, h.0) h.1 in
-    let e = s.entry in
-    let t : tally (λ x. x == s.place) found ≡ tally (is_satisfied n) e.filter = tell s.place ∙ ap {B = ℕ} (λ x. tally (is_satisfied n) (constraints_in x)) s.there in
-    let m : e.filter ≡ h.0 = ap {B = List ConstraintParts} (λ (x : Held). x.1) s.mine in
-    let c = matches-count n e.filter (rw m h.2) in
-    let g = aimed.aims s.place ∙ ap {B = Goal} goal_of s.there in
-    let q = placed s.place e s.there in
-    let z = ap {B = ℕ} (λ (x : Goal). x.constraints) g in
-    let mine = ap {B = ℕ} (λ (x : Goal). get_or ifaces x.place 0) g ∙ q.there ∙ ap {B = ℕ} (λ (x : Held). x.0) s.mine in
-    a.whole iface (record { id = s.place; some = omega (arith, z, q.some); mine = mine; full = omega (arith, c, t, z) }));
+      let s = held-from slots (iface, h.0) h.1 in
+      let e = s.entry in
+      let t : tally (λ x. x == s.place) found ≡ tally (is_satisfied n) e.filter = tell s.place ∙ ap {B = ℕ} (λ x. tally (is_satisfied n) (constraints_in x)) s.there in
+      let m : e.filter ≡ h.0 = ap {B = List ConstraintParts} (λ (x : Held). x.1) s.mine in
+      let c = matches-count n e.filter (rw m h.2) in
+      let g = aimed.aims s.place ∙ ap {B = Goal} goal_of s.there in
+      let q = placed s.place e s.there in
+      let z = ap {B = ℕ} (λ (x : Goal). x.constraints) g in
+      let mine = ap {B = ℕ} (λ (x : Goal). get_or ifaces x.place 0) g ∙ q.there ∙ ap {B = ℕ} (λ (x : Held). x.0) s.mine in
+      a.whole iface (record { id = s.place; some = omega (arith, z, q.some); mine = mine; full = omega (arith, c, t, z) }));
 }
   where
     is : (k : ℕ) (s : Slot) → slot_at slots k ≡ s → 0 < (goal_at goals k).constraints → (iface : ℕ) → get_or ifaces (goal_at goals k).place 0 ≡ iface → (goal_at goals k).constraints ≤ tally (λ x. x == k) found → IsMatched n (held slots) iface

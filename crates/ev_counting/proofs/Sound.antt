@@ -1,9 +1,8 @@
 -- What a table keeps, through the steps of a change.
-use Rattle.std.proofs.Common.{◌≡◌, ◌⊎◌, inl, inr, ◌+◌, ◌^◌, ◌≤◌, ◌<◌, ◌==◌, ◌≢◌, ◌∙◌, refl, sym, ap, subst, arith, ℕ, Bool, true, false, cond, List, [], ◌∷◌, ◌++◌, length, take, get_or, zero, suc, Some, None, append-nil}
+use Rattle.std.proofs.Common.{◌≡◌, ◌⊎◌, inl, inr, ◌+◌, ◌^◌, ◌≤◌, ◌<◌, ◌==◌, ◌≢◌, ◌∙◌, refl, sym, ap, subst, arith, ℕ, Bool, true, false, List, [], ◌∷◌, ◌++◌, length, take, get_or, zero, suc, Some, None, append-nil}
 use Rattle.std.proofs.Math.ListN.{set}
 use Rattle.std.proofs.lemmas.List.{length-set, get_or-set_same, get_or-set_other}
 use Rattle.std.proofs.lemmas.Bool.Decides.{nat_tests}
-use Rattle.std.specs.List.{Contains}
 use Rattle.ev_constraint.specs.Constraint.{ConstraintParts}
 use Rattle.ev_index.specs.Pairs.{tally, Same}
 use Rattle.ev_index.proofs.Tallies.{tally-append}
@@ -11,7 +10,7 @@ use Rattle.ev_counting.specs.declared.entry.Entry.{Entry}
 use Rattle.ev_counting.specs.declared.goal.Goal.{Goal}
 use Rattle.ev_notice.specs.Notice.{Attribute}
 use Rattle.ev_notice.specs.Cover.{matches}
-use Rattle.ev_counting.specs.Table.{Held, IsAdded, IsTaken, AreMatched}
+use Rattle.ev_counting.specs.Table.{Held, IsTaken, AreMatched}
 use Rattle.ev_counting.specs.Index.{Use}
 use Rattle.ev_counting.specs.Slots.{Slot, pair_of, held, slot_at, HasPair, constraints_in, numbered, uses_from, KeepsPlaces, IsPlaced, ArePlaced, IsSound, goal_of, goal_at, AreAimed}
 use Rattle.ev_counting.proofs.Sets.{Falls, falls-start, falls-end, step, matched-yes, matched-no}
@@ -114,12 +113,12 @@ pub sound-added : (old new : List Use) (slots : List Slot) (goals : List Goal) (
 sound-added old new slots goals ifaces id e l free q same s = record {
   aimed = aimed-set slots goals id (Some e) l s.aimed;
   indexed = λ p. (
-    let a = uses-set 0 id slots (Some e) p l in
-    let b = tally-append p (numbered id e.filter) old in
-    let z : 0 + id ≡ id = omega arith in
-    let n = ap {B = ℕ} (λ k. tally p (numbered k e.filter)) z in
-    let f = ap {B = ℕ} (λ x. tally p (numbered (0 + id) (constraints_in x))) free in
-    omega (arith, a, b, n, f, same p, s.indexed p));
+      let a = uses-set 0 id slots (Some e) p l in
+      let b = tally-append p (numbered id e.filter) old in
+      let z : 0 + id ≡ id = omega arith in
+      let n = ap {B = ℕ} (λ k. tally p (numbered k e.filter)) z in
+      let f = ap {B = ℕ} (λ x. tally p (numbered (0 + id) (constraints_in x))) free in
+      omega (arith, a, b, n, f, same p, s.indexed p));
   placed = λ k d h. elim (set-either slots id k (Some e) d h) [
     | inl g ↦ (let r : e ≡ d = cc in rw (sym r) q)
     | inr g ↦ s.placed k d g
@@ -162,12 +161,12 @@ taking-free old now goals less index next pair i aimed l has out t = record {
   aimed = aimed;
   size = length-set now i None ∙ t.size;
   indexed = out (uses_from 0 (set now i None)) (λ p. (
-    let a = uses-set 0 i now None p l in
-    let b = tally-append p (numbered i pair.1) (uses_from 0 (set now i None)) in
-    let z : 0 + i ≡ i = omega arith in
-    let n = ap {B = ℕ} (λ k. tally p (numbered k pair.1)) z in
-    let f = ap {B = ℕ} (λ cs. tally p (numbered (0 + i) cs)) (constraints-of (slot_at now i) pair has) in
-    omega (arith, a, b, n, f, t.indexed p)));
+      let a = uses-set 0 i now None p l in
+      let b = tally-append p (numbered i pair.1) (uses_from 0 (set now i None)) in
+      let z : 0 + i ≡ i = omega arith in
+      let n = ap {B = ℕ} (λ k. tally p (numbered k pair.1)) z in
+      let f = ap {B = ℕ} (λ cs. tally p (numbered (0 + i) cs)) (constraints-of (slot_at now i) pair has) in
+      omega (arith, a, b, n, f, t.indexed p)));
   placed = λ k e h. elim (set-either now i k None e h) [ inl g ↦ cc | inr g ↦ t.placed k e g ];
   falls = falls-then (held old) (held now) (held (set now i None)) pair t.falls (held-free now i pair l has);
   none = λ k m. upto {C = λ k. HasPair (slot_at (set now i None) k) pair → ⊥} i k m (λ j g. other now i j g (t.none j g)) (gone now i);
@@ -273,11 +272,11 @@ copying-more slots copy goals index next i e l here few same c = record {
   few = omega (arith, length-push {X = Slot} copy (Some e), few);
   same = held-append copy (Some e ∷ []) ∙ ap (λ xs. xs ++ pair_of e ∷ []) c.same ∙ sym (held-more slots i (Some e) l here);
   indexed = λ p. (
-    let a = uses-behind 0 copy (Some e) p in
-    let b = tally-append p (numbered (length copy) e.filter) index in
-    let z : 0 + length copy ≡ length copy = omega arith in
-    let n = ap {B = ℕ} (λ k. tally p (numbered k e.filter)) z in
-    omega (arith, a, b, n, same p, c.indexed p));
+      let a = uses-behind 0 copy (Some e) p in
+      let b = tally-append p (numbered (length copy) e.filter) index in
+      let z : 0 + length copy ≡ length copy = omega arith in
+      let n = ap {B = ℕ} (λ k. tally p (numbered k e.filter)) z in
+      omega (arith, a, b, n, same p, c.indexed p));
   placed = λ ifaces a k d h. elim (push-either copy (Some e) k d h) [
     | inl g ↦ a i d (here ∙ g)
     | inr g ↦ c.placed ifaces a k d g

@@ -1,5 +1,5 @@
 -- The uses of one filter, put into an index and taken out of it.
-use Rattle.std.proofs.Common.{◌≡◌, ◌+◌, ◌≤◌, ◌<◌, ◌∙◌, inl, refl, sym, ap, arith, ℕ, Bool, true, false, cond, List, [], ◌∷◌, ◌++◌, length, map, drop, take, get_or, zero, suc}
+use Rattle.std.proofs.Common.{◌≡◌, ◌+◌, ◌≤◌, ◌<◌, ◌∙◌, inl, refl, sym, ap, arith, ℕ, Bool, true, false, cond, List, [], ◌∷◌, ◌++◌, length, drop, take, get_or, zero, suc}
 use Rattle.std.proofs.lemmas.List.{drop_more}
 use Rattle.ev_constraint.specs.Constraint.{ConstraintParts}
 use Rattle.ev_index.specs.Pairs.{tally, Same, IsIn}

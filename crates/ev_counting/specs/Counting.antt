@@ -1,5 +1,5 @@
 -- Counting: a filter is matched where as many hits name it as it has constraints.
-use Rattle.std.specs.Prelude.{◌≡◌, ◌<◌, ◌≤◌, ◌==◌, ◌+◌, ◌-◌, ◌^◌, ℕ, List, length, Bool, true, false, slice_index_or, slice_set}
+use Rattle.std.specs.Prelude.{◌≡◌, ◌<◌, ◌≤◌, ◌==◌, ◌+◌, ◌-◌, ◌^◌, ℕ, List, length, Bool, false, slice_index_or, slice_set}
 use Rattle.std.specs.List.{Contains}
 use Rattle.ev_index.specs.Pairs.{tally}
 use Rattle.ev_counting.specs.declared.goal.Goal.{Goal}

@@ -58,10 +58,7 @@ fn free_place(slots: &[Option<Entry>]) -> Option<usize>
 }
 
 /// A free place, made where there is none; its number.
-pub(crate) fn vacate(
-    slots: &mut Vec<Option<Entry>>,
-    goals: &mut Vec<Goal>,
-) -> Result<u32, NoMemory>
+pub(crate) fn vacate(slots: &mut Vec<Option<Entry>>, goals: &mut Vec<Goal>) -> Result<u32, NoMemory>
     requires few { length slots.old.items ≤ 2 ^ 32 }
     requires aimed { AreAimed slots.old.items goals.old.items }
     ensures free { IfOk result (λ id. (id < length slots.new.items) × (slot_at slots.new.items id ≡ None)) }

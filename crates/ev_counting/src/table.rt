@@ -172,11 +172,7 @@ fn copied(alloc: Global, slots: &[Option<Entry>]) -> Result<Parts, NoMemory>
 }
 
 /// The interfaces of the pairs whose filter the notice matches, as often as they have one.
-fn matched(
-    alloc: Global,
-    slots: &[Option<Entry>],
-    notice: &Notice,
-) -> Result<Vec<u32>, NoMemory>
+fn matched(alloc: Global, slots: &[Option<Entry>], notice: &Notice) -> Result<Vec<u32>, NoMemory>
     ensures { IfOk result (λ ifaces. AreMatched notice.now (held slots.now) ifaces.items) }
 {
     let mut ifaces = Vec::new(alloc);

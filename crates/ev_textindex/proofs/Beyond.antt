@@ -11,7 +11,7 @@ use Rattle.ev_index.specs.Pairs.{tally, Same}
 use Rattle.ev_index.specs.Groups.{under, keyed, ids_of}
 use Rattle.ev_index.proofs.Tallies.{tally-append}
 use Rattle.ev_textindex.specs.Keys.{bytes_of, ids_beyond}
-use Rattle.ev_textindex.proofs.Walked.{ids_at}
+use Rattle.ev_index.proofs.Found.{ids_at}
 
 abbrev Entries : Type 0
 Entries = List (Vec ℕ Global × Vec ℕ Global)

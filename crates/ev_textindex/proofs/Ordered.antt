@@ -11,7 +11,7 @@ use Rattle.ev_constraint.proofs.BytesLemmas.{le-le, less-asym, less-le}
 use Rattle.ev_textindex.specs.declared.edge.Edge.{Edge}
 use Rattle.ev_textindex.specs.declared.edge.Edge.TheVariants as edges
 use Rattle.ev_textindex.specs.Keys.{key_cmp, is_above, is_below}
-use Rattle.ev_textindex.proofs.Walked.{ids_at}
+use Rattle.ev_index.proofs.Found.{ids_at}
 
 abbrev Entries : Type 0
 Entries = List (Vec ℕ Global × Vec ℕ Global)

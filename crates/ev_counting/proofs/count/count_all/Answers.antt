@@ -1,4 +1,4 @@
-use Rattle.std.proofs.Common.{◌≡◌, ◌+◌, ◌<◌, ◌∷◌, ◌++◌, [], refl, sym, subst, arith, Bool, true, false, ℕ, List, length, get_or}
+use Rattle.std.proofs.Common.{◌≡◌, ◌+◌, ◌<◌, refl, sym, subst, arith, Bool, true, false, ℕ, List, length, get_or}
 use Rattle.ev_counting.specs.Slots.{goal_at}
 use Rattle.ev_counting.specs.Counting.{Counts, counts_of, counted, marked, is_marked}
 use Rattle.ev_counting.proofs.Counted.{Counting, counting-less, counting-full, counting-end}

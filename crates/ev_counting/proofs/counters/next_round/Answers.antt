@@ -1,4 +1,4 @@
-use Rattle.std.proofs.Common.{◌≡◌, ◌+◌, ◌<◌, ◌^◌, arith}
+use Rattle.std.proofs.Common.{◌+◌, ◌<◌, ◌^◌, arith}
 use Rattle.ev_counting.specs.Counting.{counts_of, IsOfRounds}
 use Rattle.ev_counting.proofs.Rounds.{none-later, next-rounds, next-counts, next-marks}
 use Rattle.ev_counting.proofs.counters.next_round.Goals.{Joined-base, then-base, else-base}

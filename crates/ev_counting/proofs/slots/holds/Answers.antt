@@ -1,5 +1,4 @@
-use Rattle.std.proofs.Common.{◌≡◌, arith, refl, sym, true, false, None}
-use Rattle.ev_counting.specs.Slots.{Slot, HasPair}
+use Rattle.std.proofs.Common.{◌≡◌, arith, refl, true, false, None}
 use Rattle.ev_counting.proofs.Places.{held-has, held-none, stands-here}
 use Rattle.ev_counting.proofs.slots.holds.Goals as goal
 

@@ -1,4 +1,4 @@
-use Rattle.std.proofs.Common.{◌≡◌, ◌<◌, ◌^◌, arith, sym, subst, List, length}
+use Rattle.std.proofs.Common.{◌<◌, ◌^◌, arith, sym, subst, List, length}
 use Rattle.ev_counting.specs.Slots.{Slot, KeepsPlaces}
 use Rattle.ev_counting.proofs.Places.{keeps-push}
 use Rattle.ev_counting.proofs.slots.vacate.Goals as goal

@@ -1,4 +1,4 @@
-use Rattle.std.proofs.Common.{◌≡◌, ◌+◌, ◌∙◌, sym, subst, List, Some, None, ◌∷◌, ◌++◌, []}
+use Rattle.std.proofs.Common.{◌+◌, ◌∙◌, sym, subst, List, Some, None, ◌∷◌, ◌++◌, []}
 use Rattle.ev_counting.specs.declared.goal.Goal.{Goal}
 use Rattle.ev_counting.specs.Slots.{Slot}
 use Rattle.ev_counting.proofs.Places.{stands-here}

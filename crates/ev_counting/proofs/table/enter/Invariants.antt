@@ -1,4 +1,4 @@
-use Rattle.std.proofs.Common.{List, ◌++◌, take}
+use Rattle.std.proofs.Common.{◌++◌, take}
 use Rattle.ev_index.specs.Pairs.{Same}
 use Rattle.ev_counting.specs.Slots.{numbered}
 use Rattle.ev_counting.proofs.table.enter.Given as goal

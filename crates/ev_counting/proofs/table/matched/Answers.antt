@@ -1,6 +1,5 @@
-use Rattle.std.proofs.Common.{◌≡◌, ◌+◌, ◌∙◌, ap, sym, subst, Bool, ℕ, List, [], ◌∷◌, ◌++◌, take, get_or, Some, None}
-use Rattle.ev_notice.specs.Cover.{matches}
-use Rattle.ev_counting.specs.Table.{Held, AreMatched}
+use Rattle.std.proofs.Common.{◌+◌, ◌∙◌, sym, subst, take, None}
+use Rattle.ev_counting.specs.Table.{AreMatched}
 use Rattle.ev_counting.specs.Slots.{held}
 use Rattle.ev_counting.proofs.Places.{stands-here}
 use Rattle.ev_counting.proofs.Sound.{next-yes, next-no, next-none}

@@ -1,6 +1,5 @@
-use Rattle.std.proofs.Common.{◌≡◌, ◌+◌, ◌<◌, ◌≤◌, arith, sym, subst, List, length, None}
-use Rattle.std.proofs.Math.ListN.{set}
-use Rattle.ev_counting.specs.Slots.{Slot, HasPair, slot_at, AreAimed}
+use Rattle.std.proofs.Common.{◌+◌, ◌<◌, ◌≤◌, arith, sym, subst, List, length, None}
+use Rattle.ev_counting.specs.Slots.{Slot, AreAimed}
 use Rattle.ev_counting.specs.Table.{Held}
 use Rattle.ev_counting.proofs.Places.{stands-here}
 use Rattle.ev_counting.proofs.Sound.{Taking, taking-free, taking-pass, taking-end, differ}

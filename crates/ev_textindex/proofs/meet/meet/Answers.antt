@@ -12,7 +12,7 @@ use Rattle.ev_textindex.specs.declared.edge.Edge.TheVariants as edges
 use Rattle.ev_textindex.specs.Keys.{at_key, is_above, is_below}
 use Rattle.ev_textindex.specs.Rows.{said}
 use Rattle.ev_textindex.proofs.Appended.{appended, those-appended}
-use Rattle.ev_textindex.proofs.Walked.{ids_at}
+use Rattle.ev_index.proofs.Found.{ids_at}
 use Rattle.ev_textindex.proofs.Meets.{any-key, equal-key, met-in}
 use Rattle.ev_textindex.proofs.meet.meet.Goals as goal
 

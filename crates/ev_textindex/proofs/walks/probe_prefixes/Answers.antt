@@ -6,7 +6,8 @@ use Rattle.ev_textindex.specs.Keys.{at_key}
 use Rattle.ev_textindex.proofs.Appended.{nothing-appended, more-appended, those-appended}
 use Rattle.ev_textindex.proofs.Probes.{none-yet, prefix-probe, prefix-within}
 use Rattle.ev_textindex.proofs.Beyond.{within}
-use Rattle.ev_textindex.proofs.Walked.{ids_at, ids-none, ids-split}
+use Rattle.ev_index.proofs.Found.{ids_at}
+use Rattle.ev_textindex.proofs.Walked.{ids-none, ids-split}
 use Rattle.ev_textindex.proofs.walks.probe_prefixes.Goals as goal
 
 pub loop-n-init : goal.loop-n-init

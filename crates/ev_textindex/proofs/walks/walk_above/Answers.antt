@@ -6,7 +6,8 @@ use Rattle.std.specs.Map.{keys_of}
 use Rattle.ev_index.specs.Pairs.{tally}
 use Rattle.ev_textindex.specs.Keys.{is_above, key_cmp}
 use Rattle.ev_textindex.proofs.Appended.{appended, fewer-left, nothing-left}
-use Rattle.ev_textindex.proofs.Walked.{ids_at, ids-last}
+use Rattle.ev_index.proofs.Found.{ids_at}
+use Rattle.ev_textindex.proofs.Walked.{ids-last}
 use Rattle.ev_textindex.proofs.Ordered.{rest-above, sorted-front}
 use Rattle.ev_textindex.proofs.walks.walk_above.Goals as goal
 

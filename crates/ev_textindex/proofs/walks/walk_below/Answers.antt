@@ -5,7 +5,8 @@ use Rattle.std.specs.List.Sorted.{IsStrictlySortedBy}
 use Rattle.std.specs.Map.{keys_of}
 use Rattle.std.proofs.lemmas.Map.Keys.{sorted_tail}
 use Rattle.ev_textindex.specs.Keys.{is_below, key_cmp}
-use Rattle.ev_textindex.proofs.Walked.{ids_at, ids-step}
+use Rattle.ev_index.proofs.Found.{ids_at}
+use Rattle.ev_textindex.proofs.Walked.{ids-step}
 use Rattle.ev_textindex.proofs.Ordered.{rest-below}
 use Rattle.ev_textindex.proofs.walks.walk_below.Goals as goal
 

@@ -5,7 +5,7 @@ use Rattle.std.specs.Ordering.{is_eq}
 use Rattle.std.proofs.lemmas.Map.Keys.{IsDistinct-from_sorted}
 use Rattle.ev_textindex.specs.Keys.{at_key, key_cmp}
 use Rattle.ev_textindex.proofs.Keys.{same-same}
-use Rattle.ev_textindex.proofs.Walked.{ids-there, ids-absent}
+use Rattle.ev_index.proofs.Found.{ids-there, ids-absent}
 use Rattle.ev_textindex.proofs.walks.walk_one.Goals as goal
 
 pub returns-in_default : goal.returns-in_default

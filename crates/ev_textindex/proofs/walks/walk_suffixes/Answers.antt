@@ -4,7 +4,7 @@ use Rattle.std.proofs.Common.{ℕ}
 use Rattle.std.proofs.lemmas.Result.{on_ok_weaker}
 use Rattle.ev_constraint.specs.Bytes.{has_suffix}
 use Rattle.ev_textindex.proofs.Appended.{appended}
-use Rattle.ev_textindex.proofs.Walked.{ids_at}
+use Rattle.ev_index.proofs.Found.{ids_at}
 use Rattle.ev_textindex.proofs.walks.walk_suffixes.Goals as goal
 
 pub returns-then-len-le-FEW : goal.returns-then-len-le-FEW

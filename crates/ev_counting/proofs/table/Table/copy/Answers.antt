@@ -1,5 +1,3 @@
-use Rattle.std.proofs.Common.{◌∙◌, sym, subst, ℕ, List}
-use Rattle.ev_counting.specs.Slots.{ArePlaced}
 use Rattle.ev_counting.proofs.table.Table.copy.Goals as goal
 
 pub invariant_of-result : goal.invariant_of-result

@@ -1,9 +1,8 @@
-use Rattle.std.proofs.Common.{◌≡◌, ◌<◌, ◌==◌, ◌∙◌, sym, subst, ℕ, List, [], length, get_or}
-use Rattle.ev_index.specs.Pairs.{tally, Appends}
+use Rattle.std.proofs.Common.{subst, ℕ, List}
+use Rattle.ev_index.specs.Pairs.{Appends}
 use Rattle.ev_counting.specs.declared.goal.Goal.{Goal}
 use Rattle.ev_counting.specs.Table.{Held, AreMatched}
-use Rattle.ev_counting.specs.Index.{is_satisfied, ids_satisfied}
-use Rattle.ev_counting.specs.Slots.{held, constraints_in, slot_at, goal_at}
+use Rattle.ev_counting.specs.Index.{ids_satisfied}
 use Rattle.ev_counting.specs.Counting.{AreFull}
 use Rattle.ev_counting.proofs.Sets.{to-route}
 use Rattle.ev_counting.proofs.Routed.{hits-tell, hits-known, full-matched}
