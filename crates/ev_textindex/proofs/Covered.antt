@@ -1,6 +1,5 @@
 -- A pattern that a text matches has one of the text's heads.
 use Rattle.std.proofs.Common.{◌≡◌, ◌+◌, ◌-◌, ◌≤◌, ◌==◌, ◌&&◌, ◌||◌, ◌∙◌, ℕ, Bool, true, false, refl, sym, ap, subst, arith, List, [], ◌∷◌, ◌++◌, length, take, drop, Option, Some, None}
-use Rattle.std.proofs.lemmas.Bool.Decides.{nat_tests}
 use Rattle.std.proofs.lemmas.List.{drop_at, drop-drop, length-append}
 use Rattle.ev_values.specs.declared.value.Kind.{Kind}
 use Rattle.ev_values.specs.declared.value.Kind.TheVariants as kinds

@@ -1,22 +1,20 @@
 -- Which keys have a test that a text passes.
 use Rattle.std.proofs.Common.{◌≡◌, List, [], ◌∷◌, ℕ, Bool, true, false, refl}
 use Rattle.std.specs.Str.{bytes_eq}
-use Rattle.ev_values.specs.declared.value.Value.{Value}
 use Rattle.ev_values.specs.declared.value.Value.TheVariants as values
 use Rattle.ev_constraint.specs.declared.op.Op.{Op}
 use Rattle.ev_constraint.specs.declared.op.Op.TheVariants as ops
 use Rattle.ev_constraint.proofs.BytesLemmas.{bytes_eq-tells, bytes_eq-told}
 use Rattle.ev_index.specs.Pairs.{passes, ids_met}
 use Rattle.ev_index.specs.Groups.{keyed}
-use Rattle.ev_index.proofs.Rows.{none-met-keyed, met-append, met-keyed}
+use Rattle.ev_index.proofs.Rows.{met-keyed}
 use Rattle.std.specs.Prelude.{Vec}
 use Rattle.std.specs.declared.alloc.Global.{Global}
 use Rattle.ev_textindex.proofs.Walked.{ids_at}
-use Rattle.ev_textindex.specs.declared.row.Row.{Row}
-use Rattle.ev_textindex.specs.Keys.{test_at, any_test, same_bytes}
+use Rattle.ev_textindex.specs.Keys.{test_at, same_bytes}
 use Rattle.ev_textindex.proofs.Keys.{same-tells, same-told}
-use Rattle.ev_textindex.specs.Rows.{said, rows_pairs, row_pairs}
-use Rattle.std.proofs.Common.{◌∙◌, ap, sym, ◌++◌}
+use Rattle.ev_textindex.specs.Rows.{said}
+use Rattle.std.proofs.Common.{◌∙◌, ap, sym}
 
 -- what each operator asks of a key
 pub any-key : (x u : List ℕ) → same_bytes [] u ≡ passes (values.Str x) (test_at ops.Any u)

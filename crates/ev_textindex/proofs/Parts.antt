@@ -1,5 +1,5 @@
 -- Looking for a key byte by byte.
-use Rattle.std.proofs.Common.{◌≡◌, ◌==◌, ◌&&◌, ◌||◌, ◌∙◌, refl, sym, ap, arith, ℕ, Bool, true, false, List, [], ◌∷◌, length, nat_eq}
+use Rattle.std.proofs.Common.{◌≡◌, ◌==◌, ◌&&◌, ◌||◌, ◌∙◌, refl, ap, arith, ℕ, Bool, true, false, List, [], ◌∷◌, length, nat_eq}
 use Rattle.std.proofs.lemmas.Bool.Decides.{nat_tests}
 use Rattle.std.specs.List.{starts_with}
 use Rattle.ev_constraint.specs.Bytes.{has_part, has_prefix}

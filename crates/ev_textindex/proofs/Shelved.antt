@@ -9,7 +9,6 @@ use Rattle.std.proofs.lemmas.Map.Lookups.{exact_unsigned}
 use Rattle.std.proofs.lemmas.Cmp.{nat_cmp_total, tied_itself}
 use Rattle.std.proofs.lemmas.Bool.Decides.{nat_tests}
 use Rattle.ev_index.specs.Pairs.{tally, Same, Pair, IsIn}
-use Rattle.ev_index.specs.Groups.{spread}
 use Rattle.ev_index.proofs.Tallies.{tally-append, tally-none}
 use Rattle.ev_index.proofs.Groups.{spread-insert, spread-set, spread-remove}
 use Rattle.ev_index.proofs.Rows.{tally-in}

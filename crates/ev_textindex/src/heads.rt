@@ -6,8 +6,8 @@ ghost use Rattle.ev_index.specs.Pairs.{Same, IsIn, test_of};
 ghost use Rattle.ev_textindex.specs.Heads.{head_of, shelved, AreFiled, AreUsed, AreUsedBut};
 
 use crate::head::head_at;
-use crate::shelf::Shelf;
 use crate::row::key_of;
+use crate::shelf::Shelf;
 use ev_constraint::Constraint;
 use ev_memory::NoMemory;
 use std::alloc::Global;
@@ -146,12 +146,7 @@ impl Heads {
     }
 
     /// Appends the ids of the pairs of one head whose test the text passes.
-    pub(crate) fn meet(
-        &self,
-        head: u32,
-        text: &[u8],
-        found: &mut Vec<u32>,
-    ) -> Result<(), NoMemory>
+    pub(crate) fn meet(&self, head: u32, text: &[u8], found: &mut Vec<u32>) -> Result<(), NoMemory>
         ensures { OnOk result (Appends found.old.items found.new.items (ids_headed (λ h. head == h) (Value.Str text.now) self.now)) }
     {
         // The keys rise, so there is no other shelf of that head.

@@ -138,11 +138,7 @@ fn meet_inside(heads: &Heads, x: &[u8], found: &mut Vec<u32>) -> Result<(), NoMe
 }
 
 /// Appends the ids of the patterns that a text matches.
-pub(crate) fn meet_patterns(
-    heads: &Heads,
-    x: &[u8],
-    found: &mut Vec<u32>,
-) -> Result<(), NoMemory>
+pub(crate) fn meet_patterns(heads: &Heads, x: &[u8], found: &mut Vec<u32>) -> Result<(), NoMemory>
     requires { AreAllPatterns heads.now }
     ensures { OnOk result (Appends found.old.items found.new.items (ids_met (Value.Str x.now) heads.now)) }
 {

@@ -1,4 +1,4 @@
-use Rattle.std.proofs.Common.{◌≡◌, ℕ, length}
+use Rattle.std.proofs.Common.{◌≡◌, length}
 use Rattle.ev_constraint.specs.Bytes.{has_part}
 use Rattle.ev_textindex.proofs.bytes.has_part_short.Given as goal
 

@@ -1,4 +1,4 @@
-use Rattle.std.proofs.Common.{◌≡◌, ℕ, length}
+use Rattle.std.proofs.Common.{◌≡◌, length}
 use Rattle.ev_textindex.specs.Heads.{has_one}
 use Rattle.ev_textindex.proofs.head.has_one.Given as goal
 

@@ -1,4 +1,4 @@
-use Rattle.std.proofs.Common.{◌∙◌, ◌==◌, not, subst, ap, sym, inl, inr, ◌⊎◌, ◌≡◌, ℕ, Bool, true, false, refl, List}
+use Rattle.std.proofs.Common.{◌∙◌, ◌==◌, not, subst, ap, sym, ◌≡◌, ℕ, Bool, true, false, refl, List}
 use Rattle.std.specs.BTreeMap.{BTreeMap}
 use Rattle.std.specs.Map.{keys_of}
 use Rattle.std.specs.Option.{option_copied_mut}

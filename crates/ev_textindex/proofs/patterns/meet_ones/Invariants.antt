@@ -1,4 +1,4 @@
-use Rattle.std.proofs.Common.{ℕ, length}
+use Rattle.std.proofs.Common.{length}
 use Rattle.ev_values.specs.declared.value.Value.TheVariants as values
 use Rattle.ev_textindex.specs.Heads.{ids_headed, has_one}
 use Rattle.ev_textindex.proofs.Appended.{Leaves}
