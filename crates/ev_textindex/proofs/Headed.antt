@@ -116,3 +116,12 @@ three-appended old m n new s a b c v pairs h f g k =
     let y = ids_headed b v pairs in
     let z = ids_headed c v pairs in
     the-same-appended old new (x ++ (y ++ z)) (ids_headed s v pairs) (Appends-append old m new x (y ++ z) f (Appends-append m n new y z g k)) (λ q. omega (arith, headed-three s a b c v q pairs h, tally-append q x (y ++ z), tally-append q y z))
+
+-- no pair that is there has such a head
+pub headed-nowhere : (g : Pair → Bool) (s : ℕ → Bool) (v : Value) (pairs : List Pair) → ((x : Pair) → g x ≡ false → s (head_of x) ≡ false) → tally g pairs ≡ 0 → ids_headed s v pairs ≡ []
+headed-nowhere g s v [] h a = refl
+headed-nowhere g s v (x ∷ pairs) h a = go (g x) refl a (headed-nowhere g s v pairs h)
+  where
+    go : (b : Bool) → g x ≡ b → cond b 1 0 + tally g pairs ≡ 0 → (tally g pairs ≡ 0 → ids_headed s v pairs ≡ []) → ids_headed s v (x ∷ pairs) ≡ []
+    go true w k r = absurd (omega (arith, k))
+    go false w k r = rw (h x w) (r (omega (arith, k)))

@@ -1,9 +1,11 @@
 -- The heads of a text: no two sorts have one in common.
-use Rattle.std.proofs.Common.{◌≡◌, ◌+◌, ◌*◌, ◌==◌, ◌&&◌, ◌||◌, ◌∙◌, ℕ, Bool, true, false, not, cond, refl, sym, ap, subst, arith, List, [], ◌∷◌, length, take}
+use Rattle.std.proofs.Common.{◌≡◌, ◌≤◌, ◌+◌, ◌*◌, ◌==◌, ◌&&◌, ◌||◌, ◌∙◌, ℕ, Bool, true, false, not, cond, refl, sym, ap, subst, arith, List, [], ◌∷◌, length, take}
 use Rattle.std.proofs.lemmas.Bool.Decides.{nat_tests}
 use Rattle.ev_constraint.specs.declared.op.Op.{Op}
 use Rattle.ev_constraint.specs.declared.op.Op.TheVariants as ops
-use Rattle.ev_textindex.specs.Heads.{mark, one, two, head_first, last_bytes, is_among, is_at_begin, is_at_end, is_inside, has_one, has_two}
+use Rattle.ev_textindex.specs.Heads.{mark, one, two, head_first, head_at, head_of, last_bytes, is_part, is_part_op, is_among, is_at_begin, is_at_end, is_inside, has_one, has_two}
+use Rattle.ev_index.specs.Pairs.{Pair}
+use Rattle.ev_textindex.specs.Keys.{key_of}
 use Rattle.ev_textindex.proofs.Shelved.{number-tells}
 
 -- a head that is passed over
@@ -99,6 +101,22 @@ end-form x h e = among-form 2 (mark ops.Suffix) (head_first ops.Suffix (last_byt
 
 inside-form : (x : List ℕ) (h : ℕ) → is_inside x h ≡ true → IsMarked 3 h
 inside-form x h e = either-true (mark ops.Contains == h) (has_one x h || has_two x h) e (λ w. record { rest = 0; tells = sym (number-tells 3 h w) }) (λ d. either-true (has_one x h) (has_two x h) d (λ w. let o = one-form x h w in record { rest = 1 + 2 * o.byte; tells = omega (arith, o.tells) }) (λ w. let o = two-form x h w in record { rest = 2 + 2 * o.bytes; tells = omega (arith, o.tells) }))
+
+at-form : (op : Op) (u : List ℕ) → IsMarked (mark op) (head_at op u)
+at-form ops.Suffix u = first-form ops.Suffix (last_bytes 2 u)
+at-form op u = first-form op u
+
+low-mark : (op : Op) → is_part_op op ≡ false → mark op ≤ 2
+low-mark ops.Contains e = cc
+low-mark op e = omega arith
+
+-- what asks for something else has no head of what stands in a text
+pub never-inside : (x : List ℕ) (y : Pair) → is_part y ≡ false → is_inside x (head_of y) ≡ false
+never-inside x y e = go (is_inside x (head_of y)) refl
+  where
+    go : (b : Bool) → is_inside x (head_of y) ≡ b → b ≡ false
+    go false w = refl
+    go true w = let i = inside-form x (head_of y) w in let a = at-form y.0.op (key_of y.0.operand) in absurd (omega (arith, i.tells, a.tells, low-mark y.0.op e))
 
 -- a head of the text
 abbrev pub is_met : List ℕ → ℕ → Bool

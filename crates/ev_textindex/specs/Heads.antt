@@ -80,10 +80,28 @@ AreUsed es = idle_heads es ≡ []
 abbrev pub AreUsedBut : ℕ → List (ℕ × List Pair) → Type 0
 AreUsedBut h es = tally (λ k. not (h == k)) (idle_heads es) ≡ 0
 
+abbrev pub is_part_op : Op → Bool
+is_part_op ops.Contains = true
+is_part_op op = false
+
+-- the test asks what stands in a text
+abbrev pub is_part : Pair → Bool
+is_part x = is_part_op x.0.op
+
+-- there are none such, unless there may be
+abbrev pub count_parts : Bool → List Pair → ℕ
+count_parts true pairs = 0
+count_parts false pairs = tally is_part pairs
+
 -- each pair is on the shelf of its head, and something on each shelf
 pub record AreShelves (es : List (ℕ × List Pair)) : Type 0 where
   pub filed : AreFiled es
   pub used : AreUsed es
+
+-- such are the shelves, and it is told where nothing asks what stands in a text
+pub record AreTold (parts : Bool) (es : List (ℕ × List Pair)) : Type 0 where
+  pub shelves : AreShelves es
+  pub told : count_parts parts (shelved es) ≡ 0
 
 -- the ids of the pairs of some heads whose test the value passes
 abbrev pub ids_headed : (ℕ → Bool) → Value → List Pair → List ℕ

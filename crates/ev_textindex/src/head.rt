@@ -1,7 +1,7 @@
 //! Heads of patterns and texts.
 ghost use Rattle.std.specs.Prelude.{◌≡◌, ◌≤◌};
 ghost use Rattle.ev_constraint.specs.declared.op.Op.{Op};
-ghost use Rattle.ev_textindex.specs.Heads.{mark, one, two, head_first, head_at, last_bytes, has_one, has_two, is_pattern_op};
+ghost use Rattle.ev_textindex.specs.Heads.{mark, one, two, head_first, head_at, last_bytes, has_one, has_two, is_pattern_op, is_part_op};
 
 use ev_constraint::Op;
 
@@ -11,6 +11,16 @@ pub(crate) fn is_pattern(op: Op) -> bool
 {
     match op {
         Op::Prefix | Op::Suffix | Op::Contains => true,
+        _ => false,
+    }
+}
+
+/// Whether an operator asks what stands in a text.
+pub(crate) fn is_part(op: Op) -> bool
+    ensures { result ≡ is_part_op op }
+{
+    match op {
+        Op::Contains => true,
         _ => false,
     }
 }

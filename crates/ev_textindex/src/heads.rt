@@ -1,11 +1,11 @@
 //! The patterns, found by their head.
-ghost use Rattle.std.specs.Prelude.{◌≡◌, ◌∷◌, [], true, false, OnOk, OnErr, List, ℕ};
+ghost use Rattle.std.specs.Prelude.{◌≡◌, ◌∷◌, ◌||◌, [], true, false, OnOk, OnErr, List, ℕ};
 ghost use Rattle.ev_constraint.specs.declared.op.Op.{Op};
 ghost use Rattle.ev_values.specs.declared.value.Kind.{Kind};
 ghost use Rattle.ev_index.specs.Pairs.{Same, IsIn, test_of};
 ghost use Rattle.ev_textindex.specs.Heads.{head_of, shelved, AreFiled, AreUsed, AreUsedBut};
 
-use crate::head::head_at;
+use crate::head::{head_at, is_part};
 use crate::row::key_of;
 use crate::shelf::Shelf;
 use ev_constraint::Constraint;
@@ -19,18 +19,27 @@ use std::marker::Model;
 pub(crate) struct Heads {
     alloc: Global,
     shelves: BTreeMap<u32, Shelf>,
+    /// Whether a pattern that asks what stands in a text was ever put here.
+    parts: bool,
 }
 
 impl Model for Heads {
     ghost use Rattle.std.specs.Prelude.{List};
     ghost use Rattle.ev_index.specs.Pairs.{Pair};
-    ghost use Rattle.ev_textindex.specs.Heads.{shelved, AreShelves};
+    ghost use Rattle.ev_textindex.specs.Heads.{shelved, AreTold};
 
     ghost Value = { List Pair };
 
     ghost view = { λ heads. shelved heads.shelves.entries };
 
-    ghost invariant = { λ heads. AreShelves heads.shelves.entries };
+    ghost invariant = { λ heads. AreTold heads.parts heads.shelves.entries };
+}
+
+/// Whether one of two holds.
+fn either(a: bool, b: bool) -> bool
+    ensures { result ≡ (a || b) }
+{
+    a || b
 }
 
 /// The head of a constraint's operand.
@@ -114,8 +123,8 @@ impl Heads {
     ghost use Rattle.std.specs.Prelude.{◌≡◌, ◌∷◌, ◌==◌, [], true, false, OnOk, OnErr};
     ghost use Rattle.ev_values.specs.declared.value.Kind.{Kind};
     ghost use Rattle.ev_values.specs.declared.value.Value.{Value};
-    ghost use Rattle.ev_index.specs.Pairs.{Same, Appends, IsIn, test_of};
-    ghost use Rattle.ev_textindex.specs.Heads.{ids_headed};
+    ghost use Rattle.ev_index.specs.Pairs.{Same, Appends, IsIn, tally, test_of};
+    ghost use Rattle.ev_textindex.specs.Heads.{ids_headed, is_part};
 
     /// No patterns.
     pub(crate) fn new(alloc: Global) -> Heads
@@ -124,6 +133,7 @@ impl Heads {
         Heads {
             alloc,
             shelves: BTreeMap::new(alloc),
+            parts: false,
         }
     }
 
@@ -133,6 +143,7 @@ impl Heads {
         ensures added { OnOk result (Same self.new ((test_of constraint.now, id) ∷ self.old)) }
         ensures err { OnErr result (self.new ≡ self.old) }
     {
+        self.parts = either(self.parts, is_part(constraint.op()));
         put(self.alloc, &mut self.shelves, constraint, id)
     }
 
@@ -143,6 +154,13 @@ impl Heads {
         ensures none { result ≡ false → (self.new ≡ self.old) × (IsIn (test_of constraint.now, id) self.old → ⊥) }
     {
         take(&mut self.shelves, constraint, id)
+    }
+
+    /// Whether a pattern may ask what stands in a text.
+    pub(crate) fn has_parts(&self) -> bool
+        ensures { result ≡ false → tally is_part self.now ≡ 0 }
+    {
+        self.parts
     }
 
     /// Appends the ids of the pairs of one head whose test the text passes.

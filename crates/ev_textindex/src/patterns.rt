@@ -132,6 +132,9 @@ fn meet_twos(heads: &Heads, x: &[u8], found: &mut Vec<u32>) -> Result<(), NoMemo
 fn meet_inside(heads: &Heads, x: &[u8], found: &mut Vec<u32>) -> Result<(), NoMemory>
     ensures { OnOk result (Appends found.old.items found.new.items (ids_headed (is_inside x.now) (Value.Str x.now) heads.now)) }
 {
+    if !heads.has_parts() {
+        return Ok(());
+    }
     heads.meet(mark(Op::Contains), x, found)?;
     meet_ones(heads, x, found)?;
     meet_twos(heads, x, found)
