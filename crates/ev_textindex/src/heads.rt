@@ -2,7 +2,8 @@
 ghost use Rattle.std.specs.Prelude.{◌≡◌, ◌∷◌, ◌||◌, [], true, false, OnOk, OnErr, List, ℕ};
 ghost use Rattle.ev_constraint.specs.declared.op.Op.{Op};
 ghost use Rattle.ev_values.specs.declared.value.Kind.{Kind};
-ghost use Rattle.ev_index.specs.Pairs.{Same, IsIn, test_of};
+ghost use Rattle.ev_values.specs.declared.value.Value.{Value};
+ghost use Rattle.ev_index.specs.Pairs.{Same, IsIn, Appends, test_of, ids_met};
 ghost use Rattle.ev_textindex.specs.Heads.{head_of, shelved, AreFiled, AreUsed, AreUsedBut};
 
 use crate::head::{head_at, is_part};
@@ -119,6 +120,20 @@ fn take(shelves: &mut BTreeMap<u32, Shelf>, constraint: &Constraint, id: u32) ->
     there
 }
 
+/// Appends the ids of the pairs of all shelves whose test the text passes.
+fn meet_each(
+    shelves: &BTreeMap<u32, Shelf>,
+    text: &[u8],
+    found: &mut Vec<u32>,
+) -> Result<(), NoMemory>
+    ensures { OnOk result (Appends found.old.items found.new.items (ids_met (Value.Str text.now) (shelved shelves.now.entries))) }
+{
+    for (_, shelf) in shelves {
+        shelf.meet(text, found)?;
+    }
+    Ok(())
+}
+
 impl Heads {
     ghost use Rattle.std.specs.Prelude.{◌≡◌, ◌∷◌, ◌==◌, [], true, false, OnOk, OnErr};
     ghost use Rattle.ev_values.specs.declared.value.Kind.{Kind};
@@ -173,5 +188,12 @@ impl Heads {
             Some(shelf) => shelf.meet(text, found),
             None => Ok(()),
         }
+    }
+
+    /// Appends the ids of all pairs whose test the text passes.
+    pub(crate) fn meet_all(&self, text: &[u8], found: &mut Vec<u32>) -> Result<(), NoMemory>
+        ensures { OnOk result (Appends found.old.items found.new.items (ids_met (Value.Str text.now) self.now)) }
+    {
+        meet_each(&self.shelves, text, found)
     }
 }

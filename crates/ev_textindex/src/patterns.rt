@@ -10,6 +10,9 @@ use crate::heads::Heads;
 use ev_constraint::Op;
 use ev_memory::NoMemory;
 
+/// In a longer text so many heads stand that each pattern is tested instead.
+const LONG: usize = 64;
+
 /// Whether a head is one of two.
 fn is_either(others: (u32, u32), head: u32) -> bool
     ensures { result ≡ (others.0 == head || others.1 == head) }
@@ -145,6 +148,9 @@ pub(crate) fn meet_patterns(heads: &Heads, x: &[u8], found: &mut Vec<u32>) -> Re
     requires { AreAllPatterns heads.now }
     ensures { OnOk result (Appends found.old.items found.new.items (ids_met (Value.Str x.now) heads.now)) }
 {
+    if x.len() > LONG && heads.has_parts() {
+        return heads.meet_all(x, found);
+    }
     meet_begin(heads, x, found)?;
     meet_end(heads, x, found)?;
     meet_inside(heads, x, found)
