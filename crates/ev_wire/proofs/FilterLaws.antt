@@ -22,6 +22,7 @@ use Rattle.ev_notice.specs.Canonical.{AreConstraints, is_listed, is_rising}
 use Rattle.ev_notice.proofs.Lists.{both}
 use Rattle.ev_notice.proofs.Shapes.{listed_told, listed_of}
 use Rattle.ev_wire.specs.ValueText.{op_word, kind_word, value_text}
+use Rattle.ev_wire.specs.MessageText.{Each}
 use Rattle.ev_wire.specs.NoticeText.{joined}
 use Rattle.ev_wire.specs.FilterText.{test_text, constraint_text, constraints_text, AreNamed, IsWhole, IsListText}
 use Rattle.ev_wire.specs.Reading.{◌>>=◌}
@@ -32,7 +33,7 @@ use Rattle.ev_wire.specs.Filters.{op_named, op_at, some_at, operand_at, made, co
 use Rattle.ev_wire.proofs.Options.{bind_some, some_in, pair_in, choose, tested, none_not, whole_is}
 use Rattle.ev_wire.proofs.WordLaws.{IsStopped, word_again, word_spelled, space_spelled, head_again, head_spelled}
 use Rattle.ev_wire.proofs.ValueLaws.{value_again, value_spelled}
-use Rattle.ev_wire.proofs.ItemsLaws.{Each, IsEnd, items_again, items_spelled}
+use Rattle.ev_wire.proofs.ItemsLaws.{IsEnd, items_again, items_spelled}
 
 op_again : (op : Op) (tail : List ℕ) → IsStopped tail → op_at (op_word op ++ tail) ≡ Some (op, tail)
 unfolding op_at
@@ -330,13 +331,11 @@ list_spelled most bytes f rest e =
     subst (λ (z : List ConstraintParts). IsWhole most z × (bytes ≡ joined constraint_text z ++ rest)) same (whole_of most (j.0 ∷ j.1) j.2 is, j.4 ∙ ap (λ (z : List ℕ). joined constraint_text (j.0 ∷ j.1) ++ z) p.1)
 
 pub list_found : (most : ℕ) (bytes : List ℕ) (f : List ConstraintParts) → list_of most bytes ≡ Some f → IsListText most bytes f
-unfolding list_of
 list_found most bytes f e =
     let w = list_spelled most bytes f [] (whole_is (list_at most bytes) f e) in
     record { whole = w.0; text = w.1 ∙ append-nil (constraints_text f) }
 
 pub text_again : (most : ℕ) (f : List ConstraintParts) → IsWhole most f → list_of most (constraints_text f) ≡ Some f
-unfolding list_of
 text_again most f is =
     let e : list_at most (constraints_text f) ≡ Some (f, []) = ap (list_at most) (sym (append-nil (constraints_text f))) ∙ list_again most f [] is (record { stopped = tt; last = refl }) in
     rw e refl

@@ -61,5 +61,5 @@ unfoldable pub list_at : ℕ → List ℕ → Option (List ConstraintParts × Li
 list_at most bytes = items_at constraint_at most [] bytes >>= λ x. settled most x.0 >>= λ f. Some (f, x.1)
 
 -- the list that the bytes spell
-unfoldable pub list_of : ℕ → List ℕ → Option (List ConstraintParts)
+abbrev pub list_of : ℕ → List ℕ → Option (List ConstraintParts)
 list_of most bytes = whole (list_at most bytes)
