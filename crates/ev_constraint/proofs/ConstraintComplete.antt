@@ -1,5 +1,5 @@
 -- The covering table says yes wherever each value of the covered constraint satisfies the covering one.
-use Rattle.std.proofs.Common.{inl, inr, ◌⊎◌, ◌≡◌, ℕ, ◌≤◌, ℤ, true, false, refl, sym, subst, ◌∙◌, arith, List, [], ◌∷◌, length, Some, None, Option, FitsSigned}
+use Rattle.std.proofs.Common.{inl, inr, ◌⊎◌, ◌≡◌, ◌^◌, ◌<◌, ℕ, ◌≤◌, ℤ, pos, negsuc, true, false, refl, sym, subst, ◌∙◌, arith, List, [], ◌∷◌, length, Some, None, Option, FitsSigned}
 use Rattle.std.proofs.lemmas.Int.{ints}
 use Rattle.std.specs.Int.{w64}
 use Rattle.ev_values.specs.Value.{IsValue}
@@ -11,17 +11,29 @@ use Rattle.ev_values.specs.declared.value.Value.TheVariants as values
 use Rattle.ev_constraint.specs.declared.op.Op.{Op}
 use Rattle.ev_constraint.specs.declared.op.Op.TheVariants as ops
 use Rattle.ev_constraint.specs.Truths.{Truths, truth_allows, truth_covers, truth_form}
-use Rattle.ev_constraint.specs.Numbers.{Numbers, IsWithin, number_form}
+use Rattle.ev_constraint.specs.Numbers.{Numbers, IsWithin, number_allows, number_form}
 use Rattle.ev_constraint.specs.Texts.{Texts, text_covers, text_form, IsTextForm, IsUnorderedForm, IsWider}
-use Rattle.ev_constraint.specs.Constraint.{ConstraintParts, IsTextTest, IsTest, IsConstraint, value_satisfies, form_of, form_allows, form_covers, int_least, int_greatest, satisfies, constraint_covers}
+use Rattle.ev_constraint.specs.Constraint.{ConstraintParts, IsTextTest, IsTest, IsConstraint, value_satisfies, form_of, form_allows, form_covers, int_least, int_greatest, time_least, time_greatest, satisfies, constraint_covers}
+use Rattle.ev_constraint.specs.Constraint.Form.{time}
 use Rattle.ev_constraint.specs.Complete.{IsUnorderedOp, IsCompletePair, IsImplied}
 use Rattle.ev_constraint.proofs.NumberForms as nf
 use Rattle.ev_constraint.proofs.NumberLaws as nl
 use Rattle.ev_constraint.proofs.TextWitnesses as tw
-use Rattle.ev_constraint.proofs.ConstraintLaws.{wide, in_range, form_same, subject-told}
+use Rattle.ev_constraint.proofs.ConstraintLaws.{wide, in_range, time_wide, time_in_range, form_same, subject-told}
 
 pub fits : (x : ℤ) → IsWithin int_least int_greatest x → FitsSigned w64 x
 fits x l = search (arith, ints)
+
+-- a number of the range of times is a time
+pub fits_time : (x : ℤ) → IsWithin time_least time_greatest x → (n : ℕ) × (n < 2 ^ 64) × (x ≡ pos n)
+fits_time (pos n) l = (n, omega (arith, ints, l.high), refl)
+fits_time (negsuc n) l = absurd (omega (arith, ints, l.low))
+
+-- what each time passes, each number of the range passes
+timed : (k m : Numbers) → ((x : Value) → IsValue x → form_allows (time m) x ≡ true → form_allows (time k) x ≡ true) → (x : ℤ) → IsWithin time_least time_greatest x → number_allows m x ≡ true → number_allows k x ≡ true
+timed k m h x l q =
+    let t = fits_time x l in
+    subst (λ (y : ℤ). number_allows k y ≡ true) (sym t.2) (h (values.Time t.0) t.1 (subst (λ (y : ℤ). number_allows m y ≡ true) t.2 q))
 
 truths-complete : (k m : Truths) → (truth_allows m true ≡ true → truth_allows k true ≡ true) → (truth_allows m false ≡ true → truth_allows k false ≡ true) → truth_covers k m ≡ true
 truths-complete k m a b = grind arith
@@ -75,6 +87,14 @@ by_form kinds.Str k m (Some (values.Str u)) (Some (values.Str v)) i j (inl e) h 
     rw e (tw.covered_one (text_form k u) v j.1 (λ x t q. h (values.Str x) t (rw e q)))
 by_form kinds.Str k m (Some (values.Str u)) (Some (values.Str v)) i j (inr (inl e)) h = by_text k m u (text_form m v) i.0 i.1 (text-form m v j.0 j.1) (inl e) (λ x t q. h (values.Str x) t q)
 by_form kinds.Str k m (Some (values.Str u)) (Some (values.Str v)) i j (inr (inr r)) h = by_text k m u (text_form m v) i.0 i.1 (text-form m v j.0 j.1) (inr (r.0, pattern-form 1023 m v r.1 r.2)) (λ x t q. h (values.Str x) t q)
+by_form kinds.Time k m None None i j t h = refl
+by_form kinds.Time k m None (Some (values.Time v)) i j t h = refl
+by_form kinds.Time k m (Some (values.Time u)) None i j t h =
+    let form = number_form time_least time_greatest k (pos u) in
+    nl.complete time_least time_greatest form Numbers.all time_wide (nf.form time_least time_greatest k (pos u) time_wide (time_in_range u i.1)) tt (timed form Numbers.all h)
+by_form kinds.Time k m (Some (values.Time u)) (Some (values.Time v)) i j t h =
+    let form = number_form time_least time_greatest k (pos u) in let other = number_form time_least time_greatest m (pos v) in
+    nl.complete time_least time_greatest form other time_wide (nf.form time_least time_greatest k (pos u) time_wide (time_in_range u i.1)) (nf.form time_least time_greatest m (pos v) time_wide (time_in_range v j.1)) (timed form other h)
 by_form kind k m o p i j t h = absurd (assumption)
 
 pub complete : (c d : ConstraintParts) → IsConstraint c → IsConstraint d → c.name ≡ d.name → c.kind ≡ d.kind → IsCompletePair c.kind c.op d.op d.operand → IsImplied c d → constraint_covers c d ≡ true

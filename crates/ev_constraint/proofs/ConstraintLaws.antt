@@ -1,5 +1,5 @@
 -- Covering and compatibility of constraints.
-use Rattle.std.proofs.Common.{◌≡◌, ℕ, ℤ, Bool, true, false, not, ◌&&◌, refl, sym, subst, ◌∙◌, arith, List, [], ◌∷◌, Some, None, Option, FitsSigned}
+use Rattle.std.proofs.Common.{◌≡◌, ◌<◌, ◌^◌, ℕ, ℤ, pos, Bool, true, false, not, ◌&&◌, refl, sym, subst, ◌∙◌, arith, List, [], ◌∷◌, Some, None, Option, FitsSigned}
 use Rattle.std.proofs.lemmas.Int.{ints}
 use Rattle.std.specs.Int.{w64}
 use Rattle.std.specs.Str.{bytes_eq}
@@ -14,8 +14,8 @@ use Rattle.ev_constraint.specs.Bytes.{less}
 use Rattle.ev_constraint.specs.Truths.{truth_allows, truth_satisfies, truth_form}
 use Rattle.ev_constraint.specs.Numbers.{IsWithin, IsWide}
 use Rattle.ev_constraint.specs.Texts.{text_allows, text_satisfies, text_form}
-use Rattle.ev_constraint.specs.Constraint.{ConstraintParts, Form, IsConstraint, value_satisfies, form_of, form_allows, form_covers, form_compatible, int_least, int_greatest, same_subject, satisfies, constraint_covers, compatible}
-use Rattle.ev_constraint.specs.Constraint.Form.{truth, number, text, no_form}
+use Rattle.ev_constraint.specs.Constraint.{ConstraintParts, Form, IsConstraint, value_satisfies, form_of, form_allows, form_covers, form_compatible, int_least, int_greatest, time_least, time_greatest, same_subject, satisfies, constraint_covers, compatible}
+use Rattle.ev_constraint.specs.Constraint.Form.{truth, number, text, time, no_form}
 use Rattle.ev_constraint.proofs.BytesLemmas.{bytes_eq-tells, bytes_eq-told}
 use Rattle.ev_constraint.proofs.NumberForms as nf
 use Rattle.ev_constraint.proofs.TextLaws as tl
@@ -25,6 +25,12 @@ wide = omega (arith, ints)
 
 pub in_range : (x : ℤ) → FitsSigned w64 x → IsWithin int_least int_greatest x
 in_range x f = record { low = omega (arith, ints); high = omega (arith, ints) }
+
+pub time_wide : IsWide time_least time_greatest
+time_wide = omega (arith, ints)
+
+pub time_in_range : (x : ℕ) → x < 2 ^ 64 → IsWithin time_least time_greatest (pos x)
+time_in_range x f = record { low = omega (arith, ints); high = omega (arith, ints) }
 
 nothing_less : (x : List ℕ) → less x [] ≡ false
 unfolding less
@@ -69,21 +75,25 @@ pub form_same : (kind : Kind) (op : Op) (operand : Option Value) (x : Value) →
 form_same kinds.Bool op None (values.Bool x) i = refl
 form_same kinds.Int op None (values.Int x) i = refl
 form_same kinds.Str op None (values.Str x) i = refl
+form_same kinds.Time op None (values.Time x) i = refl
 form_same kinds.Bool op (Some (values.Bool u)) (values.Bool x) i = truth_same op u x
 form_same kinds.Int op (Some (values.Int u)) (values.Int x) i = nf.same int_least int_greatest op u x wide (in_range x i)
 form_same kinds.Str op (Some (values.Str u)) (values.Str x) i = text_same op u x
+form_same kinds.Time op (Some (values.Time u)) (values.Time x) i = nf.same time_least time_greatest op (pos u) (pos x) time_wide (time_in_range x i)
 form_same kind op operand x i = refl
 
 form_reflexive : (k : Form) → form_covers k k ≡ true
 form_reflexive (truth k) = grind arith
 form_reflexive (number k) = grind (arith, ints)
 form_reflexive (text k) = tl.reflexive k
+form_reflexive (time k) = grind (arith, ints)
 form_reflexive no_form = refl
 
 form_transitive : (k m n : Form) → form_covers k m ≡ true → form_covers m n ≡ true → form_covers k n ≡ true
 form_transitive (truth k) (truth m) (truth n) h j = grind arith
 form_transitive (number k) (number m) (number n) h j = grind (arith, ints)
 form_transitive (text k) (text m) (text n) h j = tl.transitive k m n h j
+form_transitive (time k) (time m) (time n) h j = grind (arith, ints)
 form_transitive no_form no_form n h j = j
 form_transitive k m n h j = cc
 
@@ -91,17 +101,21 @@ form_sound : (k m : Form) (x : Value) → form_covers k m ≡ true → form_allo
 form_sound (truth k) (truth m) (values.Bool x) h j = grind arith
 form_sound (number k) (number m) (values.Int x) h j = grind (arith, ints)
 form_sound (text k) (text m) (values.Str x) h j = tl.sound k m x h j
+form_sound (time k) (time m) (values.Time x) h j = grind (arith, ints)
 form_sound k m (values.Bool x) h j = grind arith
 form_sound k m (values.Int x) h j = grind arith
 form_sound k m (values.Str x) h j = grind arith
+form_sound k m (values.Time x) h j = grind arith
 
 form_never_wrong : (k m : Form) (x : Value) → form_allows k x ≡ true → form_allows m x ≡ true → form_compatible k m ≡ true
 form_never_wrong (truth k) (truth m) (values.Bool x) h j = grind arith
 form_never_wrong (number k) (number m) (values.Int x) h j = grind (arith, ints)
 form_never_wrong (text k) (text m) (values.Str x) h j = tl.never_wrong k m x h j
+form_never_wrong (time k) (time m) (values.Time x) h j = grind (arith, ints)
 form_never_wrong k m (values.Bool x) h j = cc
 form_never_wrong k m (values.Int x) h j = cc
 form_never_wrong k m (values.Str x) h j = cc
+form_never_wrong k m (values.Time x) h j = cc
 
 pub both : (a b : Bool) → (a && b) ≡ true → (a ≡ true) × (b ≡ true)
 both true b h = (refl, h)
@@ -114,6 +128,7 @@ kind-told a b e = subst (λ (x : Kind). same_kind a x ≡ true) e (self a)
     self kinds.Bool = refl
     self kinds.Int = refl
     self kinds.Str = refl
+    self kinds.Time = refl
 
 kind-tells : (a b : Kind) → same_kind a b ≡ true → a ≡ b
 kind-tells a b h = grind arith

@@ -169,6 +169,9 @@ fn settle_value(value: &Value)
         Value::Str(text) => {
             let _bytes = text.bytes();
         }
+        Value::Time(seconds) => {
+            let _seconds = *seconds;
+        }
     }
 }
 

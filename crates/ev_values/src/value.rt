@@ -8,7 +8,7 @@ use ev_memory::NoMemory;
 use std::alloc::Global;
 use std::cmp::Ordering;
 
-/// The kind of a value, ordered `Bool`, `Int`, `Str`.
+/// The kind of a value, ordered `Bool`, `Int`, `Str`, `Time`.
 #[derive(Clone, Copy, Debug, PartialEq, Eq, PartialOrd, Ord)]
 pub enum Kind {
     /// Truth values.
@@ -17,6 +17,8 @@ pub enum Kind {
     Int,
     /// Texts.
     Str,
+    /// Times, in whole seconds.
+    Time,
 }
 
 /// A value of an attribute, ordered by its kind and then false before true, by number, by bytes.
@@ -28,6 +30,8 @@ pub enum Value {
     Int(i64),
     /// A text of at most 1,024 bytes.
     Str(Text),
+    /// A time, as seconds from 0 to 2^64 - 1.
+    Time(u64),
 }
 
 impl Kind {
@@ -39,7 +43,7 @@ impl Kind {
         self == other
     }
 
-    /// Which of two kinds comes first in the order `Bool`, `Int`, `Str`.
+    /// Which of two kinds comes first in the order `Bool`, `Int`, `Str`, `Time`.
     pub fn order(self, other: Kind) -> Ordering
         ensures { result ≡ kind_cmp self other }
     {
@@ -56,6 +60,7 @@ impl Value {
             Value::Bool(_) => Kind::Bool,
             Value::Int(_) => Kind::Int,
             Value::Str(_) => Kind::Str,
+            Value::Time(_) => Kind::Time,
         }
     }
 
@@ -67,6 +72,7 @@ impl Value {
             Value::Bool(b) => Value::Bool(*b),
             Value::Int(n) => Value::Int(*n),
             Value::Str(t) => Value::Str(t.copy(alloc)?),
+            Value::Time(n) => Value::Time(*n),
         })
     }
 }
@@ -130,6 +136,7 @@ impl Ord for Value {
             (Value::Bool(a), Value::Bool(b)) => a.cmp(b),
             (Value::Int(a), Value::Int(b)) => a.cmp(b),
             (Value::Str(a), Value::Str(b)) => a.bytes().cmp(b.bytes()),
+            (Value::Time(a), Value::Time(b)) => a.cmp(b),
             _ => self.kind().order(other.kind()),
         }
     }
