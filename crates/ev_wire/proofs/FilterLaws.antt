@@ -103,23 +103,37 @@ operand_value : (kind : Kind) (op : Op) (u : Value) → IsTest kind op (Some u) 
 operand_value kinds.Bool op (values.Bool u) h = (tt, refl)
 operand_value kinds.Int op (values.Int u) h = (h.1, refl)
 operand_value kinds.Str op (values.Str u) h = (h.1, refl)
+operand_value kinds.Time op (values.Time u) h = (h.1, refl)
 operand_value kinds.Bool op (values.Int u) h = absurd h
 operand_value kinds.Bool op (values.Str u) h = absurd h
 operand_value kinds.Int op (values.Bool u) h = absurd h
 operand_value kinds.Int op (values.Str u) h = absurd h
 operand_value kinds.Str op (values.Bool u) h = absurd h
 operand_value kinds.Str op (values.Int u) h = absurd h
+operand_value kinds.Time op (values.Bool u) h = absurd h
+operand_value kinds.Time op (values.Int u) h = absurd h
+operand_value kinds.Time op (values.Str u) h = absurd h
+operand_value kinds.Bool op (values.Time u) h = absurd h
+operand_value kinds.Int op (values.Time u) h = absurd h
+operand_value kinds.Str op (values.Time u) h = absurd h
 
 not_any : (kind : Kind) (u : Value) → IsTest kind ops.Any (Some u) → ⊥
 not_any kinds.Bool (values.Bool u) h = h
 not_any kinds.Int (values.Int u) h = h.0
 not_any kinds.Str (values.Str u) h = h.0
+not_any kinds.Time (values.Time u) h = h.0
 not_any kinds.Bool (values.Int u) h = h
 not_any kinds.Bool (values.Str u) h = h
 not_any kinds.Int (values.Bool u) h = h
 not_any kinds.Int (values.Str u) h = h
 not_any kinds.Str (values.Bool u) h = h
 not_any kinds.Str (values.Int u) h = h
+not_any kinds.Time (values.Bool u) h = h
+not_any kinds.Time (values.Int u) h = h
+not_any kinds.Time (values.Str u) h = h
+not_any kinds.Bool (values.Time u) h = h
+not_any kinds.Int (values.Time u) h = h
+not_any kinds.Str (values.Time u) h = h
 
 given : (kind : Kind) (op : Op) (u : Value) (bytes : List ℕ) → IsTest kind op (Some u) → operand_at kind op bytes ≡ some_at kind bytes
 unfolding operand_at
@@ -200,6 +214,13 @@ is_test kinds.Str ops.Ge None is e = absurd cc
 is_test kinds.Str ops.Prefix None is e = absurd cc
 is_test kinds.Str ops.Suffix None is e = absurd cc
 is_test kinds.Str ops.Contains None is e = absurd cc
+is_test kinds.Time ops.Lt None is e = absurd cc
+is_test kinds.Time ops.Le None is e = absurd cc
+is_test kinds.Time ops.Gt None is e = absurd cc
+is_test kinds.Time ops.Ge None is e = absurd cc
+is_test kinds.Time ops.Prefix None is e = absurd cc
+is_test kinds.Time ops.Suffix None is e = absurd cc
+is_test kinds.Time ops.Contains None is e = absurd cc
 is_test kinds.Bool ops.Eq (Some (values.Bool u)) is e = tt
 is_test kinds.Bool ops.Ne (Some (values.Bool u)) is e = tt
 is_test kinds.Bool ops.Any (Some (values.Bool u)) is e = absurd cc
@@ -216,6 +237,12 @@ is_test kinds.Int op (Some (values.Bool u)) is e = absurd (let k = is.1 in cc)
 is_test kinds.Int op (Some (values.Str u)) is e = absurd (let k = is.1 in cc)
 is_test kinds.Str op (Some (values.Bool u)) is e = absurd (let k = is.1 in cc)
 is_test kinds.Str op (Some (values.Int u)) is e = absurd (let k = is.1 in cc)
+is_test kinds.Time op (Some (values.Bool u)) is e = absurd (let k = is.1 in cc)
+is_test kinds.Time op (Some (values.Int u)) is e = absurd (let k = is.1 in cc)
+is_test kinds.Time op (Some (values.Str u)) is e = absurd (let k = is.1 in cc)
+is_test kinds.Bool op (Some (values.Time u)) is e = absurd (let k = is.1 in cc)
+is_test kinds.Int op (Some (values.Time u)) is e = absurd (let k = is.1 in cc)
+is_test kinds.Str op (Some (values.Time u)) is e = absurd (let k = is.1 in cc)
 is_test kinds.Int ops.Eq (Some (values.Int u)) is e = (tt, is.0)
 is_test kinds.Int ops.Ne (Some (values.Int u)) is e = (tt, is.0)
 is_test kinds.Int ops.Lt (Some (values.Int u)) is e = (tt, is.0)
@@ -226,6 +253,16 @@ is_test kinds.Int ops.Any (Some (values.Int u)) is e = absurd cc
 is_test kinds.Int ops.Prefix (Some (values.Int u)) is e = absurd cc
 is_test kinds.Int ops.Suffix (Some (values.Int u)) is e = absurd cc
 is_test kinds.Int ops.Contains (Some (values.Int u)) is e = absurd cc
+is_test kinds.Time ops.Eq (Some (values.Time u)) is e = (tt, is.0)
+is_test kinds.Time ops.Ne (Some (values.Time u)) is e = (tt, is.0)
+is_test kinds.Time ops.Lt (Some (values.Time u)) is e = (tt, is.0)
+is_test kinds.Time ops.Le (Some (values.Time u)) is e = (tt, is.0)
+is_test kinds.Time ops.Gt (Some (values.Time u)) is e = (tt, is.0)
+is_test kinds.Time ops.Ge (Some (values.Time u)) is e = (tt, is.0)
+is_test kinds.Time ops.Any (Some (values.Time u)) is e = absurd cc
+is_test kinds.Time ops.Prefix (Some (values.Time u)) is e = absurd cc
+is_test kinds.Time ops.Suffix (Some (values.Time u)) is e = absurd cc
+is_test kinds.Time ops.Contains (Some (values.Time u)) is e = absurd cc
 is_test kinds.Str ops.Eq (Some (values.Str u)) is e = (tt, is.0)
 is_test kinds.Str ops.Ne (Some (values.Str u)) is e = (tt, is.0)
 is_test kinds.Str ops.Lt (Some (values.Str u)) is e = (tt, is.0)

@@ -21,6 +21,7 @@ mod sent;
 mod string;
 #[cfg(test)]
 mod tests;
+mod time;
 mod value;
 mod wire;
 

@@ -31,6 +31,8 @@ pub fn kind_named(word: &[u8]) -> Option<Kind>
         Some(Kind::Int)
     } else if word == b"str".as_slice() {
         Some(Kind::Str)
+    } else if word == b"time".as_slice() {
+        Some(Kind::Time)
     } else {
         None
     }
