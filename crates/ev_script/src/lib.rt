@@ -4,10 +4,18 @@
 mod command;
 mod fault;
 mod form;
-mod int;
-#[cfg(test)]
-mod tests;
+mod law;
+mod limits;
+mod line;
+mod number;
+mod part;
 mod tokens;
+mod verb;
 
 pub use command::script_command;
 pub use fault::ScriptFault;
+pub use law::one_command;
+pub use line::Line;
+pub use number::are_digits;
+pub use tokens::{Token, Tokens};
+pub use verb::{Verb, verb_named};

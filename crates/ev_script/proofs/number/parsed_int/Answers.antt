@@ -1,5 +1,5 @@
 use Rattle.ev_script.proofs.IntLaws.{word_utf8, parsed_given, wide_given}
-use Rattle.ev_script.proofs.int.parsed.Goals as goal
+use Rattle.ev_script.proofs.number.parsed_int.Goals as goal
 
 pub returns-in_default : goal.returns-in_default
 returns-in_default c = absurd (c.in_default.ensures.cases.0 (word_utf8 c.args.word.now c.requires))
