@@ -1,5 +1,5 @@
 -- The covering table says yes wherever each value of the covered constraint satisfies the covering one.
-use Rattle.std.proofs.Common.{inl, inr, ◌⊎◌, ◌≡◌, ◌^◌, ◌<◌, ℕ, ◌≤◌, ℤ, pos, negsuc, true, false, refl, sym, subst, ◌∙◌, arith, List, [], ◌∷◌, length, Some, None, Option, FitsSigned}
+use Rattle.std.proofs.Common.{◌≡◌, ◌^◌, ◌<◌, ℕ, ℤ, pos, negsuc, true, false, refl, sym, subst, ◌∙◌, arith, List, [], ◌∷◌, Some, None, Option, FitsSigned}
 use Rattle.std.proofs.lemmas.Int.{ints}
 use Rattle.std.specs.Int.{w64}
 use Rattle.ev_values.specs.Value.{IsValue}
@@ -12,10 +12,10 @@ use Rattle.ev_constraint.specs.declared.op.Op.{Op}
 use Rattle.ev_constraint.specs.declared.op.Op.TheVariants as ops
 use Rattle.ev_constraint.specs.Truths.{Truths, truth_allows, truth_covers, truth_form}
 use Rattle.ev_constraint.specs.Numbers.{Numbers, IsWithin, number_allows, number_form}
-use Rattle.ev_constraint.specs.Texts.{Texts, text_covers, text_form, IsTextForm, IsUnorderedForm, IsWider}
+use Rattle.ev_constraint.specs.Texts.{Texts, text_covers, text_form, IsTextForm, IsWider}
 use Rattle.ev_constraint.specs.Constraint.{ConstraintParts, IsTextTest, IsTest, IsConstraint, value_satisfies, form_of, form_allows, form_covers, int_least, int_greatest, time_least, time_greatest, satisfies, constraint_covers}
 use Rattle.ev_constraint.specs.Constraint.Form.{time}
-use Rattle.ev_constraint.specs.Complete.{IsUnorderedOp, IsCompletePair, IsImplied}
+use Rattle.ev_constraint.specs.Complete.{AreCompleteTexts, IsCompletePair, IsImplied}
 use Rattle.ev_constraint.proofs.NumberForms as nf
 use Rattle.ev_constraint.proofs.NumberLaws as nl
 use Rattle.ev_constraint.proofs.TextWitnesses as tw
@@ -54,20 +54,15 @@ text-form ops.Gt (c ∷ u) i t = (t, omega arith)
 text-form ops.Ge [] i t = tt
 text-form ops.Ge (c ∷ u) i t = (t, omega arith)
 
-pattern-form : (most : ℕ) (op : Op) (u : List ℕ) → IsUnorderedOp op → length u ≤ most → IsUnorderedForm most (text_form op u)
-pattern-form most ops.Any u i l = tt
-pattern-form most ops.Ne u i l = l
-pattern-form most ops.Prefix u i l = l
-pattern-form most ops.Suffix u i l = l
-pattern-form most ops.Contains u i l = l
-pattern-form most op u i l = absurd (assumption)
-
-by_text : (k m : Op) (u : List ℕ) (b : Texts) → IsTextTest k u → IsText u → IsTextForm b → (k ≡ ops.Ne) ⊎ (IsUnorderedOp k × IsUnorderedForm 1023 b) → IsWider (text_form k u) b → text_covers (text_form k u) b ≡ true
-by_text k m u b i t j (inl e) h = rw e (tw.covering_but u b t (rw e at h))
-by_text k m u b i t j (inr p) h = tw.patterns (text_form k u) b (text-form k u i t) j (pattern-form 1024 k u p.0 t.short) p.1 h
+texts-complete : (k m : Texts) → IsTextForm k → IsTextForm m → AreCompleteTexts k m → IsWider k m → text_covers k m ≡ true
+texts-complete Texts.all m i j t h = refl
+texts-complete k Texts.empty i j t h = grind arith
+texts-complete k (Texts.equal v) i j t h = tw.covered_one k v j h
+texts-complete (Texts.unequal u) m i j t h = tw.covering_but u m i h
+texts-complete k m i j t h = tw.patterns k m i j t.0 t.1 t.2 h
 
 -- the same for the normal forms
-by_form : (kind : Kind) (k m : Op) (o p : Option Value) → IsTest kind k o → IsTest kind m p → IsCompletePair kind k m p → ((x : Value) → IsValue x → form_allows (form_of kind m p) x ≡ true → form_allows (form_of kind k o) x ≡ true) → form_covers (form_of kind k o) (form_of kind m p) ≡ true
+by_form : (kind : Kind) (k m : Op) (o p : Option Value) → IsTest kind k o → IsTest kind m p → IsCompletePair (form_of kind k o) (form_of kind m p) → ((x : Value) → IsValue x → form_allows (form_of kind m p) x ≡ true → form_allows (form_of kind k o) x ≡ true) → form_covers (form_of kind k o) (form_of kind m p) ≡ true
 by_form kinds.Bool k m None None i j t h = refl
 by_form kinds.Bool k m None (Some (values.Bool v)) i j t h = refl
 by_form kinds.Bool k m (Some (values.Bool u)) None i j t h = truths-complete (truth_form k u) Truths.all (h (values.Bool true) tt) (h (values.Bool false) tt)
@@ -80,13 +75,9 @@ by_form kinds.Int k m (Some (values.Int u)) (Some (values.Int v)) i j t h =
     nl.complete int_least int_greatest (number_form int_least int_greatest k u) (number_form int_least int_greatest m v) wide (nf.form int_least int_greatest k u wide (in_range u i.1)) (nf.form int_least int_greatest m v wide (in_range v j.1)) (λ x l q. h (values.Int x) (fits x l) q)
 by_form kinds.Str k m None None i j t h = refl
 by_form kinds.Str k m None (Some (values.Str v)) i j t h = refl
-by_form kinds.Str k m (Some (values.Str u)) None i j (inl e) h = cc
-by_form kinds.Str k m (Some (values.Str u)) None i j (inr (inl e)) h = by_text k m u Texts.all i.0 i.1 tt (inl e) (λ x t q. h (values.Str x) t q)
-by_form kinds.Str k m (Some (values.Str u)) None i j (inr (inr r)) h = by_text k m u Texts.all i.0 i.1 tt (inr (r.0, tt)) (λ x t q. h (values.Str x) t q)
-by_form kinds.Str k m (Some (values.Str u)) (Some (values.Str v)) i j (inl e) h =
-    rw e (tw.covered_one (text_form k u) v j.1 (λ x t q. h (values.Str x) t (rw e q)))
-by_form kinds.Str k m (Some (values.Str u)) (Some (values.Str v)) i j (inr (inl e)) h = by_text k m u (text_form m v) i.0 i.1 (text-form m v j.0 j.1) (inl e) (λ x t q. h (values.Str x) t q)
-by_form kinds.Str k m (Some (values.Str u)) (Some (values.Str v)) i j (inr (inr r)) h = by_text k m u (text_form m v) i.0 i.1 (text-form m v j.0 j.1) (inr (r.0, pattern-form 1023 m v r.1 r.2)) (λ x t q. h (values.Str x) t q)
+by_form kinds.Str k m (Some (values.Str u)) None i j t h = texts-complete (text_form k u) Texts.all (text-form k u i.0 i.1) tt t (λ x v q. h (values.Str x) v q)
+by_form kinds.Str k m (Some (values.Str u)) (Some (values.Str v)) i j t h =
+    texts-complete (text_form k u) (text_form m v) (text-form k u i.0 i.1) (text-form m v j.0 j.1) t (λ x w q. h (values.Str x) w q)
 by_form kinds.Time k m None None i j t h = refl
 by_form kinds.Time k m None (Some (values.Time v)) i j t h = refl
 by_form kinds.Time k m (Some (values.Time u)) None i j t h =
@@ -97,12 +88,13 @@ by_form kinds.Time k m (Some (values.Time u)) (Some (values.Time v)) i j t h =
     nl.complete time_least time_greatest form other time_wide (nf.form time_least time_greatest k (pos u) time_wide (time_in_range u i.1)) (nf.form time_least time_greatest m (pos v) time_wide (time_in_range v j.1)) (timed form other h)
 by_form kind k m o p i j t h = absurd (assumption)
 
-pub complete : (c d : ConstraintParts) → IsConstraint c → IsConstraint d → c.name ≡ d.name → c.kind ≡ d.kind → IsCompletePair c.kind c.op d.op d.operand → IsImplied c d → constraint_covers c d ≡ true
+pub complete : (c d : ConstraintParts) → IsConstraint c → IsConstraint d → c.name ≡ d.name → c.kind ≡ d.kind → IsCompletePair (form_of c.kind c.op c.operand) (form_of d.kind d.op d.operand) → IsImplied c d → constraint_covers c d ≡ true
 unfolding constraint_covers satisfies
 complete c d i j n e t h =
     let test : IsTest c.kind d.op d.operand = subst (λ (k : Kind). IsTest k d.op d.operand) (sym e) j in
+    let pair : IsCompletePair (form_of c.kind c.op c.operand) (form_of c.kind d.op d.operand) = subst (λ (k : Kind). IsCompletePair (form_of c.kind c.op c.operand) (form_of k d.op d.operand)) (sym e) t in
     let f : form_covers (form_of c.kind c.op c.operand) (form_of c.kind d.op d.operand) ≡ true =
-    by_form c.kind c.op d.op c.operand d.operand i test t (λ x v q.
+    by_form c.kind c.op d.op c.operand d.operand i test pair (λ x v q.
     form_same c.kind c.op c.operand x v ∙ h x v (subst (λ (k : Kind). value_satisfies k d.op d.operand x ≡ true) e (sym (form_same c.kind d.op d.operand x v) ∙ q))) in
     let g : form_covers (form_of c.kind c.op c.operand) (form_of d.kind d.op d.operand) ≡ true = subst (λ (k : Kind). form_covers (form_of c.kind c.op c.operand) (form_of k d.op d.operand) ≡ true) e f in
     rw (subject-told c d n e, g) refl

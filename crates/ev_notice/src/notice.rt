@@ -1,25 +1,27 @@
 //! Notices: what a client publishes, a list of named values.
 use ev_memory::NoMemory;
 use ev_values::{Name, Value};
-use std::alloc::Global;
+use std::alloc::{AllocError, Global};
 use std::cmp::Ordering;
 use std::marker::Model;
+use std::sync::ArcSlice;
 
-/// A notice (a notification): 1 to 64 attributes, each a name with a value, by rising names.
+/// A notice (a notification): 1 to 64 attributes, each a name with a value, by rising names. Copies share them.
 #[derive(Drop)]
 pub struct Notice {
-    attributes: Vec<(Name, Value)>,
+    attributes: ArcSlice<(Name, Value)>,
 }
 
 impl Model for Notice {
     ghost use Rattle.std.specs.Prelude.{List};
+    ghost use Rattle.std.specs.Arc.{arc_slice_items};
     ghost use Rattle.ev_notice.specs.Notice.{Attribute, IsNotice};
 
     ghost Value = { List Attribute };
 
-    ghost view = { λ n. n.attributes.items };
+    ghost view = { λ n. arc_slice_items n.attributes };
 
-    ghost invariant = { λ n. IsNotice n.attributes.items };
+    ghost invariant = { λ n. IsNotice (arc_slice_items n.attributes) };
 }
 
 /// Why there is no such notice.
@@ -35,6 +37,17 @@ pub enum NoticeFault {
     NoMemory,
 }
 
+impl From<AllocError> for NoticeFault {
+    ghost use Rattle.std.specs.Prelude.{◌≡◌};
+    ghost use Rattle.ev_notice.specs.declared.notice.NoticeFault.TheVariants.{NoMemory};
+
+    ghost from_gives = { λ _ e. e ≡ NoMemory };
+
+    fn from(_: AllocError) -> Self {
+        NoticeFault::NoMemory
+    }
+}
+
 /// The most attributes of a notice.
 const MOST: usize = 64;
 
@@ -42,7 +55,7 @@ impl Notice {
     ghost use Rattle.std.specs.Prelude.{◌≡◌, ◌<◌, ◌≤◌, ◌↔◌, ℕ, [], Some, length, false, true, IfOk, OnOk, IsErrOf, IsPermutation, MatchOption};
     ghost use Rattle.ev_notice.specs.Notice.{AreRising, IsNotice, first_twice, is_notice};
 
-    /// The notice of these attributes, given in any order. It sorts them in place and takes no memory.
+    /// The notice of these attributes, given in any order. It sorts them in place.
     #[tactic(auto, using(crate::proofs::NoticeLaws::sorted_rising, crate::proofs::NoticeLaws::empty_once))]
     pub fn make(attributes: Vec<(Name, Value)>) -> Result<Notice, NoticeFault>
         ensures same { IfOk result (λ n. IsPermutation attributes.items n) }
@@ -50,7 +63,6 @@ impl Notice {
         ensures nothing { IsErrOf result NoticeFault.Nothing ↔ (attributes.items ≡ []) }
         ensures too_many { IsErrOf result NoticeFault.TooMany ↔ (64 < length attributes.items) }
         ensures twice { (i : ℕ) → IsErrOf result (NoticeFault.Twice i) ↔ ((length attributes.items ≤ 64) × (first_twice attributes.items ≡ Some i)) }
-        ensures memory { IsErrOf result NoticeFault.NoMemory → ⊥ }
     {
         if attributes.is_empty() {
             return Err(NoticeFault::Nothing);
@@ -63,21 +75,22 @@ impl Notice {
         }
         let attributes = sorted(attributes);
         settle(&attributes);
+        let attributes = ArcSlice::from_vec(attributes)?;
         Ok(Notice { attributes })
     }
 
     /// The notice of attributes that stand in rising order of names already; `None` where they don't, or are none or
     /// more than 64.
     #[tactic(auto, unfolding(crate::specs::Notice::is_notice))]
-    pub fn of_rising(attributes: Vec<(Name, Value)>) -> Option<Notice>
-        ensures { MatchOption result (is_notice attributes.items ≡ false) (λ n. (n ≡ attributes.items) × (is_notice attributes.items ≡ true)) }
+    pub fn of_rising(attributes: Vec<(Name, Value)>) -> Result<Option<Notice>, NoMemory>
+        ensures { IfOk result (λ o. MatchOption o (is_notice attributes.items ≡ false) (λ n. (n ≡ attributes.items) × (is_notice attributes.items ≡ true))) }
     {
-        if !attributes.is_empty() && attributes.len() <= MOST && are_rising(&attributes) {
-            settle(&attributes);
-            Some(Notice { attributes })
-        } else {
-            None
+        if attributes.is_empty() || attributes.len() > MOST || !are_rising(&attributes) {
+            return Ok(None);
         }
+        settle(&attributes);
+        let attributes = ArcSlice::from_vec(attributes)?;
+        Ok(Some(Notice { attributes }))
     }
 
     /// Its attributes by rising names.
@@ -87,14 +100,14 @@ impl Notice {
         ensures whole { IsNotice self.now }
         ensures listed { is_notice self.now ≡ true }
     {
-        &self.attributes
+        self.attributes.as_slice()
     }
 
-    /// An equal notice.
-    pub fn copy(&self, alloc: Global) -> Result<Notice, NoMemory>
+    /// An equal notice, which shares the attributes: none is copied.
+    pub fn copy(&self, _alloc: Global) -> Result<Notice, NoMemory>
         ensures { IfOk result (λ n. n ≡ self.now) }
     {
-        let attributes = copied(alloc, &self.attributes)?;
+        let attributes = self.attributes.clone()?;
         Ok(Notice { attributes })
     }
 }
@@ -108,7 +121,7 @@ ghost use Rattle.ev_notice.specs.Notice.{AreNames, AreValues, is_name_less, has_
 fn has_name(seen: &[(Name, Value)], name: &Name) -> bool
     ensures { result ≡ has_name seen.now name.now }
 {
-    seen.iter().any(|(other, _)| other.equals(name))
+    seen.iter().any(|(other, _)| other == name)
 }
 
 // The least place whose name stood earlier.
@@ -184,15 +197,4 @@ fn settle(attributes: &[(Name, Value)])
         let _bytes = name.bytes();
         settle_value(value);
     }
-}
-
-// Equal attributes.
-fn copied(alloc: Global, attributes: &[(Name, Value)]) -> Result<Vec<(Name, Value)>, NoMemory>
-    ensures { IfOk result (λ v. v.items ≡ attributes.now) }
-{
-    let mut copies = Vec::with_capacity(alloc, attributes.len())?;
-    for (name, value) in attributes {
-        copies.push((name.copy(alloc)?, value.copy(alloc)?))?;
-    }
-    Ok(copies)
 }
