@@ -20,18 +20,19 @@ fn covers(alloc: Global, first: &[Row<'_>], second: &[Row<'_>]) -> Result<(bool,
 #[test]
 fn covering(rt: HostRuntime) -> Result<(), Fail> {
     let alloc = rt.alloc();
-    let over = (b"x".as_slice(), Kind::Int, Op::Gt, Number(3));
-    let over_five = (b"x".as_slice(), Kind::Int, Op::Gt, Number(5));
-    let below = (b"x".as_slice(), Kind::Int, Op::Lt, Number(9));
-    let any = (b"y".as_slice(), Kind::Int, Op::Any, Nothing);
+    let x = |op, number| (b"x".as_slice(), Kind::Int, op, Number(number));
+    let over = [x(Op::Gt, 3)];
+    let over_five = [x(Op::Gt, 5)];
+    let within = [x(Op::Gt, 3), x(Op::Lt, 9)];
+    let more = [x(Op::Gt, 5), (b"y".as_slice(), Kind::Int, Op::Any, Nothing)];
     for (first, second, want) in [
-        ([over].as_slice(), [over_five].as_slice(), (true, true)),
-        (&[over_five], &[over], (false, false)),
-        (&[over], &[over, below], (true, false)),
-        (&[over, below], &[over_five], (false, true)),
-        (&[over], &[over_five, any], (true, false)),
-        (&[over_five, any], &[over_five], (false, true)),
-        (&[over, below], &[over, below], (true, true)),
+        (over.as_slice(), over_five.as_slice(), (true, true)),
+        (over_five.as_slice(), over.as_slice(), (false, false)),
+        (over.as_slice(), within.as_slice(), (true, false)),
+        (within.as_slice(), over_five.as_slice(), (false, true)),
+        (over.as_slice(), more.as_slice(), (true, false)),
+        (more.as_slice(), over_five.as_slice(), (false, true)),
+        (within.as_slice(), within.as_slice(), (true, true)),
     ] {
         assert_eq!(rt; covers(alloc, first, second)?, want);
     }
