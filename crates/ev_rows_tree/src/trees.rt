@@ -1,7 +1,7 @@
 //! Trees and lists of edges that are none.
 ghost use Rattle.ev_tree.specs.Graph.{AreWithin, IsCount};
 
-use crate::{Tree, TreeFault, one_path, sides};
+use ev_tree::{Tree, TreeFault, one_path, sides};
 use std::alloc::Global;
 use std::rt::HostRuntime;
 use std::test::Fail;
