@@ -1,6 +1,6 @@
 -- A run at its moments: what the last entry left, and what the next one finds.
 use Rattle.std.specs.Prelude.{◌≡◌, ℕ, suc, ◌<◌, List, ◌++◌}
-use Rattle.ev_run.specs.Machine.{stamped, receivers}
+use Rattle.ev_run.specs.Machine.{Stamped, stamped, receivers}
 use Rattle.ev_run.specs.Network.{messages_of}
 use Rattle.ev_routing.specs.Theory.{Theory}
 use Rattle.ev_routing.specs.Net.{Net, PhasedCommand}
@@ -41,13 +41,24 @@ module _ (theory : Theory) (run : PhasedRun theory) where
   -- the messages that an entry puts for a neighbour, on the tree of its phase
   abbrev pub messages_at : ℕ → JournalEntry → ℕ → List (Message theory)
   messages_at n entry link =
-      messages_of (machine_at theory run.net (found_at n).phase) (at_phase theory run.net (found_at n).phase (found_at n).state) (entry_on theory (net_at theory run.net (found_at n).phase) entry) link
+      let found = found_at n in
+      messages_of (machine_at theory run.net found.phase) (at_phase theory run.net found.phase found.state)
+      (entry_on theory (net_at theory run.net found.phase) entry) link
+
+  -- the same with its stamp
+  abbrev pub stamped_at : ℕ → JournalEntry → ℕ → List (Stamped (Message theory))
+  stamped_at n entry link = stamped (machine_at theory run.net (found_at n).phase) entry.stamp (messages_at n entry link)
+
+  -- the neighbours for which there are some
+  abbrev pub receivers_at : ℕ → JournalEntry → List ℕ
+  receivers_at n entry =
+      receivers (machine_at theory run.net (found_at n).phase) (messages_at n entry) ((net_at theory run.net (found_at n).phase).links entry.server)
 
   -- an entry puts its messages, with its stamp, behind what was put on the links of its server since the tree came, and tells which neighbours got one
   pub record PutsMessagesAt (n : ℕ) (entry : JournalEntry) : Type 0 where
-    pub puts : (link : ℕ) → (moment_at (suc n)).state.put entry.server link ≡ (found_at n).state.put entry.server link ++ stamped (machine_at theory run.net (found_at n).phase) entry.stamp (messages_at n entry link)
+    pub puts : (link : ℕ) → (moment_at (suc n)).state.put entry.server link ≡ (found_at n).state.put entry.server link ++ stamped_at n entry link
     pub others : (from link : ℕ) → (from ≡ entry.server → ⊥) → (moment_at (suc n)).state.put from link ≡ (found_at n).state.put from link
-    pub outs : entry.outs ≡ receivers (machine_at theory run.net (found_at n).phase) (messages_at n entry) ((net_at theory run.net (found_at n).phase).links entry.server)
+    pub outs : entry.outs ≡ receivers_at n entry
 
   -- the state after n entries as the next entry finds it: where that begins a phase, after the beginning
   abbrev pub seen : ℕ → State theory

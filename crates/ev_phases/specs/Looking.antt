@@ -63,7 +63,8 @@ module _ (theory : Theory) (run : PhasedRun theory) where
 
   -- the filters that flow to a server from the clients beyond a neighbour, by what those hold after n entries
   abbrev pub filters_flowing : ℕ → ℕ → ℕ → List theory.Filter
-  filters_flowing n server neighbour = flow theory (net_then theory run n) (λ v. ((states theory run n).state v).subs) (λ v. ((states theory run n).state v).advs) server neighbour
+  filters_flowing n server neighbour =
+      flow theory (net_then theory run n) (λ v. ((states theory run n).state v).subs) (λ v. ((states theory run n).state v).advs) server neighbour
 
   -- the advertisements
   abbrev pub adverts_flowing : ℕ → ℕ → ℕ → List theory.Advert

@@ -2,6 +2,7 @@
 use Rattle.std.specs.Prelude.{◌≡◌, ℕ, suc, ◌<◌, true, List, [], ◌∷◌, ◌++◌}
 use Rattle.ev_sets.specs.Sets.{Has}
 use Rattle.ev_routing.specs.Theory.{Theory}
+use Rattle.ev_routing.specs.Net.{Net}
 use Rattle.ev_routing.specs.Server.{Publication}
 use Rattle.ev_routing.specs.Rest.{filters_of}
 use Rattle.ev_routing.specs.AsOf.{calm, IsRoutedAt, IsWantedBeyond, times_delivered}
@@ -12,13 +13,19 @@ use Rattle.ev_phases.specs.AtMoments.{states, phases, phase_seen, net_then, net_
 use Rattle.ev_phases.specs.Owing.{IsPublishedIn}
 
 module _ (theory : Theory) (run : PhasedRun theory) where
+  -- an entry at moment m routes the publication at a server, where it came in by this interface, on the tree of a net
+  abbrev pub IsRoutedOn : Net theory → ℕ → ℕ → ℕ → Publication theory → Type 0
+  IsRoutedOn net m server interface publication =
+      IsRoutedAt theory net (states_on theory run net) (entries_on theory net run.journal) m server interface
+      publication.publisher publication.ordinal publication.notice
+
   -- an entry of the run that routes a publication: after so many entries, at this server, where it came in by this interface
   pub record Routed : Type 0 where
     pub moment : ℕ
     pub server : ℕ
     pub interface : ℕ
     pub publication : Publication theory
-    pub at : IsRoutedAt theory (net_seen theory run moment) (states_on theory run (net_seen theory run moment)) (entries_on theory (net_seen theory run moment) run.journal) moment server interface publication.publisher publication.ordinal publication.notice
+    pub at : IsRoutedOn (net_seen theory run moment) moment server interface publication
 
   -- it is an accepted publication of the entry's phase
   abbrev pub IsPublished : Routed → Type 0
@@ -36,18 +43,23 @@ module _ (theory : Theory) (run : PhasedRun theory) where
   -- a client beyond a neighbour, on the tree at the entry's moment, had a filter that matches, at the moment that the server knows of by its last version
   abbrev pub IsWanted : Routed → ℕ → Type 0
   IsWanted routed neighbour =
-      IsWantedBeyond theory (net_seen theory run routed.moment) (states_on theory run (net_seen theory run routed.moment)) routed.publication.notice routed.server neighbour routed.moment
+      IsWantedBeyond theory (net_seen theory run routed.moment) (states_on theory run (net_seen theory run routed.moment))
+      routed.publication.notice routed.server neighbour routed.moment
 
   -- the entry delivers it to a client of its server
   abbrev pub IsDelivered : Routed → ℕ → Type 0
-  IsDelivered routed client = inbox_at theory run (suc routed.moment) routed.server client ≡ inbox_at theory run routed.moment routed.server client ++ routed.publication ∷ []
+  IsDelivered routed client =
+      inbox_at theory run (suc routed.moment) routed.server client ≡ inbox_at theory run routed.moment routed.server client ++ routed.publication ∷ []
 
-  -- a filter that matches was in the client's list at the server's last calm moment
+  -- a client's filters, on the tree at the entry's moment, at the server's last moment with nothing staged
+  abbrev pub filters_then : Routed → ℕ → List theory.Filter
+  filters_then routed client =
+      let net = net_seen theory run routed.moment in
+      filters_of theory net (states_on theory run net (calm theory net (states_on theory run net) routed.server routed.moment)) client
+
+  -- a filter that matches was in the client's list then
   abbrev pub IsInForce : Routed → ℕ → Type 0
-  IsInForce routed client =
-      (f : theory.Filter)
-      × Has f (filters_of theory (net_seen theory run routed.moment) (states_on theory run (net_seen theory run routed.moment) (calm theory (net_seen theory run routed.moment) (states_on theory run (net_seen theory run routed.moment)) routed.server routed.moment)) client)
-      × (theory.matches routed.publication.notice f ≡ true)
+  IsInForce routed client = (f : theory.Filter) × Has f (filters_then routed client) × (theory.matches routed.publication.notice f ≡ true)
 
   -- two entries at one server that route publications of one publisher, one after the other
   pub record PassTwo : Type 0 where
@@ -76,4 +88,5 @@ module _ (theory : Theory) (run : PhasedRun theory) where
   -- at the end a client's inbox has the publication, once
   abbrev pub IsDeliveredOnce : Publication theory → ℕ → Type 0
   IsDeliveredOnce publication client =
-      Has publication (inbox_of theory run client) × (times_delivered theory (net_at theory run.net run.last) publication.publisher publication.ordinal (inbox_of theory run client) ≡ 1)
+      Has publication (inbox_of theory run client)
+      × (times_delivered theory (net_at theory run.net run.last) publication.publisher publication.ordinal (inbox_of theory run client) ≡ 1)
