@@ -27,12 +27,15 @@ module _ (theory : Theory) where
   }
 
   module _ (net : PhasedNet theory) where
-    -- the messages of an entry for these neighbours, on the tree of its phase
+    -- the messages of an entry for a neighbour, on the tree of its phase
+    abbrev pub messages_found : Moment theory net → JournalEntry → ℕ → List (Message theory)
+    messages_found found entry link =
+        messages_of (machine_at theory net found.phase) (at_phase theory net found.phase found.state) (entry_on theory (net_at theory net found.phase) entry) link
+
+    -- its messages for these neighbours
     abbrev pub outs_found : Moment theory net → JournalEntry → List ℕ → List (ℕ × Message theory)
     outs_found found entry [] = []
-    outs_found found entry (link ∷ links) =
-        map (λ message. (link, message)) (messages_of (machine_at theory net found.phase) (at_phase theory net found.phase found.state) (entry_on theory (net_at theory net found.phase) entry) link)
-        ++ outs_found found entry links
+    outs_found found entry (link ∷ links) = map (λ message. (link, message)) (messages_found found entry link) ++ outs_found found entry links
 
     -- the line of an entry, as the entry finds the network
     abbrev pub line_of : Moment theory net → JournalEntry → Line theory

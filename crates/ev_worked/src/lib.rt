@@ -47,9 +47,12 @@ pub fn replay_runs()
 pub fn one_tree_runs()
     ensures lawful { (net : Net ranges) → NetLaws ranges net → PhasedNetLaws ranges (on_one_tree ranges net) }
     ensures runs { (net : Net ranges) (entries : List (NetEntry ranges net)) (end : Network ranges net) (last : ℕ)
-        → IsRun (routing_machine ranges net) (opening ranges net) 0 entries end last → IsRunTo ranges (on_one_tree ranges net) (opening_moment ranges (on_one_tree ranges net)) (map (entry_off ranges net) entries) (record { state = off ranges net end; phase = last }) }
+        → IsRun (routing_machine ranges net) (opening ranges net) 0 entries end last
+        → IsRunTo ranges (on_one_tree ranges net) (opening_moment ranges (on_one_tree ranges net)) (map (entry_off ranges net) entries)
+        (record { state = off ranges net end; phase = last }) }
     ensures walk { (net : Net ranges) (phases : ℕ) → phased_walk ranges (on_one_tree ranges net) phases ≡ map (entry_off ranges net) (walk ranges net phases) }
-    ensures trace { (net : Net ranges) (entries : List (NetEntry ranges net)) → phased_trace ranges (on_one_tree ranges net) (map (entry_off ranges net) entries) ≡ trace ranges net entries }
+    ensures trace { (net : Net ranges) (entries : List (NetEntry ranges net))
+        → phased_trace ranges (on_one_tree ranges net) (map (entry_off ranges net) entries) ≡ trace ranges net entries }
 {}
 
 /// Only the wide range travels; the narrow one in it goes nowhere.
