@@ -45,8 +45,9 @@ impl Cover for Sub {
         filter_covers(&self.0, &other.0)
     }
 
+    #[tactic(auto, unfolding(ev_notice::specs::Before::list_before))]
     fn before(&self, other: &Sub) -> bool {
-        self.0.is_before(&other.0)
+        self.0 < other.0
     }
 }
 
@@ -65,7 +66,8 @@ impl Cover for Ad {
         advert_covers(&self.0, &other.0)
     }
 
+    #[tactic(auto, unfolding(ev_notice::specs::Before::list_before))]
     fn before(&self, other: &Ad) -> bool {
-        self.0.is_before(&other.0)
+        self.0 < other.0
     }
 }
