@@ -18,7 +18,7 @@ use Rattle.ev_phases.proofs.Star.{star-laws}
 use Rattle.ev_worked.specs.Ranges.{Any, ranges}
 use Rattle.ev_worked.specs.Trace.{Line, line, outs_to, lines_from, trace, beginning, walk}
 use Rattle.ev_worked.specs.Nets.{in_phase}
-use Rattle.ev_worked.specs.Phased.{on_one_tree, outs_found, line_of, lines_after, phased_trace, phased_walk, line_becomes_star}
+use Rattle.ev_worked.specs.Phased.{on_one_tree, outs_found, line_of, lines_after, phased_trace, phased_walk, line_becomes_star, subscriber_publishes}
 use Rattle.ev_worked.proofs.Lawful.{ranges-laws}
 use Rattle.ev_worked.proofs.Nets.{each, rises}
 
@@ -114,3 +114,15 @@ none = record { net = line_becomes_star; laws = star-lawful; journal = []; end =
 
 pub star-drains : DrainsBy ranges line_becomes_star (phased_walk ranges line_becomes_star 2)
 star-drains = let x = walk-drains ranges ranges-laws none 2 low (omega arith) in record { end = record { state = x.0; phase = x.1 }; run = x.2; drained = x.3 }
+
+pub publishes-lawful : PhasedNetLaws ranges subscriber_publishes
+publishes-lawful = record {
+  first = star-laws.first;
+  later = star-laws.later;
+  rising = star-laws.rising;
+  counted = star-laws.counted;
+  housed = star-laws.housed;
+  lives = star-laws.lives;
+  single = star-laws.single;
+  phased = each (λ c. NeverFalls ranges (subscriber_publishes.script c)) (rises (in_phase 0 (Subscribe Any) ∷ in_phase 1 (Publish 1) ∷ []) (omega arith, tt)) tt tt (λ c x y z. rw x tt);
+}

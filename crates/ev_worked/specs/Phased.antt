@@ -74,3 +74,15 @@ line_becomes_star = record {
   clients = line_clients;
   script = λ client. cond (client == 1) (in_phase 0 (Subscribe Any) ∷ []) (cond (client == 2) (in_phase 1 (Publish 1) ∷ []) []);
 }
+
+-- the same servers, where client 1 subscribes and publishes in phase 1: its server has the least clock when that phase begins
+abbrev pub subscriber_publishes : PhasedNet ranges
+subscriber_publishes = record {
+  adverts = false;
+  servers = 1 ∷ 2 ∷ 3 ∷ [];
+  tree = line_tree;
+  later = (1, star_tree) ∷ [];
+  home = line_home;
+  clients = line_clients;
+  script = λ client. cond (client == 1) (in_phase 0 (Subscribe Any) ∷ in_phase 1 (Publish 1) ∷ []) [];
+}

@@ -1,7 +1,7 @@
 //! Worked runs: what the definitions of the network come to in small nets over ranges of numbers, computed.
 #![tactic(auto)]
 
-ghost use Rattle.std.specs.Prelude.{◌≡◌, ◌<◌, ℕ, List, [], ◌∷◌, ◌++◌, take, map};
+ghost use Rattle.std.specs.Prelude.{◌≡◌, ◌<◌, ℕ, List, [], ◌∷◌, ◌++◌, take, drop, map};
 ghost use Rattle.ev_sets.specs.Sets.{Has};
 ghost use Rattle.ev_run.specs.Runs.{IsRun};
 ghost use Rattle.ev_run.specs.Machine.{Act, Did, Took};
@@ -19,7 +19,7 @@ ghost use Rattle.ev_phases.specs.Trees.{off, entry_off, PhasedNetLaws};
 ghost use Rattle.ev_phases.specs.Moments.{opening_moment};
 ghost use Rattle.ev_phases.specs.Runs.{IsRunTo};
 ghost use Rattle.ev_phases.specs.AtMoments.{DrainsBy};
-ghost use Rattle.ev_worked.specs.Phased.{on_one_tree, phased_trace, phased_walk, phased_given, phased_held, line_becomes_star};
+ghost use Rattle.ev_worked.specs.Phased.{on_one_tree, phased_trace, phased_walk, phased_given, phased_held, line_becomes_star, subscriber_publishes};
 ghost use Rattle.ev_worked.specs.Nets.{publication, wide_travels, wide_and_narrow, withdrawn_wide, all_know, both_set_out, notice_arrives, withdrawal_known, equal_ranges, advertised_small, subscribed_again};
 
 /// Ranges of numbers are a theory of filters, and the nets below are nets over it, so that every law of runs holds of them.
@@ -195,4 +195,13 @@ pub fn link_after_change()
     ensures at_middle { phased_held ranges line_becomes_star (phased_walk ranges line_becomes_star 2) 2 1 ≡ Any ∷ [] }
     ensures at_leaf { phased_held ranges line_becomes_star (phased_walk ranges line_becomes_star 2) 3 1 ≡ Any ∷ [] }
     ensures old_link { phased_held ranges line_becomes_star (phased_walk ranges line_becomes_star 2) 3 2 ≡ [] }
+{}
+
+/// A server whose clock has fallen behind begins the second phase above every stamp of the first: the change raises all clocks.
+pub fn clocks_are_raised()
+    ensures lawful { PhasedNetLaws ranges subscriber_publishes }
+    ensures trace { drop 5 (phased_trace ranges subscriber_publishes (phased_walk ranges subscriber_publishes 2)) ≡
+        line ranges 4 3 (Did Version) [] ∷
+        line ranges 5 1 (Did (NextCommand 1)) [] ∷ [] }
+    ensures given { phased_given ranges subscriber_publishes (phased_walk ranges subscriber_publishes 2) 1 ≡ publication 1 1 1 ∷ [] }
 {}
