@@ -4,8 +4,6 @@
 mod covering;
 mod items;
 mod law;
-#[cfg(test)]
-mod tests;
 
 pub use covering::{advert_covers, filter_covers};
 pub use items::{Ad, Sub};

@@ -3,4 +3,5 @@ pub mod Meaning
 pub mod Nets
 pub mod Sound
 pub mod Adding
+pub mod Lists
 pub mod Limits
