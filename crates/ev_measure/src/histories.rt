@@ -1,0 +1,190 @@
+//! The comparing of the covering graph with the plain body over made histories.
+use crate::fault::Fault;
+use crate::kept::Kept;
+use crate::made::Maker;
+use crate::plain::Plain;
+use crate::plan::{Plan, Subject};
+use crate::random::Random;
+use ev_cover::Sub;
+use ev_pool::Cover;
+use std::alloc::Global;
+
+/// Who holds filters: two links and two clients.
+const HOLDERS: [u32; 4] = [2, 3, 70, 71];
+
+/// Who is left out where all count.
+const NOBODY: u32 = 9;
+
+/// How many filters are made for a history; some are equal.
+const FILTERS: usize = 24;
+
+/// How many pairs are held or released in a history.
+const STEPS: usize = 40;
+
+/// A history with the graph and the plain body after its steps so far.
+#[derive(Drop)]
+struct History {
+    random: Random,
+    items: Vec<Sub>,
+    kept: Kept,
+    plain: Plain,
+    tally: Tally,
+}
+
+/// What was compared.
+#[derive(Clone, Copy, Debug, PartialEq, Eq)]
+pub struct Tally {
+    /// The roots of the plain body, each as often as it was one.
+    pub roots: usize,
+    /// The answers of the graph that are not those of the plain body.
+    pub differences: usize,
+}
+
+/// Few names, numbers and letters, so that much is equivalent and much covers.
+fn small_plan(random: &mut Random) -> Plan {
+    Plan {
+        subject: *random.pick(&[Subject::Mixed, Subject::Numbers, Subject::Texts]),
+        constraints: 1 + random.below(3),
+        names: 1 + random.below(2),
+        further: 0,
+        attributes: 1,
+        numbers: 1 + random.below(5),
+        words: 1 + random.below(3),
+        letters: 1 + random.below(2),
+        joined: 1,
+        ends: random.once_in(2),
+    }
+}
+
+/// How many of these come before the item.
+fn place(items: &[Sub], item: &Sub) -> usize {
+    items.iter().filter(|other| other.before(item)).count()
+}
+
+/// Puts a filter to its place in the canonical order, once.
+pub fn put(items: &mut Vec<Sub>, item: Sub) -> Result<(), Fault> {
+    let at = place(items, &item);
+    let is_there = match items.get(at) {
+        Some(other) => !item.before(other),
+        None => false,
+    };
+    if !is_there && at <= items.len() {
+        items.insert(at, item)?;
+    }
+    Ok(())
+}
+
+/// Made filters, each once, in the canonical order.
+fn made(alloc: Global, maker: &mut Maker) -> Result<Vec<Sub>, Fault> {
+    let mut items = Vec::new(alloc);
+    for _ in 0..FILTERS {
+        put(&mut items, Sub(maker.filter()?))?;
+    }
+    Ok(items)
+}
+
+impl History {
+    /// A history that has no step yet.
+    fn new(alloc: Global, seed: u64, tally: Tally) -> Result<History, Fault> {
+        let mut random = Random::seeded(seed);
+        let plan = small_plan(&mut random);
+        let mut maker = Maker::new(alloc, random.next(), plan)?;
+        Ok(History {
+            random,
+            items: made(alloc, &mut maker)?,
+            kept: Kept::new(alloc),
+            plain: Plain::new(alloc),
+            tally,
+        })
+    }
+
+    /// Counts a difference where the two are not alike.
+    fn expect(&mut self, alike: bool) {
+        let more = usize::from(!alike);
+        self.tally.differences = self.tally.differences.saturating_add(more);
+    }
+
+    /// Holds a filter, or in one case of three releases it.
+    fn change(&mut self, place: usize, holder: u32) -> Result<(), Fault> {
+        let is_release = self.random.once_in(3);
+        let Some(item) = self.items.get(place) else {
+            return Ok(());
+        };
+        let (graph, plain) = if is_release {
+            let graph = self.kept.release(item, holder);
+            (graph, self.plain.release(place, holder))
+        } else {
+            let graph = self.kept.hold(item, holder)?;
+            (graph, self.plain.hold(place, holder)?)
+        };
+        self.expect(graph == plain);
+        Ok(())
+    }
+
+    /// Compares the roots without a holder, of all and of what a filter covers.
+    fn compare_roots(&mut self, place: usize, left_out: u32) -> Result<(), Fault> {
+        let items = self.items.as_slice();
+        let Some(limit) = items.get(place) else {
+            return Ok(());
+        };
+        let plain = self.plain.roots(items, left_out, None)?;
+        let all = self.kept.names(&self.kept.roots(left_out)?, items, &plain);
+        self.tally.roots = self.tally.roots.saturating_add(plain.len());
+        let plain = self.plain.roots(items, left_out, Some(limit))?;
+        let graph = self.kept.roots_under(left_out, limit)?;
+        let under = self.kept.names(&graph, items, &plain);
+        self.expect(all && under);
+        Ok(())
+    }
+
+    /// Compares what a holder has.
+    fn compare_held(&mut self, place: usize, holder: u32) -> Result<(), Fault> {
+        let items = self.items.as_slice();
+        let Some(limit) = items.get(place) else {
+            return Ok(());
+        };
+        let plain = self.plain.held(items, holder, None)?;
+        let all = self.kept.names(&self.kept.held(holder)?, items, &plain);
+        let plain = self.plain.held(items, holder, Some(limit))?;
+        let graph = self.kept.covered_by(limit, holder)?;
+        let under = self.kept.names(&graph, items, &plain);
+        let beyond = self.kept.held_beyond(limit, holder, 70);
+        let plain_beyond = self.plain.held_beyond(place, holder, 70);
+        let pairs = self.kept.pairs()?;
+        self.expect(all && under && beyond == plain_beyond && pairs == self.plain.pairs());
+        Ok(())
+    }
+
+    /// Holds or releases, and compares all answers.
+    fn step(&mut self) -> Result<(), Fault> {
+        let place = self.random.below(FILTERS);
+        let holder = *self.random.pick(&HOLDERS);
+        self.change(place, holder)?;
+        let place = self.random.below(FILTERS);
+        self.compare_roots(place, NOBODY)?;
+        self.compare_roots(place, holder)?;
+        self.compare_held(place, holder)
+    }
+
+    /// All steps.
+    fn run(&mut self) -> Result<(), Fault> {
+        for _ in 0..STEPS {
+            self.step()?;
+        }
+        Ok(())
+    }
+}
+
+/// Compares the two over so many histories, made by the seeds from 0.
+pub fn agree(alloc: Global, histories: u64) -> Result<Tally, Fault> {
+    let mut tally = Tally {
+        roots: 0,
+        differences: 0,
+    };
+    for seed in 0..histories {
+        let mut history = History::new(alloc, seed, tally)?;
+        history.run()?;
+        tally = history.tally;
+    }
+    Ok(tally)
+}
