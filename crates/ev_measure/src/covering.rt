@@ -179,7 +179,7 @@ fn no_costs() -> Costs {
     }
 }
 
-/// Lets filters come and go, one at a time.
+/// Lets filters come and go, one at a time. The roots are those of the first round.
 fn come_and_go<B: Body>(
     rt: &impl Clock,
     body: &mut B,
@@ -194,7 +194,8 @@ fn come_and_go<B: Body>(
         let one = comers.get(at..=at).unwrap_or_default();
         hold_all(rt, body, items, one, &mut costs)?;
         if round < asked {
-            roots = roots.saturating_add(ask(rt, body, items, &mut costs)?);
+            let found = ask(rt, body, items, &mut costs)?;
+            roots = if round == 0 { found } else { roots };
         }
         release_all(rt, body, items, one, &mut costs)?;
     }
@@ -241,7 +242,7 @@ fn numbers(alloc: Global, count: usize) -> Result<Vec<usize>, Fault> {
 fn on_numbers(alloc: Global, name: &'static str, op: Op, count: usize) -> Result<Case, Fault> {
     let mut items = Vec::new(alloc);
     for number in 0..count {
-        items.push(on_one_name(alloc, op, Some(number as i64))?)?;
+        items.push(on_one_name(alloc, op, Some(i64::try_from(number).unwrap_or(i64::MAX)))?)?;
     }
     Ok(Case {
         name,
@@ -249,6 +250,16 @@ fn on_numbers(alloc: Global, name: &'static str, op: Op, count: usize) -> Result
         order: numbers(alloc, count)?,
         comers: 0,
     })
+}
+
+/// Makes filters until enough are distinct.
+fn make_distinct(items: &mut Vec<Sub>, maker: &mut Maker) -> Result<(), Fault> {
+    for _ in 0..2 * FILTERS {
+        if items.len() < FILTERS {
+            put(items, Sub(maker.filter()?))?;
+        }
+    }
+    Ok(())
 }
 
 /// Filters of 1 to 6 constraints over 20 names, held in another order.
@@ -269,8 +280,8 @@ fn mixed(alloc: Global, name: &'static str, comers: usize) -> Result<Case, Fault
     let mut random = Random::seeded(2);
     let mut items = Vec::new(alloc);
     let mut order = Vec::new(alloc);
-    for place in 0..FILTERS {
-        put(&mut items, Sub(maker.filter()?))?;
+    make_distinct(&mut items, &mut maker)?;
+    for place in 0..items.len() {
         let at = random.below(place + 1).min(order.len());
         order.insert(at, place)?;
     }
@@ -314,8 +325,11 @@ pub fn measure(rt: &(impl Clock + Print), alloc: Global) -> Result<(), Fault> {
         };
         let (graph, roots) = spend(rt, &mut Kept::new(alloc), &case, ROUNDS)?;
         let (plain, plain_roots) = spend(rt, &mut Plain::new(alloc), &case, 1)?;
+        if roots != plain_roots {
+            return Err(Fault::Differences(roots.abs_diff(plain_roots)));
+        }
         println!(rt;
-            "{:<19}  {:>7.1}  {:>5.1}  {:>8.1}  {:>6.0}  {:>10.2}  {:>5.2}  {roots} {plain_roots}",
+            "{:<19}  {:>7.1}  {:>5.1}  {:>8.1}  {:>6.0}  {:>10.2}  {:>5.2}",
             case.name,
             graph.hold.mean(),
             plain.hold.mean(),

@@ -34,7 +34,7 @@ struct History {
 /// What was compared.
 #[derive(Clone, Copy, Debug, PartialEq, Eq)]
 pub struct Tally {
-    /// The roots of the plain body, each as often as it was one.
+    /// The roots that were found, each as often as it was one.
     pub roots: usize,
     /// The answers of the graph that are not those of the plain body.
     pub differences: usize,
@@ -121,38 +121,41 @@ impl History {
         Ok(())
     }
 
-    /// Compares the roots without a holder, of all and of what a filter covers.
-    fn compare_roots(&mut self, place: usize, left_out: u32) -> Result<(), Fault> {
+    /// Whether the roots without a holder are alike, of all and of what a filter covers.
+    fn roots_agree(&self, place: usize, left_out: u32) -> Result<bool, Fault> {
         let items = self.items.as_slice();
         let Some(limit) = items.get(place) else {
-            return Ok(());
+            return Ok(true);
         };
         let plain = self.plain.roots(items, left_out, None)?;
         let all = self.kept.names(&self.kept.roots(left_out)?, items, &plain);
-        self.tally.roots = self.tally.roots.saturating_add(plain.len());
         let plain = self.plain.roots(items, left_out, Some(limit))?;
         let graph = self.kept.roots_under(left_out, limit)?;
-        let under = self.kept.names(&graph, items, &plain);
-        self.expect(all && under);
-        Ok(())
+        Ok(all && self.kept.names(&graph, items, &plain))
     }
 
-    /// Compares what a holder has.
-    fn compare_held(&mut self, place: usize, holder: u32) -> Result<(), Fault> {
+    /// Whether what a holder has is alike, all and what a filter covers.
+    fn held_agree(&self, place: usize, holder: u32) -> Result<bool, Fault> {
         let items = self.items.as_slice();
         let Some(limit) = items.get(place) else {
-            return Ok(());
+            return Ok(true);
         };
         let plain = self.plain.held(items, holder, None)?;
         let all = self.kept.names(&self.kept.held(holder)?, items, &plain);
         let plain = self.plain.held(items, holder, Some(limit))?;
         let graph = self.kept.covered_by(limit, holder)?;
         let under = self.kept.names(&graph, items, &plain);
-        let beyond = self.kept.held_beyond(limit, holder, 70);
-        let plain_beyond = self.plain.held_beyond(place, holder, 70);
-        let pairs = self.kept.pairs()?;
-        self.expect(all && under && beyond == plain_beyond && pairs == self.plain.pairs());
-        Ok(())
+        Ok(all && under)
+    }
+
+    /// Whether the pairs are as many, and those of a filter are alike.
+    fn pairs_agree(&self, place: usize, holder: u32) -> Result<bool, Fault> {
+        let Some(item) = self.items.get(place) else {
+            return Ok(true);
+        };
+        let graph = self.kept.held_beyond(item, holder, 70);
+        let plain = self.plain.held_beyond(place, holder, 70);
+        Ok(graph == plain && self.kept.pairs()? == self.plain.pairs())
     }
 
     /// Holds or releases, and compares all answers.
@@ -161,9 +164,14 @@ impl History {
         let holder = *self.random.pick(&HOLDERS);
         self.change(place, holder)?;
         let place = self.random.below(FILTERS);
-        self.compare_roots(place, NOBODY)?;
-        self.compare_roots(place, holder)?;
-        self.compare_held(place, holder)
+        let all = self.roots_agree(place, NOBODY)?;
+        let others = self.roots_agree(place, holder)?;
+        let held = self.held_agree(place, holder)?;
+        let pairs = self.pairs_agree(place, holder)?;
+        self.expect(all && others && held && pairs);
+        let roots = self.kept.roots(NOBODY)?.len();
+        self.tally.roots = self.tally.roots.saturating_add(roots);
+        Ok(())
     }
 
     /// All steps.

@@ -1,11 +1,13 @@
 //! Filters and who holds them, in a pool and a covering graph.
-ghost use Rattle.ev_poset.specs.Poset.{Agrees};
+ghost use Rattle.std.specs.Prelude.{IfOk};
+ghost use Rattle.ev_pool.specs.Pool.{IsLive, KeepsItems};
 
 use crate::fault::Fault;
 use ev_cover::Sub;
 use ev_pool::{Cover, Key, Pool};
 use ev_poset::Poset;
 use std::alloc::Global;
+use std::marker::Model;
 
 /// Filters and who holds them. The pool has each held filter once.
 #[derive(Drop)]
@@ -13,7 +15,33 @@ pub struct Kept {
     alloc: Global,
     pool: Pool<Sub>,
     poset: Poset<Sub>,
-    ghost agree: { Agrees pool poset },
+}
+
+impl Model for Kept {
+    ghost use Rattle.std.specs.Prelude.{List};
+    ghost use Rattle.ev_constraint.specs.Constraint.{ConstraintParts};
+    ghost use Rattle.ev_poset.specs.Poset.{Held, Agrees};
+
+    ghost Value = { List (Held (List ConstraintParts)) };
+
+    ghost view = { λ k. k.poset };
+
+    ghost invariant = { λ k. Agrees k.pool k.poset };
+}
+
+/// The key of an equal filter, or of a copy.
+fn key_of(alloc: Global, pool: &mut Pool<Sub>, item: &Sub) -> Result<Key, Fault>
+    ensures items { KeepsItems pool.old pool.new }
+    ensures key { IfOk result (λ key. IsLive pool.new key) }
+{
+    if let Some(key) = pool.find(item) {
+        return Ok(key);
+    }
+    let copy = Sub(item.0.copy(alloc)?);
+    match pool.keep(copy) {
+        Ok(key) => Ok(key),
+        Err(_) => Err(Fault::NoMemory),
+    }
 }
 
 impl Kept {
@@ -24,20 +52,9 @@ impl Kept {
         Kept { alloc, pool, poset }
     }
 
-    /// The key of a filter that nobody holds yet.
-    fn keep(&mut self, item: Sub) -> Result<Key, Fault> {
-        match self.pool.keep(item) {
-            Ok(key) => Ok(key),
-            Err(_) => Err(Fault::NoMemory),
-        }
-    }
-
     /// The holder has the filter too; true where it did not have it.
     pub fn hold(&mut self, item: &Sub, holder: u32) -> Result<bool, Fault> {
-        let key = match self.pool.find(item) {
-            Some(key) => key,
-            None => self.keep(Sub(item.0.copy(self.alloc)?))?,
-        };
+        let key = key_of(self.alloc, &mut self.pool, item)?;
         Ok(self.poset.hold(&self.pool, key, holder)?)
     }
 
@@ -46,11 +63,13 @@ impl Kept {
         let Some(key) = self.pool.find(item) else {
             return false;
         };
-        let was = self.poset.release(key, holder);
-        if was && !self.poset.held_beyond(key, holder, holder) {
+        if !self.poset.release(key, holder) {
+            return false;
+        }
+        if !self.poset.held_beyond(key, holder, holder) {
             self.pool.give_back(key);
         }
-        was
+        true
     }
 
     /// The roots of what the others hold.
