@@ -3,7 +3,6 @@ use crate::fault::Fault;
 use crate::histories::put;
 use crate::kept::Kept;
 use crate::made::Maker;
-use crate::measure::since;
 use crate::plain::Plain;
 use crate::plan::{Plan, Subject};
 use crate::random::Random;
@@ -13,8 +12,7 @@ use ev_notice::Filter;
 use ev_values::{Kind, Name, Value};
 use std::alloc::Global;
 use std::num::nearest_u64_to_f64;
-use std::rt::Clock;
-use std::time::Instant;
+use std::time::CpuClock;
 
 /// The links that hold the filters in turn.
 const LINKS: [u32; 3] = [2, 3, 4];
@@ -103,10 +101,10 @@ impl Spent {
         Spent { calls: 0, nanos: 0 }
     }
 
-    /// One call more, that began at the instant.
-    fn add(&mut self, rt: &impl Clock, start: Instant) -> Result<(), Fault> {
-        let nanos = since(rt, start)?;
-        self.calls = self.calls.saturating_add(1);
+    /// So many calls more, that began when the thread had used so much.
+    fn add(&mut self, rt: &impl CpuClock, calls: usize, start: u64) -> Result<(), Fault> {
+        let nanos = used(rt)?.saturating_sub(start);
+        self.calls = self.calls.saturating_add(calls as u64);
         self.nanos = self.nanos.saturating_add(nanos);
         Ok(())
     }
@@ -117,6 +115,12 @@ impl Spent {
     }
 }
 
+/// The nanoseconds of processor time that the thread has used.
+fn used(rt: &impl CpuClock) -> Result<u64, Fault> {
+    let nanos = rt.thread_cpu_time()?.as_nanos();
+    Ok(u64::try_from(nanos).unwrap_or(u64::MAX))
+}
+
 /// The link of the filter at a place.
 fn link_of(place: usize) -> u32 {
     LINKS[place % 3]
@@ -124,49 +128,47 @@ fn link_of(place: usize) -> u32 {
 
 /// Holds filters.
 fn hold_all<B: Body>(
-    rt: &impl Clock,
+    rt: &impl CpuClock,
     body: &mut B,
     items: &[Sub],
     order: &[usize],
     costs: &mut Costs,
 ) -> Result<(), Fault> {
+    let start = used(rt)?;
     for place in order {
-        let start = Instant::now(rt)?;
         body.hold(items, *place, link_of(*place))?;
-        costs.hold.add(rt, start)?;
     }
-    Ok(())
+    costs.hold.add(rt, order.len(), start)
 }
 
 /// Releases filters.
 fn release_all<B: Body>(
-    rt: &impl Clock,
+    rt: &impl CpuClock,
     body: &mut B,
     items: &[Sub],
     order: &[usize],
     costs: &mut Costs,
 ) -> Result<(), Fault> {
+    let start = used(rt)?;
     for place in order {
-        let start = Instant::now(rt)?;
         body.release(items, *place, link_of(*place));
-        costs.release.add(rt, start)?;
     }
-    Ok(())
+    costs.release.add(rt, order.len(), start)
 }
 
 /// Asks for the roots without each link.
 fn ask<B: Body>(
-    rt: &impl Clock,
+    rt: &impl CpuClock,
     body: &B,
     items: &[Sub],
     costs: &mut Costs,
 ) -> Result<usize, Fault> {
     let mut roots = 0_usize;
+    let start = used(rt)?;
     for link in LINKS.as_slice() {
-        let start = Instant::now(rt)?;
         roots = roots.saturating_add(body.roots(items, *link)?);
-        costs.roots.add(rt, start)?;
     }
+    costs.roots.add(rt, LINKS.len(), start)?;
     Ok(roots)
 }
 
@@ -181,7 +183,7 @@ fn no_costs() -> Costs {
 
 /// Lets filters come and go, one at a time. The roots are those of the first round.
 fn come_and_go<B: Body>(
-    rt: &impl Clock,
+    rt: &impl CpuClock,
     body: &mut B,
     items: &[Sub],
     comers: &[usize],
@@ -204,7 +206,7 @@ fn come_and_go<B: Body>(
 
 /// What a case takes by a body, and how many roots there were.
 fn spend<B: Body>(
-    rt: &impl Clock,
+    rt: &impl CpuClock,
     body: &mut B,
     case: &Case,
     asked: usize,
@@ -317,7 +319,7 @@ fn numbered(alloc: Global, number: usize) -> Result<Option<Case>, Fault> {
 }
 
 /// Measures each case by both bodies, and prints a line of means in microseconds for it.
-pub fn measure(rt: &(impl Clock + Print), alloc: Global) -> Result<(), Fault> {
+pub fn measure(rt: &(impl CpuClock + Print), alloc: Global) -> Result<(), Fault> {
     println!(rt; "case                 hold us  plain  roots us   plain  release us  plain")?;
     for number in 0..6 {
         let Some(case) = numbered(alloc, number)? else {

@@ -28,16 +28,8 @@ struct History {
     items: Vec<Sub>,
     kept: Kept,
     plain: Plain,
-    tally: Tally,
-}
-
-/// What was compared.
-#[derive(Clone, Copy, Debug, PartialEq, Eq)]
-pub struct Tally {
-    /// The roots that were found, each as often as it was one.
-    pub roots: usize,
-    /// The answers of the graph that are not those of the plain body.
-    pub differences: usize,
+    /// The steps after which the two differed.
+    differences: usize,
 }
 
 /// Few names, numbers and letters, so that much is equivalent and much covers.
@@ -85,7 +77,7 @@ fn made(alloc: Global, maker: &mut Maker) -> Result<Vec<Sub>, Fault> {
 
 impl History {
     /// A history that has no step yet.
-    fn new(alloc: Global, seed: u64, tally: Tally) -> Result<History, Fault> {
+    fn new(alloc: Global, seed: u64) -> Result<History, Fault> {
         let mut random = Random::seeded(seed);
         let plan = small_plan(&mut random);
         let mut maker = Maker::new(alloc, random.next(), plan)?;
@@ -94,14 +86,14 @@ impl History {
             items: made(alloc, &mut maker)?,
             kept: Kept::new(alloc),
             plain: Plain::new(alloc),
-            tally,
+            differences: 0,
         })
     }
 
     /// Counts a difference where the two are not alike.
     fn expect(&mut self, alike: bool) {
         let more = usize::from(!alike);
-        self.tally.differences = self.tally.differences.saturating_add(more);
+        self.differences = self.differences.saturating_add(more);
     }
 
     /// Holds a filter, or in one case of three releases it.
@@ -169,8 +161,6 @@ impl History {
         let held = self.held_agree(place, holder)?;
         let pairs = self.pairs_agree(place, holder)?;
         self.expect(all && others && held && pairs);
-        let roots = self.kept.roots(NOBODY)?.len();
-        self.tally.roots = self.tally.roots.saturating_add(roots);
         Ok(())
     }
 
@@ -183,16 +173,13 @@ impl History {
     }
 }
 
-/// Compares the two over so many histories, made by the seeds from 0.
-pub fn agree(alloc: Global, histories: u64) -> Result<Tally, Fault> {
-    let mut tally = Tally {
-        roots: 0,
-        differences: 0,
-    };
+/// How often the two differ over so many histories, made by the seeds from 0.
+pub fn differences(alloc: Global, histories: u64) -> Result<usize, Fault> {
+    let mut differences = 0_usize;
     for seed in 0..histories {
-        let mut history = History::new(alloc, seed, tally)?;
+        let mut history = History::new(alloc, seed)?;
         history.run()?;
-        tally = history.tally;
+        differences = differences.saturating_add(history.differences);
     }
-    Ok(tally)
+    Ok(differences)
 }

@@ -43,7 +43,7 @@ struct ChangeTimes {
 }
 
 /// Nanoseconds since an instant.
-pub fn since(rt: &impl Clock, start: Instant) -> Result<u64, Fault> {
+fn since(rt: &impl Clock, start: Instant) -> Result<u64, Fault> {
     let nanos = start.elapsed(rt)?.as_nanos();
     Ok(u64::try_from(nanos).unwrap_or(u64::MAX))
 }
