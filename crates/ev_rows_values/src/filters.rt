@@ -8,24 +8,34 @@ use std::rt::HostRuntime;
 use std::test::Fail;
 
 #[test]
-fn made(rt: HostRuntime) -> Result<(), Fail> {
+fn distinct(rt: HostRuntime) -> Result<(), Fail> {
     let alloc = rt.alloc();
-    let mut distinct = Vec::new(alloc);
-    let mut repeated = Vec::new(alloc);
+    let mut rows = Vec::new(alloc);
     for i in 0..17_u64 {
-        distinct.push((b"t".as_slice(), Kind::Time, Op::Ne, Seconds(i)))?;
-        repeated.push((b"t".as_slice(), Kind::Time, Op::Gt, Seconds(u64::MAX)))?;
+        rows.push((b"t".as_slice(), Kind::Time, Op::Ne, Seconds(i)))?;
     }
-    let many = Filter::make(constraints(alloc, &distinct)?);
+    let many = Filter::make(constraints(alloc, &rows)?);
     assert_eq!(rt; many.err(), Some(FilterFault::TooMany));
-    assert_eq!(rt;
-        advert(alloc, &distinct)?.copy(alloc)?.constraints().len(),
-        17
-    );
-    let one = filter(alloc, &repeated)?;
+    assert_eq!(rt; advert(alloc, &rows)?.copy(alloc)?.constraints().len(), 17);
+    Ok(())
+}
+
+#[test]
+fn repeated(rt: HostRuntime) -> Result<(), Fail> {
+    let alloc = rt.alloc();
+    let mut rows = Vec::new(alloc);
+    for _ in 0..17 {
+        rows.push((b"t".as_slice(), Kind::Time, Op::Gt, Seconds(u64::MAX)))?;
+    }
+    let one = filter(alloc, &rows)?;
     assert_eq!(rt; one.constraints().len(), 1);
     assert!(rt; one == one.copy(alloc)?);
-    let none = Advert::make(constraints(alloc, &[])?);
+    Ok(())
+}
+
+#[test]
+fn none(rt: HostRuntime) -> Result<(), Fail> {
+    let none = Advert::make(constraints(rt.alloc(), &[])?);
     assert_eq!(rt; none.err(), Some(FilterFault::Nothing));
     Ok(())
 }
@@ -44,15 +54,21 @@ fn rising(rt: HostRuntime) -> Result<(), Fail> {
 }
 
 #[test]
-fn order(rt: HostRuntime) -> Result<(), Fail> {
-    let alloc = rt.alloc();
+fn order_of_filters(rt: HostRuntime) -> Result<(), Fail> {
     let over = (b"x".as_slice(), Kind::Int, Op::Gt, Number(3));
     let other = (b"y".as_slice(), Kind::Int, Op::Ne, Number(0));
-    let f = filter(alloc, &[over])?;
-    let g = filter(alloc, &[over, other])?;
+    let f = filter(rt.alloc(), &[over])?;
+    let g = filter(rt.alloc(), &[over, other])?;
     assert_eq!(rt; (f < g, g < f, f == g), (true, false, false));
-    let a = advert(alloc, &[over, other])?;
-    let b = advert(alloc, &[other, over])?;
+    Ok(())
+}
+
+#[test]
+fn order_of_adverts(rt: HostRuntime) -> Result<(), Fail> {
+    let over = (b"x".as_slice(), Kind::Int, Op::Gt, Number(3));
+    let other = (b"y".as_slice(), Kind::Int, Op::Ne, Number(0));
+    let a = advert(rt.alloc(), &[over, other])?;
+    let b = advert(rt.alloc(), &[other, over])?;
     assert_eq!(rt; (a < b, a == b), (false, true));
     Ok(())
 }

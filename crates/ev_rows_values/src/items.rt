@@ -20,18 +20,19 @@ fn covers(alloc: Global, first: &[Row<'_>], second: &[Row<'_>]) -> Result<(bool,
 #[test]
 fn covering(rt: HostRuntime) -> Result<(), Fail> {
     let alloc = rt.alloc();
-    let over = (b"x".as_slice(), Kind::Int, Op::Gt, Number(3));
-    let over_five = (b"x".as_slice(), Kind::Int, Op::Gt, Number(5));
-    let below = (b"x".as_slice(), Kind::Int, Op::Lt, Number(9));
-    let any = (b"y".as_slice(), Kind::Int, Op::Any, Nothing);
+    let x = |op, number| (b"x".as_slice(), Kind::Int, op, Number(number));
+    let over = [x(Op::Gt, 3)];
+    let over_five = [x(Op::Gt, 5)];
+    let within = [x(Op::Gt, 3), x(Op::Lt, 9)];
+    let more = [x(Op::Gt, 5), (b"y".as_slice(), Kind::Int, Op::Any, Nothing)];
     for (first, second, want) in [
-        ([over].as_slice(), [over_five].as_slice(), (true, true)),
-        (&[over_five], &[over], (false, false)),
-        (&[over], &[over, below], (true, false)),
-        (&[over, below], &[over_five], (false, true)),
-        (&[over], &[over_five, any], (true, false)),
-        (&[over_five, any], &[over_five], (false, true)),
-        (&[over, below], &[over, below], (true, true)),
+        (over.as_slice(), over_five.as_slice(), (true, true)),
+        (over_five.as_slice(), over.as_slice(), (false, false)),
+        (over.as_slice(), within.as_slice(), (true, false)),
+        (within.as_slice(), over_five.as_slice(), (false, true)),
+        (over.as_slice(), more.as_slice(), (true, false)),
+        (more.as_slice(), over_five.as_slice(), (false, true)),
+        (within.as_slice(), within.as_slice(), (true, true)),
     ] {
         assert_eq!(rt; covers(alloc, first, second)?, want);
     }
@@ -49,15 +50,21 @@ fn stands<T: Cover>(item: &T, other: &T) -> (bool, bool, bool, bool) {
 }
 
 #[test]
-fn items(rt: HostRuntime) -> Result<(), Fail> {
-    let alloc = rt.alloc();
+fn subscriptions(rt: HostRuntime) -> Result<(), Fail> {
     let wide = [(b"x".as_slice(), Kind::Int, Op::Any, Nothing)];
     let narrow = [(b"x".as_slice(), Kind::Int, Op::Gt, Number(5))];
-    let f = Sub(filter(alloc, &wide)?);
-    let g = Sub(filter(alloc, &narrow)?);
+    let f = Sub(filter(rt.alloc(), &wide)?);
+    let g = Sub(filter(rt.alloc(), &narrow)?);
     assert_eq!(rt; stands(&f, &g), (true, false, false, true));
-    let a = Ad(advert(alloc, &wide)?);
-    let b = Ad(advert(alloc, &narrow)?);
+    Ok(())
+}
+
+#[test]
+fn advertisements(rt: HostRuntime) -> Result<(), Fail> {
+    let wide = [(b"x".as_slice(), Kind::Int, Op::Any, Nothing)];
+    let narrow = [(b"x".as_slice(), Kind::Int, Op::Gt, Number(5))];
+    let a = Ad(advert(rt.alloc(), &wide)?);
+    let b = Ad(advert(rt.alloc(), &narrow)?);
     assert_eq!(rt; stands(&b, &a), (false, true, true, false));
     Ok(())
 }
@@ -73,14 +80,19 @@ fn overlapping(rt: HostRuntime) -> Result<(), Fail> {
     let x = |op, number| (b"x".as_slice(), Kind::Int, op, Number(number));
     let any_x = (b"x".as_slice(), Kind::Int, Op::Any, Nothing);
     let any_y = (b"y".as_slice(), Kind::Int, Op::Any, Nothing);
-    let one_or_five = [x(Op::Eq, 1), x(Op::Eq, 5)];
-    let within = [x(Op::Gt, 3), x(Op::Lt, 5)];
-    assert!(rt; overlap(alloc, &[x(Op::Gt, 3)], &one_or_five)?);
     assert!(rt; !overlap(alloc, &[x(Op::Gt, 5)], &[x(Op::Lt, 3)])?);
     assert!(rt; !overlap(alloc, &[x(Op::Gt, 5), any_y], &[any_x])?);
     assert!(rt; overlap(alloc, &[any_x], &[x(Op::Gt, 5), any_y])?);
-    assert!(rt; !overlap(alloc, &within, &one_or_five)?);
-    assert!(rt; overlap(alloc, &within, &[any_x])?);
+    Ok(())
+}
+
+#[test]
+fn overlapping_one_of_two(rt: HostRuntime) -> Result<(), Fail> {
+    let alloc = rt.alloc();
+    let x = |op, number| (b"x".as_slice(), Kind::Int, op, Number(number));
+    let one_or_five = [x(Op::Eq, 1), x(Op::Eq, 5)];
+    assert!(rt; overlap(alloc, &[x(Op::Gt, 3)], &one_or_five)?);
+    assert!(rt; !overlap(alloc, &[x(Op::Gt, 3), x(Op::Lt, 5)], &one_or_five)?);
     Ok(())
 }
 
@@ -90,11 +102,19 @@ fn overlapping_times(rt: HostRuntime) -> Result<(), Fail> {
     let t = |op, seconds| (b"t".as_slice(), Kind::Time, op, Seconds(seconds));
     let any_t = (b"t".as_slice(), Kind::Time, Op::Any, Nothing);
     let any_y = (b"y".as_slice(), Kind::Time, Op::Any, Nothing);
-    let int = (b"t".as_slice(), Kind::Int, Op::Any, Nothing);
     assert!(rt; overlap(alloc, &[t(Op::Gt, 3)], &[t(Op::Eq, 1), t(Op::Eq, 5)])?);
     assert!(rt; !overlap(alloc, &[t(Op::Gt, 5)], &[t(Op::Lt, 3)])?);
     assert!(rt; !overlap(alloc, &[t(Op::Gt, 5), any_y], &[any_t])?);
-    assert!(rt; overlap(alloc, &[t(Op::Le, u64::MAX)], &[t(Op::Eq, u64::MAX)])?);
-    assert!(rt; !overlap(alloc, &[any_t], &[int])?);
+    Ok(())
+}
+
+#[test]
+fn overlapping_at_the_end(rt: HostRuntime) -> Result<(), Fail> {
+    let alloc = rt.alloc();
+    let last = (b"t".as_slice(), Kind::Time, Op::Eq, Seconds(u64::MAX));
+    let all = (b"t".as_slice(), Kind::Time, Op::Le, Seconds(u64::MAX));
+    let ints = (b"t".as_slice(), Kind::Int, Op::Any, Nothing);
+    assert!(rt; overlap(alloc, &[all], &[last])?);
+    assert!(rt; !overlap(alloc, &[all], &[ints])?);
     Ok(())
 }

@@ -7,18 +7,24 @@ use std::rt::HostRuntime;
 use std::test::Fail;
 
 #[test]
-fn made(rt: HostRuntime) -> Result<(), Fail> {
-    let alloc = rt.alloc();
-    let none = Notice::make(attributes(alloc, &[])?);
+fn refused(rt: HostRuntime) -> Result<(), Fail> {
+    let none = Notice::make(attributes(rt.alloc(), &[])?);
     assert_eq!(rt; none.err(), Some(NoticeFault::Nothing));
-    let twice = attributes(
-        alloc,
-        &[(b"x", Seconds(1)), (b"y", Number(2)), (b"x", Number(3))],
-    )?;
-    assert_eq!(rt; Notice::make(twice).err(), Some(NoticeFault::Twice(2)));
-    let notice = Notice::make(attributes(alloc, &[(b"y", Seconds(2)), (b"x", Truth(true))])?)?;
-    let copy = notice.copy(alloc)?;
-    let listed = copy.attributes();
+    let rows = [
+        (b"x".as_slice(), Seconds(1)),
+        (b"y", Number(2)),
+        (b"x", Number(3)),
+    ];
+    let twice = Notice::make(attributes(rt.alloc(), &rows)?);
+    assert_eq!(rt; twice.err(), Some(NoticeFault::Twice(2)));
+    Ok(())
+}
+
+#[test]
+fn made(rt: HostRuntime) -> Result<(), Fail> {
+    let rows = [(b"y".as_slice(), Seconds(2)), (b"x", Truth(true))];
+    let notice = Notice::make(attributes(rt.alloc(), &rows)?)?.copy(rt.alloc())?;
+    let listed = notice.attributes();
     assert_eq!(rt; listed.len(), 2);
     assert_eq!(rt; listed[0].0.bytes(), b"x".as_slice());
     assert!(rt; listed[1].1 == Value::Time(2));
@@ -27,10 +33,9 @@ fn made(rt: HostRuntime) -> Result<(), Fail> {
 
 #[test]
 fn rising(rt: HostRuntime) -> Result<(), Fail> {
-    let alloc = rt.alloc();
-    let falling = attributes(alloc, &[(b"y", Number(2)), (b"x", Number(1))])?;
+    let falling = attributes(rt.alloc(), &[(b"y", Number(2)), (b"x", Number(1))])?;
     assert!(rt; Notice::of_rising(falling)?.is_none());
-    let rising = attributes(alloc, &[(b"x", Number(1)), (b"y", Number(2))])?;
+    let rising = attributes(rt.alloc(), &[(b"x", Number(1)), (b"y", Number(2))])?;
     assert!(rt; Notice::of_rising(rising)?.is_some());
     Ok(())
 }
