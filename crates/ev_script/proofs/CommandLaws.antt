@@ -80,10 +80,10 @@ publish_none attributes w l t =
     go (Some i) e k = absurd (k i e)
     go None e k = refl
 
-pub command_told : (line : List ℕ) (r : Result Command ScriptFault) (form : Option Form) (c : Command) → form_of line ≡ form → Answers r form → r ≡ Ok c → IsCommandOf line c
-command_told line (Ok d) None c f a e = absurd a
-command_told line (Ok d) (Some form) c f a e = let same : d ≡ c = cc in rw (← same) (form, f, a.0, a.1)
-command_told line (Err e) form c f a h = absurd cc
+pub command_told : (version : ℕ) (line : List ℕ) (r : Result Command ScriptFault) (form : Option Form) (c : Command) → form_of version line ≡ form → Answers r form → r ≡ Ok c → IsCommandOf version line c
+command_told version line (Ok d) None c f a e = absurd a
+command_told version line (Ok d) (Some form) c f a e = let same : d ≡ c = cc in rw (← same) (form, f, a.0, a.1)
+command_told version line (Err e) form c f a h = absurd cc
 
 abbrev pub Told : ScriptFault → Option ScriptFault → Type 0
 Told faults.NoMemory fault = Unit {0}

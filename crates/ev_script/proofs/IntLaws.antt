@@ -1,5 +1,5 @@
--- Ints of a command line: std reads them, exactly where they are within i64.
-use Rattle.std.proofs.Common.{◌≡◌, ◌<◌, ◌-◌, ℕ, zero, suc, ℤ, Bool, true, false, cond, refl, sym, subst, ◌∙◌, arith, List, [], ◌∷◌, length, drop, FitsSigned, to_z, of_z}
+-- Ints and times of a command line: std reads them, exactly where they are within i64 and u64.
+use Rattle.std.proofs.Common.{◌≡◌, ◌<◌, ◌-◌, ◌^◌, ℕ, zero, suc, ℤ, Bool, true, false, cond, refl, sym, ap, subst, ◌∙◌, arith, List, [], ◌∷◌, length, drop, FitsSigned, to_z, of_z}
 use Rattle.std.specs.Prelude.{Some, nat_le, nat_lt, ◌==◌}
 use Rattle.std.specs.declared.result.Result.{Result}
 use Rattle.std.specs.declared.result.Result.TheVariants.{Ok, Err}
@@ -7,8 +7,9 @@ use Rattle.std.specs.Int.{w64}
 use Rattle.std.specs.List.{list_all}
 use Rattle.std.specs.Char.{digit_value}
 use Rattle.std.specs.Str.{IsAscii, IsUtf8}
-use Rattle.std.specs.Str.Parse.{AllDigits, IsNumeral, ParsesSigned, without_leading_sign, signed_digits_value}
+use Rattle.std.specs.Str.Parse.{AllDigits, IsNumeral, ParsesSigned, ParsesUnsigned, digits_value, without_leading_plus, without_leading_sign, signed_digits_value}
 use Rattle.std.proofs.lemmas.Str.{IsUtf8-from_ascii}
+use Rattle.std.proofs.lemmas.Str.Parse.{without_leading_plus_none}
 use Rattle.std.proofs.lemmas.Int.{to_z-of_z}
 use Rattle.std.proofs.lemmas.Bool.Decides.{nat_tests}
 use Rattle.ev_values.specs.declared.value.Value.TheVariants as values
@@ -16,7 +17,7 @@ use Rattle.ev_notice.proofs.Lists.{both}
 use Rattle.ev_wire.specs.Words.{fits_i64}
 use Rattle.ev_wire.proofs.IntLaws.{fits_told, fits_tells}
 use Rattle.ev_script.specs.declared.form.Given.TheVariants.{Fit, Wide}
-use Rattle.ev_script.specs.Form.{is_digit, are_digits, int_given}
+use Rattle.ev_script.specs.Form.{is_digit, are_digits, int_given, time_given}
 
 eq_of : (a b : ℕ) → (a == b) ≡ true → a ≡ b
 eq_of a b e = grind (arith, nat_tests)
@@ -85,4 +86,46 @@ wide_given {E = E} w text f r e same h err =
   where
     go : (b : Bool) → fits_i64 (signed_digits_value 10 w) ≡ b → (IsNumeral 10 (without_leading_sign w) × FitsSigned w64 (signed_digits_value 10 w) → ⊥) → b ≡ false
     go true p k = absurd (k (numeral w e, fits_tells (signed_digits_value 10 w) p))
+    go false p k = refl
+
+pub digits_utf8 : (w : List ℕ) → are_digits w ≡ true → IsUtf8 w
+digits_utf8 w e = IsUtf8-from_ascii w (ascii_digits w (both (nat_lt 0 (length w)) (list_all is_digit w) e).1)
+
+digits_numeral : (w : List ℕ) → are_digits w ≡ true → IsNumeral 10 w
+digits_numeral w e =
+    let d = both (nat_lt 0 (length w)) (list_all is_digit w) e in
+    let a : nat_lt 0 (length w) ≡ true = d.0 in
+    (grind (arith, nat_tests), all_digits w d.1)
+
+-- digits begin with no plus
+no_plus : (w : List ℕ) → list_all is_digit w ≡ true → without_leading_plus w ≡ w
+no_plus [] e = refl
+no_plus (b ∷ w) e =
+    let d : is_digit b ≡ true = (both (is_digit b) (list_all is_digit w) e).0 in
+    without_leading_plus_none (b ∷ w) (λ h. let k : is_digit 43 ≡ true = subst (λ (z : ℕ). is_digit z ≡ true) h d in absurd cc)
+
+plain : (w : List ℕ) → are_digits w ≡ true → without_leading_plus w ≡ w
+plain w e = no_plus w (both (nat_lt 0 (length w)) (list_all is_digit w) e).1
+
+pub parsed_time : {E : Type 0} (w text : List ℕ) (n : ℕ) (r : Result ℕ E) → are_digits w ≡ true → text ≡ w → ParsesUnsigned 64 10 text r → r ≡ Ok n → Some (Fit (values.Time n)) ≡ time_given w
+unfolding time_given
+parsed_time {E = E} w text n r e same h ok =
+    let k : ParsesUnsigned {E = E} 64 10 w (Ok n) = subst (λ (x : Result ℕ E). ParsesUnsigned 64 10 w x) ok (subst (λ (x : List ℕ). ParsesUnsigned 64 10 x r) same h) in
+    let below : digits_value 10 w < 2 ^ 64 = subst (λ (x : List ℕ). digits_value 10 x < 2 ^ 64) (plain w e) k.0.1 in
+    let fits : nat_lt (digits_value 10 w) (2 ^ 64) ≡ true = grind (arith, nat_tests) in
+    let is : n ≡ digits_value 10 w = k.1 ∙ ap (digits_value 10) (plain w e) in
+    rw (e, fits, is) refl
+
+pub wide_time : {E : Type 0} (w text : List ℕ) (f : E) (r : Result ℕ E) → are_digits w ≡ true → text ≡ w → ParsesUnsigned 64 10 text r → r ≡ Err f → Some Wide ≡ time_given w
+unfolding time_given
+wide_time {E = E} w text f r e same h err =
+    let k : ParsesUnsigned {E = E} 64 10 w (Err f) = subst (λ (x : Result ℕ E). ParsesUnsigned 64 10 w x) err (subst (λ (x : List ℕ). ParsesUnsigned 64 10 x r) same h) in
+    let not_fits : nat_lt (digits_value 10 w) (2 ^ 64) ≡ false = go (nat_lt (digits_value 10 w) (2 ^ 64)) refl k in
+    rw (e, not_fits) refl
+  where
+    below : (n : ℕ) → nat_lt n (2 ^ 64) ≡ true → n < 2 ^ 64
+    below n e = grind (arith, nat_tests)
+
+    go : (b : Bool) → nat_lt (digits_value 10 w) (2 ^ 64) ≡ b → (IsNumeral 10 (without_leading_plus w) × (digits_value 10 (without_leading_plus w) < 2 ^ 64) → ⊥) → b ≡ false
+    go true p k = absurd (k (subst (IsNumeral 10) (sym (plain w e)) (digits_numeral w e), subst (λ (x : List ℕ). digits_value 10 x < 2 ^ 64) (sym (plain w e)) (below (digits_value 10 w) p)))
     go false p k = refl

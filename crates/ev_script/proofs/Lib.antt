@@ -2,3 +2,4 @@ pub mod TokenLaws
 pub mod IntLaws
 pub mod CommandLaws
 pub mod PartsLoop
+pub mod UniqueLaws

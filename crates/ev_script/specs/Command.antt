@@ -1,9 +1,10 @@
 -- What is wrong with a command line, and the command that it spells.
-use Rattle.std.specs.Prelude.{◌≡◌, ℕ, nat_lt, Bool, true, false, List, [], ◌∷◌, length, Some, None, Ok, Err, IsPermutation, if◌then◌else◌}
+use Rattle.std.specs.Prelude.{◌≡◌, ℕ, nat_lt, Bool, true, false, List, length, Some, None, Ok, Err, IsPermutation, if◌then◌else◌}
 use Rattle.std.specs.declared.option.Option.{Option}
 use Rattle.std.specs.declared.result.Result.{Result}
 use Rattle.std.specs.Option.{is_some}
-use Rattle.std.specs.List.{list_any}
+use Rattle.std.specs.Int.{IsInRange}
+use Rattle.std.specs.List.{filter_map, list_any}
 use Rattle.ev_constraint.specs.Constraint.{ConstraintParts}
 use Rattle.ev_notice.specs.Canonical.{canonical}
 use Rattle.ev_notice.specs.Notice.{Attribute, AreRising, first_twice}
@@ -16,15 +17,19 @@ use Rattle.ev_script.specs.declared.form.Given.{Given}
 use Rattle.ev_script.specs.declared.form.Given.TheVariants.{Fit, Wide}
 use Rattle.ev_script.specs.declared.form.Part.{Part}
 use Rattle.ev_script.specs.declared.form.Part.TheVariants.{Whole, Beyond, Empty}
-use Rattle.ev_script.specs.declared.form.Verb.{Verb}
-use Rattle.ev_script.specs.declared.form.Verb.TheVariants as verbs
+use Rattle.ev_script.specs.declared.verb.Verb.{Verb}
+use Rattle.ev_script.specs.declared.verb.Verb.TheVariants as verbs
 use Rattle.ev_script.specs.Tokens.{tokens}
 use Rattle.ev_script.specs.Form.{Form, verb_in, form_in}
 use Rattle.ev_script.specs.Form.Form.{control, publish}
 
--- the form of a line; none has more parts than bytes
-unfoldable pub form_of : List ℕ → Option Form
-form_of line = verb_in (tokens line) >>= λ v. form_in (length line) v.0 v.1
+-- documents have the version 1 or 2
+abbrev pub IsVersion : ℕ → Type 0
+IsVersion version = IsInRange 1 2 version
+
+-- the form of a line in documents of the version; none has more parts than bytes
+unfoldable pub form_of : ℕ → List ℕ → Option Form
+form_of version line = verb_in (tokens line) >>= λ v. form_in version (length line) v.0 v.1
 
 -- the operand is beyond the limits
 abbrev pub is_beyond : Part → Bool
@@ -36,22 +41,28 @@ abbrev pub is_empty : Part → Bool
 is_empty Empty = true
 is_empty part = false
 
+-- the constraint that the part is, if its operand is within the limits and it is no empty pattern
+abbrev pub whole_of : Part → Option ConstraintParts
+whole_of (Whole c) = Some c
+whole_of part = None
+
 -- the constraints among the parts
 abbrev pub wholes : List Part → List ConstraintParts
-wholes [] = []
-wholes (Whole c ∷ parts) = c ∷ wholes parts
-wholes (part ∷ parts) = wholes parts
+wholes parts = filter_map whole_of parts
 
 -- the value is beyond the limits
 abbrev pub is_wide : List ℕ × Given → Bool
 is_wide (name, Wide) = true
 is_wide (name, Fit v) = false
 
+-- the attribute, if its value is within the limits
+abbrev pub fit_of : List ℕ × Given → Option Attribute
+fit_of (name, Fit v) = Some (name, v)
+fit_of (name, Wide) = None
+
 -- the attributes whose values are within the limits
 abbrev pub fits : List (List ℕ × Given) → List Attribute
-fits [] = []
-fits ((name, Fit v) ∷ rest) = (name, v) ∷ fits rest
-fits ((name, Wide) ∷ rest) = fits rest
+fits attributes = filter_map fit_of attributes
 
 -- the most distinct constraints
 abbrev pub most : Verb → ℕ
@@ -89,9 +100,9 @@ abbrev pub fault_of_form : Option Form → Option ScriptFault
 fault_of_form None = Some faults.Syntax
 fault_of_form (Some form) = fault_in form
 
--- the first fault of a line, over the whole line
-abbrev pub script_fault : List ℕ → Option ScriptFault
-script_fault line = fault_of_form (form_of line)
+-- the first fault of a line, over the whole line, in documents of the version
+abbrev pub script_fault : ℕ → List ℕ → Option ScriptFault
+script_fault version line = fault_of_form (form_of version line)
 
 -- the command that a form without fault gives: equal constraints once, in canonical order; attributes by rising names
 abbrev pub Spells : Form → Command → Type 0
@@ -109,6 +120,6 @@ Answers (Ok c) (Some form) = (fault_in form ≡ None) × Spells form c
 Answers (Err faults.NoMemory) form = Unit {0}
 Answers (Err e) form = fault_of_form form ≡ Some e
 
--- the command that a line spells
-abbrev pub IsCommandOf : List ℕ → Command → Type 0
-IsCommandOf line command = (form : Form) × (form_of line ≡ Some form) × (fault_in form ≡ None) × Spells form command
+-- the command that a line spells in documents of the version
+abbrev pub IsCommandOf : ℕ → List ℕ → Command → Type 0
+IsCommandOf version line command = (form : Form) × (form_of version line ≡ Some form) × (fault_in form ≡ None) × Spells form command

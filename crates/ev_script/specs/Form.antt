@@ -1,9 +1,9 @@
 -- The form of a command over its tokens.
-use Rattle.std.specs.Prelude.{◌&&◌, ◌++◌, ℕ, zero, suc, nat_le, nat_lt, Bool, true, false, List, [], ◌∷◌, length, Some, None, codes, if◌then◌else◌}
+use Rattle.std.specs.Prelude.{◌&&◌, ◌++◌, ◌^◌, ℕ, zero, suc, nat_le, nat_lt, Bool, true, false, List, [], ◌∷◌, length, Some, None, codes, if◌then◌else◌}
 use Rattle.std.specs.declared.option.Option.{Option}
 use Rattle.std.specs.List.{list_all}
 use Rattle.std.specs.Str.{bytes_eq}
-use Rattle.std.specs.Str.Parse.{without_leading_sign, signed_digits_value}
+use Rattle.std.specs.Str.Parse.{without_leading_sign, digits_value, signed_digits_value}
 use Rattle.ev_values.specs.Name.{is_name}
 use Rattle.ev_values.specs.declared.value.Kind.{Kind}
 use Rattle.ev_values.specs.declared.value.Kind.TheVariants as kinds
@@ -22,8 +22,8 @@ use Rattle.ev_script.specs.declared.form.Given.{Given}
 use Rattle.ev_script.specs.declared.form.Given.TheVariants.{Fit, Wide}
 use Rattle.ev_script.specs.declared.form.Part.{Part}
 use Rattle.ev_script.specs.declared.form.Part.TheVariants.{Whole, Beyond, Empty}
-use Rattle.ev_script.specs.declared.form.Verb.{Verb}
-use Rattle.ev_script.specs.declared.form.Verb.TheVariants as verbs
+use Rattle.ev_script.specs.declared.verb.Verb.{Verb}
+use Rattle.ev_script.specs.declared.verb.Verb.TheVariants as verbs
 use Rattle.ev_script.specs.Tokens.{Token}
 use Rattle.ev_script.specs.Tokens.Token.{word, sign, string, long, semicolon}
 
@@ -42,14 +42,30 @@ int_given w =
     then Some (if fits_i64 (signed_digits_value 10 w) then Fit (values.Int (signed_digits_value 10 w)) else Wide)
     else None
 
+-- a time: one or more digits; it is beyond the limits outside u64
+unfoldable pub time_given : List ℕ → Option Given
+time_given w =
+    if are_digits w
+    then Some (if nat_lt (digits_value 10 w) (2 ^ 64) then Fit (values.Time (digits_value 10 w)) else Wide)
+    else None
+
 -- a word
 abbrev pub word_in : List Token → Option (List ℕ × List Token)
 word_in (word w ∷ ts) = Some (w, ts)
 word_in ts = None
 
+-- a kind, if documents of the version have it: version 1 has no times
+abbrev pub kind_of_version : ℕ → Kind → Option Kind
+kind_of_version version kinds.Time = if nat_lt 1 version then Some kinds.Time else None
+kind_of_version version kind = Some kind
+
+-- the kind of a word in documents of the version
+abbrev pub kind_by : ℕ → List ℕ → Option Kind
+kind_by version w = kind_named w >>= kind_of_version version
+
 -- a name and a kind
-unfoldable pub head_in : List Token → Option ((List ℕ × Kind) × List Token)
-head_in ts = word_in ts >>= λ n. word_in n.1 >>= λ k. kind_named k.0 >>= λ kind. if is_name n.0 then Some ((n.0, kind), k.1) else None
+unfoldable pub head_in : ℕ → List Token → Option ((List ℕ × Kind) × List Token)
+head_in version ts = word_in ts >>= λ n. word_in n.1 >>= λ k. kind_by version k.0 >>= λ kind. if is_name n.0 then Some ((n.0, kind), k.1) else None
 
 -- an operator: a sign, or one of the words `any`, `prefix`, `suffix` and `contains` (no word has a sign's byte)
 abbrev pub op_in : List Token → Option (Op × List Token)
@@ -61,6 +77,7 @@ op_in ts = None
 abbrev pub given_in : Kind → List Token → Option (Given × List Token)
 given_in kinds.Bool (word w ∷ ts) = truth_named w >>= λ b. Some (Fit (values.Bool b), ts)
 given_in kinds.Int (word w ∷ ts) = int_given w >>= λ g. Some (g, ts)
+given_in kinds.Time (word w ∷ ts) = time_given w >>= λ g. Some (g, ts)
 given_in kinds.Str (string t ∷ ts) = Some (Fit (values.Str t), ts)
 given_in kinds.Str (long ∷ ts) = Some (Wide, ts)
 given_in kind ts = None
@@ -83,12 +100,12 @@ part_of name kind op (Some (Fit v)) = judged (fault_of kind op (Some v)) (record
 part_of name kind op (Some Wide) = if has_op kind op then Some Beyond else None
 
 -- a part of a control command
-unfoldable pub constraint_in : List Token → Option (Part × List Token)
-constraint_in ts = head_in ts >>= λ h. op_in h.1 >>= λ o. operand_in h.0.1 o.0 o.1 >>= λ u. part_of h.0.0 h.0.1 o.0 u.0 >>= λ p. Some (p, u.1)
+unfoldable pub constraint_in : ℕ → List Token → Option (Part × List Token)
+constraint_in version ts = head_in version ts >>= λ h. op_in h.1 >>= λ o. operand_in h.0.1 o.0 o.1 >>= λ u. part_of h.0.0 h.0.1 o.0 u.0 >>= λ p. Some (p, u.1)
 
 -- a part of a publish command: a name, a kind and a value
-unfoldable pub attribute_in : List Token → Option ((List ℕ × Given) × List Token)
-attribute_in ts = head_in ts >>= λ h. given_in h.0.1 h.1 >>= λ g. Some ((h.0.0, g.0), g.1)
+unfoldable pub attribute_in : ℕ → List Token → Option ((List ℕ × Given) × List Token)
+attribute_in version ts = head_in version ts >>= λ h. given_in h.0.1 h.1 >>= λ g. Some ((h.0.0, g.0), g.1)
 
 -- behind a part: the end of the line, or a semicolon
 abbrev pub more_in : List Token → Option (Bool × List Token)
@@ -121,14 +138,14 @@ pub data Form : Type 0 where
   publish : List (List ℕ × Given) → Form
 
 -- the parts of a control command
-abbrev pub control_in : ℕ → Verb → List Token → Option Form
-control_in n v ts = parts_in constraint_in n [] ts >>= λ p. Some (control v p)
+abbrev pub control_in : ℕ → ℕ → Verb → List Token → Option Form
+control_in version n v ts = parts_in (constraint_in version) n [] ts >>= λ p. Some (control v p)
 
 -- the parts of a publish command
-abbrev pub publish_in : ℕ → List Token → Option Form
-publish_in n ts = parts_in attribute_in n [] ts >>= λ p. Some (publish p)
+abbrev pub publish_in : ℕ → ℕ → List Token → Option Form
+publish_in version n ts = parts_in (attribute_in version) n [] ts >>= λ p. Some (publish p)
 
 -- what follows the first word
-abbrev pub form_in : ℕ → Verb → List Token → Option Form
-form_in n verbs.Publish ts = publish_in n ts
-form_in n v ts = control_in n v ts
+abbrev pub form_in : ℕ → ℕ → Verb → List Token → Option Form
+form_in version n verbs.Publish ts = publish_in version n ts
+form_in version n v ts = control_in version n v ts

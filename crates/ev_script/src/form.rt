@@ -1,59 +1,46 @@
 //! The form of a command, read from its tokens.
 ghost use Rattle.std.specs.Prelude.{◌≡◌, ◌<◌, [], length, IfOk};
 ghost use Rattle.ev_constraint.specs.Faults.{has_op};
-ghost use Rattle.ev_script.specs.Tokens.{tokens};
-ghost use Rattle.ev_script.specs.Form.{attribute_in, constraint_in, given_in, head_in, more_in, op_in, operand_in, part_of, parts_in, verb_in, verb_named, word_in};
+ghost use Rattle.ev_script.specs.Form.{attribute_in, constraint_in, given_in, head_in, kind_by, more_in, op_in, operand_in, part_of, parts_in, word_in};
 ghost use Rattle.ev_script.specs.Reading.{Gives, Reads};
 
 use crate::fault::ScriptFault;
-use crate::int::int_given;
-use crate::tokens::{Token, Tokens};
+use crate::number::{int_given, time_given};
+use crate::part::CommandPart;
+use crate::token::Token;
+use crate::tokens::Tokens;
 use ev_constraint::{BadConstraint, Constraint, Op};
 use ev_values::{Kind, Name, Value, is_name};
 use ev_wire::{kind_named, op_named, truth_named};
 use std::alloc::Global;
 
-/// The first word of a command.
-#[derive(Clone, Copy, Debug, PartialEq, Eq)]
-pub enum Verb {
-    Subscribe,
-    Unsubscribe,
-    Advertise,
-    Unadvertise,
-    Publish,
-}
-
-/// A value as a line gives it: within the limits, or an int outside i64 or a string of more than 1,024 bytes.
+/// A value as a line gives it.
 #[derive(Drop)]
 pub enum Given {
+    /// A value within the limits.
     Fit(Value),
+    /// An int outside i64, a time outside u64 or a string of more than 1,024 bytes.
     Wide,
 }
 
-/// A part of a control command: a constraint, or one whose operand is beyond the limits, or a pattern whose operand is
-/// empty.
+/// A part of a control command.
 #[derive(Drop)]
 pub enum Part {
+    /// A constraint.
     Whole(Constraint),
+    /// One whose operand is beyond the limits.
     Beyond,
+    /// A pattern whose operand is empty.
     Empty,
 }
 
-fn verb_named(word: &[u8]) -> Option<Verb>
-    ensures { result ≡ verb_named word.now }
+// The kind of the word in documents of the version.
+fn kind_by(version: u32, word: &[u8]) -> Option<Kind>
+    ensures { result ≡ kind_by version word.now }
 {
-    if word == b"subscribe".as_slice() {
-        Some(Verb::Subscribe)
-    } else if word == b"unsubscribe".as_slice() {
-        Some(Verb::Unsubscribe)
-    } else if word == b"advertise".as_slice() {
-        Some(Verb::Advertise)
-    } else if word == b"unadvertise".as_slice() {
-        Some(Verb::Unadvertise)
-    } else if word == b"publish".as_slice() {
-        Some(Verb::Publish)
-    } else {
-        None
+    match kind_named(word) {
+        Some(Kind::Time) if version < 2 => None,
+        kind => kind,
     }
 }
 
@@ -63,7 +50,7 @@ fn has_op(kind: Kind, op: Op) -> bool
     match (kind, op) {
         (_, Op::Any | Op::Eq | Op::Ne) => true,
         (Kind::Bool, _) => false,
-        (Kind::Int, Op::Contains | Op::Prefix | Op::Suffix) => false,
+        (Kind::Int | Kind::Time, Op::Contains | Op::Prefix | Op::Suffix) => false,
         _ => true,
     }
 }
@@ -91,8 +78,9 @@ fn part_of(name: Name, kind: Kind, op: Op, operand: Option<Given>) -> Option<Par
 }
 
 impl<'a> Tokens<'a> {
-    fn word(&mut self, alloc: Global) -> Result<&'a [u8], ScriptFault>
-        ensures { Reads (λ w. w.now) result (word_in (tokens self.old.rest.now)) (tokens self.new.rest.now) }
+    /// A word.
+    pub(crate) fn word(&mut self, alloc: Global) -> Result<&'a [u8], ScriptFault>
+        ensures { Reads (λ w. w.now) result (word_in self.old) self.new }
     {
         match self.next(alloc)? {
             Some(Token::Word(word)) => Ok(word),
@@ -100,23 +88,13 @@ impl<'a> Tokens<'a> {
         }
     }
 
-    /// The first word.
-    pub fn verb(&mut self, alloc: Global) -> Result<Verb, ScriptFault>
-        ensures { Reads (λ v. v) result (verb_in (tokens self.old.rest.now)) (tokens self.new.rest.now) }
-    {
-        match verb_named(self.word(alloc)?) {
-            Some(verb) => Ok(verb),
-            None => Err(ScriptFault::Syntax),
-        }
-    }
-
     // A name and a kind.
     #[tactic(auto, unfolding(crate::specs::Form::head_in))]
-    fn head(&mut self, alloc: Global) -> Result<(Name, Kind), ScriptFault>
-        ensures { Reads (λ x. x) result (head_in (tokens self.old.rest.now)) (tokens self.new.rest.now) }
+    fn head(&mut self, alloc: Global, version: u32) -> Result<(Name, Kind), ScriptFault>
+        ensures { Reads (λ x. x) result (head_in version self.old) self.new }
     {
         let word = self.word(alloc)?;
-        let Some(kind) = kind_named(self.word(alloc)?) else {
+        let Some(kind) = kind_by(version, self.word(alloc)?) else {
             return Err(ScriptFault::Syntax);
         };
         if !is_name(word) {
@@ -129,7 +107,7 @@ impl<'a> Tokens<'a> {
     }
 
     fn op(&mut self, alloc: Global) -> Result<Op, ScriptFault>
-        ensures { Reads (λ o. o) result (op_in (tokens self.old.rest.now)) (tokens self.new.rest.now) }
+        ensures { Reads (λ o. o) result (op_in self.old) self.new }
     {
         match self.next(alloc)? {
             Some(Token::Word(word)) => match op_named(word) {
@@ -143,7 +121,7 @@ impl<'a> Tokens<'a> {
 
     // A value of this kind.
     fn given(&mut self, alloc: Global, kind: Kind) -> Result<Given, ScriptFault>
-        ensures { Reads (λ g. g) result (given_in kind (tokens self.old.rest.now)) (tokens self.new.rest.now) }
+        ensures { Reads (λ g. g) result (given_in kind self.old) self.new }
     {
         let token = self.next(alloc)?;
         let given = match (kind, token) {
@@ -152,6 +130,7 @@ impl<'a> Tokens<'a> {
                 None => None,
             },
             (Kind::Int, Some(Token::Word(word))) => int_given(word),
+            (Kind::Time, Some(Token::Word(word))) => time_given(word),
             (Kind::Str, Some(Token::Str(text))) => Some(Given::Fit(Value::Str(text))),
             (Kind::Str, Some(Token::Long)) => Some(Given::Wide),
             _ => None,
@@ -163,7 +142,7 @@ impl<'a> Tokens<'a> {
     }
 
     fn operand(&mut self, alloc: Global, kind: Kind, op: Op) -> Result<Option<Given>, ScriptFault>
-        ensures { Reads (λ u. u) result (operand_in kind op (tokens self.old.rest.now)) (tokens self.new.rest.now) }
+        ensures { Reads (λ u. u) result (operand_in kind op self.old) self.new }
     {
         match op {
             Op::Any => Ok(None),
@@ -171,11 +150,12 @@ impl<'a> Tokens<'a> {
         }
     }
 
+    /// A part of a control command.
     #[tactic(auto, unfolding(crate::specs::Form::constraint_in))]
-    fn constraint(&mut self, alloc: Global) -> Result<Part, ScriptFault>
-        ensures { Reads (λ p. p) result (constraint_in (tokens self.old.rest.now)) (tokens self.new.rest.now) }
+    pub(crate) fn constraint(&mut self, alloc: Global, version: u32) -> Result<Part, ScriptFault>
+        ensures { Reads (λ p. p) result (constraint_in version self.old) self.new }
     {
-        let (name, kind) = self.head(alloc)?;
+        let (name, kind) = self.head(alloc, version)?;
         let op = self.op(alloc)?;
         let operand = self.operand(alloc, kind, op)?;
         match part_of(name, kind, op, operand) {
@@ -184,18 +164,23 @@ impl<'a> Tokens<'a> {
         }
     }
 
+    /// A part of a publish command: a name, a kind and a value.
     #[tactic(auto, unfolding(crate::specs::Form::attribute_in))]
-    fn attribute(&mut self, alloc: Global) -> Result<(Name, Given), ScriptFault>
-        ensures { Reads (λ a. a) result (attribute_in (tokens self.old.rest.now)) (tokens self.new.rest.now) }
+    pub(crate) fn attribute(
+        &mut self,
+        alloc: Global,
+        version: u32,
+    ) -> Result<(Name, Given), ScriptFault>
+        ensures { Reads (λ a. a) result (attribute_in version self.old) self.new }
     {
-        let (name, kind) = self.head(alloc)?;
+        let (name, kind) = self.head(alloc, version)?;
         let given = self.given(alloc, kind)?;
         Ok((name, given))
     }
 
     // Whether a semicolon follows, and not the end of the line.
     fn more(&mut self, alloc: Global) -> Result<bool, ScriptFault>
-        ensures { Reads (λ m. m) result (more_in (tokens self.old.rest.now)) (tokens self.new.rest.now) }
+        ensures { Reads (λ m. m) result (more_in self.old) self.new }
     {
         match self.next(alloc)? {
             None => Ok(false),
@@ -204,36 +189,20 @@ impl<'a> Tokens<'a> {
         }
     }
 
-    /// The parts of a control command, up to the end of the line.
-    pub fn constraints(&mut self, alloc: Global, most: usize) -> Result<Vec<Part>, ScriptFault>
-        ensures parts { Gives (λ v. v.items) result (parts_in constraint_in most [] (tokens self.old.rest.now)) }
-        ensures some { IfOk result (λ v. 0 < length v.items) }
-    {
-        let mut read = Vec::new(alloc);
-        for _ in 0..most {
-            let part = self.constraint(alloc)?;
-            read.push(part)?;
-            let more = self.more(alloc)?;
-            if !more {
-                return Ok(read);
-            }
-        }
-        Err(ScriptFault::Syntax)
-    }
-
-    /// The parts of a publish command, up to the end of the line.
-    pub fn attributes(
+    /// The parts of a command, up to the end of the line; at most so many are read.
+    pub(crate) fn parts<P: CommandPart>(
         &mut self,
         alloc: Global,
+        version: u32,
         most: usize,
-    ) -> Result<Vec<(Name, Given)>, ScriptFault>
-        ensures parts { Gives (λ v. v.items) result (parts_in attribute_in most [] (tokens self.old.rest.now)) }
+    ) -> Result<Vec<P>, ScriptFault>
+        ensures parts { Gives (λ v. v.items) result (parts_in (P.front version) most [] self.old) }
         ensures some { IfOk result (λ v. 0 < length v.items) }
     {
         let mut read = Vec::new(alloc);
         for _ in 0..most {
-            let attribute = self.attribute(alloc)?;
-            read.push(attribute)?;
+            let part = P::read(self, alloc, version)?;
+            read.push(part)?;
             let more = self.more(alloc)?;
             if !more {
                 return Ok(read);

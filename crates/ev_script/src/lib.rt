@@ -2,12 +2,23 @@
 #![tactic(auto)]
 
 mod command;
+mod cutter;
 mod fault;
 mod form;
-mod int;
-#[cfg(test)]
-mod tests;
+mod law;
+mod limits;
+mod line;
+mod number;
+mod part;
+mod token;
 mod tokens;
+mod verb;
 
 pub use command::script_command;
 pub use fault::ScriptFault;
+pub use law::one_command;
+pub use line::Line;
+pub use number::are_digits;
+pub use token::Token;
+pub use tokens::Tokens;
+pub use verb::{Verb, verb_named};

@@ -11,7 +11,8 @@ use Rattle.ev_wire.specs.MessageText.{change_text, changes_text, AreWhole}
 use Rattle.ev_wire.specs.Reading.{◌>>=◌}
 use Rattle.ev_wire.specs.Items.{more_at, go_on}
 use Rattle.ev_wire.specs.Filters.{list_at}
-use Rattle.ev_wire.specs.Changes.{Lists, marked_at, closed_at, braced_at, changes_at, both_at}
+use Rattle.ev_wire.specs.Messages.{Lists}
+use Rattle.ev_wire.specs.Changes.{marked_at, closed_at, braced_at, changes_at, both_at}
 use Rattle.ev_wire.proofs.Options.{bind_some, pair_in, tested, none_not}
 use Rattle.ev_wire.proofs.FilterLaws.{list_again, list_spelled}
 
@@ -23,7 +24,7 @@ closed_spelled (b ∷ more) rest u e =
     let two : more ≡ rest = (pair_in tt more u rest (ap Some w.1)).1 in
     cc
 
-braced_again : (most : ℕ) (f : List ConstraintParts) (tail : List ℕ) → IsWhole most f → braced_at most ((constraints_text f ++ 125 ∷ []) ++ tail) ≡ Some (f, tail)
+braced_again : (most : ℕ) (f : List ConstraintParts) (tail : List ℕ) → IsWhole most f → braced_at (list_at most) ((constraints_text f ++ 125 ∷ []) ++ tail) ≡ Some (f, tail)
 unfolding braced_at
 braced_again most f tail is = rw (append_assoc (constraints_text f) (125 ∷ []) tail, list_again most f (125 ∷ tail) is (record { stopped = refl; last = last tail })) refl
   where
@@ -31,7 +32,7 @@ braced_again most f tail is = rw (append_assoc (constraints_text f) (125 ∷ [])
     last [] = refl
     last (b ∷ tail) = refl
 
-braced_spelled : (most : ℕ) (bytes : List ℕ) (f : List ConstraintParts) (rest : List ℕ) → braced_at most bytes ≡ Some (f, rest) → IsWhole most f × (bytes ≡ constraints_text f ++ 125 ∷ rest)
+braced_spelled : (most : ℕ) (bytes : List ℕ) (f : List ConstraintParts) (rest : List ℕ) → braced_at (list_at most) bytes ≡ Some (f, rest) → IsWhole most f × (bytes ≡ constraints_text f ++ 125 ∷ rest)
 unfolding braced_at
 braced_spelled most bytes f rest e =
     let x = bind_some (list_at most bytes) (λ x. closed_at x.1 >>= λ r. Some (x.0, r.1)) (f, rest) e in
@@ -52,12 +53,12 @@ long : (sign : ℕ) (fs : Lists) → length fs ≤ length (flat_map (change_text
 long sign [] = omega arith
 long sign (f ∷ fs) = let k : length fs ≤ length (flat_map (change_text sign) fs) = long sign fs in omega (arith, length-append (constraints_text f ++ 125 ∷ []) (flat_map (change_text sign) fs))
 
-done_at : (most sign n : ℕ) (read : Lists) (tail : List ℕ) → IsLast sign tail → changes_at most sign n read tail ≡ Some (read, tail)
+done_at : (most sign n : ℕ) (read : Lists) (tail : List ℕ) → IsLast sign tail → changes_at (list_at most) sign n read tail ≡ Some (read, tail)
 unfolding changes_at
 done_at most sign zero read tail m = refl
 done_at most sign (suc n) read tail m = rw m refl
 
-changes_enough : (most sign n : ℕ) (read fs : Lists) (tail : List ℕ) → AreWhole most fs → length fs ≤ n → IsLast sign tail → changes_at most sign n read (flat_map (change_text sign) fs ++ tail) ≡ Some (read ++ fs, tail)
+changes_enough : (most sign n : ℕ) (read fs : Lists) (tail : List ℕ) → AreWhole most fs → length fs ≤ n → IsLast sign tail → changes_at (list_at most) sign n read (flat_map (change_text sign) fs ++ tail) ≡ Some (read ++ fs, tail)
 unfolding changes_at
 changes_enough most sign n read [] tail is lt m = done_at most sign n read tail m ∙ ap (λ (z : Lists). Some (z, tail)) (sym (append-nil read))
 changes_enough most sign zero read (f ∷ fs) tail is lt m = absurd (omega arith)
@@ -66,7 +67,7 @@ changes_enough most sign (suc n) read (f ∷ fs) tail is lt m =
     let e : ((constraints_text f ++ 125 ∷ []) ++ flat_map (change_text sign) fs) ++ tail ≡ (constraints_text f ++ 125 ∷ []) ++ (flat_map (change_text sign) fs ++ tail) = append_assoc (constraints_text f ++ 125 ∷ []) (flat_map (change_text sign) fs) tail in
     rw (same, e, braced_again most f (flat_map (change_text sign) fs ++ tail) is.0) (changes_enough most sign n (read ++ f ∷ []) fs tail is.1 (omega arith) m ∙ ap (λ (z : Lists). Some (z, tail)) (append_assoc read (f ∷ []) fs))
 
-changes_again : (most sign : ℕ) (fs : Lists) (tail : List ℕ) → AreWhole most fs → IsLast sign tail → changes_at most sign (length (flat_map (change_text sign) fs ++ tail)) [] (flat_map (change_text sign) fs ++ tail) ≡ Some (fs, tail)
+changes_again : (most sign : ℕ) (fs : Lists) (tail : List ℕ) → AreWhole most fs → IsLast sign tail → changes_at (list_at most) sign (length (flat_map (change_text sign) fs ++ tail)) [] (flat_map (change_text sign) fs ++ tail) ≡ Some (fs, tail)
 changes_again most sign fs tail is m = changes_enough most sign (length (flat_map (change_text sign) fs ++ tail)) [] fs tail is (omega (arith, long sign fs, length-append (flat_map (change_text sign) fs) tail)) m
 
 marked_cases : (sign : ℕ) (bytes : List ℕ) → (marked_at sign bytes ≡ (false, bytes)) ⊎ ((r : List ℕ) × (bytes ≡ 32 ∷ sign ∷ 123 ∷ r) × (marked_at sign bytes ≡ (true, r)))
@@ -92,13 +93,13 @@ Changed most sign read bytes xs rest = (ys : Lists) × AreWhole most ys × (xs �
 nothing : (most sign : ℕ) (read : Lists) (bytes : List ℕ) (xs : Lists) (rest : List ℕ) → ◌≡◌ {A = Option (Lists × List ℕ)} (Some (read, bytes)) (Some (xs, rest)) → Changed most sign read bytes xs rest
 nothing most sign read bytes xs rest e = let p = pair_in read bytes xs rest e in ([], tt, sym p.0 ∙ sym (append-nil read), p.1)
 
-changes_spelled : (most sign n : ℕ) (read : Lists) (bytes : List ℕ) (xs : Lists) (rest : List ℕ) → changes_at most sign n read bytes ≡ Some (xs, rest) → Changed most sign read bytes xs rest
+changes_spelled : (most sign n : ℕ) (read : Lists) (bytes : List ℕ) (xs : Lists) (rest : List ℕ) → changes_at (list_at most) sign n read bytes ≡ Some (xs, rest) → Changed most sign read bytes xs rest
 unfolding changes_at
 changes_spelled most sign zero read bytes xs rest e = nothing most sign read bytes xs rest e
 changes_spelled most sign (suc n) read bytes xs rest e = elim (marked_cases sign bytes) [
-  | inl m ↦ nothing most sign read bytes xs rest (sym (ap (λ (z : Bool × List ℕ). go_on z read (λ inner. braced_at most inner >>= λ x. changes_at most sign n (read ++ x.0 ∷ []) x.1)) m) ∙ e)
+  | inl m ↦ nothing most sign read bytes xs rest (sym (ap (λ (z : Bool × List ℕ). go_on z read (λ inner. braced_at (list_at most) inner >>= λ x. changes_at (list_at most) sign n (read ++ x.0 ∷ []) x.1)) m) ∙ e)
   | inr m ↦ (
-      let x = bind_some (braced_at most m.0) (λ x. changes_at most sign n (read ++ x.0 ∷ []) x.1) (xs, rest) (sym (ap (λ (z : Bool × List ℕ). go_on z read (λ inner. braced_at most inner >>= λ x. changes_at most sign n (read ++ x.0 ∷ []) x.1)) m.2) ∙ e) in
+      let x = bind_some (braced_at (list_at most) m.0) (λ x. changes_at (list_at most) sign n (read ++ x.0 ∷ []) x.1) (xs, rest) (sym (ap (λ (z : Bool × List ℕ). go_on z read (λ inner. braced_at (list_at most) inner >>= λ x. changes_at (list_at most) sign n (read ++ x.0 ∷ []) x.1)) m.2) ∙ e) in
       further x.0.0 m.0 x.0.1 (braced_spelled most m.0 x.0.0 x.0.1 x.1) m.1 (changes_spelled most sign n (read ++ x.0.0 ∷ []) x.0.1 xs rest x.2))
 ]
   where
@@ -114,19 +115,19 @@ other : (fs : Lists) → IsLast 45 (flat_map (change_text 43) fs)
 other [] = refl
 other (f ∷ fs) = refl
 
-pub both_again : (most : ℕ) (out add : Lists) → AreWhole most out → AreWhole most add → both_at most (changes_text out add) ≡ Some ((out, add), [])
+pub both_again : (most : ℕ) (out add : Lists) → AreWhole most out → AreWhole most add → both_at (list_at most) (changes_text out add) ≡ Some ((out, add), [])
 unfolding both_at changes_text
 both_again most out add a b =
     let one = changes_again most 45 out (flat_map (change_text 43) add) a (other add) in
     let e : flat_map (change_text 43) add ++ [] ≡ flat_map (change_text 43) add = append-nil (flat_map (change_text 43) add) in
-    let two : changes_at most 43 (length (flat_map (change_text 43) add)) [] (flat_map (change_text 43) add) ≡ Some (add, []) = ap (λ (z : List ℕ). changes_at most 43 (length z) [] z) (sym e) ∙ changes_again most 43 add [] b refl in
+    let two : changes_at (list_at most) 43 (length (flat_map (change_text 43) add)) [] (flat_map (change_text 43) add) ≡ Some (add, []) = ap (λ (z : List ℕ). changes_at (list_at most) 43 (length z) [] z) (sym e) ∙ changes_again most 43 add [] b refl in
     rw (one, two) refl
 
-pub both_spelled : (most : ℕ) (bytes : List ℕ) (l : Lists × Lists) → both_at most bytes ≡ Some (l, []) → AreWhole most l.0 × AreWhole most l.1 × (bytes ≡ changes_text l.0 l.1)
+pub both_spelled : (most : ℕ) (bytes : List ℕ) (l : Lists × Lists) → both_at (list_at most) bytes ≡ Some (l, []) → AreWhole most l.0 × AreWhole most l.1 × (bytes ≡ changes_text l.0 l.1)
 unfolding both_at changes_text
 both_spelled most bytes l e =
-    let o = bind_some (changes_at most 45 (length bytes) [] bytes) (λ o. changes_at most 43 (length o.1) [] o.1 >>= λ a. Some ((o.0, a.0), a.1)) (l, []) e in
-    let a = bind_some (changes_at most 43 (length o.0.1) [] o.0.1) (λ a. Some ((o.0.0, a.0), a.1)) (l, []) o.2 in
+    let o = bind_some (changes_at (list_at most) 45 (length bytes) [] bytes) (λ o. changes_at (list_at most) 43 (length o.1) [] o.1 >>= λ a. Some ((o.0, a.0), a.1)) (l, []) e in
+    let a = bind_some (changes_at (list_at most) 43 (length o.0.1) [] o.0.1) (λ a. Some ((o.0.0, a.0), a.1)) (l, []) o.2 in
     let p = pair_in (o.0.0, a.0.0) a.0.1 l [] a.2 in
     let one = changes_spelled most 45 (length bytes) [] bytes o.0.0 o.0.1 o.1 in
     let two = changes_spelled most 43 (length o.0.1) [] o.0.1 a.0.0 a.0.1 a.1 in

@@ -22,6 +22,7 @@ use Rattle.ev_notice.specs.Canonical.{AreConstraints, is_listed, is_rising}
 use Rattle.ev_notice.proofs.Lists.{both}
 use Rattle.ev_notice.proofs.Shapes.{listed_told, listed_of}
 use Rattle.ev_wire.specs.ValueText.{op_word, kind_word, value_text}
+use Rattle.ev_wire.specs.MessageText.{Each}
 use Rattle.ev_wire.specs.NoticeText.{joined}
 use Rattle.ev_wire.specs.FilterText.{test_text, constraint_text, constraints_text, AreNamed, IsWhole, IsListText}
 use Rattle.ev_wire.specs.Reading.{◌>>=◌}
@@ -32,7 +33,7 @@ use Rattle.ev_wire.specs.Filters.{op_named, op_at, some_at, operand_at, made, co
 use Rattle.ev_wire.proofs.Options.{bind_some, some_in, pair_in, choose, tested, none_not, whole_is}
 use Rattle.ev_wire.proofs.WordLaws.{IsStopped, word_again, word_spelled, space_spelled, head_again, head_spelled}
 use Rattle.ev_wire.proofs.ValueLaws.{value_again, value_spelled}
-use Rattle.ev_wire.proofs.ItemsLaws.{Each, IsEnd, items_again, items_spelled}
+use Rattle.ev_wire.proofs.ItemsLaws.{IsEnd, items_again, items_spelled}
 
 op_again : (op : Op) (tail : List ℕ) → IsStopped tail → op_at (op_word op ++ tail) ≡ Some (op, tail)
 unfolding op_at
@@ -102,23 +103,37 @@ operand_value : (kind : Kind) (op : Op) (u : Value) → IsTest kind op (Some u) 
 operand_value kinds.Bool op (values.Bool u) h = (tt, refl)
 operand_value kinds.Int op (values.Int u) h = (h.1, refl)
 operand_value kinds.Str op (values.Str u) h = (h.1, refl)
+operand_value kinds.Time op (values.Time u) h = (h.1, refl)
 operand_value kinds.Bool op (values.Int u) h = absurd h
 operand_value kinds.Bool op (values.Str u) h = absurd h
 operand_value kinds.Int op (values.Bool u) h = absurd h
 operand_value kinds.Int op (values.Str u) h = absurd h
 operand_value kinds.Str op (values.Bool u) h = absurd h
 operand_value kinds.Str op (values.Int u) h = absurd h
+operand_value kinds.Time op (values.Bool u) h = absurd h
+operand_value kinds.Time op (values.Int u) h = absurd h
+operand_value kinds.Time op (values.Str u) h = absurd h
+operand_value kinds.Bool op (values.Time u) h = absurd h
+operand_value kinds.Int op (values.Time u) h = absurd h
+operand_value kinds.Str op (values.Time u) h = absurd h
 
 not_any : (kind : Kind) (u : Value) → IsTest kind ops.Any (Some u) → ⊥
 not_any kinds.Bool (values.Bool u) h = h
 not_any kinds.Int (values.Int u) h = h.0
 not_any kinds.Str (values.Str u) h = h.0
+not_any kinds.Time (values.Time u) h = h.0
 not_any kinds.Bool (values.Int u) h = h
 not_any kinds.Bool (values.Str u) h = h
 not_any kinds.Int (values.Bool u) h = h
 not_any kinds.Int (values.Str u) h = h
 not_any kinds.Str (values.Bool u) h = h
 not_any kinds.Str (values.Int u) h = h
+not_any kinds.Time (values.Bool u) h = h
+not_any kinds.Time (values.Int u) h = h
+not_any kinds.Time (values.Str u) h = h
+not_any kinds.Bool (values.Time u) h = h
+not_any kinds.Int (values.Time u) h = h
+not_any kinds.Str (values.Time u) h = h
 
 given : (kind : Kind) (op : Op) (u : Value) (bytes : List ℕ) → IsTest kind op (Some u) → operand_at kind op bytes ≡ some_at kind bytes
 unfolding operand_at
@@ -199,6 +214,13 @@ is_test kinds.Str ops.Ge None is e = absurd cc
 is_test kinds.Str ops.Prefix None is e = absurd cc
 is_test kinds.Str ops.Suffix None is e = absurd cc
 is_test kinds.Str ops.Contains None is e = absurd cc
+is_test kinds.Time ops.Lt None is e = absurd cc
+is_test kinds.Time ops.Le None is e = absurd cc
+is_test kinds.Time ops.Gt None is e = absurd cc
+is_test kinds.Time ops.Ge None is e = absurd cc
+is_test kinds.Time ops.Prefix None is e = absurd cc
+is_test kinds.Time ops.Suffix None is e = absurd cc
+is_test kinds.Time ops.Contains None is e = absurd cc
 is_test kinds.Bool ops.Eq (Some (values.Bool u)) is e = tt
 is_test kinds.Bool ops.Ne (Some (values.Bool u)) is e = tt
 is_test kinds.Bool ops.Any (Some (values.Bool u)) is e = absurd cc
@@ -215,6 +237,12 @@ is_test kinds.Int op (Some (values.Bool u)) is e = absurd (let k = is.1 in cc)
 is_test kinds.Int op (Some (values.Str u)) is e = absurd (let k = is.1 in cc)
 is_test kinds.Str op (Some (values.Bool u)) is e = absurd (let k = is.1 in cc)
 is_test kinds.Str op (Some (values.Int u)) is e = absurd (let k = is.1 in cc)
+is_test kinds.Time op (Some (values.Bool u)) is e = absurd (let k = is.1 in cc)
+is_test kinds.Time op (Some (values.Int u)) is e = absurd (let k = is.1 in cc)
+is_test kinds.Time op (Some (values.Str u)) is e = absurd (let k = is.1 in cc)
+is_test kinds.Bool op (Some (values.Time u)) is e = absurd (let k = is.1 in cc)
+is_test kinds.Int op (Some (values.Time u)) is e = absurd (let k = is.1 in cc)
+is_test kinds.Str op (Some (values.Time u)) is e = absurd (let k = is.1 in cc)
 is_test kinds.Int ops.Eq (Some (values.Int u)) is e = (tt, is.0)
 is_test kinds.Int ops.Ne (Some (values.Int u)) is e = (tt, is.0)
 is_test kinds.Int ops.Lt (Some (values.Int u)) is e = (tt, is.0)
@@ -225,6 +253,16 @@ is_test kinds.Int ops.Any (Some (values.Int u)) is e = absurd cc
 is_test kinds.Int ops.Prefix (Some (values.Int u)) is e = absurd cc
 is_test kinds.Int ops.Suffix (Some (values.Int u)) is e = absurd cc
 is_test kinds.Int ops.Contains (Some (values.Int u)) is e = absurd cc
+is_test kinds.Time ops.Eq (Some (values.Time u)) is e = (tt, is.0)
+is_test kinds.Time ops.Ne (Some (values.Time u)) is e = (tt, is.0)
+is_test kinds.Time ops.Lt (Some (values.Time u)) is e = (tt, is.0)
+is_test kinds.Time ops.Le (Some (values.Time u)) is e = (tt, is.0)
+is_test kinds.Time ops.Gt (Some (values.Time u)) is e = (tt, is.0)
+is_test kinds.Time ops.Ge (Some (values.Time u)) is e = (tt, is.0)
+is_test kinds.Time ops.Any (Some (values.Time u)) is e = absurd cc
+is_test kinds.Time ops.Prefix (Some (values.Time u)) is e = absurd cc
+is_test kinds.Time ops.Suffix (Some (values.Time u)) is e = absurd cc
+is_test kinds.Time ops.Contains (Some (values.Time u)) is e = absurd cc
 is_test kinds.Str ops.Eq (Some (values.Str u)) is e = (tt, is.0)
 is_test kinds.Str ops.Ne (Some (values.Str u)) is e = (tt, is.0)
 is_test kinds.Str ops.Lt (Some (values.Str u)) is e = (tt, is.0)
@@ -330,13 +368,11 @@ list_spelled most bytes f rest e =
     subst (λ (z : List ConstraintParts). IsWhole most z × (bytes ≡ joined constraint_text z ++ rest)) same (whole_of most (j.0 ∷ j.1) j.2 is, j.4 ∙ ap (λ (z : List ℕ). joined constraint_text (j.0 ∷ j.1) ++ z) p.1)
 
 pub list_found : (most : ℕ) (bytes : List ℕ) (f : List ConstraintParts) → list_of most bytes ≡ Some f → IsListText most bytes f
-unfolding list_of
 list_found most bytes f e =
     let w = list_spelled most bytes f [] (whole_is (list_at most bytes) f e) in
     record { whole = w.0; text = w.1 ∙ append-nil (constraints_text f) }
 
 pub text_again : (most : ℕ) (f : List ConstraintParts) → IsWhole most f → list_of most (constraints_text f) ≡ Some f
-unfolding list_of
 text_again most f is =
     let e : list_at most (constraints_text f) ≡ Some (f, []) = ap (list_at most) (sym (append-nil (constraints_text f))) ∙ list_again most f [] is (record { stopped = tt; last = refl }) in
     rw e refl

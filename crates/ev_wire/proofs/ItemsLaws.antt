@@ -5,13 +5,10 @@ use Rattle.std.specs.declared.option.Option.{Option}
 use Rattle.std.proofs.lemmas.List.{append-nil}
 use Rattle.std.proofs.lemmas.Bool.Decides.{nat_tests}
 use Rattle.ev_wire.specs.NoticeText.{joined}
+use Rattle.ev_wire.specs.MessageText.{Each}
 use Rattle.ev_wire.specs.Items.{more_at, go_on, items_at}
 use Rattle.ev_wire.proofs.Options.{bind_some, pair_in, none_not}
 use Rattle.ev_wire.proofs.WordLaws.{IsStopped}
-
-abbrev pub Each : {A : Type 0} → (A → Type 0) → List A → Type 0
-Each P [] = Unit {0}
-Each P (x ∷ xs) = P x × Each P xs
 
 -- what ends a list: nothing, or a byte that ends a word and begins no `; `
 pub record IsEnd (tail : List ℕ) : Type 0 where

@@ -1,6 +1,7 @@
 pub mod Options
 pub mod Ints
 pub mod IntLaws
+pub mod TimeLaws
 pub mod StringLaws
 pub mod WordLaws
 pub mod ValueLaws

@@ -6,6 +6,7 @@ use Rattle.std.proofs.lemmas.Bool.Decides.{nat_tests}
 use Rattle.ev_notice.specs.Notice.{Attribute, is_notice, are_rising, AreNames, AreValues, IsNotice}
 use Rattle.ev_notice.proofs.Lists.{both}
 use Rattle.ev_notice.proofs.Shapes.{notice_told, notice_of as shape}
+use Rattle.ev_wire.specs.MessageText.{Each}
 use Rattle.ev_wire.specs.NoticeText.{joined, attribute_text, notice_text, IsNoticeText}
 use Rattle.ev_wire.specs.Reading.{whole}
 use Rattle.ev_wire.specs.Values.{attribute_at}
@@ -13,7 +14,7 @@ use Rattle.ev_wire.specs.Items.{items_at}
 use Rattle.ev_wire.specs.Notices.{listed, notice_of}
 use Rattle.ev_wire.proofs.Options.{bind_some, tested, none_not, whole_is}
 use Rattle.ev_wire.proofs.ValueLaws.{IsAttribute, attribute_again, attribute_spelled}
-use Rattle.ev_wire.proofs.ItemsLaws.{Each, items_again, items_spelled}
+use Rattle.ev_wire.proofs.ItemsLaws.{items_again, items_spelled}
 
 names_of : (n : List Attribute) → Each IsAttribute n → AreNames n
 names_of [] is = tt

@@ -1,7 +1,7 @@
 -- Values and attributes, read as they are written.
 use Rattle.std.proofs.Common.{◌≡◌, ℕ, Bool, true, false, refl, sym, ap, subst, ◌∙◌, inl, inr, List, [], ◌∷◌, ◌++◌, append_assoc}
 use Rattle.std.specs.Prelude.{Some, codes}
-use Rattle.std.specs.Fmt.{signed_decimal}
+use Rattle.std.specs.Fmt.{decimal, signed_decimal}
 use Rattle.std.specs.Str.{bytes_eq}
 use Rattle.ev_constraint.proofs.BytesLemmas.{bytes_eq-tells}
 use Rattle.ev_values.specs.Name.{IsName}
@@ -14,12 +14,13 @@ use Rattle.ev_notice.specs.Notice.{Attribute}
 use Rattle.ev_wire.specs.ValueText.{truth_word, kind_word, value_text}
 use Rattle.ev_wire.specs.NoticeText.{attribute_text}
 use Rattle.ev_wire.specs.Reading.{◌>>=◌}
-use Rattle.ev_wire.specs.Words.{word_at, space_at, head_at, int_of}
+use Rattle.ev_wire.specs.Words.{word_at, space_at, head_at, int_of, time_of}
 use Rattle.ev_wire.specs.Values.{text_at, truth_named, value_at, attribute_at}
 use Rattle.ev_wire.proofs.Options.{bind_some, some_in, pair_in, choose, none_not}
 use Rattle.ev_wire.proofs.StringLaws.{text_again, text_spelled}
 use Rattle.ev_wire.proofs.IntLaws.{int_again, int_spelled}
-use Rattle.ev_wire.proofs.WordLaws.{IsStopped, word_again, word_spelled, space_spelled, int_word, head_again, head_spelled}
+use Rattle.ev_wire.proofs.TimeLaws.{time_again, time_spelled}
+use Rattle.ev_wire.proofs.WordLaws.{IsStopped, word_again, word_spelled, space_spelled, int_word, time_word, head_again, head_spelled}
 
 -- what each attribute is
 abbrev pub IsAttribute : Attribute → Type 0
@@ -31,6 +32,7 @@ value_again (values.Bool true) tail is s = rw (word_again [] (truth_word true) t
 value_again (values.Bool false) tail is s = rw (word_again [] (truth_word false) tail refl s) refl
 value_again (values.Int z) tail is s = rw (word_again [] (signed_decimal z) tail (int_word z is) s, int_again z is) refl
 value_again (values.Str t) tail is s = rw (text_again t tail is) refl
+value_again (values.Time n) tail is s = rw (word_again [] (decimal n) tail (time_word n is) s, time_again n is) refl
 
 truth_is : (w : List ℕ) (b : Bool) → truth_named w ≡ Some b → w ≡ truth_word b
 truth_is w b e = elim (choose (bytes_eq w (codes "true")) _ _ _ e) [
@@ -61,6 +63,11 @@ value_spelled kinds.Str bytes v rest e =
     let p = pair_in (values.Str t.0.0) t.0.1 v rest t.2 in
     let is = text_spelled bytes t.0.0 t.0.1 t.1 in
     subst (λ (z : Value). IsWritten kinds.Str bytes z rest) p.0 (is.0, refl, is.1 ∙ rw p.1 refl)
+value_spelled kinds.Time bytes v rest e =
+    let n = bind_some (time_of (word_at [] bytes).0) (λ n. Some (values.Time n, (word_at [] bytes).1)) (v, rest) e in
+    let p = pair_in (values.Time n.0) (word_at [] bytes).1 v rest n.2 in
+    let is = time_spelled (word_at [] bytes).0 n.0 n.1 in
+    subst (λ (z : Value). IsWritten kinds.Time bytes z rest) p.0 (is.0, refl, word_spelled bytes (decimal n.0) rest is.1 p.1)
 
 regrouped : (a : Attribute) (tail : List ℕ) → attribute_text a ++ tail ≡ a.0 ++ 32 ∷ (kind_word (kind_of a.1) ++ 32 ∷ (value_text a.1 ++ tail))
 unfolding attribute_text

@@ -94,6 +94,7 @@ unfolding kind_at
 kind_again kinds.Bool tail s = rw (word_again [] (kind_word kinds.Bool) tail refl s) refl
 kind_again kinds.Int tail s = rw (word_again [] (kind_word kinds.Int) tail refl s) refl
 kind_again kinds.Str tail s = rw (word_again [] (kind_word kinds.Str) tail refl s) refl
+kind_again kinds.Time tail s = rw (word_again [] (kind_word kinds.Time) tail refl s) refl
 
 kind_is : (w : List ℕ) (k : Kind) → kind_named w ≡ Some k → w ≡ kind_word k
 kind_is w k e = elim (choose (bytes_eq w (codes "bool")) _ _ _ e) [
@@ -102,7 +103,10 @@ kind_is w k e = elim (choose (bytes_eq w (codes "bool")) _ _ _ e) [
     | inl a ↦ bytes_eq-tells w (codes "int") a.0 ∙ ap kind_word (some_in kinds.Int k a.1)
     | inr c ↦ elim (choose (bytes_eq w (codes "str")) _ _ _ c.1) [
       | inl a ↦ bytes_eq-tells w (codes "str") a.0 ∙ ap kind_word (some_in kinds.Str k a.1)
-      | inr d ↦ none_not k d.1
+      | inr d ↦ elim (choose (bytes_eq w (codes "time")) _ _ _ d.1) [
+        | inl a ↦ bytes_eq-tells w (codes "time") a.0 ∙ ap kind_word (some_in kinds.Time k a.1)
+        | inr f ↦ none_not k f.1
+      ]
     ]
   ]
 ]
@@ -154,6 +158,9 @@ digits_word (c ∷ ds) h = rw (digit_ok c h.0, digits_word ds h.1) refl
 pub int_word : (z : ℤ) → FitsSigned w64 z → is_word (signed_decimal z) ≡ true
 int_word (pos n) fits = digits_word (decimal n) (decimal_is_IsNumeral n (search rules)).0.1
 int_word (negsuc n) fits = digits_word (decimal (suc n)) (decimal_is_IsNumeral (suc n) (search rules)).0.1
+
+pub time_word : (n : ℕ) → n < 2 ^ 64 → is_word (decimal n) ≡ true
+time_word n fits = digits_word (decimal n) (decimal_is_IsNumeral n fits).0.1
 
 pub number_again : (most n : ℕ) (tail : List ℕ) → most < 2 ^ 32 → IsInRange 1 most n → IsStopped tail → number_at most (decimal n ++ tail) ≡ Some (n, tail)
 unfolding number_at

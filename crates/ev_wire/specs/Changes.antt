@@ -1,15 +1,10 @@
--- Lists that are taken out and added, in front of bytes.
+-- Members that are taken out and added, in front of bytes.
 use Rattle.std.specs.Prelude.{◌==◌, ◌&&◌, ◌++◌, ◌+◌, ℕ, zero, suc, nat_lt, Bool, true, false, List, [], ◌∷◌, length, Some, None, if◌then◌else◌}
 use Rattle.std.specs.declared.option.Option.{Option}
-use Rattle.ev_constraint.specs.Constraint.{ConstraintParts}
-use Rattle.ev_notice.specs.Before.{list_before}
+use Rattle.std.specs.List.{flat_map}
+use Rattle.ev_wire.specs.MessageText.{signed}
 use Rattle.ev_wire.specs.Reading.{◌>>=◌, whole}
 use Rattle.ev_wire.specs.Items.{go_on}
-use Rattle.ev_wire.specs.Filters.{list_at}
-
--- lists of filters or of advertisements
-abbrev pub Lists : Type 0
-Lists = List (List ConstraintParts)
 
 -- whether a space, the sign and `{` stand in front, and what follows then
 abbrev pub marked_at : ℕ → List ℕ → Bool × List ℕ
@@ -23,48 +18,52 @@ abbrev pub closed_at : List ℕ → Option (Unit {0} × List ℕ)
 closed_at [] = None
 closed_at (b ∷ rest) = if b == 125 then Some (tt, rest) else None
 
--- a list and `}` in front, and what follows them
-unfoldable pub braced_at : ℕ → List ℕ → Option (List ConstraintParts × List ℕ)
-braced_at most bytes = list_at most bytes >>= λ x. closed_at x.1 >>= λ r. Some (x.0, r.1)
+-- a member and `}` in front, and what follows them
+unfoldable pub braced_at : {A : Type 0} → (List ℕ → Option (A × List ℕ)) → List ℕ → Option (A × List ℕ)
+braced_at one bytes = one bytes >>= λ x. closed_at x.1 >>= λ r. Some (x.0, r.1)
 
 -- at most so many changes with the sign in front, behind those that were read, and what follows them
-unfoldable pub changes_at : ℕ → ℕ → ℕ → Lists → List ℕ → Option (Lists × List ℕ)
-changes_at most sign zero read bytes = Some (read, bytes)
-changes_at most sign (suc n) read bytes = go_on (marked_at sign bytes) read (λ inner. braced_at most inner >>= λ x. changes_at most sign n (read ++ x.0 ∷ []) x.1)
+unfoldable pub changes_at : {A : Type 0} → (List ℕ → Option (A × List ℕ)) → ℕ → ℕ → List A → List ℕ → Option (List A × List ℕ)
+changes_at one sign zero read bytes = Some (read, bytes)
+changes_at one sign (suc n) read bytes = go_on (marked_at sign bytes) read (λ inner. braced_at one inner >>= λ x. changes_at one sign n (read ++ x.0 ∷ []) x.1)
 
 -- what is taken out and then what is added, and what follows them
-unfoldable pub both_at : ℕ → List ℕ → Option ((Lists × Lists) × List ℕ)
-both_at most bytes = changes_at most 45 (length bytes) [] bytes >>= λ o. changes_at most 43 (length o.1) [] o.1 >>= λ a. Some ((o.0, a.0), a.1)
+unfoldable pub both_at : {A : Type 0} → (List ℕ → Option (A × List ℕ)) → List ℕ → Option ((List A × List A) × List ℕ)
+both_at one bytes = changes_at one 45 (length bytes) [] bytes >>= λ o. changes_at one 43 (length o.1) [] o.1 >>= λ a. Some ((o.0, a.0), a.1)
+
+-- the text of what is taken out (sign 45, `-`) and of what is added (sign 43, `+`), by the texts of the members
+abbrev pub signed_lists : {A : Type 0} → (A → List ℕ) → List A → List A → List ℕ
+signed_lists text out add = flat_map (λ x. signed 45 (text x)) out ++ flat_map (λ x. signed 43 (text x)) add
 
 -- each stands before the next
-abbrev pub rises : Lists → Bool
-rises [] = true
-rises (f ∷ []) = true
-rises (f ∷ g ∷ rest) = list_before f g && rises (g ∷ rest)
+abbrev pub rises : {A : Type 0} → (A → A → Bool) → List A → Bool
+rises before [] = true
+rises before (x ∷ []) = true
+rises before (x ∷ y ∷ rest) = before x y && rises before (y ∷ rest)
 
--- a list without those in front that stand before f
-abbrev pub from : List ConstraintParts → Lists → Lists
-from f [] = []
-from f (g ∷ rest) = if list_before g f then from f rest else g ∷ rest
+-- a list without those in front that stand before x
+abbrev pub from : {A : Type 0} → (A → A → Bool) → A → List A → List A
+from before x [] = []
+from before x (y ∷ rest) = if before y x then from before x rest else y ∷ rest
 
--- whether f stands before what comes first
-abbrev pub leads : List ConstraintParts → Lists → Bool
-leads f [] = true
-leads f (g ∷ rest) = list_before f g
+-- whether x stands before what comes first
+abbrev pub leads : {A : Type 0} → (A → A → Bool) → A → List A → Bool
+leads before x [] = true
+leads before x (y ∷ rest) = before x y
 
 -- whether two rising lists have no member in common
-abbrev pub apart : Lists → Lists → Bool
-apart out [] = true
-apart out (f ∷ rest) = leads f (from f out) && apart (from f out) rest
+abbrev pub apart : {A : Type 0} → (A → A → Bool) → List A → List A → Bool
+apart before out [] = true
+apart before out (x ∷ rest) = leads before x (from before x out) && apart before (from before x out) rest
 
 -- whether the lists are a change
-unfoldable pub is_change : Lists → Lists → Bool
-is_change out add = rises out && (rises add && (apart out add && nat_lt 0 (length out + length add)))
+unfoldable pub is_change : {A : Type 0} → (A → A → Bool) → List A → List A → Bool
+is_change before out add = rises before out && (rises before add && (apart before out add && nat_lt 0 (length out + length add)))
 
 -- lists that are a change
-abbrev pub changed : Lists × Lists → Option (Lists × Lists)
-changed l = if is_change l.0 l.1 then Some l else None
+abbrev pub changed : {A : Type 0} → (A → A → Bool) → List A × List A → Option (List A × List A)
+changed before l = if is_change before l.0 l.1 then Some l else None
 
 -- the change that the bytes spell
-unfoldable pub lists_of : ℕ → List ℕ → Option (Lists × Lists)
-lists_of most bytes = whole (both_at most bytes) >>= changed
+unfoldable pub change_of : {A : Type 0} → (A → A → Bool) → (List ℕ → Option (A × List ℕ)) → List ℕ → Option (List A × List A)
+change_of before one bytes = whole (both_at one bytes) >>= changed before

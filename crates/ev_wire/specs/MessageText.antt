@@ -13,9 +13,13 @@ use Rattle.ev_wire.specs.declared.message.Message.TheVariants as messages
 use Rattle.ev_wire.specs.NoticeText.{notice_text}
 use Rattle.ev_wire.specs.FilterText.{constraints_text, IsWhole}
 
--- a list that is taken out (sign `-`) or added (sign `+`): space, sign, and the list between braces (123, 125)
+-- a text between braces (123, 125), behind a space (32) and a sign
+abbrev pub signed : ℕ → List ℕ → List ℕ
+signed sign text = 32 ∷ sign ∷ 123 ∷ (text ++ 125 ∷ [])
+
+-- a list that is taken out (sign `-`) or added (sign `+`): space, sign, and the list between braces
 abbrev pub change_text : ℕ → List ConstraintParts → List ℕ
-change_text sign f = 32 ∷ sign ∷ 123 ∷ (constraints_text f ++ 125 ∷ [])
+change_text sign f = signed sign (constraints_text f)
 
 -- what is taken out (sign 45, `-`), then what is added (sign 43, `+`)
 unfoldable pub changes_text : List (List ConstraintParts) → List (List ConstraintParts) → List ℕ
@@ -48,10 +52,14 @@ IsSendable (messages.Notice id n) = IsId id
 IsSendable (messages.Subs out add) = IsChange out add
 IsSendable (messages.Advs out add) = IsChange out add
 
+-- each member is so
+abbrev pub Each : {A : Type 0} → (A → Type 0) → List A → Type 0
+Each P [] = Unit {0}
+Each P (x ∷ rest) = P x × Each P rest
+
 -- each list is well formed
 abbrev pub AreWhole : ℕ → List (List ConstraintParts) → Type 0
-AreWhole most [] = Unit {0}
-AreWhole most (f ∷ rest) = IsWhole most f × AreWhole most rest
+AreWhole most fs = Each (IsWhole most) fs
 
 -- what a program's types keep of a message: its notice, its filters, its advertisements are well formed
 abbrev pub IsSound : Message → Type 0

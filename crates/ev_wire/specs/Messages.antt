@@ -2,13 +2,16 @@
 use Rattle.std.specs.Prelude.{ℕ, List, [], Some, None, codes, if◌then◌else◌}
 use Rattle.std.specs.declared.option.Option.{Option}
 use Rattle.std.specs.Str.{bytes_eq}
+use Rattle.ev_constraint.specs.Constraint.{ConstraintParts}
+use Rattle.ev_notice.specs.Before.{list_before}
 use Rattle.ev_wire.specs.declared.id.Id.{Id}
 use Rattle.ev_wire.specs.declared.message.Message.{Message}
 use Rattle.ev_wire.specs.declared.message.Message.TheVariants as messages
 use Rattle.ev_wire.specs.Reading.{◌>>=◌}
 use Rattle.ev_wire.specs.Words.{word_at, space_at, number_at}
 use Rattle.ev_wire.specs.Notices.{notice_of}
-use Rattle.ev_wire.specs.Changes.{Lists, lists_of}
+use Rattle.ev_wire.specs.Filters.{list_at}
+use Rattle.ev_wire.specs.Changes.{change_of}
 
 -- an id in front, and what follows it
 unfoldable pub id_at : List ℕ → Option (Id × List ℕ)
@@ -17,6 +20,14 @@ id_at bytes = number_at 1024 bytes >>= λ p. space_at p.1 >>= λ r. number_at 10
 -- the id and the notice behind the word of the sort
 unfoldable pub notice_message_of : List ℕ → Option Message
 notice_message_of bytes = space_at bytes >>= λ r. id_at r.1 >>= λ i. space_at i.1 >>= λ s. notice_of s.1 >>= λ n. Some (messages.Notice i.0 n)
+
+-- lists of filters or of advertisements
+abbrev pub Lists : Type 0
+Lists = List (List ConstraintParts)
+
+-- the change of lists of at most so many constraints
+abbrev pub lists_of : ℕ → List ℕ → Option (Lists × Lists)
+lists_of most bytes = change_of list_before (list_at most) bytes
 
 -- a message of filters
 abbrev pub as_subs : Lists × Lists → Option Message

@@ -1,7 +1,7 @@
 -- The texts of values, kinds and operators.
 use Rattle.std.specs.Prelude.{◌==◌, ◌++◌, ℕ, Bool, true, false, List, [], ◌∷◌, codes, if◌then◌else◌}
 use Rattle.std.specs.List.{flat_map}
-use Rattle.std.specs.Fmt.{signed_decimal}
+use Rattle.std.specs.Fmt.{decimal, signed_decimal}
 use Rattle.ev_values.specs.declared.value.Kind.{Kind}
 use Rattle.ev_values.specs.declared.value.Kind.TheVariants as kinds
 use Rattle.ev_values.specs.declared.value.Value.{Value}
@@ -27,17 +27,20 @@ abbrev pub truth_word : Bool → List ℕ
 truth_word true = codes "true"
 truth_word false = codes "false"
 
--- an int value is written in decimal: `0`, or a digit 1 to 9 and further digits, perhaps behind a `-`
+-- an int value is written in decimal: `0`, or a digit 1 to 9 and further digits, perhaps behind a `-`; so is a time, of
+-- which the whole seconds are written, without a sign
 abbrev pub value_text : Value → List ℕ
 value_text (values.Bool b) = truth_word b
 value_text (values.Int n) = signed_decimal n
 value_text (values.Str t) = string_text t
+value_text (values.Time n) = decimal n
 
 -- the word of a kind
 abbrev pub kind_word : Kind → List ℕ
 kind_word kinds.Bool = codes "bool"
 kind_word kinds.Int = codes "int"
 kind_word kinds.Str = codes "str"
+kind_word kinds.Time = codes "time"
 
 -- the word of an operator
 abbrev pub op_word : Op → List ℕ

@@ -9,7 +9,7 @@ use Rattle.ev_values.specs.declared.value.Value.{Value}
 use Rattle.ev_values.specs.declared.value.Value.TheVariants as values
 use Rattle.ev_notice.specs.Notice.{Attribute}
 use Rattle.ev_wire.specs.Reading.{◌>>=◌}
-use Rattle.ev_wire.specs.Words.{word_at, space_at, head_at, int_of}
+use Rattle.ev_wire.specs.Words.{word_at, space_at, head_at, int_of, time_of}
 
 -- what a byte behind a backslash stands for
 abbrev pub plain : ℕ → Option ℕ
@@ -51,6 +51,7 @@ unfoldable pub value_at : Kind → List ℕ → Option (Value × List ℕ)
 value_at kinds.Bool bytes = truth_named (word_at [] bytes).0 >>= λ b. Some (values.Bool b, (word_at [] bytes).1)
 value_at kinds.Int bytes = int_of (word_at [] bytes).0 >>= λ z. Some (values.Int z, (word_at [] bytes).1)
 value_at kinds.Str bytes = text_at bytes >>= λ t. Some (values.Str t.0, t.1)
+value_at kinds.Time bytes = time_of (word_at [] bytes).0 >>= λ n. Some (values.Time n, (word_at [] bytes).1)
 
 -- an attribute in front, and what follows it
 unfoldable pub attribute_at : List ℕ → Option (Attribute × List ℕ)

@@ -1,9 +1,9 @@
 -- Words, names and kinds in front of bytes.
 use Rattle.std.specs.Prelude.{◌==◌, ◌&&◌, ◌||◌, ◌++◌, ◌^◌, ℕ, ℤ, pos, negsuc, nat_le, nat_lt, Bool, List, [], ◌∷◌, Some, None, codes, if◌then◌else◌}
 use Rattle.std.specs.declared.option.Option.{Option}
-use Rattle.std.specs.Fmt.{signed_decimal}
+use Rattle.std.specs.Fmt.{decimal, signed_decimal}
 use Rattle.std.specs.Str.{bytes_eq}
-use Rattle.std.specs.Str.Parse.{signed_digits_value}
+use Rattle.std.specs.Str.Parse.{digits_value, signed_digits_value}
 use Rattle.ev_values.specs.Name.{is_name}
 use Rattle.ev_values.specs.declared.value.Kind.{Kind}
 use Rattle.ev_values.specs.declared.value.Kind.TheVariants as kinds
@@ -29,6 +29,7 @@ kind_named w =
     if bytes_eq w (codes "bool") then Some kinds.Bool
     else if bytes_eq w (codes "int") then Some kinds.Int
     else if bytes_eq w (codes "str") then Some kinds.Str
+    else if bytes_eq w (codes "time") then Some kinds.Time
     else None
 
 -- a word that is a name
@@ -54,7 +55,17 @@ fits_i64 (negsuc n) = nat_lt n (2 ^ 63)
 
 -- the integer of which the bytes are the one text
 unfoldable pub int_of : List ℕ → Option ℤ
-int_of bytes = if fits_i64 (signed_digits_value 10 bytes) && bytes_eq (signed_decimal (signed_digits_value 10 bytes)) bytes then Some (signed_digits_value 10 bytes) else None
+int_of bytes =
+    if fits_i64 (signed_digits_value 10 bytes) && bytes_eq (signed_decimal (signed_digits_value 10 bytes)) bytes
+    then Some (signed_digits_value 10 bytes)
+    else None
+
+-- the seconds of which the bytes are the one text
+unfoldable pub time_of : List ℕ → Option ℕ
+time_of bytes =
+    if nat_lt (digits_value 10 bytes) (2 ^ 64) && bytes_eq (decimal (digits_value 10 bytes)) bytes
+    then Some (digits_value 10 bytes)
+    else None
 
 -- a number from 1 to the greatest
 abbrev pub counted : ℕ → ℤ → Option ℕ

@@ -5,14 +5,18 @@ use ev_memory::NoMemory;
 use ev_notice::{Advert, Filter, Notice};
 use std::alloc::Global;
 
-/// A client's command. An unsubscription withdraws all of the client's filters that its filter covers, and an
-/// unadvertisement all advertisements that its advertisement covers.
+/// A client's command.
 #[derive(Drop)]
 pub enum Command {
+    /// Adds a filter to the client's.
     Subscribe(Filter),
+    /// Withdraws the client's filters that this one covers.
     Unsubscribe(Filter),
+    /// Adds an advertisement to the client's.
     Advertise(Advert),
+    /// Withdraws the client's advertisements that this one covers.
     Unadvertise(Advert),
+    /// Publishes a notice.
     Publish(Notice),
 }
 

@@ -1,33 +1,42 @@
 //! The one text of each value that goes from server to server and to clients, written and read exactly.
 #![tactic(auto)]
 
-mod adverts;
+mod bytes;
+mod change;
 mod command;
 mod constraint;
+mod delivery;
 mod fault;
 mod filters;
 mod id;
 mod int;
 mod law;
+mod listed;
+mod lists;
 mod message;
 mod notice;
 mod reader;
+mod semantics;
+mod sent;
 mod string;
-#[cfg(test)]
-mod tests;
+mod time;
 mod value;
 mod wire;
 
-pub use adverts::{read_advert, write_advert};
+pub use bytes::Bytes;
 pub use command::Command;
 pub use constraint::op_named;
+pub use delivery::Delivery;
 pub use fault::WireFault;
-pub use filters::{read_filter, write_filter};
-pub use id::{Bytes, Delivery, Id, Semantics, Sent};
+pub use filters::{read_advert, read_filter, write_advert, write_filter};
+pub use id::Id;
 pub use law::{one_text, one_value};
-pub use message::{Adverts, Filters, Message};
+pub use lists::{Adverts, Filters, Lists};
+pub use message::Message;
 pub use notice::{read_notice, write_notice};
 pub use reader::kind_named;
+pub use semantics::Semantics;
+pub use sent::Sent;
 pub use string::unescape;
 pub use value::truth_named;
 pub use wire::{read_message, write_message};

@@ -12,6 +12,7 @@ use std::alloc::Global;
 /// The bytes that are still to be read.
 #[derive(Drop)]
 pub struct Reader<'a> {
+    /// The bytes.
     pub rest: &'a [u8],
 }
 
@@ -31,6 +32,8 @@ pub fn kind_named(word: &[u8]) -> Option<Kind>
         Some(Kind::Int)
     } else if word == b"str".as_slice() {
         Some(Kind::Str)
+    } else if word == b"time".as_slice() {
+        Some(Kind::Time)
     } else {
         None
     }

@@ -9,6 +9,7 @@ use crate::fault::WireFault;
 use crate::int::int_of;
 use crate::reader::Reader;
 use crate::string::push_string;
+use crate::time::time_of;
 use ev_memory::NoMemory;
 use ev_values::{Kind, Name, Value};
 use itoa::Buffer;
@@ -46,6 +47,10 @@ impl<'a> Reader<'a> {
                 let text = self.text(alloc)?;
                 Ok(Value::Str(text))
             }
+            Kind::Time => match time_of(self.word()) {
+                Some(seconds) => Ok(Value::Time(seconds)),
+                None => Err(WireFault::Outside),
+            },
         }
     }
 
@@ -69,6 +74,7 @@ pub fn kind_word(kind: Kind) -> &'static [u8]
         Kind::Bool => b"bool",
         Kind::Int => b"int",
         Kind::Str => b"str",
+        Kind::Time => b"time",
     }
 }
 
@@ -84,6 +90,10 @@ pub fn push_value(out: &mut Vec<u8>, value: &Value) -> Result<(), NoMemory>
             out.extend_from_slice(buffer.format(*n).as_bytes())?;
         }
         Value::Str(t) => push_string(out, t)?,
+        Value::Time(seconds) => {
+            let mut buffer = Buffer::new();
+            out.extend_from_slice(buffer.format(*seconds).as_bytes())?;
+        }
     }
     Ok(())
 }

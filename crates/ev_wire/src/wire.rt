@@ -6,10 +6,10 @@ ghost use Rattle.ev_wire.specs.MessageText.{id_text, message_text, IsMessageText
 ghost use Rattle.ev_wire.specs.Changes.{closed_at, marked_at};
 ghost use Rattle.ev_wire.specs.Messages.{id_at, message_of, notice_message_of};
 
-use crate::adverts::push_adverts;
+use crate::change::push_change;
 use crate::fault::WireFault;
-use crate::filters::push_filters;
 use crate::id::Id;
+use crate::lists::Lists;
 use crate::message::Message;
 use crate::notice::push_notice;
 use crate::reader::Reader;
@@ -73,11 +73,17 @@ impl<'a> Reader<'a> {
         if tag == b"notice".as_slice() {
             self.notice_message(alloc)
         } else if tag == b"subs".as_slice() {
-            let (out, add) = self.filter_change(alloc)?;
-            Ok(Message::Subs { out, add })
+            let (out, add) = self.change(alloc)?;
+            Ok(Message::Subs {
+                out: Lists::of(out),
+                add: Lists::of(add),
+            })
         } else if tag == b"advs".as_slice() {
-            let (out, add) = self.advert_change(alloc)?;
-            Ok(Message::Advs { out, add })
+            let (out, add) = self.change(alloc)?;
+            Ok(Message::Advs {
+                out: Lists::of(out),
+                add: Lists::of(add),
+            })
         } else {
             Err(WireFault::Outside)
         }
@@ -104,7 +110,7 @@ fn push_id(out: &mut Vec<u8>, id: Id) -> Result<(), NoMemory>
     Ok(())
 }
 
-#[tactic(auto, unfolding(crate::specs::MessageText::message_text))]
+#[tactic(auto, unfolding(crate::specs::MessageText::message_text, crate::specs::MessageText::changes_text))]
 fn push_message(text: &mut Vec<u8>, message: &Message) -> Result<(), NoMemory>
     ensures text { OnOk result (text.new.items ≡ text.old.items ++ message_text message.now) }
     ensures sound { OnOk result (IsSound message.now) }
@@ -118,11 +124,11 @@ fn push_message(text: &mut Vec<u8>, message: &Message) -> Result<(), NoMemory>
         }
         Message::Subs { out, add } => {
             text.extend_from_slice(b"subs")?;
-            push_filters(text, out.as_slice(), add.as_slice())
+            push_change(text, out.as_slice(), add.as_slice())
         }
         Message::Advs { out, add } => {
             text.extend_from_slice(b"advs")?;
-            push_adverts(text, out.as_slice(), add.as_slice())
+            push_change(text, out.as_slice(), add.as_slice())
         }
     }
 }

@@ -1,0 +1,88 @@
+//! Ints and times of a command line.
+ghost use Rattle.std.specs.Prelude.{◌≡◌, true};
+ghost use Rattle.std.specs.List.{list_all};
+ghost use Rattle.std.specs.Str.Parse.{without_leading_sign};
+ghost use Rattle.ev_script.specs.Form.{are_digits, int_given, is_digit, time_given};
+
+use crate::form::Given;
+use ev_values::Value;
+
+fn is_digit(b: u8) -> bool
+    ensures { result ≡ is_digit b }
+{
+    b >= b'0' && b <= b'9'
+}
+
+fn all_digits(bytes: &[u8]) -> bool
+    ensures { result ≡ list_all is_digit bytes.now }
+{
+    bytes.iter().all(|b| is_digit(*b))
+}
+
+/// Whether the bytes are one or more decimal digits, and nothing else.
+pub fn are_digits(bytes: &[u8]) -> bool
+    ensures { result ≡ are_digits bytes.now }
+{
+    bytes.len() > 0 && all_digits(bytes)
+}
+
+fn without_sign(word: &[u8]) -> &[u8]
+    ensures { result.now ≡ without_leading_sign word.now }
+{
+    match word {
+        [b'+' | b'-', rest @ ..] => rest,
+        _ => word,
+    }
+}
+
+// The number of digits behind a sign, or what is beyond i64.
+fn parsed_int(word: &[u8]) -> Option<Given>
+    requires { are_digits (without_leading_sign word.now) ≡ true }
+    ensures { result ≡ int_given word.now }
+{
+    let Ok(text) = std::str::from_utf8(word) else {
+        return None;
+    };
+    match text.parse::<i64>() {
+        Ok(n) => Some(Given::Fit(Value::Int(n))),
+        Err(_) => Some(Given::Wide),
+    }
+}
+
+/// The int that a word spells; `None` where it is not of an int's form.
+#[tactic(auto, unfolding(crate::specs::Form::int_given))]
+pub fn int_given(word: &[u8]) -> Option<Given>
+    ensures { result ≡ int_given word.now }
+{
+    if are_digits(without_sign(word)) {
+        parsed_int(word)
+    } else {
+        None
+    }
+}
+
+// The number of digits, or what is beyond u64.
+fn parsed_time(word: &[u8]) -> Option<Given>
+    requires { are_digits word.now ≡ true }
+    ensures { result ≡ time_given word.now }
+{
+    let Ok(text) = std::str::from_utf8(word) else {
+        return None;
+    };
+    match text.parse::<u64>() {
+        Ok(n) => Some(Given::Fit(Value::Time(n))),
+        Err(_) => Some(Given::Wide),
+    }
+}
+
+/// The time that a word spells; `None` where it is not of a time's form.
+#[tactic(auto, unfolding(crate::specs::Form::time_given))]
+pub fn time_given(word: &[u8]) -> Option<Given>
+    ensures { result ≡ time_given word.now }
+{
+    if are_digits(word) {
+        parsed_time(word)
+    } else {
+        None
+    }
+}

@@ -1,0 +1,110 @@
+//! Filters and advertisements as one: lists of constraints that differ in how many they may have.
+ghost use Rattle.std.specs.Prelude.{◌≡◌, ◌++◌, IfOk, OnOk};
+ghost use Rattle.ev_notice.specs.Before.{list_before};
+ghost use Rattle.ev_wire.specs.Reading.{Reads};
+ghost use Rattle.ev_wire.specs.FilterText.{constraints_text, IsWhole};
+ghost use Rattle.ev_wire.specs.Filters.{list_at};
+
+use crate::constraint::push_constraints;
+use crate::fault::WireFault;
+use crate::reader::Reader;
+use ev_memory::NoMemory;
+use ev_notice::{Advert, Filter};
+use std::alloc::Global;
+
+/// A list of constraints of a bounded length, in canonical order, with its one text. The contracts name how it is read,
+/// its text, its canonical order and what it is.
+pub trait Listed: Drop {
+    ghost use Rattle.std.specs.Prelude.{◌≡◌, ◌++◌, ℕ, Bool, List, IfOk, OnOk};
+    ghost use Rattle.std.specs.declared.option.Option.{Option};
+    ghost use Rattle.ev_wire.specs.Reading.{Reads};
+
+    ghost front: { List ℕ → Option (Self × List ℕ) };
+
+    ghost text: { Self → List ℕ };
+
+    ghost order: { Self → Self → Bool };
+
+    ghost IsSound: { Self → Type 0 };
+
+    /// The list in front of what is left to be read.
+    fn read(reader: &mut Reader<'_>, alloc: Global) -> Result<Self, WireFault>
+        ensures { Reads (λ x. x) result (front reader.old.rest.now) reader.new.rest.now };
+
+    /// Puts its text at the end.
+    fn push(&self, out: &mut Vec<u8>) -> Result<(), NoMemory>
+        ensures text { OnOk result (out.new.items ≡ out.old.items ++ text self.now) }
+        ensures sound { OnOk result (IsSound self.now) };
+
+    /// Whether it stands before the other in the canonical order.
+    fn stands_before(&self, other: &Self) -> bool
+        ensures { result ≡ order self.now other.now };
+
+    /// An equal list.
+    fn copied(&self, alloc: Global) -> Result<Self, NoMemory>
+        ensures { IfOk result (λ x. x ≡ self.now) };
+}
+
+impl Listed for Filter {
+    ghost front = { list_at 16 };
+
+    ghost text = { constraints_text };
+
+    ghost order = { list_before };
+
+    ghost IsSound = { IsWhole 16 };
+
+    #[tactic(auto, unfolding(crate::specs::Filters::list_at))]
+    fn read(reader: &mut Reader<'_>, alloc: Global) -> Result<Filter, WireFault> {
+        let constraints = reader.constraints(alloc, 16)?;
+        match Filter::of_rising(constraints)? {
+            Some(filter) => Ok(filter),
+            None => Err(WireFault::Outside),
+        }
+    }
+
+    fn push(&self, out: &mut Vec<u8>) -> Result<(), NoMemory> {
+        push_constraints(out, self.constraints())
+    }
+
+    #[tactic(auto, unfolding(ev_notice::specs::Before::list_before))]
+    fn stands_before(&self, other: &Filter) -> bool {
+        self < other
+    }
+
+    fn copied(&self, alloc: Global) -> Result<Filter, NoMemory> {
+        self.copy(alloc)
+    }
+}
+
+impl Listed for Advert {
+    ghost front = { list_at 64 };
+
+    ghost text = { constraints_text };
+
+    ghost order = { list_before };
+
+    ghost IsSound = { IsWhole 64 };
+
+    #[tactic(auto, unfolding(crate::specs::Filters::list_at))]
+    fn read(reader: &mut Reader<'_>, alloc: Global) -> Result<Advert, WireFault> {
+        let constraints = reader.constraints(alloc, 64)?;
+        match Advert::of_rising(constraints)? {
+            Some(advert) => Ok(advert),
+            None => Err(WireFault::Outside),
+        }
+    }
+
+    fn push(&self, out: &mut Vec<u8>) -> Result<(), NoMemory> {
+        push_constraints(out, self.constraints())
+    }
+
+    #[tactic(auto, unfolding(ev_notice::specs::Before::list_before))]
+    fn stands_before(&self, other: &Advert) -> bool {
+        self < other
+    }
+
+    fn copied(&self, alloc: Global) -> Result<Advert, NoMemory> {
+        self.copy(alloc)
+    }
+}

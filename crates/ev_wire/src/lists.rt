@@ -1,0 +1,66 @@
+//! Lists of filters and of advertisements.
+use crate::listed::Listed;
+use ev_memory::NoMemory;
+use ev_notice::{Advert, Filter};
+use std::alloc::Global;
+use std::marker::Model;
+
+/// A list; contracts see it.
+#[derive(Drop)]
+pub struct Lists<L> {
+    lists: Vec<L>,
+}
+
+/// A list of filters; contracts see the list.
+pub type Filters = Lists<Filter>;
+
+/// A list of advertisements; contracts see the list.
+pub type Adverts = Lists<Advert>;
+
+impl<L> Model for Lists<L> {
+    ghost use Rattle.std.specs.Prelude.{List};
+
+    ghost Value = { List L };
+
+    ghost view = { λ l. l.lists.items };
+}
+
+impl<L> Lists<L> {
+    ghost use Rattle.std.specs.Prelude.{◌≡◌, IfOk};
+
+    /// The list of these.
+    pub fn of(lists: Vec<L>) -> Self
+        ensures { result ≡ lists.items }
+    {
+        Lists { lists }
+    }
+
+    /// The members of the list.
+    pub fn as_slice(&self) -> &[L]
+        ensures { result.now ≡ self.now }
+    {
+        &self.lists
+    }
+
+    /// The members of the list, given away.
+    pub fn into_vec(self) -> Vec<L>
+        ensures { result.items ≡ self }
+    {
+        self.lists
+    }
+}
+
+impl<L: Listed> Lists<L> {
+    ghost use Rattle.std.specs.Prelude.{◌≡◌, IfOk};
+
+    /// An equal list.
+    pub fn copy(&self, alloc: Global) -> Result<Self, NoMemory>
+        ensures { IfOk result (λ l. l ≡ self.now) }
+    {
+        let mut lists = Vec::with_capacity(alloc, self.lists.len())?;
+        for list in &self.lists {
+            lists.push(list.copied(alloc)?)?;
+        }
+        Ok(Lists { lists })
+    }
+}
