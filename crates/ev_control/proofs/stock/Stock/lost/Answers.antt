@@ -12,26 +12,26 @@ at-requires g c =
     let r = named-at c.self.inside.pool c.args.from.now old.0 (subst (λ z. Names z.pool c.args.from.now old.0) (sym c.self.view_is) old.1) c.loop-key.key-index (get_or c.args.from.now c.loop-key.key-index 0) at in
     is-live _ c.self.inside.pool _ r.0 r.2
 
-pub sought-requires-clause-live : goal.sought-requires-clause-live
-sought-requires-clause-live g c =
+pub sought-found-requires-clause-live : goal.sought-found-requires-clause-live
+sought-found-requires-clause-live g c =
     let at = slice_get-get_or c.args.from.now c.loop-key.key-index 0 c.loop-key-test.true in
     let old = c.requires.from in
     let r = named-at c.self.inside.pool c.args.from.now old.0 (subst (λ z. Names z.pool c.args.from.now old.0) (sym c.self.view_is) old.1) c.loop-key.key-index (get_or c.args.from.now c.loop-key.key-index 0) at in
     is-live _ c.self.inside.pool _ r.0 r.2
 
-pub loop-key-preserved-then-found_stands : goal.loop-key-preserved-then-found_stands
-loop-key-preserved-then-found_stands g c = λ old new olds news.
+pub loop-key-preserved-then-found : goal.loop-key-preserved-then-found
+loop-key-preserved-then-found g c = λ old new olds news.
     let at = slice_get-get_or c.args.from.now c.loop-key.key-index 0 c.loop-key-test.true in
     let from = subst (λ z. Names z.pool c.args.from.now old) (sym c.self.view_is) olds in
     let to = subst (λ z. Names z.pool c.args.to.now new) (sym c.self.view_is) news in
-    lost-out c.self.inside.pool g.met.T.Cover.laws c.items_are_distinct.ensures.distinct c.args.from.now c.args.to.now old new from to c.loop-key.key-index (get_or c.args.from.now c.loop-key.key-index 0) c.loop-key.items.items at (sym c.sought-found.ensures ∙ c.if-found_stands.true) (c.loop-key.invariant old new olds news)
+    lost-out c.self.inside.pool g.met.T.Cover.laws c.items_are_distinct.ensures.distinct c.args.from.now c.args.to.now old new from to c.loop-key.key-index (get_or c.args.from.now c.loop-key.key-index 0) c.loop-key.items.items at (sym c.sought-found.ensures ∙ c.if-found.true) (c.loop-key.invariant old new olds news)
 
 pub loop-key-preserved : goal.loop-key-preserved
 loop-key-preserved g c = λ old new olds news.
     let at = slice_get-get_or c.args.from.now c.loop-key.key-index 0 c.loop-key-test.true in
     let from = subst (λ z. Names z.pool c.args.from.now old) (sym c.self.view_is) olds in
     let to = subst (λ z. Names z.pool c.args.to.now new) (sym c.self.view_is) news in
-    rw (c.in_ok-push.ensures.items, c.in_ok-copy.ensures) (lost-in c.self.inside.pool g.met.T.Cover.laws c.items_are_distinct.ensures.distinct c.args.from.now c.args.to.now old new from to c.loop-key.key-index (get_or c.args.from.now c.loop-key.key-index 0) c.at.result.now c.loop-key.items.items at c.at.ensures (sym c.sought-found.ensures ∙ c.if-found_stands.false) (c.loop-key.invariant old new olds news))
+    rw (c.in_ok-push.ensures.items, c.in_ok-copy.ensures) (lost-in c.self.inside.pool g.met.T.Cover.laws c.items_are_distinct.ensures.distinct c.args.from.now c.args.to.now old new from to c.loop-key.key-index (get_or c.args.from.now c.loop-key.key-index 0) c.at.result.now c.loop-key.items.items at c.at.ensures (sym c.sought-found.ensures ∙ c.if-found.false) (c.loop-key.invariant old new olds news))
 
 pub returns : goal.returns
 returns g c = λ old new olds news.
