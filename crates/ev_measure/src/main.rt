@@ -3,10 +3,14 @@
 
 mod agree;
 mod counts;
+mod covering;
 mod fault;
 mod figures;
+mod histories;
+mod kept;
 mod made;
 mod measure;
+mod plain;
 mod plan;
 mod random;
 #[cfg(test)]
@@ -21,6 +25,9 @@ use std::rt::Env;
 /// How many tables are compared.
 const TABLES: u64 = 300;
 
+/// How many histories of holding and releasing are compared.
+const HISTORIES: u64 = 500;
+
 /// What the program is asked for.
 #[derive(Clone, Copy, Debug, PartialEq, Eq)]
 enum Order {
@@ -28,6 +35,8 @@ enum Order {
     Agree,
     /// To measure both.
     Measure,
+    /// To measure the covering graph beside its plain body.
+    Covering,
 }
 
 /// What the word after the program's name asks for; none asks to compare.
@@ -37,6 +46,7 @@ fn asked(rt: &(impl Env + AllocGlobal)) -> Result<Order, Fault> {
         Some(word) => match word.as_str() {
             "agree" => Ok(Order::Agree),
             "measure" => Ok(Order::Measure),
+            "covering" => Ok(Order::Covering),
             _ => Err(Fault::Usage),
         },
     }
@@ -57,9 +67,23 @@ fn print_agreement(rt: &impl Print, alloc: Global) -> Result<(), Fault> {
     Ok(())
 }
 
+/// Compares the covering graph with its plain body, and prints how that went.
+fn print_histories(rt: &impl Print, alloc: Global) -> Result<(), Fault> {
+    let differences = histories::differences(alloc, HISTORIES)?;
+    if differences != 0 {
+        return Err(Fault::Differences(differences));
+    }
+    println!(rt; "{HISTORIES} histories of holding and releasing: graph and plain body agree")?;
+    Ok(())
+}
+
 fn main(rt: HostRuntime) -> Result<(), Fault> {
     match asked(&rt)? {
-        Order::Agree => print_agreement(&rt, rt.alloc()),
+        Order::Agree => {
+            print_agreement(&rt, rt.alloc())?;
+            print_histories(&rt, rt.alloc())
+        }
         Order::Measure => measure::measure(&rt, rt.alloc()),
+        Order::Covering => covering::measure(&rt, rt.alloc()),
     }
 }

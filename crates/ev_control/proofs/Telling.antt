@@ -1,0 +1,94 @@
+-- The text of a difference between two rows.
+use Rattle.std.proofs.Common.{◌≡◌, ◌≢◌, inl, inr, ℕ, ◌+◌, ◌==◌, ◌&&◌, not, Bool, true, false, List, [], ◌∷◌, ◌++◌, map, filter, take, slice_get, Option, Some, None, MatchOption, refl, sym, ap, subst, ◌∙◌, add-one, append_assoc, append-nil}
+use Rattle.std.specs.List.{flat_map}
+use Rattle.std.specs.Option.{option_map}
+use Rattle.ev_sets.specs.Sets.{IsRising, minus, same_list}
+use Rattle.ev_sets.proofs.Sets.{same_list-iff, rising-roots, rising-set_of}
+use Rattle.ev_cover.specs.Laws.{sub_laws, ad_laws}
+use Rattle.ev_constraint.specs.Constraint.{ConstraintParts}
+use Rattle.ev_pool.specs.Pool.{Pooled, Names}
+use Rattle.ev_poset.specs.Poset.{Held, held_by_others}
+use Rattle.ev_wire.specs.declared.message.Message as wire
+use Rattle.ev_wire.specs.declared.message.Message.TheVariants as wires
+use Rattle.ev_wire.specs.declared.sent.Sent.{Sent}
+use Rattle.ev_wire.specs.declared.semantics.Semantics.{Semantics}
+use Rattle.ev_wire.specs.MessageText.{IsMessageText}
+use Rattle.ev_theory.specs.Real.{real}
+use Rattle.ev_control.specs.Stock.{named, left_for, stays}
+use Rattle.ev_control.specs.Control.{text_to, sent_to, filter_change, advert_change, AreTexts, filters_left, adverts_left, is_wanted}
+use Rattle.ev_control.proofs.Named.{named-is}
+use Rattle.ev_control.proofs.Taken.{take-some}
+
+no-texts : AreTexts []
+no-texts s m = absurd m
+
+one-text : (link : ℕ) (bytes : List ℕ) (m : wire.Message) → IsMessageText bytes m → AreTexts (text_to link (Some bytes))
+one-text link bytes m text s (inl q) = (m, subst (λ z. IsMessageText z m) (sym (ap (λ z. z.bytes) q)) text)
+one-text link bytes m text s (inr r) = absurd r
+
+module _ {V : Type 0} (items : V → List ℕ) (link : ℕ) (old new : List (List ConstraintParts)) where
+  filters-told : (o : Option V) → MatchOption o (old ≡ new) (λ v. (old ≢ new) × IsMessageText (items v) (wires.Subs (minus real.before old new) (minus real.before new old)))
+      → (text_to link (option_map items o) ≡ map (sent_to link) (filter_change old new)) × AreTexts (text_to link (option_map items o))
+  filters-told None e =
+      let same : same_list real.before old new ≡ true = (same_list-iff sub_laws old new).1 e in
+      (rw same, no-texts)
+  filters-told (Some v) (n, text) =
+      let two : same_list real.before old new ≡ false = go (same_list real.before old new) refl in
+      (rw (two, text.text), one-text link (items v) (wires.Subs (minus real.before old new) (minus real.before new old)) text)
+    where
+      go : (b : Bool) → same_list real.before old new ≡ b → b ≡ false
+      go true e = absurd (n ((same_list-iff sub_laws old new).0 e))
+      go false e = refl
+
+  adverts-told : (o : Option V) → MatchOption o (old ≡ new) (λ v. (old ≢ new) × IsMessageText (items v) (wires.Advs (minus real.before_advert old new) (minus real.before_advert new old)))
+      → (text_to link (option_map items o) ≡ map (sent_to link) (advert_change old new)) × AreTexts (text_to link (option_map items o))
+  adverts-told None e =
+      let same : same_list real.before_advert old new ≡ true = (same_list-iff ad_laws old new).1 e in
+      (rw same, no-texts)
+  adverts-told (Some v) (n, text) =
+      let two : same_list real.before_advert old new ≡ false = go (same_list real.before_advert old new) refl in
+      (rw (two, text.text), one-text link (items v) (wires.Advs (minus real.before_advert old new) (minus real.before_advert new old)) text)
+    where
+      go : (b : Bool) → same_list real.before_advert old new ≡ b → b ≡ false
+      go true e = absurd (n ((same_list-iff ad_laws old new).0 e))
+      go false e = refl
+
+  -- of rows that name the two
+  module _ (pool : Pooled (List ConstraintParts)) (from to : List ℕ) (olds : Names pool from old) (news : Names pool to new) where
+    pub filter-rows : (o : Option V) → MatchOption o (named pool from ≡ named pool to) (λ v. (named pool from ≢ named pool to) × IsMessageText (items v) (wires.Subs (minus real.before (named pool from) (named pool to)) (minus real.before (named pool to) (named pool from))))
+        → (text_to link (option_map items o) ≡ map (sent_to link) (filter_change old new)) × AreTexts (text_to link (option_map items o))
+    filter-rows o m = filters-told o (subst (λ z. MatchOption o (old ≡ z) (λ v. (old ≢ z) × IsMessageText (items v) (wires.Subs (minus real.before old z) (minus real.before z old)))) (named-is pool to new news) (subst (λ z. MatchOption o (z ≡ named pool to) (λ v. (z ≢ named pool to) × IsMessageText (items v) (wires.Subs (minus real.before z (named pool to)) (minus real.before (named pool to) z)))) (named-is pool from old olds) m))
+
+    pub advert-rows : (o : Option V) → MatchOption o (named pool from ≡ named pool to) (λ v. (named pool from ≢ named pool to) × IsMessageText (items v) (wires.Advs (minus real.before_advert (named pool from) (named pool to)) (minus real.before_advert (named pool to) (named pool from))))
+        → (text_to link (option_map items o) ≡ map (sent_to link) (advert_change old new)) × AreTexts (text_to link (option_map items o))
+    advert-rows o m = adverts-told o (subst (λ z. MatchOption o (old ≡ z) (λ v. (old ≢ z) × IsMessageText (items v) (wires.Advs (minus real.before_advert old z) (minus real.before_advert z old)))) (named-is pool to new news) (subst (λ z. MatchOption o (z ≡ named pool to) (λ v. (z ≢ named pool to) × IsMessageText (items v) (wires.Advs (minus real.before_advert z (named pool to)) (minus real.before_advert (named pool to) z)))) (named-is pool from old olds) m))
+
+-- what is left is a set
+pub filters-rise : (semantics : Semantics) (interface link : ℕ) (offered out : List (List ConstraintParts)) (pairs : List (Held (List ConstraintParts))) → IsRising real.before (filters_left semantics interface link offered out pairs)
+filters-rise semantics interface link offered out pairs = rising-roots sub_laws (left_for real.before interface link out (is_wanted semantics offered) pairs) (rising-set_of sub_laws (map {A = Held real.Filter} {B = real.Filter} (λ h. h.item) (filter {X = Held real.Filter} (λ h. not (h.holder == link) && (stays real.before interface link out pairs h.item && is_wanted semantics offered h.item)) pairs)))
+
+pub adverts-rise : (interface link : ℕ) (out : List (List ConstraintParts)) (pairs : List (Held (List ConstraintParts))) → IsRising real.before_advert (adverts_left interface link out pairs)
+adverts-rise interface link out pairs = rising-roots ad_laws (held_by_others real.before_advert link (stays real.before_advert interface link out pairs) pairs) (rising-set_of ad_laws (map {A = Held real.Advert} {B = real.Advert} (λ h. h.item) (filter {X = Held real.Advert} (λ h. not (h.holder == link) && stays real.before_advert interface link out pairs h.item) pairs)))
+
+pub named-rise : {T : Type 0} (before : T → T → Bool) (pool : Pooled T) (row : List ℕ) (xs : List T) → Names pool row xs → IsRising before xs → IsRising before (named pool row)
+named-rise before pool row xs e r = subst (IsRising before) (sym (named-is pool row xs e)) r
+
+-- one more member in a joined list
+flat-more : {A B : Type 0} (f : A → List B) (xs : List A) (x : A) → flat_map f (xs ++ x ∷ []) ≡ flat_map f xs ++ f x
+flat-more f [] x = append-nil (f x)
+flat-more f (y ∷ ys) x = ap (λ z. f y ++ z) (flat-more f ys x) ∙ sym (append_assoc (f y) (flat_map f ys) (f x))
+
+pub flat-next : {A B : Type 0} (f : A → List B) (xs : List A) (n : ℕ) (x : A) (done more : List B) → slice_get xs n ≡ Some x → done ≡ flat_map f (take n xs) → more ≡ f x → done ++ more ≡ flat_map f (take (n + 1) xs)
+flat-next f xs n x done more at e m = rw (e, m, add-one, take-some xs n x at) (sym (flat-more f (take n xs) x))
+
+pub flat-skip : {A B : Type 0} (f : A → List B) (xs : List A) (n : ℕ) (x : A) (done : List B) → slice_get xs n ≡ Some x → done ≡ flat_map f (take n xs) → f x ≡ [] → done ≡ flat_map f (take (n + 1) xs)
+flat-skip f xs n x done at e m = rw (e, add-one, take-some xs n x at, flat-more f (take n xs) x, m) (sym (append-nil (flat_map f (take n xs))))
+
+pub flat-same : {A B : Type 0} (f g : A → List B) (xs : List A) → ((x : A) → f x ≡ g x) → flat_map f xs ≡ flat_map g xs
+flat-same f g [] same = refl
+flat-same f g (x ∷ xs) same = rw (same x, flat-same f g xs same)
+
+pub texts-more : (xs ys : List Sent) → AreTexts xs → AreTexts ys → AreTexts (xs ++ ys)
+texts-more [] ys p q s m = q s m
+texts-more (x ∷ xs) ys p q s (inl e) = p s (inl e)
+texts-more (x ∷ xs) ys p q s (inr m) = texts-more xs ys (λ t n. p t (inr n)) q s m

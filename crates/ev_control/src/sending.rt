@@ -1,0 +1,256 @@
+//! The texts of a change, asked of what is held before and after it.
+ghost use Rattle.std.specs.Prelude.{◌≡◌, ◌&&◌, ◌==◌, cond, ℕ, ◌++◌, List, [], IfOk, OnOk, map};
+ghost use Rattle.std.specs.List.{flat_map};
+ghost use Rattle.std.specs.Option.{option_map};
+ghost use Rattle.ev_sets.specs.Sets.{Has, roots};
+ghost use Rattle.ev_constraint.specs.Constraint.{ConstraintParts};
+ghost use Rattle.ev_notice.specs.Before.{list_before};
+ghost use Rattle.ev_notice.specs.Cover.{filter_covers, advert_covers, overlaps};
+ghost use Rattle.ev_pool.specs.Pool.{Names};
+ghost use Rattle.ev_poset.specs.Poset.{held_by_others};
+ghost use Rattle.ev_wire.specs.declared.message.Message.{Message};
+ghost use Rattle.ev_wire.specs.declared.sent.Sent.{Sent};
+ghost use Rattle.ev_wire.specs.MessageText.{IsMessageText};
+ghost use Rattle.ev_routing.specs.Clients.{some_pass};
+ghost use Rattle.ev_control.specs.Stock.{named, AreLive, stays, held_without};
+ghost use Rattle.ev_control.specs.Control.{is_wanted, filter_change, advert_change, sent_to, text_to, AreTexts, filters_left, adverts_left, filters_to, adverts_to};
+
+use crate::stock::Stock;
+use ev_cover::{Ad, Sub};
+use ev_memory::NoMemory;
+use ev_overlap::overlaps;
+use ev_pool::Key;
+use ev_wire::{Bytes, Semantics, Sent};
+use std::alloc::Global;
+
+/// Whether a filter is wanted on a link that offers the advertisements of these keys.
+fn is_wanted(semantics: Semantics, adverts: &Stock<Ad>, offered: &[Key], filter: &Sub) -> bool
+    requires { AreLive adverts.now.pool offered.now }
+    ensures { result ≡ is_wanted semantics (named adverts.now.pool offered.now) filter.now }
+{
+    match semantics {
+        Semantics::Subscription => true,
+        Semantics::Advertisement => is_met(adverts, offered, filter),
+    }
+}
+
+/// Whether a filter overlaps one of the advertisements of these keys.
+fn is_met(adverts: &Stock<Ad>, offered: &[Key], filter: &Sub) -> bool
+    requires { AreLive adverts.now.pool offered.now }
+    ensures { result ≡ some_pass (overlaps filter.now) (named adverts.now.pool offered.now) }
+{
+    for key in offered {
+        if overlaps(&filter.0, &adverts.at(*key).0) {
+            return true;
+        }
+    }
+    false
+}
+
+/// Whether a filter is needed on a link that offers the advertisements of these keys, once the
+/// interface holds those no more that are withdrawn.
+fn is_left(
+    semantics: Semantics,
+    filters: &Stock<Sub>,
+    adverts: &Stock<Ad>,
+    offered: &[Key],
+    interface: u32,
+    link: u32,
+    out: &[Sub],
+    filter: &Sub,
+) -> bool
+    requires { AreLive adverts.now.pool offered.now }
+    ensures { result ≡ stays list_before interface link out.now filters.now.pairs filter.now && is_wanted semantics (named adverts.now.pool offered.now) filter.now }
+{
+    filters.stays(interface, link, out, filter) && is_wanted(semantics, adverts, offered, filter)
+}
+
+/// The keys of the filters to be sent on a link that offers the advertisements of these keys, once
+/// the interface holds those no more that are withdrawn.
+fn filter_row(
+    semantics: Semantics,
+    filters: &Stock<Sub>,
+    adverts: &Stock<Ad>,
+    offered: &[Key],
+    interface: u32,
+    link: u32,
+    out: &[Sub],
+) -> Result<Vec<Key>, NoMemory>
+    requires { AreLive adverts.now.pool offered.now }
+    ensures { IfOk result (λ row. Names filters.now.pool row.items (filters_left semantics interface link (named adverts.now.pool offered.now) out.now filters.now.pairs)) }
+{
+    filters.roots(
+        link,
+        &|filter: &Sub| {
+            is_left(
+                semantics, filters, adverts, offered, interface, link, out, filter,
+            )
+        },
+    )
+}
+
+/// The keys of the advertisements to be sent on a link once the interface holds those no more that
+/// are withdrawn.
+fn advert_row(
+    adverts: &Stock<Ad>,
+    interface: u32,
+    link: u32,
+    out: &[Ad],
+) -> Result<Vec<Key>, NoMemory>
+    ensures { IfOk result (λ row. Names adverts.now.pool row.items (adverts_left interface link out.now adverts.now.pairs)) }
+{
+    adverts.roots(
+        link,
+        &|advert: &Ad| adverts.stays(interface, link, out, advert),
+    )
+}
+
+/// The text, if one is due, of the message of a change of filters to a link.
+fn filter_text(
+    semantics: Semantics,
+    filters: &Stock<Sub>,
+    adverts: &Stock<Ad>,
+    interface: u32,
+    link: u32,
+    out: &[Sub],
+    add: &[Sub],
+) -> Result<Option<Bytes>, NoMemory>
+    ensures change { IfOk result (λ text. text_to link text ≡ map (sent_to link) (filter_change (filters_left semantics interface link (held_without list_before link [] adverts.now.pairs) add.now filters.now.pairs) (filters_left semantics interface link (held_without list_before link [] adverts.now.pairs) out.now filters.now.pairs))) }
+    ensures text { IfOk result (λ text. AreTexts (text_to link text)) }
+{
+    let offered = adverts.kept(link, &[])?;
+    let before = filter_row(semantics, filters, adverts, &offered, interface, link, add)?;
+    let after = filter_row(semantics, filters, adverts, &offered, interface, link, out)?;
+    let text = filters.text(&before, &after)?;
+    Ok(bytes(text))
+}
+
+/// The text, if one is due, of the message of filters to a link whose advertisements change.
+fn offer_text(
+    semantics: Semantics,
+    filters: &Stock<Sub>,
+    adverts: &Stock<Ad>,
+    link: u32,
+    out: &[Ad],
+    add: &[Ad],
+) -> Result<Option<Bytes>, NoMemory>
+    ensures change { IfOk result (λ text. text_to link text ≡ map (sent_to link) (filter_change (filters_left semantics link link (held_without list_before link add.now adverts.now.pairs) [] filters.now.pairs) (filters_left semantics link link (held_without list_before link out.now adverts.now.pairs) [] filters.now.pairs))) }
+    ensures text { IfOk result (λ text. AreTexts (text_to link text)) }
+{
+    let offered = adverts.kept(link, add)?;
+    let before = filter_row(semantics, filters, adverts, &offered, link, link, &[])?;
+    let offered = adverts.kept(link, out)?;
+    let after = filter_row(semantics, filters, adverts, &offered, link, link, &[])?;
+    let text = filters.text(&before, &after)?;
+    Ok(bytes(text))
+}
+
+/// The text, if one is due, of the message of a change of advertisements to a link.
+fn advert_text(
+    adverts: &Stock<Ad>,
+    interface: u32,
+    link: u32,
+    out: &[Ad],
+    add: &[Ad],
+) -> Result<Option<Bytes>, NoMemory>
+    ensures change { IfOk result (λ text. text_to link text ≡ map (sent_to link) (advert_change (adverts_left interface link add.now adverts.now.pairs) (adverts_left interface link out.now adverts.now.pairs))) }
+    ensures text { IfOk result (λ text. AreTexts (text_to link text)) }
+{
+    let before = advert_row(adverts, interface, link, add)?;
+    let after = advert_row(adverts, interface, link, out)?;
+    let text = adverts.text(&before, &after)?;
+    Ok(bytes(text))
+}
+
+/// The bytes, if there are any.
+fn bytes(text: Option<Vec<u8>>) -> Option<Bytes>
+    ensures { result ≡ option_map (λ v. v.items) text }
+{
+    match text {
+        Some(bytes) => Some(Bytes::of(bytes)),
+        None => None,
+    }
+}
+
+/// Puts the text, if there is one, at the end.
+fn push_text(sent: &mut Vec<Sent>, link: u32, text: Option<Bytes>) -> Result<(), NoMemory>
+    ensures { OnOk result (sent.new.items ≡ sent.old.items ++ text_to link text) }
+{
+    if let Some(bytes) = text {
+        sent.push(Sent { to: link, bytes })?;
+    }
+    Ok(())
+}
+
+/// The texts of the messages of a change of the filters that an interface holds.
+///
+/// What is added is held already, and what is withdrawn is held still: each set is asked for with
+/// a test that leaves out what only this interface and the link hold of what is not to be in it.
+pub(crate) fn filter_texts(
+    alloc: Global,
+    semantics: Semantics,
+    links: &[u32],
+    filters: &Stock<Sub>,
+    adverts: &Stock<Ad>,
+    interface: u32,
+    out: &[Sub],
+    add: &[Sub],
+) -> Result<Vec<Sent>, NoMemory>
+    ensures sent { IfOk result (λ sent. sent.items ≡ flat_map (filters_to semantics interface out.now add.now filters.now.pairs adverts.now.pairs) links.now) }
+    ensures texts { IfOk result (λ sent. AreTexts sent.items) }
+{
+    let mut sent = Vec::new(alloc);
+    for link in links {
+        if *link == interface {
+            continue;
+        }
+        let text = filter_text(semantics, filters, adverts, interface, *link, out, add)?;
+        push_text(&mut sent, *link, text)?;
+    }
+    Ok(sent)
+}
+
+/// The texts of the messages of a change of the advertisements that an interface holds: of filters
+/// to that interface, where it is a link, and of advertisements to the other links.
+pub(crate) fn advert_texts(
+    alloc: Global,
+    semantics: Semantics,
+    links: &[u32],
+    filters: &Stock<Sub>,
+    adverts: &Stock<Ad>,
+    interface: u32,
+    out: &[Ad],
+    add: &[Ad],
+) -> Result<Vec<Sent>, NoMemory>
+    ensures sent { IfOk result (λ sent. sent.items ≡ flat_map (adverts_to semantics interface out.now add.now filters.now.pairs adverts.now.pairs) links.now) }
+    ensures texts { IfOk result (λ sent. AreTexts sent.items) }
+{
+    let mut sent = Vec::new(alloc);
+    for link in links {
+        let text = one_advert_text(semantics, filters, adverts, interface, *link, out, add)?;
+        push_text(&mut sent, *link, text)?;
+    }
+    Ok(sent)
+}
+
+/// The text, if one is due, to one link of a change of the advertisements of an interface.
+fn one_advert_text(
+    semantics: Semantics,
+    filters: &Stock<Sub>,
+    adverts: &Stock<Ad>,
+    interface: u32,
+    link: u32,
+    out: &[Ad],
+    add: &[Ad],
+) -> Result<Option<Bytes>, NoMemory>
+    ensures change { IfOk result (λ text. text_to link text ≡ adverts_to semantics interface out.now add.now filters.now.pairs adverts.now.pairs link) }
+    ensures text { IfOk result (λ text. AreTexts (text_to link text)) }
+{
+    if link == interface {
+        let text = offer_text(semantics, filters, adverts, link, out, add)?;
+        Ok(text)
+    } else {
+        let text = advert_text(adverts, interface, link, out, add)?;
+        Ok(text)
+    }
+}
