@@ -2,7 +2,7 @@
 ghost use Rattle.std.specs.Prelude.{◌≡◌, false, IfOk};
 ghost use Rattle.ev_turnlock.specs.Passes.{IsPassOf, has_in_hand, pass_count};
 
-use crate::{Pass, Standing, TurnLock};
+use ev_turnlock::{Pass, Standing, TurnLock};
 use std::alloc::{AllocError, Global};
 use std::sync::Wait;
 use std::test::Fail;

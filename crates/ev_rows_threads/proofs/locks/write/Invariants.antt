@@ -1,6 +1,6 @@
 use Rattle.std.proofs.Common.{◌≡◌, false}
 use Rattle.ev_turnlock.specs.Passes.{IsPassOf, has_in_hand}
-use Rattle.ev_turnlock.proofs.tests.write.Given as goal
+use Rattle.ev_rows_threads.proofs.locks.write.Given as goal
 
 abbrev pub invariant-loop : goal.invariant-loop
 invariant-loop g l = record {
