@@ -3,7 +3,8 @@ ghost use Rattle.std.specs.Prelude.{◌≡◌, IfOk, MatchResult};
 ghost use Rattle.std.specs.Option.{option_copied};
 
 use crate::bytes::{has_part, has_prefix, has_suffix, is_less, is_same};
-use crate::normal::{IntSet, Normal, text_allows};
+use crate::normal::{Normal, normal_int, normal_time, text_allows};
+use crate::numbers::number_satisfies;
 use crate::op::Op;
 use crate::order::{op_order, operand_order};
 use ev_values::{Kind, Name, NoMemory, Value};
@@ -52,7 +53,8 @@ impl Constraint {
     ghost use Rattle.ev_constraint.specs.Normal.{form_meant, IsOfKind};
 
     /// The constraint of these parts, exactly where they make one. `Bool` has the operators `Eq`, `Ne`
-    /// and `Any`, `Int` has besides `Lt`, `Le`, `Gt` and `Ge`, and `Str` has all. It takes no memory.
+    /// and `Any`, `Int` and `Time` have besides `Lt`, `Le`, `Gt` and `Ge`, and `Str` has all. It takes
+    /// no memory.
     pub fn make(
         name: Name,
         kind: Kind,
@@ -151,8 +153,17 @@ impl Constraint {
         match (&self.operand, value) {
             (None, _) => self.kind == value.kind(),
             (Some(Value::Bool(u)), Value::Bool(x)) => (*u == *x) == (self.op == Op::Eq),
-            (Some(Value::Int(u)), Value::Int(x)) => int_satisfies(self.op, *x, *u),
+            (Some(Value::Int(u)), Value::Int(x)) => number_satisfies(
+                self.op,
+                i128::from(*x),
+                i128::from(*u),
+            ),
             (Some(Value::Str(u)), Value::Str(x)) => text_allows(self.op, x.bytes(), u.bytes()),
+            (Some(Value::Time(u)), Value::Time(x)) => number_satisfies(
+                self.op,
+                i128::from(*x),
+                i128::from(*u),
+            ),
             _ => false,
         }
     }
@@ -174,6 +185,7 @@ impl Constraint {
                 (Op::Gt, true) => Normal::Str(Op::Ne, u),
                 (op, _) => Normal::Str(op, u),
             },
+            Some(Value::Time(u)) => normal_time(self.op, *u),
         }
     }
 
@@ -190,7 +202,7 @@ impl Constraint {
     }
 
     /// Whether both are on one name and kind and the table finds no reason why no value should satisfy
-    /// both. For numbers and truth values a yes says that one value does. It takes time as `covers`.
+    /// both. For numbers, times and truth values a yes says that one value does. It takes time as `covers`.
     #[tactic(auto, unfolding(crate::specs::Constraint::compatible))]
     pub fn compatible(&self, other: &Constraint) -> bool
         ensures { result ≡ compatible self.now other.now }
@@ -202,11 +214,6 @@ impl Constraint {
 }
 
 ghost use Rattle.ev_constraint.specs.Faults.{has_op, is_pattern, is_empty_text};
-ghost use Rattle.ev_constraint.specs.Numbers.{number_satisfies, number_form};
-ghost use Rattle.ev_constraint.specs.Constraint.{int_least, int_greatest, form_of, IsNumberOp, Form};
-ghost use Rattle.ev_constraint.specs.Constraint.Form.{number};
-ghost use Rattle.ev_constraint.specs.Normal.{form_meant, IsOfKind};
-ghost use Rattle.ev_values.specs.declared.value.Kind.{Kind};
 
 impl PartialEq for Constraint {
     ghost use Rattle.std.specs.Ordering.{eq_by_cmp};
@@ -279,7 +286,7 @@ fn has_op(kind: Kind, op: Op) -> bool
     match (kind, op) {
         (_, Op::Any | Op::Eq | Op::Ne) => true,
         (Kind::Bool, _) => false,
-        (Kind::Int, Op::Contains | Op::Prefix | Op::Suffix) => false,
+        (Kind::Int | Kind::Time, Op::Contains | Op::Prefix | Op::Suffix) => false,
         _ => true,
     }
 }
@@ -299,46 +306,5 @@ fn is_empty_text(v: &Value) -> bool
     match v {
         Value::Str(t) => t.bytes().is_empty(),
         _ => false,
-    }
-}
-
-fn int_satisfies(op: Op, x: i64, u: i64) -> bool
-    ensures { result ≡ number_satisfies op x u }
-{
-    match op {
-        Op::Any => true,
-        Op::Eq => x == u,
-        Op::Ne => x != u,
-        Op::Lt => x < u,
-        Op::Le => x <= u,
-        Op::Gt => x > u,
-        Op::Ge => x >= u,
-        Op::Prefix | Op::Suffix | Op::Contains => false,
-    }
-}
-
-fn normal_int<'a>(op: Op, u: i64) -> Normal<'a>
-    requires { IsNumberOp op }
-    ensures kind { IsOfKind Kind.Int result }
-    ensures form { form_meant Kind.Int result ≡ number (number_form int_least int_greatest op u) }
-{
-    match op {
-        Op::Eq => Normal::Int(IntSet::Eq(u)),
-        Op::Ne if u == i64::MIN => Normal::Int(IntSet::Ge(i64::MIN + 1)),
-        Op::Ne if u == i64::MAX => Normal::Int(IntSet::Le(i64::MAX - 1)),
-        Op::Ne => Normal::Int(IntSet::Ne(u)),
-        Op::Le if u == i64::MAX => Normal::All,
-        Op::Le if u == i64::MIN => Normal::Int(IntSet::Eq(i64::MIN)),
-        Op::Le => Normal::Int(IntSet::Le(u)),
-        Op::Lt if u == i64::MIN => Normal::Empty,
-        Op::Lt if u == i64::MIN + 1 => Normal::Int(IntSet::Eq(i64::MIN)),
-        Op::Lt => Normal::Int(IntSet::Le(u - 1)),
-        Op::Ge if u == i64::MIN => Normal::All,
-        Op::Ge if u == i64::MAX => Normal::Int(IntSet::Eq(i64::MAX)),
-        Op::Ge => Normal::Int(IntSet::Ge(u)),
-        Op::Gt if u == i64::MAX => Normal::Empty,
-        Op::Gt if u == i64::MAX - 1 => Normal::Int(IntSet::Eq(i64::MAX)),
-        Op::Gt => Normal::Int(IntSet::Ge(u + 1)),
-        Op::Any | Op::Prefix | Op::Suffix | Op::Contains => Normal::All,
     }
 }

@@ -1,5 +1,6 @@
 //! Laws of covering, of compatibility and of the canonical order. The laws of numbers are over any
-//! range with a least and a greatest number and at least three in all; int is the range of i64.
+//! range with a least and a greatest number and at least three in all; int is the range of i64, time
+//! that of u64.
 ghost use Rattle.std.specs.Prelude.{◌≡◌, ◌≢◌, ℤ, true, List};
 ghost use Rattle.std.specs.Cmp.{IsTotalOrder};
 ghost use Rattle.std.specs.declared.cmp.Ordering.TheVariants.{Equal};
@@ -7,7 +8,7 @@ ghost use Rattle.ev_values.specs.Value.{IsValue};
 ghost use Rattle.ev_values.specs.declared.value.Kind.{Kind};
 ghost use Rattle.ev_values.specs.declared.value.Value.{Value};
 ghost use Rattle.ev_constraint.specs.Complete.{IsCompletePair, IsImplied, SharesValue};
-ghost use Rattle.ev_constraint.specs.Constraint.{ConstraintParts, IsConstraint, satisfies, constraint_covers, compatible, form_of, form_allows, int_least, int_greatest};
+ghost use Rattle.ev_constraint.specs.Constraint.{ConstraintParts, IsConstraint, satisfies, constraint_covers, compatible, form_of, form_allows, int_least, int_greatest, time_least, time_greatest};
 ghost use Rattle.ev_constraint.specs.Numbers.{Numbers, IsNumberForm, IsWithin, IsWide, number_allows, number_covers, number_compatible, number_form, number_satisfies};
 ghost use Rattle.ev_constraint.specs.Order.{constraint_cmp, list_cmp};
 ghost use Rattle.ev_constraint.specs.declared.op.Op.{Op};
@@ -24,13 +25,13 @@ pub fn covering()
     ensures sound { (c d : ConstraintParts) → constraint_covers c d ≡ true → IsImplied c d }
 {}
 
-/// Covering is complete for int, for bool, and for the pairs of str that are named.
+/// Covering is complete for int, for time, for bool, and for the pairs of str that are named.
 pub fn covering_complete()
     ensures { (c d : ConstraintParts) → IsConstraint c → IsConstraint d → c.name ≡ d.name → c.kind ≡ d.kind → IsCompletePair c.kind c.op d.op d.operand → IsImplied c d → constraint_covers c d ≡ true }
 {}
 
-/// Compatibility is symmetric, it is never no where one value satisfies both, and for int and bool
-/// it is yes only there.
+/// Compatibility is symmetric, it is never no where one value satisfies both, and for int, time and
+/// bool it is yes only there.
 pub fn compatibility()
     ensures symmetric { (c d : ConstraintParts) → compatible c d ≡ compatible d c }
     ensures never_wrong { (c d : ConstraintParts) → c.name ≡ d.name → SharesValue c d → compatible c d ≡ true }
@@ -48,6 +49,11 @@ pub fn canonical_order()
 /// int is a range that the laws of numbers speak of.
 pub fn int_range()
     ensures { IsWide int_least int_greatest }
+{}
+
+/// So is time.
+pub fn time_range()
+    ensures { IsWide time_least time_greatest }
 {}
 
 /// The normal form of a constraint on a number is one of the range, and the numbers that meet it
