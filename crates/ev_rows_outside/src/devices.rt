@@ -1,6 +1,9 @@
 //! The devices on their worked rows, and a reading and a writing that fail in mid-stream.
-use super::*;
 use ev_memory::NoMemory;
+use ev_outside::{
+    Failed, Gate, MemorySink, MemorySource, NoGate, Place, ReadAll, Sink, Spot, StdSink, StdSource,
+    SureSink, SureSource, Word, Worker, read_all, write_all,
+};
 use std::alloc::Global;
 use std::test::Fail;
 
