@@ -134,7 +134,7 @@ impl Constraint {
     pub fn same_subject(&self, other: &Constraint) -> bool
         ensures { result ≡ same_subject self.now other.now }
     {
-        self.name.equals(&other.name) && self.kind.is(other.kind)
+        self.name == other.name && self.kind.is(other.kind)
     }
 
     /// The kind of the values that may satisfy the constraint.
@@ -196,9 +196,7 @@ impl Constraint {
     pub fn covers(&self, other: &Constraint) -> bool
         ensures { result ≡ constraint_covers self.now other.now }
     {
-        self.name.equals(&other.name)
-            && self.kind.is(other.kind)
-            && self.normal().covers(&other.normal())
+        self.name == other.name && self.kind.is(other.kind) && self.normal().covers(&other.normal())
     }
 
     /// Whether both are on one name and kind and the table finds no reason why no value should satisfy
@@ -207,7 +205,7 @@ impl Constraint {
     pub fn compatible(&self, other: &Constraint) -> bool
         ensures { result ≡ compatible self.now other.now }
     {
-        self.name.equals(&other.name)
+        self.name == other.name
             && self.kind.is(other.kind)
             && self.normal().compatible(&other.normal())
     }
@@ -272,8 +270,7 @@ impl Ord for Constraint {
 
     fn cmp(&self, other: &Constraint) -> Ordering {
         self.name
-            .bytes()
-            .cmp(other.name.bytes())
+            .cmp(&other.name)
             .then(self.kind.order(other.kind))
             .then(op_order(self.op, other.op))
             .then(operand_order(&self.operand, &other.operand))

@@ -25,9 +25,9 @@ pub fn covering()
     ensures sound { (c d : ConstraintParts) → constraint_covers c d ≡ true → IsImplied c d }
 {}
 
-/// Covering is complete for int, for time, for bool, and for the pairs of str that are named.
+/// Covering is complete for int, for time, for bool, and for the pairs of forms of str that are named.
 pub fn covering_complete()
-    ensures { (c d : ConstraintParts) → IsConstraint c → IsConstraint d → c.name ≡ d.name → c.kind ≡ d.kind → IsCompletePair c.kind c.op d.op d.operand → IsImplied c d → constraint_covers c d ≡ true }
+    ensures { (c d : ConstraintParts) → IsConstraint c → IsConstraint d → c.name ≡ d.name → c.kind ≡ d.kind → IsCompletePair (form_of c.kind c.op c.operand) (form_of d.kind d.op d.operand) → IsImplied c d → constraint_covers c d ≡ true }
 {}
 
 /// Compatibility is symmetric, it is never no where one value satisfies both, and for int, time and

@@ -1,14 +1,16 @@
 //! Lists of constraints in the canonical order, as filters and advertisements keep them.
-ghost use Rattle.std.specs.Prelude.{◌≡◌, [], IfOk};
+ghost use Rattle.std.specs.Prelude.{◌≡◌, ◌<◌, ◌↔◌, [], length, true, false, IfOk, IfSome, IsErrOf, MatchOption};
+ghost use Rattle.std.specs.Arc.{arc_slice_items};
 ghost use Rattle.std.specs.List.Retain.{IsFiltered, DiffersFromLast};
 ghost use Rattle.std.specs.Ordering.{is_lt, eq_by_cmp};
 ghost use Rattle.ev_constraint.specs.Order.{constraint_cmp};
-ghost use Rattle.ev_notice.specs.Canonical.{canonical, is_rising, AreConstraints};
+ghost use Rattle.ev_notice.specs.Canonical.{canonical, is_rising, is_listed, AreConstraints, IsListed};
 
+use crate::filter::FilterFault;
 use ev_constraint::Constraint;
 use ev_memory::NoMemory;
-use std::alloc::Global;
 use std::cmp::Ordering;
+use std::sync::ArcSlice;
 
 // Of neighbours that are equal the first alone.
 fn without_repeats(mut sorted: Vec<Constraint>) -> Vec<Constraint>
@@ -59,13 +61,41 @@ pub fn settle(constraints: &[Constraint])
     }
 }
 
-/// Equal constraints.
-pub fn copied(alloc: Global, constraints: &[Constraint]) -> Result<Vec<Constraint>, NoMemory>
-    ensures { IfOk result (λ v. v.items ≡ constraints.now) }
+/// The constraints, each once, in the canonical order, where there are some and at most this many.
+#[tactic(auto, using(crate::proofs::CanonicalLaws::canonical_rising, crate::proofs::CanonicalLaws::canonical_some, crate::proofs::CanonicalLaws::canonical_none))]
+pub fn listed(
+    constraints: Vec<Constraint>,
+    most: usize,
+) -> Result<ArcSlice<Constraint>, FilterFault>
+    ensures value { IfOk result (λ l. arc_slice_items l ≡ canonical constraints.items) }
+    ensures listed { IfOk result (λ l. IsListed most (arc_slice_items l)) }
+    ensures nothing { IsErrOf result FilterFault.Nothing ↔ (constraints.items ≡ []) }
+    ensures too_many { IsErrOf result FilterFault.TooMany ↔ (most < length (canonical constraints.items)) }
 {
-    let mut copies = Vec::with_capacity(alloc, constraints.len())?;
-    for constraint in constraints {
-        copies.push(constraint.copy(alloc)?)?;
+    if constraints.is_empty() {
+        return Err(FilterFault::Nothing);
     }
-    Ok(copies)
+    let constraints = canonical(constraints);
+    if constraints.len() > most {
+        return Err(FilterFault::TooMany);
+    }
+    settle(&constraints);
+    Ok(ArcSlice::from_vec(constraints)?)
+}
+
+/// The same of constraints that stand in canonical order already, each once; `None` where they don't, or are none or
+/// more than this many.
+#[tactic(auto, unfolding(crate::specs::Canonical::is_listed))]
+pub fn listed_of_rising(
+    constraints: Vec<Constraint>,
+    most: usize,
+) -> Result<Option<ArcSlice<Constraint>>, NoMemory>
+    ensures value { IfOk result (λ o. MatchOption o (is_listed most constraints.items ≡ false) (λ l. (arc_slice_items l ≡ constraints.items) × (is_listed most constraints.items ≡ true))) }
+    ensures listed { IfOk result (λ o. IfSome o (λ l. IsListed most (arc_slice_items l))) }
+{
+    if constraints.is_empty() || constraints.len() > most || !is_rising(&constraints) {
+        return Ok(None);
+    }
+    settle(&constraints);
+    Ok(Some(ArcSlice::from_vec(constraints)?))
 }

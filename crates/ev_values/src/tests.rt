@@ -118,11 +118,11 @@ fn values_rise(rt: HostRuntime) -> Result<(), Fail> {
 fn copies(rt: HostRuntime) -> Result<(), Fail> {
     let name = Name::read(rt.alloc(), b"x.y-1")?;
     let copy = name.copy(rt.alloc())?;
-    assert!(rt; name.equals(&copy));
+    assert!(rt; name == copy);
     assert_eq!(rt; copy.bytes(), b"x.y-1".as_slice());
     let text = Text::read(rt.alloc(), b"a b")?;
     let copy = text.copy(rt.alloc())?;
-    assert!(rt; text.equals(&copy));
+    assert!(rt; text == copy);
     let owned = Text::from_bytes(copy.bytes().to_vec(rt.alloc())?);
     assert!(rt; owned.is_some());
     assert_eq!(rt; Value::Str(text).kind(), Kind::Str);
