@@ -10,3 +10,4 @@ pub mod Uses
 pub mod Sound
 pub mod Counted
 pub mod Routed
+pub mod Unique

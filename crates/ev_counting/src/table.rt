@@ -187,7 +187,7 @@ fn matched(alloc: Global, slots: &[Option<Entry>], notice: &Notice) -> Result<Ve
 }
 
 impl Table {
-    ghost use Rattle.ev_counting.specs.Table.{IsApplied, IsRouteOf};
+    ghost use Rattle.ev_counting.specs.Table.{IsApplied, AreApplied, IsRouteOf};
 
     /// A table of no pairs. It takes no memory.
     pub fn new(alloc: Global) -> Table
@@ -216,6 +216,21 @@ impl Table {
                 Ok(())
             }
         }
+    }
+
+    /// Makes a list of changes in their order: all of them, or none where it wants memory.
+    ///
+    /// It makes them on a copy, which takes the table's place at the end.
+    pub fn apply_all(&mut self, changes: &[Change]) -> Result<(), NoMemory>
+        ensures applied { OnOk result (AreApplied changes.now self.old self.new) }
+        ensures err { OnErr result (self.new ≡ self.old) }
+    {
+        let mut next = self.copy()?;
+        for change in changes {
+            next.apply(change)?;
+        }
+        *self = next;
+        Ok(())
     }
 
     /// Adds a pair.

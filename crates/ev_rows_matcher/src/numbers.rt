@@ -1,8 +1,8 @@
-//! Worked rows of the index.
+//! Worked rows of the index of numbers.
 ghost use Rattle.std.specs.Prelude.{◌≡◌, IfOk};
 
-use crate::NumIndex;
 use ev_constraint::{Constraint, Op};
+use ev_numindex::NumIndex;
 use ev_values::{Kind, Name, Value};
 use std::alloc::Global;
 use std::rt::HostRuntime;
@@ -64,5 +64,37 @@ fn truths(rt: HostRuntime) -> Result<(), Fail> {
         met(alloc, &index, &Value::Bool(false))?.as_slice(),
         [2, 3].as_slice()
     );
+    Ok(())
+}
+
+#[test]
+fn times(rt: HostRuntime) -> Result<(), Fail> {
+    let alloc = rt.alloc();
+    let mut index = NumIndex::new(alloc);
+    index.add(&on(alloc, Kind::Int, Op::Eq, Some(Value::Int(5)))?, 1)?;
+    index.add(&on(alloc, Kind::Int, Op::Any, None)?, 2)?;
+    for (op, operand, id) in [
+        (Op::Eq, 5, 3),
+        (Op::Lt, 6, 4),
+        (Op::Ne, 5, 5),
+        (Op::Ge, u64::MAX, 6),
+        (Op::Gt, i64::MAX as u64, 7),
+    ] {
+        let constraint = on(alloc, Kind::Time, op, Some(Value::Time(operand)))?;
+        index.add(&constraint, id)?;
+    }
+    index.add(&on(alloc, Kind::Time, Op::Any, None)?, 8)?;
+    for (value, ids) in [
+        (Value::Int(5), [1, 2].as_slice()),
+        (Value::Time(5), [3, 4, 8].as_slice()),
+        (Value::Time(0), [4, 5, 8].as_slice()),
+        (Value::Time(i64::MAX as u64), [5, 8].as_slice()),
+        (Value::Time(1 << 63), [5, 7, 8].as_slice()),
+        (Value::Time(u64::MAX), [5, 6, 7, 8].as_slice()),
+    ] {
+        assert_eq!(rt; met(alloc, &index, &value)?.as_slice(), ids);
+    }
+    let five = on(alloc, Kind::Time, Op::Eq, Some(Value::Time(5)))?;
+    assert!(rt; index.remove(&five, 3) && !index.remove(&five, 1));
     Ok(())
 }

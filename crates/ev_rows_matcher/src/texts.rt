@@ -1,9 +1,9 @@
-//! Worked rows of the index.
+//! Worked rows of the index of texts.
 ghost use Rattle.std.specs.Prelude.{◌≡◌, IfOk};
 ghost use Rattle.ev_values.specs.declared.value.Kind.{Kind};
 
-use crate::TextIndex;
 use ev_constraint::{Constraint, Op};
+use ev_textindex::TextIndex;
 use ev_values::{Kind, Name, Text, Value};
 use std::alloc::Global;
 use std::rt::HostRuntime;
@@ -80,6 +80,7 @@ fn operators(rt: HostRuntime) -> Result<(), Fail> {
     );
     let mut found = Vec::new(alloc);
     index.hits(&Value::Int(1), &mut found)?;
+    index.hits(&Value::Time(1), &mut found)?;
     assert!(rt; found.is_empty());
     Ok(())
 }
