@@ -1,5 +1,6 @@
 -- Rising lists with the same members are equal.
-use Rattle.std.proofs.Common.{◌≡◌, ◌⊎◌, inl, inr, ◌<◌, refl, sym, ap, arith, ℕ, List, [], ◌∷◌, zero, suc}
+use Rattle.std.proofs.Common.{◌≡◌, ◌⊎◌, inl, inr, ◌<◌, ◌+◌, refl, sym, subst, arith, ℕ, List, [], ◌∷◌, zero, suc}
+use Rattle.std.specs.Prelude.{slice_index}
 use Rattle.std.specs.List.{Contains}
 use Rattle.std.specs.List.Sorted.{IsStrictlyIncreasing}
 use Rattle.ev_notice.specs.Notice.{Attribute}
@@ -16,7 +17,7 @@ parts y x xs (zero, l, e) = inl e
 parts y x xs (suc k, l, e) = inr (k, omega (arith, l), e)
 
 tail-rises : (x : ℕ) (xs : List ℕ) → IsStrictlyIncreasing (x ∷ xs) → IsStrictlyIncreasing xs
-tail-rises x xs h k l = h (suc k) (omega (arith, l))
+tail-rises x xs h k l = subst (λ n. slice_index (x ∷ xs) (suc k) < slice_index (x ∷ xs) n) {x = suc k + 1} {y = suc (k + 1)} (omega arith) (h (suc k) (omega (arith, l)))
 
 above : (x : ℕ) (xs : List ℕ) → IsStrictlyIncreasing (x ∷ xs) → (z : ℕ) → Contains xs z → x < z
 above x [] h z m = absurd (omega (arith, m.1))

@@ -9,8 +9,6 @@ mod made;
 mod measure;
 mod plan;
 mod random;
-#[cfg(test)]
-mod tests;
 mod words;
 mod workload;
 
