@@ -1,5 +1,8 @@
 pub mod Sets
 pub mod Rounds
+pub mod Without
+pub mod Changes
+pub mod Together
 pub mod Places
 pub mod Same
 pub mod Apart

@@ -14,6 +14,7 @@ mod scratch;
 mod shelf;
 mod slots;
 mod table;
+mod together;
 
 pub use change::Change;
 pub use route::Route;

@@ -6,9 +6,11 @@ use Rattle.ev_counting.specs.declared.entry.Entry.{Entry}
 use Rattle.ev_counting.specs.declared.goal.Goal.{Goal}
 use Rattle.ev_counting.specs.Table.{Held, IsAdded}
 use Rattle.ev_counting.specs.Slots.{held, numbered, pair_of, IsPlaced, IsSound, goal_of}
+use Rattle.ev_counting.specs.Changes.{without}
+use Rattle.ev_counting.proofs.Without.{without-set, without-none}
 use Rattle.ev_counting.proofs.Places.{held-add}
 use Rattle.ev_counting.proofs.Sound.{sound-extended, sound-kept, sound-added}
-use Rattle.ev_counting.proofs.table.Table.add.Goals as goal
+use Rattle.ev_counting.proofs.table.Table.enter.Goals as goal
 
 pub invariant_of-self-2 : goal.invariant_of-self-2
 invariant_of-self-2 c =
@@ -33,3 +35,12 @@ returns-clause-added c =
     let a = held-add c.vacate.new.slots.items c.in_ok-id.id e c.in_ok-id.ensures.free.0 c.in_ok-id.ensures.free.1 in
     let b = subst (λ (xs : List Held). IsAdded xs new (pair_of e)) (c.vacate.ensures.kept.pairs ∙ c.self.view_is) a in
     subst (λ (f : List ConstraintParts). IsAdded c.args.self.now new (c.args.iface, f)) c.in_ok-copy.ensures b
+
+pub returns-clause-rest : goal.returns-clause-rest
+returns-clause-rest c =
+    let e : Entry = record { iface = c.args.iface; place = c.in_ok-place.place; filter = c.in_ok-copy.copy } in
+    let pair : Held = (c.args.iface, c.args.filter.now) in
+    let mine : pair_of e ≡ pair = ap (λ (f : List ConstraintParts). (c.args.iface, f)) c.in_ok-copy.ensures in
+    let a = without-set pair c.vacate.new.slots.items c.in_ok-id.id e c.in_ok-id.ensures.free.0 c.in_ok-id.ensures.free.1 mine in
+    let b : held c.vacate.new.slots.items ≡ c.args.self.now = c.vacate.ensures.kept.pairs ∙ c.self.view_is in
+    a ∙ ap (without pair) b ∙ without-none pair c.args.self.now c.requires
