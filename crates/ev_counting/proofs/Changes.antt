@@ -1,5 +1,5 @@
 -- What a list of changes makes of a set of pairs.
-use Rattle.std.proofs.Common.{◌≡◌, ◌⊎◌, inl, inr, ◌∙◌, refl, sym, List, [], ◌∷◌}
+use Rattle.std.proofs.Common.{◌≡◌, ◌⊎◌, inl, inr, ◌∙◌, refl, sym, arith, zero, List, [], ◌∷◌}
 use Rattle.std.specs.List.{Contains}
 use Rattle.ev_counting.specs.declared.change.Change.{Change}
 use Rattle.ev_counting.specs.declared.change.Change.TheVariants.{Add, Remove}
@@ -65,13 +65,13 @@ changed-or-not (c ∷ cs) x = go (of c) (changed-or-not cs x)
 -- what the last change of a pair does not take, some change adds
 entered-last : (cs : List Change) (x : Held) → IsChanged cs x → (IsWithdrawn cs x → ⊥) → IsEntered cs x
 entered-last [] x h n = h
-entered-last (c ∷ cs) x h n = go c (changed-or-not cs x) h n
+entered-last (c ∷ cs) x h n = go c (changed-or-not cs x) h n (entered-last cs x)
   where
-    go : (c : Change) → IsChanged cs x ⊎ (IsChanged cs x → ⊥) → IsChanged (c ∷ cs) x → (IsWithdrawn (c ∷ cs) x → ⊥) → IsEntered (c ∷ cs) x
-    go c (inl m) t k = inr (entered-last cs x m (λ w. k (inl w)))
-    go c (inr m) (inr t) k = absurd (m t)
-    go (Add iface filter) (inr m) (inl t) k = inl t
-    go (Remove iface filter) (inr m) (inl t) k = absurd (k (inr (t, m)))
+    go : (c : Change) → IsChanged cs x ⊎ (IsChanged cs x → ⊥) → IsChanged (c ∷ cs) x → (IsWithdrawn (c ∷ cs) x → ⊥) → (IsChanged cs x → (IsWithdrawn cs x → ⊥) → IsEntered cs x) → IsEntered (c ∷ cs) x
+    go c (inl m) t k more = inr (more m (λ w. k (inl w)))
+    go c (inr m) (inr t) k more = absurd (m t)
+    go (Add iface filter) (inr m) (inl t) k more = inl t
+    go (Remove iface filter) (inr m) (inl t) k more = absurd (k (inr (t, m)))
 
 entered-changed : (cs : List Change) (x : Held) → IsEntered cs x → IsChanged cs x
 entered-changed [] x h = h
@@ -103,7 +103,7 @@ pub from-made : (cs : List Change) (xs : List Held) (x : Held) → Contains xs x
 from-made [] xs x (inl m) n = m
 from-made [] xs x (inr h) n = absurd h
 from-made (Add iface filter ∷ cs) xs x (inl m) n = from-made cs ((iface, filter) ∷ xs) x (inl (later (iface, filter) x xs m)) (λ w. n (inl w))
-from-made (Add iface filter ∷ cs) xs x (inr (inl e)) n = from-made cs ((iface, filter) ∷ xs) x (inl (let f = first (iface, filter) xs in (f.0, f.1, f.2 ∙ e))) (λ w. n (inl w))
+from-made (Add iface filter ∷ cs) xs x (inr (inl e)) n = from-made cs ((iface, filter) ∷ xs) x (inl (zero, omega arith, e)) (λ w. n (inl w))
 from-made (Add iface filter ∷ cs) xs x (inr (inr h)) n = from-made cs ((iface, filter) ∷ xs) x (inr h) (λ w. n (inl w))
 from-made (Remove iface filter ∷ cs) xs x (inr (inl e)) n = absurd e
 from-made (Remove iface filter ∷ cs) xs x (inr (inr h)) n = from-made cs (without (iface, filter) xs) x (inr h) (λ w. n (inl w))

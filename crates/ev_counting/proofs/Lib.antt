@@ -2,7 +2,7 @@ pub mod Sets
 pub mod Rounds
 pub mod Without
 pub mod Changes
-pub mod Together
+pub mod Steps
 pub mod Places
 pub mod Same
 pub mod Apart

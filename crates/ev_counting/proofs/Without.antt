@@ -89,24 +89,24 @@ without-none x (y ∷ ys) n = go (same_held x y) refl (without-none x ys (λ m. 
 -- what is left
 pub left-in : (x : Held) (xs : List Held) (z : Held) → Contains (without x xs) z → Contains xs z × (x ≡ z → ⊥)
 left-in x [] z m = absurd (omega (arith, m.1))
-left-in x (y ∷ ys) z m = go (same_held x y) refl m
+left-in x (y ∷ ys) z m = go (same_held x y) refl m (left-in x ys z)
   where
-    go : (b : Bool) → same_held x y ≡ b → Contains (if b then without x ys else y ∷ without x ys) z → Contains (y ∷ ys) z × (x ≡ z → ⊥)
-    go true h k = let r = left-in x ys z k in (later y z ys r.0, r.1)
-    go false h k = elim (parts y z (without x ys) k) [
+    go : (b : Bool) → same_held x y ≡ b → Contains (if b then without x ys else y ∷ without x ys) z → (Contains (without x ys) z → Contains ys z × (x ≡ z → ⊥)) → Contains (y ∷ ys) z × (x ≡ z → ⊥)
+    go true h k more = let r = more k in (later y z ys r.0, r.1)
+    go false h k more = elim (parts y z (without x ys) k) [
       | inl e ↦ ((zero, omega arith, e), λ g. not-false (same_held x y) (ap {B = Bool} (same_held x) (e ∙ sym g) ∙ same-itself x) h)
-      | inr t ↦ (let r = left-in x ys z t in (later y z ys r.0, r.1))
+      | inr t ↦ (let r = more t in (later y z ys r.0, r.1))
     ]
 
 pub stays-in : (x : Held) (xs : List Held) (z : Held) → Contains xs z → (x ≡ z → ⊥) → Contains (without x xs) z
 stays-in x [] z m n = m
-stays-in x (y ∷ ys) z m n = go (same_held x y) refl (parts y z ys m)
+stays-in x (y ∷ ys) z m n = go (same_held x y) refl (parts y z ys m) (λ t. stays-in x ys z t n)
   where
-    go : (b : Bool) → same_held x y ≡ b → (y ≡ z) ⊎ Contains ys z → Contains (if b then without x ys else y ∷ without x ys) z
-    go true h (inl e) = absurd (n (same-tells x y h ∙ e))
-    go true h (inr t) = stays-in x ys z t n
-    go false h (inl e) = (zero, omega arith, e)
-    go false h (inr t) = later y z (without x ys) (stays-in x ys z t n)
+    go : (b : Bool) → same_held x y ≡ b → (y ≡ z) ⊎ Contains ys z → (Contains ys z → Contains (without x ys) z) → Contains (if b then without x ys else y ∷ without x ys) z
+    go true h (inl e) more = absurd (n (same-tells x y h ∙ e))
+    go true h (inr t) more = more t
+    go false h (inl e) more = (zero, omega arith, e)
+    go false h (inr t) more = later y z (without x ys) (more t)
 
 pub undone-push : (xs : List Held) (x : Held) (held : List Held) → undone (xs ++ x ∷ []) held ≡ undone xs (without x held)
 undone-push [] x held = refl

@@ -15,11 +15,11 @@ fn is_of(change: &Change, iface: u32, filter: &Filter) -> bool
         Change::Add {
             iface: other,
             filter: that,
-        } => *other == iface && that == filter,
+        } => *other == iface && *that == *filter,
         Change::Remove {
             iface: other,
             filter: that,
-        } => *other == iface && that == filter,
+        } => *other == iface && *that == *filter,
     }
 }
 

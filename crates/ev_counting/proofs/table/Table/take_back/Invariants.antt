@@ -1,6 +1,6 @@
 use Rattle.std.proofs.Common.{◌≡◌, vec_len}
 use Rattle.ev_counting.specs.Changes.{undone}
-use Rattle.ev_counting.proofs.together.Table.take_back.Given as goal
+use Rattle.ev_counting.proofs.table.Table.take_back.Given as goal
 
 abbrev pub decreases-loop-iface : goal.decreases-loop-iface
 decreases-loop-iface l = vec_len l.fresh

@@ -1,7 +1,7 @@
 use Rattle.std.proofs.Common.{◌≡◌, drop}
 use Rattle.ev_counting.specs.Changes.{undone}
-use Rattle.ev_counting.proofs.Together.{Enters}
-use Rattle.ev_counting.proofs.together.Table.enter_all.Given as goal
+use Rattle.ev_counting.proofs.Steps.{Enters}
+use Rattle.ev_counting.proofs.table.Table.enter_all.Given as goal
 
 abbrev pub invariant-loop-change : goal.invariant-loop-change
 invariant-loop-change l = record {
