@@ -27,7 +27,7 @@ pub fn covering()
 
 /// Covering is complete for int, for time, for bool, and for the pairs of forms of str that are named.
 pub fn covering_complete()
-    ensures { (c d : ConstraintParts) → IsConstraint c → IsConstraint d → c.name ≡ d.name → c.kind ≡ d.kind → IsCompletePair (form_of c.kind c.op c.operand) (form_of d.kind d.op d.operand) → IsImplied c d → constraint_covers c d ≡ true }
+    ensures { (c d : ConstraintParts) → IsCompletePair c d → IsImplied c d → constraint_covers c d ≡ true }
 {}
 
 /// Compatibility is symmetric, it is never no where one value satisfies both, and for int, time and

@@ -1,5 +1,6 @@
 -- The canonical list of constraints: strictly rising in their canonical order, each once.
-use Rattle.std.specs.Prelude.{◌≡◌, Bool, true, ◌&&◌, nat_lt, nat_le, ℕ, ◌<◌, ◌≤◌, length, List, [], ◌∷◌}
+use Rattle.std.specs.Prelude.{◌≡◌, Bool, true, false, MatchOption, ◌&&◌, nat_lt, nat_le, ℕ, ◌<◌, ◌≤◌, length, List, [], ◌∷◌}
+use Rattle.std.specs.declared.option.Option.{Option}
 use Rattle.std.specs.declared.cmp.Ordering.{Ordering}
 use Rattle.std.specs.declared.cmp.Ordering.TheVariants.{Less, Equal, Greater}
 use Rattle.std.specs.Ordering.{is_lt}
@@ -53,3 +54,7 @@ is_rising (c ∷ d ∷ rest) = is_lt (constraint_cmp c d) && is_rising (d ∷ re
 -- 1 to this many constraints, strictly rising
 unfoldable pub is_listed : ℕ → List ConstraintParts → Bool
 is_listed most constraints = nat_lt 0 (length constraints) && (nat_le (length constraints) most && is_rising constraints)
+
+-- the answer is the list itself where it is such a list, and none where it isn't
+abbrev pub IsListedAnswer : ℕ → List ConstraintParts → Option (List ConstraintParts) → Type 0
+IsListedAnswer most given answer = MatchOption answer (is_listed most given ≡ false) (λ f. (f ≡ given) × (is_listed most given ≡ true))

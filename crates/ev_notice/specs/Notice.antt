@@ -1,5 +1,5 @@
 -- Notices: attributes, each a name with a value, by rising names.
-use Rattle.std.specs.Prelude.{Bool, true, ◌&&◌, nat_lt, nat_le, ◌<◌, ◌≤◌, length, ℕ, List, [], ◌∷◌, find, ◌≡◌, ◌+◌, ◌++◌, Some, None, if◌then◌else◌}
+use Rattle.std.specs.Prelude.{Bool, true, false, MatchOption, ◌&&◌, nat_lt, nat_le, ◌<◌, ◌≤◌, length, ℕ, List, [], ◌∷◌, find, ◌≡◌, ◌+◌, ◌++◌, Some, None, if◌then◌else◌}
 use Rattle.std.specs.declared.option.Option.{Option}
 use Rattle.std.specs.Str.{bytes_eq}
 use Rattle.std.specs.List.{list_any}
@@ -66,3 +66,7 @@ are_rising (a ∷ b ∷ rest) = is_name_less a b && are_rising (b ∷ rest)
 -- 1 to 64 attributes, names strictly rising
 unfoldable pub is_notice : List Attribute → Bool
 is_notice n = nat_lt 0 (length n) && (nat_le (length n) 64 && are_rising n)
+
+-- the answer is the list itself where it is such a list, and none where it isn't
+abbrev pub IsNoticeAnswer : List Attribute → Option (List Attribute) → Type 0
+IsNoticeAnswer given answer = MatchOption answer (is_notice given ≡ false) (λ n. (n ≡ given) × (is_notice given ≡ true))

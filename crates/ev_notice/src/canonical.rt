@@ -1,5 +1,5 @@
 //! Lists of constraints in the canonical order, as filters and advertisements keep them.
-ghost use Rattle.std.specs.Prelude.{◌≡◌, ◌<◌, ◌↔◌, [], length, true, false, IfOk, IfSome, IsErrOf, MatchOption};
+ghost use Rattle.std.specs.Prelude.{◌≡◌, ◌<◌, ◌↔◌, [], length, true, false, IfOk, IfNone, IfSome, IsErrOf};
 ghost use Rattle.std.specs.Arc.{arc_slice_items};
 ghost use Rattle.std.specs.List.Retain.{IsFiltered, DiffersFromLast};
 ghost use Rattle.std.specs.Ordering.{is_lt, eq_by_cmp};
@@ -90,7 +90,9 @@ pub fn listed_of_rising(
     constraints: Vec<Constraint>,
     most: usize,
 ) -> Result<Option<ArcSlice<Constraint>>, NoMemory>
-    ensures value { IfOk result (λ o. MatchOption o (is_listed most constraints.items ≡ false) (λ l. (arc_slice_items l ≡ constraints.items) × (is_listed most constraints.items ≡ true))) }
+    ensures none { IfOk result (λ o. IfNone o (is_listed most constraints.items ≡ false)) }
+    ensures some { IfOk result (λ o. IfSome o (λ _. is_listed most constraints.items ≡ true)) }
+    ensures value { IfOk result (λ o. IfSome o (λ l. arc_slice_items l ≡ constraints.items)) }
     ensures listed { IfOk result (λ o. IfSome o (λ l. IsListed most (arc_slice_items l))) }
 {
     if constraints.is_empty() || constraints.len() > most || !is_rising(&constraints) {

@@ -7,9 +7,6 @@ ghost use Rattle.ev_constraint.specs.Constraint.{ConstraintParts};
 ghost use Rattle.ev_notice.specs.Notice.{Attribute, AreValues};
 ghost use Rattle.ev_notice.specs.Cover.{matches, allows, overlaps, fits_all, some_fits};
 
-#[cfg(test)]
-mod tests;
-
 use ev_constraint::Constraint;
 use ev_notice::{Advert, Filter};
 
