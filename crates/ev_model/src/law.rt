@@ -42,7 +42,8 @@ pub fn one_more_command<M: Matching>()
     ensures adverts { (commands : List (PhasedCommand M.theory)) (command : PhasedCommand M.theory)
         → own_adverts M.theory [] (commands ++ command ∷ []) ≡ own_adverts_step M.theory (own_adverts M.theory [] commands) command.command }
     ensures refused { (net : Net M.theory) (commands : List (PhasedCommand M.theory)) (command : PhasedCommand M.theory)
-        → refused_from M.theory net [] 0 (commands ++ command ∷ []) ≡ refused_from M.theory net [] 0 commands ++ refused_next M.theory net commands command.command }
+        → refused_from M.theory net [] 0 (commands ++ command ∷ [])
+        ≡ refused_from M.theory net [] 0 commands ++ refused_next M.theory net commands command.command }
 {}
 
 /// A net's clients have, after so many of their commands, the lists of the runs: their own lists in the order of adding,
