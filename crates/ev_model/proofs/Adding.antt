@@ -1,14 +1,14 @@
 -- A list in the order of adding and the rising list have the same members.
-use Rattle.std.proofs.Common.{◌≡◌, Bool, true, false, cond, not, ◌||◌, List, [], ◌∷◌, ◌++◌, ◌⊎◌, inl, inr, filter, refl, sym, subst, ap, ◌∙◌}
+use Rattle.std.proofs.Common.{◌≡◌, ℕ, suc, ◌+◌, arith, Bool, true, false, cond, not, ◌||◌, List, [], ◌∷◌, ◌++◌, ◌⊎◌, inl, inr, filter, refl, sym, subst, ap, ◌∙◌}
 use Rattle.ev_sets.specs.Laws.{CoverLaws}
 use Rattle.ev_sets.specs.Sets.{Has, member, IsRising, put_in, set_of}
 use Rattle.ev_sets.proofs.Roots.{Has-filter, filter-Has}
 use Rattle.ev_sets.proofs.Sets.{member-has, has-put_in, rising-put_in, rising-filter, ext, rising-set_of, has-set_of}
 use Rattle.ev_routing.specs.Theory.{Theory, TheoryLaws}
 use Rattle.ev_routing.specs.Net.{Net, Command, Subscribe, Unsubscribe, Advertise, Unadvertise, Publish, PhasedCommand}
-use Rattle.ev_routing.specs.Clients.{some_pass, filters_step, filters_after, adverts_step, adverts_after, accepts}
+use Rattle.ev_routing.specs.Clients.{some_pass, filters_step, filters_after, adverts_step, adverts_after, accepts, is_publish, ordinal, add_refused, refused_from}
 use Rattle.ev_routing.proofs.Listing.{pass-by, by-pass}
-use Rattle.ev_model.specs.Adding.{own_filters_step, own_filters, own_adverts_step, own_adverts}
+use Rattle.ev_model.specs.Adding.{own_filters_step, own_filters, own_adverts_step, own_adverts, refused_next}
 
 -- a list and a rising list with the same members
 pub record IsSorted {T : Type 0} (before : T → T → Bool) (own rising : List T) : Type 0 where
@@ -113,3 +113,57 @@ module _ (th : Theory) (laws : TheoryLaws th) where
 
   pub accepts-same : (net : Net th) (cs : List (PhasedCommand th)) (n : th.Notice) → accepts th net (own_adverts th [] cs) n ≡ accepts th net (adverts_after th [] cs) n
   accepts-same net cs n = ap (λ b. not net.adverts || b) (some-same th.before_advert (λ a. th.allows a n) (own_adverts th [] cs) (adverts_after th [] cs) (adverts-keep [] [] (none laws.adverts) cs))
+
+  -- one more command
+  pub filters-more : (own : List th.Filter) (xs : List (PhasedCommand th)) (x : PhasedCommand th) → own_filters th own (xs ++ x ∷ []) ≡ own_filters_step th (own_filters th own xs) x.command
+  filters-more own [] x = refl
+  filters-more own (y ∷ ys) x = filters-more (own_filters_step th own y.command) ys x
+
+  pub adverts-more : (own : List th.Advert) (xs : List (PhasedCommand th)) (x : PhasedCommand th) → own_adverts th own (xs ++ x ∷ []) ≡ own_adverts_step th (own_adverts th own xs) x.command
+  adverts-more own [] x = refl
+  adverts-more own (y ∷ ys) x = adverts-more (own_adverts_step th own y.command) ys x
+
+module _ (th : Theory) (net : Net th) where
+  refused-on : (adverts : List th.Advert) (number : ℕ) (c : Command th) (xs ys : List ℕ) → add_refused th net adverts number c (xs ++ ys) ≡ add_refused th net adverts number c xs ++ ys
+  refused-on adverts number (Subscribe f) xs ys = refl
+  refused-on adverts number (Unsubscribe f) xs ys = refl
+  refused-on adverts number (Advertise a) xs ys = refl
+  refused-on adverts number (Unadvertise a) xs ys = refl
+  refused-on adverts number (Publish n) xs ys = go (accepts th net adverts n)
+    where
+      go : (b : Bool) → cond b (xs ++ ys) (suc number ∷ (xs ++ ys)) ≡ cond b xs (suc number ∷ xs) ++ ys
+      go true = refl
+      go false = refl
+
+  counted : (b : Bool) (number more : ℕ) → cond b (suc number) number + more ≡ number + cond b (suc more) more
+  counted true number more = omega arith
+  counted false number more = refl
+
+  refused-more : (adverts : List th.Advert) (number : ℕ) (xs : List (PhasedCommand th)) (x : PhasedCommand th)
+      → refused_from th net adverts number (xs ++ x ∷ []) ≡ refused_from th net adverts number xs ++ add_refused th net (adverts_after th adverts xs) (number + ordinal th xs) x.command []
+  refused-more adverts number [] x = ap (λ k. add_refused th net adverts k x.command []) (none-more number)
+    where
+      none-more : (number : ℕ) → number ≡ number + 0
+      none-more number = omega arith
+  refused-more adverts number (y ∷ ys) x =
+      let later = adverts_step th adverts y.command in
+      let next = cond (is_publish th y.command) (suc number) number in
+      let more : ℕ → List ℕ = λ k. add_refused th net (adverts_after th later ys) k x.command [] in
+      ap (add_refused th net adverts number y.command) (refused-more later next ys x) ∙
+      refused-on adverts number y.command (refused_from th net later next ys) (more (next + ordinal th ys)) ∙
+      ap (λ k. add_refused th net adverts number y.command (refused_from th net later next ys) ++ more k) (counted (is_publish th y.command) number (ordinal th ys))
+
+  same-refused : (one other : List th.Advert) → ((n : th.Notice) → accepts th net one n ≡ accepts th net other n) → (number : ℕ) (c : Command th) → add_refused th net one number c [] ≡ add_refused th net other number c []
+  same-refused one other same number (Subscribe f) = refl
+  same-refused one other same number (Unsubscribe f) = refl
+  same-refused one other same number (Advertise a) = refl
+  same-refused one other same number (Unadvertise a) = refl
+  same-refused one other same number (Publish n) = ap (λ b. cond b [] (suc number ∷ [])) (same n)
+
+  pub refused-one-more : TheoryLaws th → (xs : List (PhasedCommand th)) (x : PhasedCommand th) → refused_from th net [] 0 (xs ++ x ∷ []) ≡ refused_from th net [] 0 xs ++ refused_next th net xs x.command
+  refused-one-more laws xs x =
+      refused-more [] 0 xs x ∙
+      ap (λ ys. refused_from th net [] 0 xs ++ ys) (same-refused (adverts_after th [] xs) (own_adverts th [] xs) (λ n. sym (accepts-same th laws net xs n)) (0 + ordinal th xs) x.command ∙ ap (λ k. add_refused th net (own_adverts th [] xs) k x.command []) (zero-plus (ordinal th xs)))
+    where
+      zero-plus : (k : ℕ) → 0 + k ≡ k
+      zero-plus k = omega arith

@@ -1,8 +1,9 @@
 -- A client's own filters and advertisements in the order in which they were added.
-use Rattle.std.specs.Prelude.{cond, not, List, [], ◌∷◌, ◌++◌, filter}
+use Rattle.std.specs.Prelude.{ℕ, cond, not, List, [], ◌∷◌, ◌++◌, filter}
 use Rattle.ev_sets.specs.Sets.{member}
 use Rattle.ev_routing.specs.Theory.{Theory}
-use Rattle.ev_routing.specs.Net.{Command, Subscribe, Unsubscribe, Advertise, Unadvertise, Publish, PhasedCommand}
+use Rattle.ev_routing.specs.Net.{Net, Command, Subscribe, Unsubscribe, Advertise, Unadvertise, Publish, PhasedCommand}
+use Rattle.ev_routing.specs.Clients.{ordinal, add_refused}
 
 module _ (theory : Theory) where
   -- its filters after one command: a subscription adds its filter at the end where it is not there, a withdrawal takes away all that its filter covers
@@ -30,3 +31,7 @@ module _ (theory : Theory) where
   abbrev pub own_adverts : List theory.Advert → List (PhasedCommand theory) → List theory.Advert
   own_adverts adverts [] = adverts
   own_adverts adverts (command ∷ commands) = own_adverts (own_adverts_step adverts command.command) commands
+
+  -- after commands, what one more adds to the ordinals of refused publishes: its own, where it is a publish that no one advertisement of the list allows
+  abbrev pub refused_next : Net theory → List (PhasedCommand theory) → Command theory → List ℕ
+  refused_next net commands command = add_refused theory net (own_adverts [] commands) (ordinal theory commands) command []

@@ -57,4 +57,6 @@ fn laws_of_nets() {
     law::sound_net();
     law::within_limits();
     law::order_of_adding::<Real>();
+    law::one_more_command::<Real>();
+    law::client_lists();
 }

@@ -30,7 +30,8 @@ module _ (theory : Theory) where
     -- the messages of an entry for a neighbour, on the tree of its phase
     abbrev pub messages_found : Moment theory net → JournalEntry → ℕ → List (Message theory)
     messages_found found entry link =
-        messages_of (machine_at theory net found.phase) (at_phase theory net found.phase found.state) (entry_on theory (net_at theory net found.phase) entry) link
+        messages_of (machine_at theory net found.phase) (at_phase theory net found.phase found.state)
+        (entry_on theory (net_at theory net found.phase) entry) link
 
     -- its messages for these neighbours
     abbrev pub outs_found : Moment theory net → JournalEntry → List ℕ → List (ℕ × Message theory)
