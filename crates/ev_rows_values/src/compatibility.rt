@@ -1,115 +1,62 @@
 //! Constraints that can and that can't both hold.
 use crate::made::Operand::{Bytes, Nothing, Number, Seconds, Truth};
-use crate::made::{Operand, on};
+use crate::made::{Part, on};
 use ev_constraint::Op;
 use ev_values::Kind;
 use std::alloc::Global;
 use std::rt::HostRuntime;
 use std::test::Fail;
 
-fn compatible(
-    alloc: Global,
-    kind: Kind,
-    c: (Op, Operand<'_>),
-    d: (Op, Operand<'_>),
-) -> Result<(bool, bool), Fail> {
-    let c = on(alloc, kind, c.0, c.1)?;
-    let d = on(alloc, kind, d.0, d.1)?;
-    Ok((c.compatible(&d), d.compatible(&c)))
+// Two constraints, and whether they are compatible.
+type Row = (Part<'static>, Part<'static>, bool);
+
+fn row(place: usize) -> Row {
+    let int = |op, number| (Kind::Int, op, Number(number));
+    let truth = |op, truth| (Kind::Bool, op, Truth(truth));
+    let text = |op, bytes| (Kind::Str, op, Bytes(bytes));
+    match place {
+        0 => (int(Op::Lt, 3), int(Op::Gt, 2), false),
+        1 => (int(Op::Lt, 4), int(Op::Gt, 2), true),
+        2 => (int(Op::Lt, i64::MIN), (Kind::Int, Op::Any, Nothing), false),
+        3 => (truth(Op::Eq, true), truth(Op::Ne, true), false),
+        4 => (text(Op::Gt, b"a".as_slice()), text(Op::Prefix, b"b"), true),
+        5 => (text(Op::Gt, b"b"), text(Op::Le, b"b"), false),
+        6 => (text(Op::Ge, b"b"), text(Op::Le, b"b"), true),
+        7 => (text(Op::Prefix, b"ab"), text(Op::Prefix, b"ac"), false),
+        8 => (text(Op::Eq, b"abc"), text(Op::Contains, b"d"), false),
+        _ => time_row(place - 9),
+    }
 }
 
-// The rows, by their places.
-fn row(place: usize) -> (Kind, (Op, Operand<'static>), (Op, Operand<'static>), bool) {
+fn time_row(place: usize) -> Row {
+    let time = |op, seconds| (Kind::Time, op, Seconds(seconds));
+    let any = (Kind::Time, Op::Any, Nothing);
     match place {
-        0 => (Kind::Int, (Op::Lt, Number(3)), (Op::Gt, Number(2)), false),
-        1 => (Kind::Int, (Op::Lt, Number(4)), (Op::Gt, Number(2)), true),
-        2 => (
-            Kind::Int,
-            (Op::Lt, Number(i64::MIN)),
-            (Op::Any, Nothing),
-            false,
-        ),
-        3 => (
-            Kind::Bool,
-            (Op::Eq, Truth(true)),
-            (Op::Ne, Truth(true)),
-            false,
-        ),
-        4 => (
-            Kind::Str,
-            (Op::Gt, Bytes(b"a")),
-            (Op::Prefix, Bytes(b"b")),
-            true,
-        ),
-        5 => (
-            Kind::Str,
-            (Op::Gt, Bytes(b"b")),
-            (Op::Le, Bytes(b"b")),
-            false,
-        ),
-        6 => (
-            Kind::Str,
-            (Op::Ge, Bytes(b"b")),
-            (Op::Le, Bytes(b"b")),
-            true,
-        ),
-        7 => (
-            Kind::Str,
-            (Op::Prefix, Bytes(b"ab")),
-            (Op::Prefix, Bytes(b"ac")),
-            false,
-        ),
-        8 => (
-            Kind::Str,
-            (Op::Eq, Bytes(b"abc")),
-            (Op::Contains, Bytes(b"d")),
-            false,
-        ),
-        9 => (
-            Kind::Time,
-            (Op::Lt, Seconds(3)),
-            (Op::Gt, Seconds(2)),
-            false,
-        ),
-        10 => (Kind::Time, (Op::Lt, Seconds(4)), (Op::Gt, Seconds(2)), true),
-        11 => (Kind::Time, (Op::Lt, Seconds(0)), (Op::Any, Nothing), false),
-        12 => (
-            Kind::Time,
-            (Op::Gt, Seconds(u64::MAX)),
-            (Op::Any, Nothing),
-            false,
-        ),
-        13 => (
-            Kind::Time,
-            (Op::Ge, Seconds(9_223_372_036_854_775_808)),
-            (Op::Le, Seconds(1)),
-            false,
-        ),
-        _ => (
-            Kind::Time,
-            (Op::Eq, Seconds(7)),
-            (Op::Ne, Seconds(7)),
-            false,
-        ),
+        0 => (time(Op::Lt, 3), time(Op::Gt, 2), false),
+        1 => (time(Op::Lt, 4), time(Op::Gt, 2), true),
+        2 => (time(Op::Lt, 0), any, false),
+        3 => (time(Op::Gt, u64::MAX), any, false),
+        4 => (time(Op::Ge, 1 << 63), time(Op::Le, 1), false),
+        5 => (time(Op::Eq, 7), time(Op::Ne, 7), false),
+        6 => (time(Op::Le, u64::MAX), time(Op::Eq, u64::MAX), true),
+        _ => (time(Op::Eq, 5), (Kind::Int, Op::Eq, Number(5)), false),
     }
+}
+
+fn compatible(alloc: Global, first: Part<'_>, second: Part<'_>) -> Result<(bool, bool), Fail> {
+    let c = on(alloc, first)?;
+    let d = on(alloc, second)?;
+    Ok((c.compatible(&d), d.compatible(&c)))
 }
 
 #[test]
 fn compatibility(rt: HostRuntime) -> Result<(), Fail> {
-    for place in 0..15 {
-        let (kind, c, d, want) = row(place);
-        assert_eq!(rt;
-            compatible(rt.alloc(), kind, c, d)?,
-            (want, want),
+    for place in 0..17 {
+        let (first, second, want) = row(place);
+        assert!(rt;
+            compatible(rt.alloc(), first, second)? == (want, want),
             "at {place}"
         );
     }
-    Ok(())
-}
-
-#[test]
-fn kinds(rt: HostRuntime) -> Result<(), Fail> {
-    let int = on(rt.alloc(), Kind::Int, Op::Eq, Number(5))?;
-    assert!(rt; !int.compatible(&on(rt.alloc(), Kind::Time, Op::Eq, Seconds(5))?));
     Ok(())
 }

@@ -19,7 +19,6 @@ fn covers(alloc: Global, first: &[Row<'_>], second: &[Row<'_>]) -> Result<(bool,
 
 #[test]
 fn covering(rt: HostRuntime) -> Result<(), Fail> {
-    let alloc = rt.alloc();
     let x = |op, number| (b"x".as_slice(), Kind::Int, op, Number(number));
     let over = [x(Op::Gt, 3)];
     let over_five = [x(Op::Gt, 5)];
@@ -34,7 +33,7 @@ fn covering(rt: HostRuntime) -> Result<(), Fail> {
         (more.as_slice(), over_five.as_slice(), (false, true)),
         (within.as_slice(), within.as_slice(), (true, true)),
     ] {
-        assert_eq!(rt; covers(alloc, first, second)?, want);
+        assert!(rt; covers(rt.alloc(), first, second)? == want);
     }
     Ok(())
 }
@@ -50,22 +49,19 @@ fn stands<T: Cover>(item: &T, other: &T) -> (bool, bool, bool, bool) {
 }
 
 #[test]
-fn subscriptions(rt: HostRuntime) -> Result<(), Fail> {
+fn items(rt: HostRuntime) -> Result<(), Fail> {
     let wide = [(b"x".as_slice(), Kind::Int, Op::Any, Nothing)];
     let narrow = [(b"x".as_slice(), Kind::Int, Op::Gt, Number(5))];
-    let f = Sub(filter(rt.alloc(), &wide)?);
-    let g = Sub(filter(rt.alloc(), &narrow)?);
-    assert_eq!(rt; stands(&f, &g), (true, false, false, true));
-    Ok(())
-}
-
-#[test]
-fn advertisements(rt: HostRuntime) -> Result<(), Fail> {
-    let wide = [(b"x".as_slice(), Kind::Int, Op::Any, Nothing)];
-    let narrow = [(b"x".as_slice(), Kind::Int, Op::Gt, Number(5))];
-    let a = Ad(advert(rt.alloc(), &wide)?);
-    let b = Ad(advert(rt.alloc(), &narrow)?);
-    assert_eq!(rt; stands(&b, &a), (false, true, true, false));
+    let subs = (
+        Sub(filter(rt.alloc(), &wide)?),
+        Sub(filter(rt.alloc(), &narrow)?),
+    );
+    assert!(rt; stands(&subs.0, &subs.1) == (true, false, false, true));
+    let ads = (
+        Ad(advert(rt.alloc(), &wide)?),
+        Ad(advert(rt.alloc(), &narrow)?),
+    );
+    assert!(rt; stands(&ads.1, &ads.0) == (false, true, true, false));
     Ok(())
 }
 
@@ -76,45 +72,45 @@ fn overlap(alloc: Global, first: &[Row<'_>], second: &[Row<'_>]) -> Result<bool,
 
 #[test]
 fn overlapping(rt: HostRuntime) -> Result<(), Fail> {
-    let alloc = rt.alloc();
     let x = |op, number| (b"x".as_slice(), Kind::Int, op, Number(number));
-    let any_x = (b"x".as_slice(), Kind::Int, Op::Any, Nothing);
-    let any_y = (b"y".as_slice(), Kind::Int, Op::Any, Nothing);
-    assert!(rt; !overlap(alloc, &[x(Op::Gt, 5)], &[x(Op::Lt, 3)])?);
-    assert!(rt; !overlap(alloc, &[x(Op::Gt, 5), any_y], &[any_x])?);
-    assert!(rt; overlap(alloc, &[any_x], &[x(Op::Gt, 5), any_y])?);
-    Ok(())
-}
-
-#[test]
-fn overlapping_one_of_two(rt: HostRuntime) -> Result<(), Fail> {
-    let alloc = rt.alloc();
-    let x = |op, number| (b"x".as_slice(), Kind::Int, op, Number(number));
+    let any_x = [(b"x".as_slice(), Kind::Int, Op::Any, Nothing)];
+    let more = [x(Op::Gt, 5), (b"y".as_slice(), Kind::Int, Op::Any, Nothing)];
     let one_or_five = [x(Op::Eq, 1), x(Op::Eq, 5)];
-    assert!(rt; overlap(alloc, &[x(Op::Gt, 3)], &one_or_five)?);
-    assert!(rt; !overlap(alloc, &[x(Op::Gt, 3), x(Op::Lt, 5)], &one_or_five)?);
+    let between = [x(Op::Gt, 3), x(Op::Lt, 5)];
+    let (over, under) = ([x(Op::Gt, 3)], [x(Op::Lt, 3)]);
+    for (first, second, want) in [
+        (over.as_slice(), one_or_five.as_slice(), true),
+        (over.as_slice(), under.as_slice(), false),
+        (more.as_slice(), any_x.as_slice(), false),
+        (any_x.as_slice(), more.as_slice(), true),
+        (between.as_slice(), one_or_five.as_slice(), false),
+        (between.as_slice(), any_x.as_slice(), true),
+    ] {
+        assert!(rt; overlap(rt.alloc(), first, second)? == want);
+    }
     Ok(())
 }
 
 #[test]
 fn overlapping_times(rt: HostRuntime) -> Result<(), Fail> {
-    let alloc = rt.alloc();
     let t = |op, seconds| (b"t".as_slice(), Kind::Time, op, Seconds(seconds));
-    let any_t = (b"t".as_slice(), Kind::Time, Op::Any, Nothing);
-    let any_y = (b"y".as_slice(), Kind::Time, Op::Any, Nothing);
-    assert!(rt; overlap(alloc, &[t(Op::Gt, 3)], &[t(Op::Eq, 1), t(Op::Eq, 5)])?);
-    assert!(rt; !overlap(alloc, &[t(Op::Gt, 5)], &[t(Op::Lt, 3)])?);
-    assert!(rt; !overlap(alloc, &[t(Op::Gt, 5), any_y], &[any_t])?);
-    Ok(())
-}
-
-#[test]
-fn overlapping_at_the_end(rt: HostRuntime) -> Result<(), Fail> {
-    let alloc = rt.alloc();
-    let last = (b"t".as_slice(), Kind::Time, Op::Eq, Seconds(u64::MAX));
-    let all = (b"t".as_slice(), Kind::Time, Op::Le, Seconds(u64::MAX));
-    let ints = (b"t".as_slice(), Kind::Int, Op::Any, Nothing);
-    assert!(rt; overlap(alloc, &[all], &[last])?);
-    assert!(rt; !overlap(alloc, &[all], &[ints])?);
+    let any_t = [(b"t".as_slice(), Kind::Time, Op::Any, Nothing)];
+    let more = [
+        t(Op::Gt, 5),
+        (b"y".as_slice(), Kind::Time, Op::Any, Nothing),
+    ];
+    let ints = [(b"t".as_slice(), Kind::Int, Op::Any, Nothing)];
+    let one_or_five = [t(Op::Eq, 1), t(Op::Eq, 5)];
+    let (over, under) = ([t(Op::Gt, 3)], [t(Op::Lt, 3)]);
+    let (last, all) = ([t(Op::Eq, u64::MAX)], [t(Op::Le, u64::MAX)]);
+    for (first, second, want) in [
+        (over.as_slice(), one_or_five.as_slice(), true),
+        (over.as_slice(), under.as_slice(), false),
+        (more.as_slice(), any_t.as_slice(), false),
+        (all.as_slice(), last.as_slice(), true),
+        (all.as_slice(), ints.as_slice(), false),
+    ] {
+        assert!(rt; overlap(rt.alloc(), first, second)? == want);
+    }
     Ok(())
 }

@@ -43,9 +43,11 @@ pub fn constraint(alloc: Global, row: Row<'_>) -> Result<Constraint, Fail> {
     Ok(Constraint::make(name, kind, op, value(alloc, operand)?)?)
 }
 
-/// A constraint on x.
-pub fn on(alloc: Global, kind: Kind, op: Op, operand: Operand<'_>) -> Result<Constraint, Fail> {
-    constraint(alloc, (b"x", kind, op, operand))
+/// A constraint on the attribute x.
+pub type Part<'a> = (Kind, Op, Operand<'a>);
+
+pub fn on(alloc: Global, part: Part<'_>) -> Result<Constraint, Fail> {
+    constraint(alloc, (b"x", part.0, part.1, part.2))
 }
 
 pub fn constraints(alloc: Global, rows: &[Row<'_>]) -> Result<Vec<Constraint>, Fail> {

@@ -1,8 +1,9 @@
 //! Values and constraints in their canonical orders.
 use crate::made::Operand::{Bytes, Nothing, Number, Seconds, Truth};
-use crate::made::{Operand, given, on};
+use crate::made::{Operand, Part, given, on};
 use ev_constraint::Op;
 use ev_values::Kind;
+use std::alloc::Global;
 use std::cmp::Ordering;
 use std::rt::HostRuntime;
 use std::test::Fail;
@@ -28,30 +29,39 @@ fn nth(place: usize) -> Operand<'static> {
     }
 }
 
+// Whether the value at one place equals its copy and stands before the one at a later place.
+fn rises(alloc: Global, place: usize, later: usize) -> Result<bool, Fail> {
+    let value = given(alloc, nth(place))?;
+    Ok(value == value.copy(alloc)? && value < given(alloc, nth(later))?)
+}
+
 #[test]
 fn values_rise(rt: HostRuntime) -> Result<(), Fail> {
     for i in 0..15 {
-        let value = given(rt.alloc(), nth(i))?;
-        assert!(rt; value == value.copy(rt.alloc())?);
         for j in i + 1..15 {
-            assert!(rt; value < given(rt.alloc(), nth(j))?, "at {i}, {j}");
+            assert!(rt; rises(rt.alloc(), i, j)?, "at {i}, {j}");
         }
     }
     Ok(())
 }
 
+// Whether the kinds are told apart and stand in their order.
+fn are_kinds(alloc: Global) -> Result<bool, Fail> {
+    let (text, time) = (
+        given(alloc, Bytes(b"a"))?.kind(),
+        given(alloc, Seconds(0))?.kind(),
+    );
+    Ok(text.is(Kind::Str) && !time.is(Kind::Int) && text.order(time) == Ordering::Less)
+}
+
 #[test]
 fn kinds_rise(rt: HostRuntime) -> Result<(), Fail> {
-    assert_eq!(rt; given(rt.alloc(), Bytes(b"a"))?.kind(), Kind::Str);
-    assert_eq!(rt; given(rt.alloc(), Seconds(0))?.kind(), Kind::Time);
-    assert!(rt; Kind::Time.is(Kind::Time));
-    assert!(rt; !Kind::Time.is(Kind::Int));
-    assert_eq!(rt; Kind::Str.order(Kind::Time), Ordering::Less);
+    assert!(rt; are_kinds(rt.alloc())?);
     Ok(())
 }
 
 // The constraints of a rising list, by their places.
-fn nth_constraint(place: usize) -> (Kind, Op, Operand<'static>) {
+fn nth_constraint(place: usize) -> Part<'static> {
     match place {
         0 => (Kind::Bool, Op::Ne, Truth(true)),
         1 => (Kind::Bool, Op::Eq, Truth(false)),
@@ -74,14 +84,16 @@ fn nth_constraint(place: usize) -> (Kind, Op, Operand<'static>) {
     }
 }
 
+// Whether the constraint at one place stands before the one at a later place.
+fn constraint_rises(alloc: Global, place: usize, later: usize) -> Result<bool, Fail> {
+    Ok(on(alloc, nth_constraint(place))? < on(alloc, nth_constraint(later))?)
+}
+
 #[test]
 fn constraints_rise(rt: HostRuntime) -> Result<(), Fail> {
     for i in 0..18 {
-        let (kind, op, operand) = nth_constraint(i);
-        let c = on(rt.alloc(), kind, op, operand)?;
         for j in i + 1..18 {
-            let (kind, op, operand) = nth_constraint(j);
-            assert!(rt; c < on(rt.alloc(), kind, op, operand)?, "at {i}, {j}");
+            assert!(rt; constraint_rises(rt.alloc(), i, j)?, "at {i}, {j}");
         }
     }
     Ok(())
