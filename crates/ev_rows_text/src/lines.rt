@@ -254,38 +254,32 @@ fn marks(alloc: Global, count: usize) -> Result<Vec<u8>, Fail> {
 #[test]
 fn limits(rt: HostRuntime) -> Result<(), Fail> {
     let alloc = rt.alloc();
-    assert_eq!(rt; fault_1(alloc, &marks(alloc, 1024)?), None);
-    assert_eq!(rt;
-        fault_1(alloc, &marks(alloc, 1025)?),
-        Some(ScriptFault::Value)
-    );
-    assert_eq!(rt;
-        fault_1(alloc, &parts(alloc, b"publish", 64, false, b" int 1")?),
-        None
-    );
-    assert_eq!(rt;
-        fault_1(alloc, &parts(alloc, b"publish", 65, true, b" int 1")?),
-        Some(ScriptFault::Count)
-    );
-    assert_eq!(rt;
-        fault_1(alloc, &parts(alloc, b"subscribe", 16, false, b" int any")?),
-        None
-    );
-    assert_eq!(rt;
-        fault_1(alloc, &parts(alloc, b"subscribe", 17, false, b" int any")?),
-        Some(ScriptFault::Count)
-    );
-    assert_eq!(rt;
-        fault_1(alloc, &parts(alloc, b"subscribe", 17, true, b" int any")?),
-        None
-    );
-    assert_eq!(rt;
-        fault_1(alloc, &parts(alloc, b"advertise", 64, false, b" int any")?),
-        None
-    );
-    assert_eq!(rt;
-        fault_1(alloc, &parts(alloc, b"advertise", 65, false, b" int any")?),
-        Some(ScriptFault::Count)
-    );
+    for (count, told) in [(1024, None), (1025, Some(ScriptFault::Value))] {
+        assert_eq!(rt; fault_1(alloc, &marks(alloc, count)?), told);
+    }
+    for (verb, tail, count, equal, told) in [
+        (b"publish".as_slice(), b" int 1".as_slice(), 64, false, None),
+        (b"publish", b" int 1", 65, true, Some(ScriptFault::Count)),
+        (b"subscribe", b" int any", 16, false, None),
+        (
+            b"subscribe",
+            b" int any",
+            17,
+            false,
+            Some(ScriptFault::Count),
+        ),
+        (b"subscribe", b" int any", 17, true, None),
+        (b"advertise", b" int any", 64, false, None),
+        (
+            b"advertise",
+            b" int any",
+            65,
+            false,
+            Some(ScriptFault::Count),
+        ),
+    ] {
+        let line = parts(alloc, verb, count, equal, tail)?;
+        assert_eq!(rt; fault_1(alloc, &line), told);
+    }
     Ok(())
 }

@@ -106,14 +106,25 @@ fn members(alloc: Global, count: u8, tail: &[u8]) -> Result<Vec<u8>, Fail> {
 #[test]
 fn limits(rt: HostRuntime) -> Result<(), Fail> {
     let alloc = rt.alloc();
-    assert!(rt; is_notice(alloc, &marks(alloc, 1024)?)?);
-    assert!(rt; !is_notice(alloc, &marks(alloc, 1025)?)?);
-    assert!(rt; is_notice(alloc, &members(alloc, 64, b" int 1")?)?);
-    assert!(rt; !is_notice(alloc, &members(alloc, 65, b" int 1")?)?);
-    assert!(rt; is_filter(alloc, &members(alloc, 16, b" int any")?)?);
-    assert!(rt; !is_filter(alloc, &members(alloc, 17, b" int any")?)?);
-    assert!(rt; is_advert(alloc, &members(alloc, 64, b" int any")?)?);
-    assert!(rt; !is_advert(alloc, &members(alloc, 65, b" int any")?)?);
+    for (count, holds) in [(1024, true), (1025, false)] {
+        assert_eq!(rt; is_notice(alloc, &marks(alloc, count)?)?, holds);
+    }
+    for (count, holds) in [(64, true), (65, false)] {
+        assert_eq!(rt;
+            is_notice(alloc, &members(alloc, count, b" int 1")?)?,
+            holds
+        );
+        assert_eq!(rt;
+            is_advert(alloc, &members(alloc, count, b" int any")?)?,
+            holds
+        );
+    }
+    for (count, holds) in [(16, true), (17, false)] {
+        assert_eq!(rt;
+            is_filter(alloc, &members(alloc, count, b" int any")?)?,
+            holds
+        );
+    }
     Ok(())
 }
 

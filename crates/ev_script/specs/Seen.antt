@@ -1,6 +1,7 @@
 -- The tokens of the code, as specifications see them.
-use Rattle.std.specs.Prelude.{List, [], ◌∷◌, Some, None}
+use Rattle.std.specs.Prelude.{◌≡◌, List, [], ◌∷◌, Some, None, Ok, Err}
 use Rattle.std.specs.declared.option.Option.{Option}
+use Rattle.std.specs.declared.result.Result.{Result}
 use Rattle.ev_script.specs.declared.token.Token.{Token as Read}
 use Rattle.ev_script.specs.declared.token.Token.TheVariants.{Word, Sign, Str, Long, Semicolon, Bad}
 use Rattle.ev_script.specs.Tokens.{Token}
@@ -19,3 +20,9 @@ seen Bad = bad
 abbrev pub behind : Option Read → List Token → List Token
 behind None others = []
 behind (Some t) others = seen t ∷ others
+
+-- the token in front is taken, or there is none at the end of the line; want of memory takes nothing
+abbrev pub Takes : {E : Type 0} → Result (Option Read) E → List Token → List Token → Type 0
+Takes (Ok None) before after = (before ≡ []) × (after ≡ [])
+Takes (Ok (Some t)) before after = before ≡ seen t ∷ after
+Takes (Err e) before after = after ≡ before

@@ -5,8 +5,9 @@ ghost use Rattle.ev_script.specs.Form.{attribute_in, constraint_in, given_in, he
 ghost use Rattle.ev_script.specs.Reading.{Gives, Reads};
 
 use crate::fault::ScriptFault;
-use crate::number::{int_given, time_given};
+use crate::number::int_given;
 use crate::part::CommandPart;
+use crate::time::time_given;
 use crate::token::Token;
 use crate::tokens::Tokens;
 use ev_constraint::{BadConstraint, Constraint, Op};

@@ -10,6 +10,7 @@ mod limits;
 mod line;
 mod number;
 mod part;
+mod time;
 mod token;
 mod tokens;
 mod verb;

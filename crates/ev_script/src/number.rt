@@ -1,8 +1,8 @@
-//! Ints and times of a command line.
+//! Digits and ints of a command line.
 ghost use Rattle.std.specs.Prelude.{◌≡◌, true};
 ghost use Rattle.std.specs.List.{list_all};
 ghost use Rattle.std.specs.Str.Parse.{without_leading_sign};
-ghost use Rattle.ev_script.specs.Form.{are_digits, int_given, is_digit, time_given};
+ghost use Rattle.ev_script.specs.Form.{are_digits, int_given, is_digit};
 
 use crate::form::Given;
 use ev_values::Value;
@@ -56,32 +56,6 @@ pub fn int_given(word: &[u8]) -> Option<Given>
 {
     if are_digits(without_sign(word)) {
         parsed_int(word)
-    } else {
-        None
-    }
-}
-
-// The number of digits, or what is beyond u64.
-fn parsed_time(word: &[u8]) -> Option<Given>
-    requires { are_digits word.now ≡ true }
-    ensures { result ≡ time_given word.now }
-{
-    let Ok(text) = std::str::from_utf8(word) else {
-        return None;
-    };
-    match text.parse::<u64>() {
-        Ok(n) => Some(Given::Fit(Value::Time(n))),
-        Err(_) => Some(Given::Wide),
-    }
-}
-
-/// The time that a word spells; `None` where it is not of a time's form.
-#[tactic(auto, unfolding(crate::specs::Form::time_given))]
-pub fn time_given(word: &[u8]) -> Option<Given>
-    ensures { result ≡ time_given word.now }
-{
-    if are_digits(word) {
-        parsed_time(word)
     } else {
         None
     }

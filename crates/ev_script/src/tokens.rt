@@ -23,7 +23,7 @@ impl<'a> Model for Tokens<'a> {
 impl<'a> Tokens<'a> {
     ghost use Rattle.std.specs.Prelude.{◌≡◌};
     ghost use Rattle.ev_script.specs.Tokens.{tokens};
-    ghost use Rattle.ev_script.specs.Reading.{Nexts};
+    ghost use Rattle.ev_script.specs.Seen.{Takes};
 
     /// The tokens of the line.
     pub fn new(line: &'a [u8]) -> Tokens<'a>
@@ -34,10 +34,15 @@ impl<'a> Tokens<'a> {
         }
     }
 
-    /// The next token; `None` at the end of the line.
+    /// The next token; `None` at the end of the line. Where memory runs out no token is cut off.
     pub fn next(&mut self, alloc: Global) -> Result<Option<Token<'a>>, NoMemory>
-        ensures { Nexts result self.old self.new }
+        ensures { Takes result self.old self.new }
     {
-        self.cutter.next(alloc)
+        let mut cutter = Cutter {
+            rest: self.cutter.rest,
+        };
+        let token = cutter.next(alloc)?;
+        self.cutter = cutter;
+        Ok(token)
     }
 }

@@ -1,5 +1,5 @@
 use Rattle.ev_script.proofs.IntLaws.{digits_utf8, parsed_time, wide_time}
-use Rattle.ev_script.proofs.number.parsed_time.Goals as goal
+use Rattle.ev_script.proofs.time.parsed_time.Goals as goal
 
 pub returns-in_default : goal.returns-in_default
 returns-in_default c = absurd (c.in_default.ensures.cases.0 (digits_utf8 c.args.word.now c.requires))
