@@ -1,5 +1,8 @@
 pub mod Sets
 pub mod Rounds
+pub mod Without
+pub mod Changes
+pub mod Steps
 pub mod Places
 pub mod Same
 pub mod Apart
@@ -10,3 +13,4 @@ pub mod Uses
 pub mod Sound
 pub mod Counted
 pub mod Routed
+pub mod Unique

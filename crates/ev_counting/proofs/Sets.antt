@@ -6,9 +6,6 @@ use Rattle.std.proofs.lemmas.List.Elements.{Contains-push, Contains-push_cases, 
 use Rattle.ev_constraint.specs.Constraint.{ConstraintParts}
 use Rattle.ev_notice.specs.Notice.{Attribute}
 use Rattle.ev_notice.specs.Cover.{matches}
-use Rattle.ev_notice.specs.Before.{list_before}
-use Rattle.ev_notice.proofs.BeforeLaws.{before-irreflexive, before-total}
-use Rattle.std.specs.Prelude.{IsTrue}
 use Rattle.ev_counting.specs.Table.{Held, IsAdded, IsTaken, AreMatched, IsRouteOf}
 
 pub added-push : (xs : List Held) (x : Held) → IsAdded xs (xs ++ x ∷ []) x
@@ -113,24 +110,3 @@ to-route n held ifaces route a r s = record {
   rising = r;
   exact = λ iface. (λ h. a.sound iface ((s iface).0 h), λ h. (s iface).1 (a.whole iface h));
 }
-
--- of two lists of which neither stands before the other
-pub one-of-two : (f g : List ConstraintParts) (b : Bool) → list_before f g ≡ false → b ≡ list_before g f → (IsTrue (not b) → f ≡ g) × (f ≡ g → IsTrue (not b))
-one-of-two f g true a e = (λ h. absurd (wrong h), λ h. absurd (clash (subst (λ (x : List ConstraintParts). true ≡ list_before x f) (sym h) e)))
-  where
-    clash : true ≡ list_before f f → ⊥
-    clash k = let z = before-irreflexive f in let w : true ≡ false = k ∙ z in cc
-
-    wrong : false ≡ true → ⊥
-    wrong k = cc
-one-of-two f g false a e = (λ h. before-total f g a (sym e), λ h. refl)
-
-pub two-of-two : (f g : List ConstraintParts) (b : Bool) → b ≡ true → b ≡ list_before f g → (IsTrue (not b) → f ≡ g) × (f ≡ g → IsTrue (not b))
-two-of-two f g true a e = (λ h. absurd (wrong h), λ h. absurd (clash (subst (λ (x : List ConstraintParts). true ≡ list_before f x) (sym h) e)))
-  where
-    clash : true ≡ list_before f f → ⊥
-    clash k = let z = before-irreflexive f in let w : true ≡ false = k ∙ z in cc
-
-    wrong : false ≡ true → ⊥
-    wrong k = cc
-two-of-two f g false a e = absurd (cc)

@@ -15,6 +15,8 @@ use Rattle.ev_counting.specs.Index.{Use}
 use Rattle.ev_counting.specs.Slots.{Slot, pair_of, held, slot_at, HasPair, constraints_in, numbered, uses_from, KeepsPlaces, IsPlaced, ArePlaced, IsSound, goal_of, goal_at, AreAimed}
 use Rattle.ev_counting.proofs.Sets.{Falls, falls-start, falls-end, step, matched-yes, matched-no}
 use Rattle.ev_counting.proofs.Rounds.{get-push}
+use Rattle.ev_counting.specs.Changes.{without}
+use Rattle.ev_counting.proofs.Without.{without-free, without-none}
 use Rattle.ev_counting.proofs.Places.{held-none, held-free, falls-then, uses-set}
 
 pub differ : (b : Bool) → b ≡ true → b ≡ false → ⊥
@@ -133,6 +135,7 @@ pub record Taking (old now : List Slot) (goals : List Goal) (index : List Use) (
   pub indexed : Same index (uses_from 0 now)
   pub placed : (k : ℕ) → (e : Entry) → slot_at now k ≡ Some e → slot_at old k ≡ Some e
   pub falls : Falls (held old) (held now) pair
+  pub rest : without pair (held now) ≡ without pair (held old)
   pub none : (k : ℕ) → k < i → HasPair (slot_at now k) pair → ⊥
 
 pub taking-start : (slots : List Slot) (goals : List Goal) (index : List Use) (pair : Held) → AreAimed slots goals → Same index (uses_from 0 slots) → Taking slots slots goals index pair 0
@@ -142,6 +145,7 @@ taking-start slots goals index pair aimed h = record {
   indexed = h;
   placed = λ k e g. g;
   falls = falls-start (held slots) pair;
+  rest = refl;
   none = λ k l. absurd (omega (arith, l));
 }
 
@@ -169,6 +173,7 @@ taking-free old now goals less index next pair i aimed l has out t = record {
       omega (arith, a, b, n, f, t.indexed p)));
   placed = λ k e h. elim (set-either now i k None e h) [ inl g ↦ cc | inr g ↦ t.placed k e g ];
   falls = falls-then (held old) (held now) (held (set now i None)) pair t.falls (held-free now i pair l has);
+  rest = without-free pair now i l has ∙ t.rest;
   none = λ k m. upto {C = λ k. HasPair (slot_at (set now i None) k) pair → ⊥} i k m (λ j g. other now i j g (t.none j g)) (gone now i);
 }
   where
@@ -191,11 +196,15 @@ taking-pass old now goals index pair i n t = record {
   indexed = t.indexed;
   placed = t.placed;
   falls = t.falls;
+  rest = t.rest;
   none = λ k m. upto {C = λ k. HasPair (slot_at now k) pair → ⊥} i k m t.none n;
 }
 
 pub taking-end : (old now : List Slot) (goals : List Goal) (index : List Use) (pair : Held) (i : ℕ) → length old ≤ i → Taking old now goals index pair i → IsTaken (held old) (held now) pair
 taking-end old now goals index pair i l t = falls-end (held old) (held now) pair t.falls (held-none now pair (λ k m. t.none k (omega (arith, m, l, t.size))))
+
+pub taking-rest : (old now : List Slot) (goals : List Goal) (index : List Use) (pair : Held) (i : ℕ) → length old ≤ i → Taking old now goals index pair i → held now ≡ without pair (held old)
+taking-rest old now goals index pair i l t = sym (without-none pair (held now) (held-none now pair (λ k m. t.none k (omega (arith, m, l, t.size))))) ∙ t.rest
 
 -- the entries that are copied, one place after another
 pub record Copying (slots copy : List Slot) (goals : List Goal) (index : List Use) (i : ℕ) : Type 0 where

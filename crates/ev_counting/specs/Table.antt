@@ -1,5 +1,5 @@
 -- Tables: which interface holds which filter, and where a notice goes.
-use Rattle.std.specs.Prelude.{◌≡◌, ◌⊎◌, ◌↔◌, ℕ, true, List}
+use Rattle.std.specs.Prelude.{◌≡◌, ◌⊎◌, ◌↔◌, ℕ, true, List, [], ◌∷◌}
 use Rattle.std.specs.List.{Contains}
 use Rattle.std.specs.List.Sorted.{IsStrictlyIncreasing}
 use Rattle.ev_constraint.specs.Constraint.{ConstraintParts}
@@ -28,6 +28,11 @@ pub record IsTaken (old new : List Held) (pair : Held) : Type 0 where
 abbrev pub IsApplied : Change → List Held → List Held → Type 0
 IsApplied (Add iface filter) old new = IsAdded old new (iface, filter)
 IsApplied (Remove iface filter) old new = IsTaken old new (iface, filter)
+
+-- what a list of changes makes of a set of pairs, one after the other
+abbrev pub AreApplied : List Change → List Held → List Held → Type 0
+AreApplied [] old new = new ≡ old
+AreApplied (change ∷ changes) old new = (between : List Held) × IsApplied change old between × AreApplied changes between new
 
 -- some filter that the interface holds is matched
 abbrev pub IsMatched : List Attribute → List Held → ℕ → Type 0

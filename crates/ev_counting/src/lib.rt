@@ -7,14 +7,14 @@ mod counters;
 mod entry;
 mod goal;
 mod index;
+pub mod law;
 mod pairs;
 mod route;
 mod scratch;
 mod shelf;
 mod slots;
 mod table;
-#[cfg(test)]
-mod tests;
+mod together;
 
 pub use change::Change;
 pub use route::Route;

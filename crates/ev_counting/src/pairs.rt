@@ -1,4 +1,4 @@
-//! Constraints without their names, those on ints and bools apart from those on strs.
+//! Constraints without their names, those on strs apart from those on ints, bools and times.
 use ev_constraint::Constraint;
 use ev_memory::NoMemory;
 use ev_numindex::NumIndex;
@@ -46,7 +46,7 @@ impl Pairs {
         ensures err { OnErr result (self.new ≡ self.old) }
     {
         match constraint.kind() {
-            Kind::Bool | Kind::Int => self.numbers.add(constraint, id),
+            Kind::Bool | Kind::Int | Kind::Time => self.numbers.add(constraint, id),
             Kind::Str => self.texts.add(constraint, id),
         }
     }
@@ -57,7 +57,7 @@ impl Pairs {
         ensures none { result ≡ false → (self.new ≡ self.old) × (IsIn (test_of constraint.now, id) self.old → ⊥) }
     {
         match constraint.kind() {
-            Kind::Bool | Kind::Int => self.numbers.remove(constraint, id),
+            Kind::Bool | Kind::Int | Kind::Time => self.numbers.remove(constraint, id),
             Kind::Str => self.texts.remove(constraint, id),
         }
     }

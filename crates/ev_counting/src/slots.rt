@@ -9,18 +9,11 @@ use crate::goal::{FREE, Goal};
 use ev_memory::NoMemory;
 use ev_notice::Filter;
 
-/// Whether two filters are one.
-fn is_same(a: &Filter, b: &Filter) -> bool
-    ensures { IsTrue result ↔ (a.now ≡ b.now) }
-{
-    !a.is_before(b) && !b.is_before(a)
-}
-
 /// Whether an entry is this pair.
 fn is_pair(entry: &Entry, iface: u32, filter: &Filter) -> bool
     ensures { IsTrue result ↔ (pair_of entry.now ≡ (iface, filter.now)) }
 {
-    entry.iface == iface && is_same(&entry.filter, filter)
+    entry.iface == iface && entry.filter == *filter
 }
 
 /// Whether this pair stands at a place.

@@ -4,6 +4,7 @@ ghost use Rattle.ev_index.specs.Pairs.{Same};
 ghost use Rattle.ev_counting.specs.declared.entry.Entry.{Entry};
 ghost use Rattle.ev_counting.specs.Table.{AreMatched, IsAdded, IsTaken};
 ghost use Rattle.ev_counting.specs.Index.{Use};
+ghost use Rattle.ev_counting.specs.Changes.{without};
 ghost use Rattle.ev_counting.specs.Slots.{held, numbered, uses_from, slot_at, goal_of, AreAimed, ArePlaced, IsSound};
 
 use crate::change::Change;
@@ -27,7 +28,7 @@ use std::marker::Model;
 /// interfaces that it was told of, and keeps these numbers; a copy keeps them too.
 #[derive(Drop)]
 pub struct Table {
-    alloc: Global,
+    pub(crate) alloc: Global,
     interfaces: Vec<u32>,
     slots: Vec<Option<Entry>>,
     goals: Vec<Goal>,
@@ -105,6 +106,7 @@ fn take(
     ensures indexed { Same index.new (uses_from 0 slots.new.items) }
     ensures placed { (k : ℕ) → (e : Entry) → slot_at slots.new.items k ≡ Some e → slot_at slots.old.items k ≡ Some e }
     ensures taken { IsTaken (held slots.old.items) (held slots.new.items) (iface, filter.now) }
+    ensures rest { held slots.new.items ≡ without (iface, filter.now) (held slots.old.items) }
 {
     for i in 0..slots.len() {
         if has_pair(&slots[i], iface, filter) {
@@ -187,6 +189,8 @@ fn matched(alloc: Global, slots: &[Option<Entry>], notice: &Notice) -> Result<Ve
 }
 
 impl Table {
+    ghost use Rattle.std.specs.Prelude.{◌↔◌, IsTrue};
+    ghost use Rattle.std.specs.List.{Contains};
     ghost use Rattle.ev_counting.specs.Table.{IsApplied, IsRouteOf};
 
     /// A table of no pairs. It takes no memory.
@@ -223,9 +227,26 @@ impl Table {
         ensures added { OnOk result (IsAdded self.old self.new (iface, filter.now)) }
         ensures err { OnErr result (self.new ≡ self.old) }
     {
-        if holds(&self.slots, iface, filter) {
+        if self.holds(iface, filter) {
             return Ok(());
         }
+        self.enter(iface, filter)
+    }
+
+    /// Whether the pair is there.
+    pub(crate) fn holds(&self, iface: u32, filter: &Filter) -> bool
+        ensures { IsTrue result ↔ Contains self.now (iface, filter.now) }
+    {
+        holds(&self.slots, iface, filter)
+    }
+
+    /// Adds a pair that isn't there.
+    pub(crate) fn enter(&mut self, iface: u32, filter: &Filter) -> Result<(), NoMemory>
+        requires { Contains self.old (iface, filter.now) → ⊥ }
+        ensures added { OnOk result (IsAdded self.old self.new (iface, filter.now)) }
+        ensures rest { OnOk result (without (iface, filter.now) self.new ≡ self.old) }
+        ensures err { OnErr result (self.new ≡ self.old) }
+    {
         let copy = filter.copy(self.alloc)?;
         let place = interface_place(&mut self.interfaces, iface)?;
         let id = vacate(&mut self.slots, &mut self.goals)?;
@@ -240,8 +261,9 @@ impl Table {
     }
 
     /// Takes a pair away.
-    fn take(&mut self, iface: u32, filter: &Filter)
-        ensures { IsTaken self.old self.new (iface, filter.now) }
+    pub(crate) fn take(&mut self, iface: u32, filter: &Filter)
+        ensures taken { IsTaken self.old self.new (iface, filter.now) }
+        ensures rest { self.new ≡ without (iface, filter.now) self.old }
     {
         take(
             &mut self.slots,

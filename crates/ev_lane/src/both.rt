@@ -3,7 +3,7 @@ ghost use Rattle.std.specs.Prelude.{◌≡◌, ◌+◌, ◌≤◌, ◌^◌, ◌+
 ghost use Rattle.std.specs.VecDeque.{deque_len, deque_capacity};
 ghost use mathlib.Core.List.{IsPrefix};
 ghost use Rattle.rtrb.specs.Ring.{sent, received, known_items, producer_capacity, IsPair, SameProducer, SameConsumer};
-ghost use Rattle.ev_lane.specs.Lane.{put_list, pushed_list, waiting_list, mark_of, taken_list, rest_list, coming_list, misses, IsLane, SameIn, SameOut};
+ghost use Rattle.ev_lane.specs.Lane.{put_list, pushed_list, waiting_list, spare, mark_of, taken_list, rest_list, coming_list, misses, IsLane, SameIn, SameOut};
 
 use crate::mark::{Bounded, Ends, Mark, Raise};
 use crate::putting::{LaneIn, move_out};
@@ -63,6 +63,7 @@ fn move_all<T: Drop>(
     ensures same { SameProducer producer.old producer.new × SameConsumer consumer.old consumer.new }
     ensures put { (sent producer.new ≡ sent producer.old ++ outbox.old.items) × (outbox.new.items ≡ []) }
     ensures count { length (sent producer.new) ≡ length (sent producer.old) + result }
+    ensures moved { (IsPrefix (sent producer.old) (sent producer.new)) × (deque_capacity outbox.new ≡ deque_capacity outbox.old) }
     ensures received { (received consumer.new ≡ sent producer.new) × (known_items consumer.new ≡ []) }
     ensures rest { (n : ℕ) → n ≤ length (received consumer.old) → drop n (received consumer.old) ≡ rest.old.items → (drop n (received consumer.new) ≡ rest.new.items) × (take n (received consumer.new) ≡ take n (received consumer.old)) }
 {
@@ -84,11 +85,14 @@ pub fn settle<T: Drop>(a: &mut LaneIn<T>, b: &mut LaneOut<T>) -> Result<(), NoMe
     requires { IsLane a.old b.old }
     ensures lane { IsLane a.new b.new × SameIn a.old a.new × SameOut b.old b.new }
     ensures lists { (put_list a.new ≡ put_list a.old) × (taken_list b.new ≡ taken_list b.old) }
+    ensures known { IsPrefix (coming_list b.old) (coming_list b.new) }
     ensures prefix { IsPrefix (taken_list b.new) (put_list a.new) }
     ensures misses { misses b.new ≡ misses b.old }
     ensures mark { mark_of a.new ≡ length (pushed_list a.new) }
     ensures settled { OnOk result ((taken_list b.new ++ rest_list b.new ≡ put_list a.new) × (waiting_list a.new ≡ []) × (coming_list b.new ≡ rest_list b.new)) }
+    ensures moved { IsPrefix (pushed_list a.old) (pushed_list a.new) × (spare a.old ≤ spare a.new) }
     ensures kept { OnErr result ((pushed_list a.new ≡ pushed_list a.old) × (rest_list b.new ≡ rest_list b.old)) }
+    ensures waits { OnErr result (waiting_list a.new ≡ waiting_list a.old) }
 {
     let waiting = b.consumer.slots_beside(&mut a.producer);
     if b.rest.reserve(waiting + a.outbox.len()).is_err() {

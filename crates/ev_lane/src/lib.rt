@@ -15,6 +15,3 @@ mod taking;
 pub use both::{lane, settle};
 pub use putting::LaneIn;
 pub use taking::LaneOut;
-
-#[cfg(test)]
-mod tests;

@@ -2,6 +2,7 @@
 ghost use Rattle.std.specs.Prelude.{◌≡◌, ◌+◌, ◌≤◌, ◌^◌, ◌⊎◌, ◌++◌, [], length, true};
 ghost use Rattle.std.specs.VecDeque.{deque_len, deque_capacity};
 ghost use Rattle.std.specs.Arc.{arc_value};
+ghost use mathlib.Core.List.{IsPrefix};
 ghost use Rattle.rtrb.specs.Ring.{sent, known_free, producer_capacity, SameProducer};
 
 use crate::mark::{Bounded, Mark, MarkSeat, Raise};
@@ -33,6 +34,7 @@ pub(crate) fn move_out<T: Drop>(
     requires { length (sent producer.old) + deque_len outbox.old ≤ 2 ^ 63 }
     ensures same { SameProducer producer.old producer.new }
     ensures items { sent producer.new ++ outbox.new.items ≡ sent producer.old ++ outbox.old.items }
+    ensures moved { IsPrefix (sent producer.old) (sent producer.new) }
     ensures count { (length (sent producer.new) ≡ length (sent producer.old) + result) × (deque_len outbox.new + result ≡ deque_len outbox.old) }
     ensures done { (deque_len outbox.new ≡ 0) ⊎ (known_free producer.new ≡ 0) }
     ensures free { known_free producer.old ≤ known_free producer.new + result }
@@ -49,6 +51,7 @@ pub(crate) fn move_out<T: Drop>(
 
 impl<T: Drop> LaneIn<T> {
     ghost use Rattle.std.specs.Prelude.{◌≡◌, ◌+◌, ◌<◌, ◌≤◌, ◌^◌, ◌⊎◌, ◌↔◌, ◌++◌, ◌∷◌, [], length, OnOk, OnErr, IsTrue, IsFalse};
+    ghost use mathlib.Core.List.{IsPrefix};
     ghost use Rattle.ev_lane.specs.Lane.{put_list, pushed_list, waiting_list, spare, free_places, mark_of, SameIn};
 
     /// Makes room for n items, which can then be put without memory. It wants memory only where there
@@ -82,6 +85,7 @@ impl<T: Drop> LaneIn<T> {
         requires few { length (put_list self.old) < 2 ^ 63 }
         ensures same { SameIn self.old self.new × (pushed_list self.new ≡ pushed_list self.old) × (mark_of self.new ≡ mark_of self.old) }
         ensures put { put_list self.new ≡ put_list self.old ++ item ∷ [] }
+        ensures waiting { waiting_list self.new ≡ waiting_list self.old ++ item ∷ [] }
         ensures spare { spare self.old ≡ spare self.new + 1 }
     {
         self.outbox.push_back_reserved(item);
@@ -92,6 +96,7 @@ impl<T: Drop> LaneIn<T> {
     pub fn flush(&mut self)
         ensures same { SameIn self.old self.new × (spare self.old ≤ spare self.new) }
         ensures put { put_list self.new ≡ put_list self.old }
+        ensures moved { IsPrefix (pushed_list self.old) (pushed_list self.new) }
         ensures done { (waiting_list self.new ≡ []) ⊎ (free_places self.new ≡ 0) }
         ensures mark { mark_of self.new ≡ length (pushed_list self.new) }
     {

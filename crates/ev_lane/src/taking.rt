@@ -97,13 +97,21 @@ pub(crate) fn take_known<T: Drop>(
 }
 
 impl<T: Drop> LaneOut<T> {
-    ghost use Rattle.std.specs.Prelude.{◌≡◌, ◌+◌, ◌<◌, ◌++◌, ◌∷◌, [], length, IsTrue, IsFalse, IfSome, IfNone, ⊤};
+    ghost use Rattle.std.specs.Prelude.{◌≡◌, ◌+◌, ◌<◌, ◌⊎◌, ◌↔◌, ◌++◌, ◌∷◌, [], length, IsTrue, IsFalse, IfSome, IfNone, ⊤};
     ghost use Rattle.std.specs.Borrow.{sem};
     ghost use mathlib.Core.List.{IsPrefix};
     ghost use mathlib.Core.Option.{none};
     ghost use denote.Follow.{follows_so};
     ghost use Rattle.ev_lane.specs.contracts.taking.LaneOut.{the_row};
-    ghost use Rattle.ev_lane.specs.Lane.{taken_list, rest_list, coming_list, misses, SameOut, Misses, Looks};
+    ghost use Rattle.ev_lane.specs.Lane.{taken_list, rest_list, coming_list, misses, SameOut, Misses, Looks, LeavesRest, LeavesRing};
+
+    /// Whether the rest has an item, which the next `take` then gives without a look at the mark or
+    /// the ring.
+    pub fn has_rest(&self) -> bool
+        ensures { IsFalse result ↔ (rest_list self.now ≡ []) }
+    {
+        !self.rest.is_empty()
+    }
 
     // Whether there is a next item. `misses` rises where there is none.
     fn is_ready<R: Wait>(&mut self, rt: &R) -> bool
@@ -148,13 +156,15 @@ impl<T: Drop> LaneOut<T> {
         }
     }
 
-    /// Takes the next item. `None`, and one more miss, where the mark shows that this end has had
+    /// Takes the next item: the first of the rest, where the rest isn't empty, without a look at the
+    /// mark or the ring; else the next of the ring. `None`, and one more miss, where the mark shows that this end has had
     /// everything; nothing is taken then. Where the mark shows a further item it waits until that
     /// item is in sight.
     pub fn take<R: Wait>(&mut self, rt: &R) -> Option<T>
         ensures same { SameOut self.old self.new }
         ensures taken { IfSome result (λ x. (taken_list self.new ≡ taken_list self.old ++ x ∷ []) × (misses self.new ≡ misses self.old)) }
         ensures next { IfSome result (λ x. IsPrefix (coming_list self.old) (x ∷ coming_list self.new)) }
+        ensures rest { IfSome result (λ x. LeavesRest self.old self.new x ⊎ LeavesRing self.old self.new) }
         ensures nothing { IfNone result (Misses self.old self.new × (taken_list self.new ≡ taken_list self.old) × (rest_list self.new ≡ [])) }
     {
         if let Some(x) = self.rest.pop_front() {

@@ -15,7 +15,7 @@ pub struct Counts {
 /// The value of a name in a notice.
 fn value_of<'a>(notice: &'a Notice, name: &Name) -> Option<&'a Value> {
     for (other, value) in notice.attributes() {
-        if other.equals(name) {
+        if other == name {
             return Some(value);
         }
     }

@@ -13,8 +13,6 @@ mod measure;
 mod plain;
 mod plan;
 mod random;
-#[cfg(test)]
-mod tests;
 mod words;
 mod workload;
 

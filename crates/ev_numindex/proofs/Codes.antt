@@ -1,6 +1,7 @@
 -- A key says the test that it is made of.
-use Rattle.std.proofs.Common.{◌≡◌, ◌⊎◌, inl, inr, ap, ◌∙◌, ℤ, Bool, true, false, refl, sym, arith, pos, Option}
+use Rattle.std.proofs.Common.{◌≡◌, ◌⊎◌, ◌+ℤ◌, ◌-ℤ◌, ◌^◌, inl, inr, ap, ◌∙◌, subst, ℕ, ℤ, Bool, true, false, refl, sym, arith, pos, negsuc, Option}
 use Rattle.std.specs.Prelude.{Some, None, if◌then◌else◌}
+use Rattle.std.proofs.Math.IntN.{+ℤ-neg_ℤ_cancel, -ℤ-+ℤ_cancel}
 use Rattle.std.proofs.lemmas.Int.{ints}
 use Rattle.std.specs.Ordering.{int_eq}
 use Rattle.ev_values.specs.declared.value.Kind.{Kind}
@@ -11,14 +12,19 @@ use Rattle.ev_constraint.specs.declared.op.Op.{Op}
 use Rattle.ev_constraint.specs.declared.op.Op.TheVariants as ops
 use Rattle.ev_constraint.specs.Constraint.{IsTest}
 use Rattle.ev_index.specs.Pairs.{Test}
-use Rattle.ev_numindex.specs.Keys.{key_of, test_at, truth_test, any_test, no_test}
+use Rattle.ev_numindex.specs.Keys.{key_of, test_at, truth_test, time_test, time_key, below_test, any_test, no_test}
 
 abbrev IsNumber : Kind → Type 0
-IsNumber kind = (kind ≡ kinds.Int) ⊎ (kind ≡ kinds.Bool)
+IsNumber kind = (kind ≡ kinds.Int) ⊎ ((kind ≡ kinds.Bool) ⊎ (kind ≡ kinds.Time))
 
 no_text : IsNumber kinds.Str → ⊥
 no_text (inl e) = cc
-no_text (inr e) = cc
+no_text (inr (inl e)) = cc
+no_text (inr (inr e)) = cc
+
+-- the key of a time says the time
+time-said : (op : Op) (n : ℕ) → time_test op (time_key n +ℤ pos (2 ^ 63)) ≡ record { kind = kinds.Time; op = op; operand = Some (values.Time n) }
+time-said op n = ap (time_test op) (-ℤ-+ℤ_cancel (pos n) (pos (2 ^ 63)))
 
 pub encode : (kind : Kind) (op : Op) (operand : Option Value) → IsNumber kind → IsTest kind op operand → test_at kind op (key_of operand) ≡ record { kind = kind; op = op; operand = operand }
 encode kinds.Str op operand n t = absurd (no_text n)
@@ -34,6 +40,22 @@ encode kinds.Int ops.Any (Some (values.Int u)) n t = absurd t.0
 encode kinds.Int ops.Contains (Some (values.Int u)) n t = absurd t.0
 encode kinds.Int ops.Prefix (Some (values.Int u)) n t = absurd t.0
 encode kinds.Int ops.Suffix (Some (values.Int u)) n t = absurd t.0
+encode kinds.Time op None n t = rw t refl
+encode kinds.Time ops.Eq (Some (values.Time u)) n t = time-said ops.Eq u
+encode kinds.Time ops.Ne (Some (values.Time u)) n t = time-said ops.Ne u
+encode kinds.Time ops.Lt (Some (values.Time u)) n t = time-said ops.Lt u
+encode kinds.Time ops.Le (Some (values.Time u)) n t = time-said ops.Le u
+encode kinds.Time ops.Gt (Some (values.Time u)) n t = time-said ops.Gt u
+encode kinds.Time ops.Ge (Some (values.Time u)) n t = time-said ops.Ge u
+encode kinds.Time ops.Any (Some (values.Time u)) n t = absurd t.0
+encode kinds.Time ops.Contains (Some (values.Time u)) n t = absurd t.0
+encode kinds.Time ops.Prefix (Some (values.Time u)) n t = absurd t.0
+encode kinds.Time ops.Suffix (Some (values.Time u)) n t = absurd t.0
+encode kinds.Time op (Some (values.Bool u)) n t = absurd t
+encode kinds.Time op (Some (values.Int u)) n t = absurd t
+encode kinds.Time op (Some (values.Str u)) n t = absurd t
+encode kinds.Int op (Some (values.Time u)) n t = absurd t
+encode kinds.Bool op (Some (values.Time u)) n t = absurd t
 encode kinds.Int op (Some (values.Bool u)) n t = absurd t
 encode kinds.Int op (Some (values.Str u)) n t = absurd t
 encode kinds.Bool ops.Eq (Some (values.Bool true)) n t = refl
@@ -57,8 +79,11 @@ pub record Tells (kind : Kind) (op : Op) (k : ℤ) (t : Test) : Type 0 where
   pub ops_same : op ≡ t.op
   pub key : k ≡ key_of t.operand
 
+lost : (k : ℤ) (t : Test) → IsNumber t.kind → t ≡ no_test k → ⊥
+lost k t n e = no_text (subst IsNumber (ap (λ (s : Test). s.kind) e) n)
+
 untold : (kind : Kind) (op : Op) (k : ℤ) (t : Test) → IsNumber t.kind → t ≡ no_test k → Tells kind op k t
-untold kind op k t n e = let h : t.kind ≡ kinds.Str = ap (λ (s : Test). s.kind) e in absurd (elim n [ inl g ↦ cc | inr g ↦ cc ])
+untold kind op k t n e = absurd (lost k t n e)
 
 told : (kind : Kind) (op : Op) (k : ℤ) (t : Test) (operand : Option Value) → t ≡ record { kind = kind; op = op; operand = operand } → k ≡ key_of operand → Tells kind op k t
 told kind op k t operand e h = record {
@@ -85,34 +110,64 @@ truth-told op k t n e = go (int_eq k (pos 1)) (int_eq k (pos 0)) refl refl e
     go false true w z h = told kinds.Bool op k t (Some (values.Bool false)) h (is-key k (pos 0) z)
     go false false w z h = untold kinds.Bool op k t n h
 
-pub decode : (kind : Kind) (op : Op) (k : ℤ) (t : Test) → IsNumber t.kind → t ≡ test_at kind op k → Tells kind op k t
-decode kinds.Int ops.Any k t n e = any-told kinds.Int k t n e
-decode kinds.Int ops.Eq k t n e = told kinds.Int ops.Eq k t (Some (values.Int k)) e refl
-decode kinds.Int ops.Ne k t n e = told kinds.Int ops.Ne k t (Some (values.Int k)) e refl
-decode kinds.Int ops.Lt k t n e = told kinds.Int ops.Lt k t (Some (values.Int k)) e refl
-decode kinds.Int ops.Le k t n e = told kinds.Int ops.Le k t (Some (values.Int k)) e refl
-decode kinds.Int ops.Gt k t n e = told kinds.Int ops.Gt k t (Some (values.Int k)) e refl
-decode kinds.Int ops.Ge k t n e = told kinds.Int ops.Ge k t (Some (values.Int k)) e refl
-decode kinds.Int ops.Contains k t n e = told kinds.Int ops.Contains k t (Some (values.Int k)) e refl
-decode kinds.Int ops.Prefix k t n e = told kinds.Int ops.Prefix k t (Some (values.Int k)) e refl
-decode kinds.Int ops.Suffix k t n e = told kinds.Int ops.Suffix k t (Some (values.Int k)) e refl
-decode kinds.Bool ops.Any k t n e = any-told kinds.Bool k t n e
-decode kinds.Bool ops.Eq k t n e = truth-told ops.Eq k t n e
-decode kinds.Bool ops.Ne k t n e = truth-told ops.Ne k t n e
-decode kinds.Bool ops.Lt k t n e = untold kinds.Bool ops.Lt k t n e
-decode kinds.Bool ops.Le k t n e = untold kinds.Bool ops.Le k t n e
-decode kinds.Bool ops.Gt k t n e = untold kinds.Bool ops.Gt k t n e
-decode kinds.Bool ops.Ge k t n e = untold kinds.Bool ops.Ge k t n e
-decode kinds.Bool ops.Contains k t n e = untold kinds.Bool ops.Contains k t n e
-decode kinds.Bool ops.Prefix k t n e = untold kinds.Bool ops.Prefix k t n e
-decode kinds.Bool ops.Suffix k t n e = untold kinds.Bool ops.Suffix k t n e
-decode kinds.Str ops.Any k t n e = untold kinds.Str ops.Any k t n e
-decode kinds.Str ops.Eq k t n e = untold kinds.Str ops.Eq k t n e
-decode kinds.Str ops.Ne k t n e = untold kinds.Str ops.Ne k t n e
-decode kinds.Str ops.Lt k t n e = untold kinds.Str ops.Lt k t n e
-decode kinds.Str ops.Le k t n e = untold kinds.Str ops.Le k t n e
-decode kinds.Str ops.Gt k t n e = untold kinds.Str ops.Gt k t n e
-decode kinds.Str ops.Ge k t n e = untold kinds.Str ops.Ge k t n e
-decode kinds.Str ops.Contains k t n e = untold kinds.Str ops.Contains k t n e
-decode kinds.Str ops.Prefix k t n e = untold kinds.Str ops.Prefix k t n e
-decode kinds.Str ops.Suffix k t n e = untold kinds.Str ops.Suffix k t n e
+bare : (op : Op) → (op ≡ ops.Any → ⊥) → (t : Test) → IsTest t.kind t.op t.operand → t ≡ record { kind = kinds.Time; op = op; operand = None } → ⊥
+bare op h t w e = h (subst (λ (s : Test). IsTest s.kind s.op s.operand) e w)
+
+-- a key that is less than that of each time tells no constraint
+below-lost : (op : Op) (j : ℤ) (t : Test) → IsNumber t.kind → IsTest t.kind t.op t.operand → t ≡ below_test op j → ⊥
+below-lost ops.Ne j t n w e = bare ops.Ne (λ f. cc) t w e
+below-lost ops.Gt j t n w e = bare ops.Gt (λ f. cc) t w e
+below-lost ops.Ge j t n w e = bare ops.Ge (λ f. cc) t w e
+below-lost ops.Eq j t n w e = lost j t n e
+below-lost ops.Lt j t n w e = lost j t n e
+below-lost ops.Le j t n w e = lost j t n e
+below-lost ops.Any j t n w e = lost j t n e
+below-lost ops.Contains j t n w e = lost j t n e
+below-lost ops.Prefix j t n w e = lost j t n e
+below-lost ops.Suffix j t n w e = lost j t n e
+
+time-told : (op : Op) (k z : ℤ) (t : Test) → k +ℤ pos (2 ^ 63) ≡ z → IsNumber t.kind → IsTest t.kind t.op t.operand → t ≡ time_test op z → Tells kinds.Time op k t
+time-told op k (pos m) t h n w e = told kinds.Time op k t (Some (values.Time m)) e (sym (+ℤ-neg_ℤ_cancel k (pos (2 ^ 63))) ∙ ap (λ z. z -ℤ pos (2 ^ 63)) h)
+time-told op k (negsuc m) t h n w e = absurd (below-lost op (negsuc m) t n w e)
+
+pub decode : (kind : Kind) (op : Op) (k : ℤ) (t : Test) → IsNumber t.kind → IsTest t.kind t.op t.operand → t ≡ test_at kind op k → Tells kind op k t
+decode kinds.Int ops.Any k t n w e = any-told kinds.Int k t n e
+decode kinds.Int ops.Eq k t n w e = told kinds.Int ops.Eq k t (Some (values.Int k)) e refl
+decode kinds.Int ops.Ne k t n w e = told kinds.Int ops.Ne k t (Some (values.Int k)) e refl
+decode kinds.Int ops.Lt k t n w e = told kinds.Int ops.Lt k t (Some (values.Int k)) e refl
+decode kinds.Int ops.Le k t n w e = told kinds.Int ops.Le k t (Some (values.Int k)) e refl
+decode kinds.Int ops.Gt k t n w e = told kinds.Int ops.Gt k t (Some (values.Int k)) e refl
+decode kinds.Int ops.Ge k t n w e = told kinds.Int ops.Ge k t (Some (values.Int k)) e refl
+decode kinds.Int ops.Contains k t n w e = told kinds.Int ops.Contains k t (Some (values.Int k)) e refl
+decode kinds.Int ops.Prefix k t n w e = told kinds.Int ops.Prefix k t (Some (values.Int k)) e refl
+decode kinds.Int ops.Suffix k t n w e = told kinds.Int ops.Suffix k t (Some (values.Int k)) e refl
+decode kinds.Bool ops.Any k t n w e = any-told kinds.Bool k t n e
+decode kinds.Bool ops.Eq k t n w e = truth-told ops.Eq k t n e
+decode kinds.Bool ops.Ne k t n w e = truth-told ops.Ne k t n e
+decode kinds.Bool ops.Lt k t n w e = untold kinds.Bool ops.Lt k t n e
+decode kinds.Bool ops.Le k t n w e = untold kinds.Bool ops.Le k t n e
+decode kinds.Bool ops.Gt k t n w e = untold kinds.Bool ops.Gt k t n e
+decode kinds.Bool ops.Ge k t n w e = untold kinds.Bool ops.Ge k t n e
+decode kinds.Bool ops.Contains k t n w e = untold kinds.Bool ops.Contains k t n e
+decode kinds.Bool ops.Prefix k t n w e = untold kinds.Bool ops.Prefix k t n e
+decode kinds.Bool ops.Suffix k t n w e = untold kinds.Bool ops.Suffix k t n e
+decode kinds.Str ops.Any k t n w e = untold kinds.Str ops.Any k t n e
+decode kinds.Str ops.Eq k t n w e = untold kinds.Str ops.Eq k t n e
+decode kinds.Str ops.Ne k t n w e = untold kinds.Str ops.Ne k t n e
+decode kinds.Str ops.Lt k t n w e = untold kinds.Str ops.Lt k t n e
+decode kinds.Str ops.Le k t n w e = untold kinds.Str ops.Le k t n e
+decode kinds.Str ops.Gt k t n w e = untold kinds.Str ops.Gt k t n e
+decode kinds.Str ops.Ge k t n w e = untold kinds.Str ops.Ge k t n e
+decode kinds.Str ops.Contains k t n w e = untold kinds.Str ops.Contains k t n e
+decode kinds.Str ops.Prefix k t n w e = untold kinds.Str ops.Prefix k t n e
+decode kinds.Str ops.Suffix k t n w e = untold kinds.Str ops.Suffix k t n e
+decode kinds.Time ops.Any k t n w e = any-told kinds.Time k t n e
+decode kinds.Time ops.Eq k t n w e = time-told ops.Eq k (k +ℤ pos (2 ^ 63)) t refl n w e
+decode kinds.Time ops.Ne k t n w e = time-told ops.Ne k (k +ℤ pos (2 ^ 63)) t refl n w e
+decode kinds.Time ops.Lt k t n w e = time-told ops.Lt k (k +ℤ pos (2 ^ 63)) t refl n w e
+decode kinds.Time ops.Le k t n w e = time-told ops.Le k (k +ℤ pos (2 ^ 63)) t refl n w e
+decode kinds.Time ops.Gt k t n w e = time-told ops.Gt k (k +ℤ pos (2 ^ 63)) t refl n w e
+decode kinds.Time ops.Ge k t n w e = time-told ops.Ge k (k +ℤ pos (2 ^ 63)) t refl n w e
+decode kinds.Time ops.Contains k t n w e = time-told ops.Contains k (k +ℤ pos (2 ^ 63)) t refl n w e
+decode kinds.Time ops.Prefix k t n w e = time-told ops.Prefix k (k +ℤ pos (2 ^ 63)) t refl n w e
+decode kinds.Time ops.Suffix k t n w e = time-told ops.Suffix k (k +ℤ pos (2 ^ 63)) t refl n w e

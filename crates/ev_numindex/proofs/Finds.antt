@@ -22,12 +22,12 @@ itself k id = ap {B = Bool} (λ b. b && (id == id)) (same-self k) ∙ here id
     here n = grind (arith, nat_tests)
 
 -- a pair of the rows stands in a row of its kind and operator, under its key
-in-rows : (c : ConstraintParts) (kind : Kind) (op : Op) (key : ℤ) (id : ℕ) (rows : List Row) → IsNumeric c → kind ≡ c.kind → op ≡ c.op → key ≡ key_of c.operand → ((k : ℕ) → k < length rows → (d : Row) → HasAt kind op key id (get_or rows k d) → ⊥) → (d : Row) → IsIn (test_of c, id) (rows_pairs rows) → ⊥
-in-rows c kind op key id rows n a b e none d m =
+in-rows : (c : ConstraintParts) (kind : Kind) (op : Op) (key : ℤ) (id : ℕ) (rows : List Row) → IsNumeric c → IsConstraint c → kind ≡ c.kind → op ≡ c.op → key ≡ key_of c.operand → ((k : ℕ) → k < length rows → (d : Row) → HasAt kind op key id (get_or rows k d) → ⊥) → (d : Row) → IsIn (test_of c, id) (rows_pairs rows) → ⊥
+in-rows c kind op key id rows n w a b e none d m =
     let r = in-flat row_pairs (test_of c, id) rows m in
     let row = get_or rows r.place d in
     let g = in-keyed (test_at row.kind row.op) (test_of c, id) row.groups.entries (r.there d) in
-    let t = decode row.kind row.op g.key (test_of c) n g.tells in
+    let t = decode row.kind row.op g.key (test_of c) n w g.tells in
     let p = λ (x : ℤ × ℕ). same_key key x.0 && (x.1 == id) in
     let h : p (g.key, id) ≡ true = ap {B = Bool} (λ k. same_key key k && (id == id)) (t.key ∙ sym e) ∙ itself key id in
     none r.place r.within d ((t.kinds_same ∙ sym a, t.ops_same ∙ sym b), tally-in p (g.key, id) (keyed (λ k. k) row.groups.entries) h g.there)
@@ -49,6 +49,6 @@ as-before [] i old new l e h = absurd (omega arith)
 as-before (r ∷ rows) zero old new l e h = ap (λ xs. xs ++ rows_pairs rows) (h ∙ ap row_pairs e)
 as-before (r ∷ rows) (suc i) old new l e h = ap (λ xs. row_pairs r ++ xs) (as-before rows i old new (omega arith) e h)
 
-pub not-in-rows : (c : ConstraintParts) (kind : Kind) (op : Op) (key : ℤ) (id : ℕ) (rows : List Row) → IsNumeric c → kind ≡ c.kind → op ≡ c.op → key ≡ key_of c.operand → ((k : ℕ) → k < length rows → (d : Row) → HasAt kind op key id (get_or rows k d) → ⊥) → IsIn (test_of c, id) (rows_pairs rows) → ⊥
-not-in-rows c kind op key id [] n a b e none m = m
-not-in-rows c kind op key id (r ∷ rows) n a b e none m = in-rows c kind op key id (r ∷ rows) n a b e none r m
+pub not-in-rows : (c : ConstraintParts) (kind : Kind) (op : Op) (key : ℤ) (id : ℕ) (rows : List Row) → IsNumeric c → IsConstraint c → kind ≡ c.kind → op ≡ c.op → key ≡ key_of c.operand → ((k : ℕ) → k < length rows → (d : Row) → HasAt kind op key id (get_or rows k d) → ⊥) → IsIn (test_of c, id) (rows_pairs rows) → ⊥
+not-in-rows c kind op key id [] n w a b e none m = m
+not-in-rows c kind op key id (r ∷ rows) n w a b e none m = in-rows c kind op key id (r ∷ rows) n w a b e none r m

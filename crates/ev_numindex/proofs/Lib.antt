@@ -1,4 +1,4 @@
 pub mod Keys
-pub mod Meets
 pub mod Codes
+pub mod Meets
 pub mod Finds

@@ -1,42 +1,105 @@
 -- Which keys of a row have a test that a value passes.
-use Rattle.std.proofs.Common.{◌≡◌, ℤ, Bool, true, false, not, refl, arith, pos}
+use Rattle.std.proofs.Common.{◌≡◌, ◌+ℤ◌, ◌^◌, ◌∙◌, ap, ℕ, ℤ, Bool, true, false, not, refl, arith, pos, negsuc}
 use Rattle.std.proofs.lemmas.Int.{ints}
-use Rattle.std.specs.BTreeMap.Range.{range_contains}
-use Rattle.std.specs.declared.ops.Bound.TheVariants.{Included, Excluded, Unbounded}
-use Rattle.std.specs.Ordering.{int_cmp, int_eq}
+use Rattle.std.specs.Ordering.{int_eq}
 use Rattle.ev_values.specs.declared.value.Kind.{Kind}
 use Rattle.ev_values.specs.declared.value.Value.{Value}
 use Rattle.ev_values.specs.declared.value.Kind.TheVariants as kinds
 use Rattle.ev_values.specs.declared.value.Value.TheVariants as values
 use Rattle.ev_constraint.specs.declared.op.Op.{Op}
 use Rattle.ev_constraint.specs.declared.op.Op.TheVariants as ops
-use Rattle.std.specs.Prelude.{Some, None, if◌then◌else◌}
+use Rattle.std.specs.Prelude.{Some, None, int_lt, if◌then◌else◌}
+use Rattle.std.specs.Prelude.{Vec, List, [], ◌∷◌}
+use Rattle.std.specs.List.{filter}
+use Rattle.std.specs.declared.alloc.Global.{Global}
+use Rattle.ev_index.specs.Groups.{ids_of}
 use Rattle.ev_index.specs.Pairs.{passes}
-use Rattle.ev_numindex.specs.Keys.{same_key, truth_key, test_at, no_test}
+use Rattle.ev_constraint.specs.Numbers.{number_satisfies}
+use Rattle.ev_numindex.specs.Keys.{same_key, truth_key, time_key, key_meets, test_at, time_test, below_test, no_test}
 
-pub one-key : (x k : ℤ) → range_contains int_cmp (Included x) (Included x) k ≡ same_key x k
-one-key x k = grind (arith, ints)
+-- a number finds the groups whose operand it meets
+number-said : (op : Op) → (op ≡ ops.Any → ⊥) → (x k : ℤ) → key_meets op x k ≡ number_satisfies op x k
+number-said ops.Any h x k = absurd (h refl)
+number-said ops.Eq h x k = grind (arith, ints)
+number-said ops.Ne h x k = grind (arith, ints)
+number-said ops.Lt h x k = grind (arith, ints)
+number-said ops.Le h x k = grind (arith, ints)
+number-said ops.Gt h x k = grind (arith, ints)
+number-said ops.Ge h x k = grind (arith, ints)
+number-said ops.Contains h x k = refl
+number-said ops.Prefix h x k = refl
+number-said ops.Suffix h x k = refl
 
-pub number-any : (x k : ℤ) → same_key (pos 0) k ≡ passes (values.Int x) (test_at kinds.Int ops.Any k)
-number-any x k = grind (arith, ints)
+pub number-meets : (op : Op) (x k : ℤ) → key_meets op x k ≡ passes (values.Int x) (test_at kinds.Int op k)
+number-meets ops.Any x k = grind (arith, ints)
+number-meets ops.Eq x k = number-said ops.Eq (λ e. cc) x k
+number-meets ops.Ne x k = number-said ops.Ne (λ e. cc) x k
+number-meets ops.Lt x k = number-said ops.Lt (λ e. cc) x k
+number-meets ops.Le x k = number-said ops.Le (λ e. cc) x k
+number-meets ops.Gt x k = number-said ops.Gt (λ e. cc) x k
+number-meets ops.Ge x k = number-said ops.Ge (λ e. cc) x k
+number-meets ops.Contains x k = number-said ops.Contains (λ e. cc) x k
+number-meets ops.Prefix x k = number-said ops.Prefix (λ e. cc) x k
+number-meets ops.Suffix x k = number-said ops.Suffix (λ e. cc) x k
 
-pub number-eq : (x k : ℤ) → same_key x k ≡ passes (values.Int x) (test_at kinds.Int ops.Eq k)
-number-eq x k = grind (arith, ints)
+none : (es : List (ℤ × Vec ℕ Global)) → ids_of (filter (λ e. false) es) ≡ []
+none [] = refl
+none (e ∷ es) = none es
 
-pub number-ne : (x k : ℤ) → not (same_key x k) ≡ passes (values.Int x) (test_at kinds.Int ops.Ne k)
-number-ne x k = grind (arith, ints)
+-- an operator that numbers do not have finds nothing
+pub none-found : (op : Op) (x : ℤ) (es : List (ℤ × Vec ℕ Global)) → (op ≡ ops.Any → ⊥) → (op ≡ ops.Eq → ⊥) → (op ≡ ops.Ne → ⊥) → (op ≡ ops.Lt → ⊥) → (op ≡ ops.Le → ⊥) → (op ≡ ops.Gt → ⊥) → (op ≡ ops.Ge → ⊥) → ids_of (filter (λ e. key_meets op x e.0) es) ≡ []
+none-found ops.Any x es a b c d e f g = absurd (a refl)
+none-found ops.Eq x es a b c d e f g = absurd (b refl)
+none-found ops.Ne x es a b c d e f g = absurd (c refl)
+none-found ops.Lt x es a b c d e f g = absurd (d refl)
+none-found ops.Le x es a b c d e f g = absurd (e refl)
+none-found ops.Gt x es a b c d e f g = absurd (f refl)
+none-found ops.Ge x es a b c d e f g = absurd (g refl)
+none-found ops.Contains x es a b c d e f g = none es
+none-found ops.Prefix x es a b c d e f g = none es
+none-found ops.Suffix x es a b c d e f g = none es
 
-pub number-lt : (x k : ℤ) → range_contains int_cmp (Excluded x) Unbounded k ≡ passes (values.Int x) (test_at kinds.Int ops.Lt k)
-number-lt x k = grind (arith, ints)
+-- what a key finds depends on the order alone
+alike : (op : Op) → (op ≡ ops.Any → ⊥) → (a b c d : ℤ) → int_lt a b ≡ int_lt c d → int_lt b a ≡ int_lt d c → key_meets op a b ≡ key_meets op c d
+alike ops.Any h a b c d e f = absurd (h refl)
+alike ops.Eq h a b c d e f = rw (e, f) refl
+alike ops.Ne h a b c d e f = rw (e, f) refl
+alike ops.Lt h a b c d e f = rw (e, f) refl
+alike ops.Le h a b c d e f = rw (e, f) refl
+alike ops.Gt h a b c d e f = rw (e, f) refl
+alike ops.Ge h a b c d e f = rw (e, f) refl
+alike ops.Contains h a b c d e f = refl
+alike ops.Prefix h a b c d e f = refl
+alike ops.Suffix h a b c d e f = refl
 
-pub number-le : (x k : ℤ) → range_contains int_cmp (Included x) Unbounded k ≡ passes (values.Int x) (test_at kinds.Int ops.Le k)
-number-le x k = grind (arith, ints)
+-- a key that is less than that of each time
+beyond : (op : Op) → (op ≡ ops.Any → ⊥) → (x : ℕ) (k j : ℤ) → int_lt k (time_key x) ≡ true → int_lt (time_key x) k ≡ false → key_meets op (time_key x) k ≡ passes (values.Time x) (below_test op j)
+beyond ops.Any h x k j e f = absurd (h refl)
+beyond ops.Eq h x k j e f = rw (e, f) refl
+beyond ops.Ne h x k j e f = rw (e, f) refl
+beyond ops.Lt h x k j e f = rw (e, f) refl
+beyond ops.Le h x k j e f = rw (e, f) refl
+beyond ops.Gt h x k j e f = rw (e, f) refl
+beyond ops.Ge h x k j e f = rw (e, f) refl
+beyond ops.Contains h x k j e f = refl
+beyond ops.Prefix h x k j e f = refl
+beyond ops.Suffix h x k j e f = refl
 
-pub number-gt : (x k : ℤ) → range_contains int_cmp Unbounded (Excluded x) k ≡ passes (values.Int x) (test_at kinds.Int ops.Gt k)
-number-gt x k = grind (arith, ints)
+time-tested : (op : Op) → (op ≡ ops.Any → ⊥) → (x : ℕ) (k z : ℤ) → k +ℤ pos (2 ^ 63) ≡ z → key_meets op (time_key x) k ≡ passes (values.Time x) (time_test op z)
+time-tested op h x k (pos m) e = alike op h (time_key x) k (pos x) (pos m) (grind (arith, ints, e)) (grind (arith, ints, e)) ∙ number-said op h (pos x) (pos m)
+time-tested op h x k (negsuc m) e = beyond op h x k (negsuc m) (grind (arith, ints, e)) (grind (arith, ints, e))
 
-pub number-ge : (x k : ℤ) → range_contains int_cmp Unbounded (Included x) k ≡ passes (values.Int x) (test_at kinds.Int ops.Ge k)
-number-ge x k = grind (arith, ints)
+pub time-meets : (op : Op) (x : ℕ) (k : ℤ) → key_meets op (time_key x) k ≡ passes (values.Time x) (test_at kinds.Time op k)
+time-meets ops.Any x k = grind (arith, ints)
+time-meets ops.Eq x k = time-tested ops.Eq (λ e. cc) x k (k +ℤ pos (2 ^ 63)) refl
+time-meets ops.Ne x k = time-tested ops.Ne (λ e. cc) x k (k +ℤ pos (2 ^ 63)) refl
+time-meets ops.Lt x k = time-tested ops.Lt (λ e. cc) x k (k +ℤ pos (2 ^ 63)) refl
+time-meets ops.Le x k = time-tested ops.Le (λ e. cc) x k (k +ℤ pos (2 ^ 63)) refl
+time-meets ops.Gt x k = time-tested ops.Gt (λ e. cc) x k (k +ℤ pos (2 ^ 63)) refl
+time-meets ops.Ge x k = time-tested ops.Ge (λ e. cc) x k (k +ℤ pos (2 ^ 63)) refl
+time-meets ops.Contains x k = time-tested ops.Contains (λ e. cc) x k (k +ℤ pos (2 ^ 63)) refl
+time-meets ops.Prefix x k = time-tested ops.Prefix (λ e. cc) x k (k +ℤ pos (2 ^ 63)) refl
+time-meets ops.Suffix x k = time-tested ops.Suffix (λ e. cc) x k (k +ℤ pos (2 ^ 63)) refl
 
 pub truth-any : (x : Bool) (k : ℤ) → same_key (pos 0) k ≡ passes (values.Bool x) (test_at kinds.Bool ops.Any k)
 truth-any x k = grind (arith, ints)
@@ -49,22 +112,7 @@ pub truth-ne : (x : Bool) (k : ℤ) → same_key (truth_key (not x)) k ≡ passe
 truth-ne true k = grind (arith, ints)
 truth-ne false k = grind (arith, ints)
 
--- the operators that int, bool do not have
-pub number-never : (op : Op) → (op ≡ ops.Any → ⊥) → (op ≡ ops.Eq → ⊥) → (op ≡ ops.Ne → ⊥) → (op ≡ ops.Lt → ⊥) → (op ≡ ops.Le → ⊥) → (op ≡ ops.Gt → ⊥) → (op ≡ ops.Ge → ⊥) → (x k : ℤ) → passes (values.Int x) (test_at kinds.Int op k) ≡ false
-number-never op a b c d e f g x k = go op a b c d e f g
-  where
-    go : (op : Op) → (op ≡ ops.Any → ⊥) → (op ≡ ops.Eq → ⊥) → (op ≡ ops.Ne → ⊥) → (op ≡ ops.Lt → ⊥) → (op ≡ ops.Le → ⊥) → (op ≡ ops.Gt → ⊥) → (op ≡ ops.Ge → ⊥) → passes (values.Int x) (test_at kinds.Int op k) ≡ false
-    go ops.Any a b c d e f g = absurd (a refl)
-    go ops.Eq a b c d e f g = absurd (b refl)
-    go ops.Ne a b c d e f g = absurd (c refl)
-    go ops.Lt a b c d e f g = absurd (d refl)
-    go ops.Le a b c d e f g = absurd (e refl)
-    go ops.Gt a b c d e f g = absurd (f refl)
-    go ops.Ge a b c d e f g = absurd (g refl)
-    go ops.Contains a b c d e f g = refl
-    go ops.Prefix a b c d e f g = refl
-    go ops.Suffix a b c d e f g = refl
-
+-- the operators that bool does not have
 pub truth-never : (op : Op) → (op ≡ ops.Any → ⊥) → (op ≡ ops.Eq → ⊥) → (op ≡ ops.Ne → ⊥) → (x : Bool) (k : ℤ) → passes (values.Bool x) (test_at kinds.Bool op k) ≡ false
 truth-never op a b c x k = go op a b c
   where
@@ -94,6 +142,7 @@ nothing : (v : Value) (k : ℤ) → passes v (no_test k) ≡ false
 nothing (values.Bool b) k = refl
 nothing (values.Int n) k = refl
 nothing (values.Str t) k = refl
+nothing (values.Time t) k = refl
 
 pub other-truth : (v : Value) → ((b : Bool) → v ≡ values.Bool b → ⊥) → (op : Op) (k : ℤ) → passes v (test_at kinds.Bool op k) ≡ false
 other-truth (values.Bool b) h op k = absurd (h b refl)
@@ -105,6 +154,10 @@ other-truth (values.Str n) h ops.Any k = any-chain k kinds.Bool (int_eq k (pos 0
 other-truth (values.Str n) h ops.Eq k = truth-chain k ops.Eq (int_eq k (pos 1)) (int_eq k (pos 0)) (values.Str n) (λ b. refl) refl
 other-truth (values.Str n) h ops.Ne k = truth-chain k ops.Ne (int_eq k (pos 1)) (int_eq k (pos 0)) (values.Str n) (λ b. refl) refl
 other-truth (values.Str n) h op k = refl
+other-truth (values.Time n) h ops.Any k = any-chain k kinds.Bool (int_eq k (pos 0)) (values.Time n) refl refl
+other-truth (values.Time n) h ops.Eq k = truth-chain k ops.Eq (int_eq k (pos 1)) (int_eq k (pos 0)) (values.Time n) (λ b. refl) refl
+other-truth (values.Time n) h ops.Ne k = truth-chain k ops.Ne (int_eq k (pos 1)) (int_eq k (pos 0)) (values.Time n) (λ b. refl) refl
+other-truth (values.Time n) h op k = refl
 
 pub other-number : (v : Value) → ((n : ℤ) → v ≡ values.Int n → ⊥) → (op : Op) (k : ℤ) → passes v (test_at kinds.Int op k) ≡ false
 other-number (values.Int n) h op k = absurd (h n refl)
@@ -112,6 +165,83 @@ other-number (values.Bool b) h ops.Any k = any-chain k kinds.Int (int_eq k (pos 
 other-number (values.Bool b) h op k = refl
 other-number (values.Str n) h ops.Any k = any-chain k kinds.Int (int_eq k (pos 0)) (values.Str n) refl refl
 other-number (values.Str n) h op k = refl
+other-number (values.Time n) h ops.Any k = any-chain k kinds.Int (int_eq k (pos 0)) (values.Time n) refl refl
+other-number (values.Time n) h op k = refl
+
+below-none : (v : Value) → ((n : ℕ) → v ≡ values.Time n → ⊥) → (op : Op) (k : ℤ) → passes v (below_test op k) ≡ false
+below-none (values.Time n) h op k = absurd (h n refl)
+below-none (values.Bool n) h ops.Ne k = refl
+below-none (values.Bool n) h ops.Gt k = refl
+below-none (values.Bool n) h ops.Ge k = refl
+below-none (values.Bool n) h ops.Eq k = refl
+below-none (values.Bool n) h ops.Lt k = refl
+below-none (values.Bool n) h ops.Le k = refl
+below-none (values.Bool n) h ops.Any k = refl
+below-none (values.Bool n) h ops.Contains k = refl
+below-none (values.Bool n) h ops.Prefix k = refl
+below-none (values.Bool n) h ops.Suffix k = refl
+below-none (values.Int n) h ops.Ne k = refl
+below-none (values.Int n) h ops.Gt k = refl
+below-none (values.Int n) h ops.Ge k = refl
+below-none (values.Int n) h ops.Eq k = refl
+below-none (values.Int n) h ops.Lt k = refl
+below-none (values.Int n) h ops.Le k = refl
+below-none (values.Int n) h ops.Any k = refl
+below-none (values.Int n) h ops.Contains k = refl
+below-none (values.Int n) h ops.Prefix k = refl
+below-none (values.Int n) h ops.Suffix k = refl
+below-none (values.Str n) h ops.Ne k = refl
+below-none (values.Str n) h ops.Gt k = refl
+below-none (values.Str n) h ops.Ge k = refl
+below-none (values.Str n) h ops.Eq k = refl
+below-none (values.Str n) h ops.Lt k = refl
+below-none (values.Str n) h ops.Le k = refl
+below-none (values.Str n) h ops.Any k = refl
+below-none (values.Str n) h ops.Contains k = refl
+below-none (values.Str n) h ops.Prefix k = refl
+below-none (values.Str n) h ops.Suffix k = refl
+
+time-none : (v : Value) → ((n : ℕ) → v ≡ values.Time n → ⊥) → (op : Op) (k : ℤ) → passes v (time_test op k) ≡ false
+time-none (values.Time n) h op k = absurd (h n refl)
+time-none (values.Bool n) h op (pos m) = refl
+time-none (values.Bool n) h op (negsuc m) = below-none (values.Bool n) h op (negsuc m)
+time-none (values.Int n) h op (pos m) = refl
+time-none (values.Int n) h op (negsuc m) = below-none (values.Int n) h op (negsuc m)
+time-none (values.Str n) h op (pos m) = refl
+time-none (values.Str n) h op (negsuc m) = below-none (values.Str n) h op (negsuc m)
+
+pub other-time : (v : Value) → ((n : ℕ) → v ≡ values.Time n → ⊥) → (op : Op) (k : ℤ) → passes v (test_at kinds.Time op k) ≡ false
+other-time (values.Time n) h op k = absurd (h n refl)
+other-time (values.Bool n) h ops.Any k = any-chain k kinds.Time (int_eq k (pos 0)) (values.Bool n) refl refl
+other-time (values.Bool n) h ops.Eq k = time-none (values.Bool n) h ops.Eq (k +ℤ pos (2 ^ 63))
+other-time (values.Bool n) h ops.Ne k = time-none (values.Bool n) h ops.Ne (k +ℤ pos (2 ^ 63))
+other-time (values.Bool n) h ops.Lt k = time-none (values.Bool n) h ops.Lt (k +ℤ pos (2 ^ 63))
+other-time (values.Bool n) h ops.Le k = time-none (values.Bool n) h ops.Le (k +ℤ pos (2 ^ 63))
+other-time (values.Bool n) h ops.Gt k = time-none (values.Bool n) h ops.Gt (k +ℤ pos (2 ^ 63))
+other-time (values.Bool n) h ops.Ge k = time-none (values.Bool n) h ops.Ge (k +ℤ pos (2 ^ 63))
+other-time (values.Bool n) h ops.Contains k = time-none (values.Bool n) h ops.Contains (k +ℤ pos (2 ^ 63))
+other-time (values.Bool n) h ops.Prefix k = time-none (values.Bool n) h ops.Prefix (k +ℤ pos (2 ^ 63))
+other-time (values.Bool n) h ops.Suffix k = time-none (values.Bool n) h ops.Suffix (k +ℤ pos (2 ^ 63))
+other-time (values.Int n) h ops.Any k = any-chain k kinds.Time (int_eq k (pos 0)) (values.Int n) refl refl
+other-time (values.Int n) h ops.Eq k = time-none (values.Int n) h ops.Eq (k +ℤ pos (2 ^ 63))
+other-time (values.Int n) h ops.Ne k = time-none (values.Int n) h ops.Ne (k +ℤ pos (2 ^ 63))
+other-time (values.Int n) h ops.Lt k = time-none (values.Int n) h ops.Lt (k +ℤ pos (2 ^ 63))
+other-time (values.Int n) h ops.Le k = time-none (values.Int n) h ops.Le (k +ℤ pos (2 ^ 63))
+other-time (values.Int n) h ops.Gt k = time-none (values.Int n) h ops.Gt (k +ℤ pos (2 ^ 63))
+other-time (values.Int n) h ops.Ge k = time-none (values.Int n) h ops.Ge (k +ℤ pos (2 ^ 63))
+other-time (values.Int n) h ops.Contains k = time-none (values.Int n) h ops.Contains (k +ℤ pos (2 ^ 63))
+other-time (values.Int n) h ops.Prefix k = time-none (values.Int n) h ops.Prefix (k +ℤ pos (2 ^ 63))
+other-time (values.Int n) h ops.Suffix k = time-none (values.Int n) h ops.Suffix (k +ℤ pos (2 ^ 63))
+other-time (values.Str n) h ops.Any k = any-chain k kinds.Time (int_eq k (pos 0)) (values.Str n) refl refl
+other-time (values.Str n) h ops.Eq k = time-none (values.Str n) h ops.Eq (k +ℤ pos (2 ^ 63))
+other-time (values.Str n) h ops.Ne k = time-none (values.Str n) h ops.Ne (k +ℤ pos (2 ^ 63))
+other-time (values.Str n) h ops.Lt k = time-none (values.Str n) h ops.Lt (k +ℤ pos (2 ^ 63))
+other-time (values.Str n) h ops.Le k = time-none (values.Str n) h ops.Le (k +ℤ pos (2 ^ 63))
+other-time (values.Str n) h ops.Gt k = time-none (values.Str n) h ops.Gt (k +ℤ pos (2 ^ 63))
+other-time (values.Str n) h ops.Ge k = time-none (values.Str n) h ops.Ge (k +ℤ pos (2 ^ 63))
+other-time (values.Str n) h ops.Contains k = time-none (values.Str n) h ops.Contains (k +ℤ pos (2 ^ 63))
+other-time (values.Str n) h ops.Prefix k = time-none (values.Str n) h ops.Prefix (k +ℤ pos (2 ^ 63))
+other-time (values.Str n) h ops.Suffix k = time-none (values.Str n) h ops.Suffix (k +ℤ pos (2 ^ 63))
 
 pub other-text : (v : Value) (op : Op) (k : ℤ) → passes v (test_at kinds.Str op k) ≡ false
 other-text v ops.Any k = nothing v k

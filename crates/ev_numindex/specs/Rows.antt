@@ -25,6 +25,6 @@ row_pairs r = keyed (test_at r.kind r.op) r.groups.entries
 abbrev pub rows_pairs : List Row → List Pair
 rows_pairs rows = flat row_pairs rows
 
--- the constraint is on an int or a bool
+-- the constraint is on an int, a bool or a time
 abbrev pub IsNumeric : ConstraintParts → Type 0
-IsNumeric c = (c.kind ≡ kinds.Int) ⊎ (c.kind ≡ kinds.Bool)
+IsNumeric c = (c.kind ≡ kinds.Int) ⊎ ((c.kind ≡ kinds.Bool) ⊎ (c.kind ≡ kinds.Time))

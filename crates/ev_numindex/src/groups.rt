@@ -14,7 +14,7 @@ use std::alloc::Global;
 use std::collections::BTreeMap;
 use std::ops::Bound;
 
-/// The operand, a truth value as 0 or 1, and 0 where there is none.
+/// The operand, a truth value as 0 or 1, a time less 2^63, and 0 where there is none.
 pub(crate) type Key = i64;
 
 /// Puts an id under a key.

@@ -1,4 +1,4 @@
-//! The index of int and bool constraints.
+//! The index of int, bool and time constraints.
 use crate::row::{Row, find, key_of, place};
 use ev_constraint::Constraint;
 use ev_memory::NoMemory;
@@ -6,7 +6,7 @@ use ev_values::Value;
 use std::alloc::Global;
 use std::marker::Model;
 
-/// An index of int and bool constraints: pairs of a constraint without its name and an id.
+/// An index of int, bool and time constraints: pairs of a constraint without its name and an id.
 #[derive(Drop)]
 pub struct NumIndex {
     alloc: Global,

@@ -1,4 +1,4 @@
-//! An index of int and bool constraints.
+//! An index of int, bool and time constraints.
 #![tactic(auto)]
 
 mod groups;
@@ -7,6 +7,3 @@ mod meet;
 mod row;
 
 pub use index::NumIndex;
-
-#[cfg(test)]
-mod tests;

@@ -5,7 +5,7 @@ ghost use Rattle.ev_values.specs.declared.value.Kind.{Kind};
 ghost use Rattle.ev_values.specs.declared.value.Value.{Value};
 ghost use Rattle.ev_index.specs.Pairs.{ids_met};
 ghost use Rattle.ev_index.specs.Groups.{keyed, ids_of};
-ghost use Rattle.ev_numindex.specs.Keys.{test_at, same_key, truth_key};
+ghost use Rattle.ev_numindex.specs.Keys.{test_at, same_key, truth_key, time_key, key_meets};
 
 use crate::groups::walk;
 use ev_constraint::Op;
@@ -19,6 +19,17 @@ pub(crate) fn truth_key(x: bool) -> i64
     ensures { result ≡ truth_key x }
 {
     if x { 1 } else { 0 }
+}
+
+/// The key of a time: keys are numbers of 64 bits with a sign, so it is the time less 2^63.
+pub(crate) fn time_key(x: u64) -> i64
+    ensures { result ≡ time_key x }
+{
+    if x < 1 << 63 {
+        x as i64 + i64::MIN
+    } else {
+        (x - (1 << 63)) as i64
+    }
 }
 
 /// Appends the ids of all keys but one.
@@ -54,14 +65,14 @@ fn walk_one(
     Ok(())
 }
 
-/// Appends the ids of the groups of an int row whose test the number passes.
-pub(crate) fn meet_number(
+/// Appends the ids of the groups that a number finds by its key, in a row of an operator.
+fn meet_key(
     groups: &BTreeMap<i64, Vec<u32>>,
     op: Op,
     x: i64,
     found: &mut Vec<u32>,
 ) -> Result<(), NoMemory>
-    ensures { OnOk result (found.new.items ≡ found.old.items ++ ids_met (Value.Int x) (keyed (test_at Kind.Int op) groups.now.entries)) }
+    ensures { OnOk result (found.new.items ≡ found.old.items ++ ids_of (filter (λ e. key_meets op x e.0) groups.now.entries)) }
 {
     match op {
         Op::Any => walk_one(groups, &0, found),
@@ -73,6 +84,30 @@ pub(crate) fn meet_number(
         Op::Ge => walk(groups, Bound::Unbounded, Bound::Included(x), found),
         _ => Ok(()),
     }
+}
+
+/// Appends the ids of the groups of an int row whose test the number passes.
+pub(crate) fn meet_number(
+    groups: &BTreeMap<i64, Vec<u32>>,
+    op: Op,
+    x: i64,
+    found: &mut Vec<u32>,
+) -> Result<(), NoMemory>
+    ensures { OnOk result (found.new.items ≡ found.old.items ++ ids_met (Value.Int x) (keyed (test_at Kind.Int op) groups.now.entries)) }
+{
+    meet_key(groups, op, x, found)
+}
+
+/// Appends the ids of the groups of a time row whose test the time passes.
+pub(crate) fn meet_time(
+    groups: &BTreeMap<i64, Vec<u32>>,
+    op: Op,
+    x: u64,
+    found: &mut Vec<u32>,
+) -> Result<(), NoMemory>
+    ensures { OnOk result (found.new.items ≡ found.old.items ++ ids_met (Value.Time x) (keyed (test_at Kind.Time op) groups.now.entries)) }
+{
+    meet_key(groups, op, time_key(x), found)
 }
 
 /// Appends the ids of the groups of a bool row whose test the truth value passes.

@@ -6,7 +6,7 @@ ghost use Rattle.std.specs.Option.{option_copied};
 ghost use Rattle.ev_numindex.specs.Rows.{IsRowOf, HasAt};
 
 use crate::groups::{has, put, take};
-use crate::meet::{meet_number, meet_truth, truth_key};
+use crate::meet::{meet_number, meet_time, meet_truth, time_key, truth_key};
 use ev_constraint::Op;
 use ev_memory::NoMemory;
 use ev_values::{Kind, Value};
@@ -28,6 +28,7 @@ pub(crate) fn key_of(operand: Option<&Value>) -> i64
     match operand {
         Some(Value::Int(n)) => *n,
         Some(Value::Bool(b)) => truth_key(*b),
+        Some(Value::Time(t)) => time_key(*t),
         _ => 0,
     }
 }
@@ -99,6 +100,7 @@ impl Row {
         match (self.kind, value) {
             (Kind::Bool, Value::Bool(x)) => meet_truth(&self.groups, self.op, *x, found),
             (Kind::Int, Value::Int(x)) => meet_number(&self.groups, self.op, *x, found),
+            (Kind::Time, Value::Time(x)) => meet_time(&self.groups, self.op, *x, found),
             _ => Ok(()),
         }
     }

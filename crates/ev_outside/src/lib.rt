@@ -9,8 +9,6 @@ mod sink;
 mod source;
 mod standard;
 mod sure;
-#[cfg(test)]
-mod tests;
 mod whole;
 mod word;
 

@@ -23,6 +23,7 @@ not-other : (kind : Kind) (op : Op) → is_pattern_at kind op ≡ true → not (
 not-other kinds.Str op h = rw h refl
 not-other kinds.Bool op h = refl
 not-other kinds.Int op h = refl
+not-other kinds.Time op h = refl
 
 -- the pairs of both are v
 module _ (a b v : List Pair) (e : a ++ b ≡ v) (x : Pair) (new : List Pair) where
@@ -56,22 +57,31 @@ other-kind : (v : Value) → ((t : List ℕ) → v ≡ values.Str t → ⊥) →
 other-kind (values.Str t) h op operand = absurd (h t refl)
 other-kind (values.Bool b) h op None = refl
 other-kind (values.Int n) h op None = refl
+other-kind (values.Time n) h op None = refl
 other-kind (values.Bool b) h op (Some (values.Str u)) = refl
 other-kind (values.Bool b) h op (Some (values.Bool u)) = refl
 other-kind (values.Bool b) h op (Some (values.Int u)) = refl
+other-kind (values.Bool b) h op (Some (values.Time u)) = refl
 other-kind (values.Int n) h op (Some (values.Str u)) = refl
 other-kind (values.Int n) h op (Some (values.Bool u)) = refl
 other-kind (values.Int n) h op (Some (values.Int u)) = refl
+other-kind (values.Int n) h op (Some (values.Time u)) = refl
+other-kind (values.Time n) h op (Some (values.Str u)) = refl
+other-kind (values.Time n) h op (Some (values.Bool u)) = refl
+other-kind (values.Time n) h op (Some (values.Int u)) = refl
+other-kind (values.Time n) h op (Some (values.Time u)) = refl
 
 pattern-unmet : (v : Value) → ((t : List ℕ) → v ≡ values.Str t → ⊥) → (kind : Kind) (op : Op) (operand : Option Value) → is_pattern_at kind op ≡ true → value_satisfies kind op operand v ≡ false
 pattern-unmet v h kinds.Str op operand e = other-kind v h op operand
 pattern-unmet v h kinds.Bool op operand e = cc
 pattern-unmet v h kinds.Int op operand e = cc
+pattern-unmet v h kinds.Time op operand e = cc
 
 other-unmet : (v : Value) → ((t : List ℕ) → v ≡ values.Str t → ⊥) → (kind : Kind) (op : Op) (operand : Option Value) → is_other_at kind op ≡ true → value_satisfies kind op operand v ≡ false
 other-unmet v h kinds.Str op operand e = other-kind v h op operand
 other-unmet v h kinds.Bool op operand e = cc
 other-unmet v h kinds.Int op operand e = cc
+other-unmet v h kinds.Time op operand e = cc
 
 none-met-good : (g : Pair → Bool) (v : Value) (xs : List Pair) → ((x : Pair) → g x ≡ true → passes v x.0 ≡ false) → tally (λ x. not (g x)) xs ≡ 0 → ids_met v xs ≡ []
 none-met-good g v [] h a = refl

@@ -24,6 +24,7 @@ encode ops.Prefix (Some (values.Str u)) t = refl
 encode ops.Suffix (Some (values.Str u)) t = refl
 encode op (Some (values.Bool u)) t = absurd t
 encode op (Some (values.Int u)) t = absurd t
+encode op (Some (values.Time u)) t = absurd t
 
 -- what a key's test tells
 pub record Tells (op : Op) (k : List ℕ) (t : Test) : Type 0 where

@@ -13,8 +13,6 @@ mod plain;
 mod row;
 mod rows;
 mod shelf;
-#[cfg(test)]
-mod tests;
 mod walks;
 
 pub use index::TextIndex;

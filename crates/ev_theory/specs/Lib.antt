@@ -1,1 +1,2 @@
 pub mod Real
+pub mod Lone

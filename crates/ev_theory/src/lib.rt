@@ -1,8 +1,8 @@
-//! The real theory of filters, advertisements and notices, and the laws of every run of servers that route by it.
+//! The real theory of filters, advertisements and notices, by which the servers route. The laws of every run of such
+//! servers are those of `ev_routing` and of `ev_run`, called at `Real`.
 #![tactic(auto)]
 
-pub mod law;
+pub mod laws;
 mod real;
-pub mod runs;
 
 pub use real::{Real, plain};

@@ -6,6 +6,7 @@ ghost use Rattle.ev_notice.specs.Cover.{matches, allows};
 ghost use Rattle.ev_theory.specs.Real.{real_matches, real_allows};
 
 use ev_routing::Matching;
+use ev_run::LocalStep;
 
 /// Filters, advertisements and notices as they are: lists of constraints and of attributes, with matching, allowing,
 /// covering, overlap and the canonical order.
@@ -17,6 +18,13 @@ impl Matching for Real {
     ghost theory = { real };
 
     ghost laws = { real_laws };
+}
+
+/// A lone server that routes by this theory, as the laws of machines ask for it.
+impl LocalStep for Real {
+    ghost use Rattle.ev_theory.specs.Lone.{lone_machine};
+
+    ghost machine = { lone_machine };
 }
 
 /// Of the notices that a program can have the theory says what the definitions of matching and allowing say.

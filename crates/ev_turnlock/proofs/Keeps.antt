@@ -89,7 +89,7 @@ module _ {T I R : Type 0} (root : T → R) (list : T → List I) where
             ),
           ),
         ),
-        ((λ zero. absurd (omega (arith, zero, away.0))), (λ off. refl)),
+        ((λ zero. absurd (omega (arith, zero, away.0))), (λ off. (free, refl))),
       )
 
   pub take_keeps : (r : R) (n id : ℕ) (v : View I R) (m : Me (Option T) (View I R)) → m ≡ (v, []) → v.hand ≡ false → 0 < v.parts → v.root ≡ Some r

@@ -89,10 +89,11 @@ module _ {T I R : Type 0} (root : T → R) (list : T → List I) where
   Kept r n s = (length s.words ≡ 1) × (total (λ u. u.parts) s.views ≡ n)
       × ((front : List I) × ((j : ℕ) (u : View I R) → get_elem? s.views j ≡ some u → Fits r front u) × (Home r front s ⊎ Away front s))
 
-  -- what the exchange of a take tells: found 0, the pass has the value and its slot; else one more miss and nothing else
+  -- what the exchange of a take tells: found 0, the pass has the value and its slot;
+  -- else it had nothing in hand, so another pass has the value: one more miss and nothing else
   abbrev pub Taken : Me (Option T) (View I R) → ℕ → Me (Option T) (View I R) → Type 0
   Taken m found n = (found ≡ 0 → (x : T) × (n ≡ (took m.0 (list x), (0, Some x) ∷ m.1)) × (m.0.root ≡ Some (root x)) × IsPrefix m.0.seen (list x))
-      × (¬ (found ≡ 0) → n ≡ (missed m.0, m.1))
+      × (¬ (found ≡ 0) → (m.0.hand ≡ false) × (n ≡ (missed m.0, m.1)))
 
 module _ {T I : Type 0} (list : T → List I) where
   abbrev pub list_in : Option T → List I

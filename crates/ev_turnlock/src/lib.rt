@@ -13,6 +13,3 @@ mod view;
 
 pub use lock::{Pass, TurnLock};
 pub use standing::Standing;
-
-#[cfg(test)]
-mod tests;

@@ -2,8 +2,9 @@
 //!
 //! The outcomes named here are part of the statement. A clause of `TurnLock` that speaks of a pass's
 //! number, of what it has seen, of whether it has the value in hand or of its misses means what these
-//! outcomes say: `Take` alone raises `misses`, and only where the exchange finds that another pass
-//! has the value in hand. So wrong bodies are tried against this file as it stands.
+//! outcomes say: `Take` alone raises `misses`, and only where the exchange of a pass that has nothing
+//! in hand finds the value gone, so that another pass has it in hand. So wrong bodies are tried
+//! against this file as it stands.
 use crate::standing::Standing;
 use crate::view::View;
 use atomic_table::{Join, Play, Split, TableRule};
@@ -28,7 +29,8 @@ impl<T: Standing> TableRule<Option<T>, View<T::Item, T::Root>, Start<T>> for Tur
     ghost first = { λ key. opener (T.root key.value.value) (T.list key.value.value) key.passes };
 }
 
-/// The exchange of a try: it finds the value, or counts a miss.
+/// The exchange of a try: it finds the value, or counts a miss. A pass that has the value in hand
+/// makes none.
 pub struct Take;
 
 impl<T: Standing> Play<Option<T>, View<T::Item, T::Root>> for Take {

@@ -14,6 +14,7 @@ abbrev pub value_text : Value → List ℕ
 value_text (values.Bool b) = []
 value_text (values.Int n) = signed_decimal n
 value_text (values.Str t) = []
+value_text (values.Time n) = []
 
 abbrev pub operand_text : Option Value → List ℕ
 operand_text None = []

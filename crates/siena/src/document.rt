@@ -48,7 +48,7 @@ fn has_client(lines: &[Line], name: &Name) -> bool
 {
     for line in lines {
         match line {
-            Line::Client(other) if other.equals(name) => return true,
+            Line::Client(other) if other == name => return true,
             _ => {}
         }
     }
@@ -60,7 +60,7 @@ fn has_script(lines: &[Line], name: &Name) -> bool
 {
     for line in lines {
         match line {
-            Line::Script(other) if other.equals(name) => return true,
+            Line::Script(other) if other == name => return true,
             _ => {}
         }
     }

@@ -77,7 +77,7 @@ fn after_script<'a>(lines: &'a [Line], name: &Name) -> &'a [Line]
 {
     for (i, line) in lines.iter().enumerate() {
         match line {
-            Line::Script(other) if other.equals(name) => return &lines[i + 1..],
+            Line::Script(other) if other == name => return &lines[i + 1..],
             _ => {}
         }
     }

@@ -63,7 +63,7 @@ fn single_filter(alloc: Global, name: Name, value: i64) -> Result<Filter, Refusa
     };
     let mut constraints = Vec::new(alloc);
     constraints.push(constraint)?;
-    match Filter::of_rising(constraints) {
+    match Filter::of_rising(constraints)? {
         Some(filter) => Ok(filter),
         None => unreachable!(),
     }
@@ -77,7 +77,7 @@ fn single_notice(alloc: Global, name: Name, value: i64) -> Result<Notice, Refusa
 {
     let mut attributes = Vec::new(alloc);
     attributes.push((name, Value::Int(value)))?;
-    match Notice::of_rising(attributes) {
+    match Notice::of_rising(attributes)? {
         Some(notice) => Ok(notice),
         None => unreachable!(),
     }

@@ -65,10 +65,11 @@ impl Model for Seat {
     ghost invariant = { λ s. s.published ≤ length s.filters.items };
 }
 
+#[tactic(auto, unfolding(ev_notice::specs::Before::list_before))]
 fn is_same_filter(f: &Filter, g: &Filter) -> bool
     ensures { result ≡ is_same_filter f.now g.now }
 {
-    !f.is_before(g) && !g.is_before(f)
+    !(f < g) && !(g < f)
 }
 
 impl Seat {

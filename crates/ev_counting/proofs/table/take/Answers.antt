@@ -2,7 +2,7 @@ use Rattle.std.proofs.Common.{◌+◌, ◌<◌, ◌≤◌, arith, sym, subst, Li
 use Rattle.ev_counting.specs.Slots.{Slot, AreAimed}
 use Rattle.ev_counting.specs.Table.{Held}
 use Rattle.ev_counting.proofs.Places.{stands-here}
-use Rattle.ev_counting.proofs.Sound.{Taking, taking-free, taking-pass, taking-end, differ}
+use Rattle.ev_counting.proofs.Sound.{Taking, taking-free, taking-pass, taking-end, taking-rest, differ}
 use Rattle.ev_counting.proofs.table.take.Goals.{then-has_pair, else-has_pair}
 use Rattle.ev_counting.proofs.table.take.Goals as goal
 
@@ -28,3 +28,8 @@ pub returns-clause-taken : goal.returns-clause-taken
 returns-clause-taken c =
     let end : length c.args.slots.now.items ≤ c.loop-i.i = omega (arith, c.loop-i-test.false, c.len-i-end.ensures) in
     taking-end c.args.slots.now.items c.loop-i.slots.items c.loop-i.goals.items c.loop-i.index (c.args.iface, c.args.filter.now) c.loop-i.i end c.loop-i.invariant
+
+pub returns-clause-rest : goal.returns-clause-rest
+returns-clause-rest c =
+    let end : length c.args.slots.now.items ≤ c.loop-i.i = omega (arith, c.loop-i-test.false, c.len-i-end.ensures) in
+    taking-rest c.args.slots.now.items c.loop-i.slots.items c.loop-i.goals.items c.loop-i.index (c.args.iface, c.args.filter.now) c.loop-i.i end c.loop-i.invariant

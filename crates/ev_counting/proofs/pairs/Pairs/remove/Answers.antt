@@ -11,7 +11,10 @@ pub returns-in-Bool : goal.returns-in-Bool
 returns-in-Bool c =
     let n : same_kind c.kind.result kinds.Str ≡ false = elim c.in-Bool.is [
       | inl e ↦ ap (λ (k : Kind). same_kind k kinds.Str) e
-      | inr e ↦ ap (λ (k : Kind). same_kind k kinds.Str) e
+      | inr w ↦ elim w [
+        | inl e ↦ ap (λ (k : Kind). same_kind k kinds.Str) e
+        | inr e ↦ ap (λ (k : Kind). same_kind k kinds.Str) e
+      ]
     ] in
     let x : Pair = (test_of c.args.constraint.now, c.args.id) in
     let k : is_text x ≡ false = ap (λ (kind : Kind). same_kind kind kinds.Str) (sym c.kind.ensures) ∙ n in

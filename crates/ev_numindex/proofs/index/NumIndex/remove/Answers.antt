@@ -22,5 +22,5 @@ returns-in-None-clause-none c = λ _. (
   refl,
   λ m.
       let k = to_z-of_z w64 c.key_of-key.result (search rules) ∙ c.key_of-key.ensures ∙ ap key_of c.operand.ensures in
-      not-in-rows c.args.constraint.now _ _ _ c.args.id c.self.inside.rows.items c.requires c.kind.ensures c.op-op.ensures.op k (rw c.deref.ensures.value at c.in-None.ensures.none) (subst (IsIn (test_of c.args.constraint.now, c.args.id)) (sym c.self.view_is) m),
+      not-in-rows c.args.constraint.now _ _ _ c.args.id c.self.inside.rows.items c.requires c.op-op.ensures.whole c.kind.ensures c.op-op.ensures.op k (rw c.deref.ensures.value at c.in-None.ensures.none) (subst (IsIn (test_of c.args.constraint.now, c.args.id)) (sym c.self.view_is) m),
 )

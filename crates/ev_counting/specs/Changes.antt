@@ -1,0 +1,49 @@
+-- A list of changes: which of them say what becomes of a pair.
+use Rattle.std.specs.Prelude.{◌≡◌, ◌⊎◌, ◌==◌, ◌&&◌, ◌↔◌, Bool, List, [], ◌∷◌, if◌then◌else◌}
+use Rattle.std.specs.List.{Contains}
+use Rattle.std.specs.Ordering.{eq_by_cmp}
+use Rattle.ev_constraint.specs.Order.{list_cmp}
+use Rattle.ev_counting.specs.declared.change.Change.{Change}
+use Rattle.ev_counting.specs.declared.change.Change.TheVariants.{Add, Remove}
+use Rattle.ev_counting.specs.Table.{Held}
+
+abbrev pub same_held : Held → Held → Bool
+same_held x y = (x.0 == y.0) && eq_by_cmp list_cmp x.1 y.1
+
+-- the list without a pair
+abbrev pub without : Held → List Held → List Held
+without x [] = []
+without x (y ∷ ys) = if same_held x y then without x ys else y ∷ without x ys
+
+-- the list without some pairs, the last of them first
+abbrev pub undone : List Held → List Held → List Held
+undone [] held = held
+undone (x ∷ xs) held = without x (undone xs held)
+
+-- the change adds the pair, takes it, does either
+abbrev pub Adds : Change → Held → Type 0
+Adds (Add iface filter) x = (iface, filter) ≡ x
+Adds (Remove iface filter) x = ⊥
+
+abbrev pub Takes : Change → Held → Type 0
+Takes (Add iface filter) x = ⊥
+Takes (Remove iface filter) x = (iface, filter) ≡ x
+
+abbrev pub IsOf : Change → Held → Type 0
+IsOf (Add iface filter) x = (iface, filter) ≡ x
+IsOf (Remove iface filter) x = (iface, filter) ≡ x
+
+-- some change adds the pair
+abbrev pub IsEntered : List Change → Held → Type 0
+IsEntered [] x = ⊥
+IsEntered (c ∷ cs) x = Adds c x ⊎ IsEntered cs x
+
+-- some change is of the pair
+abbrev pub IsChanged : List Change → Held → Type 0
+IsChanged [] x = ⊥
+IsChanged (c ∷ cs) x = IsOf c x ⊎ IsChanged cs x
+
+-- the last change of the pair takes it
+abbrev pub IsWithdrawn : List Change → Held → Type 0
+IsWithdrawn [] x = ⊥
+IsWithdrawn (c ∷ cs) x = IsWithdrawn cs x ⊎ (Takes c x × (IsChanged cs x → ⊥))

@@ -1,0 +1,22 @@
+-- The least net over the real theory.
+use Rattle.std.specs.Prelude.{◌==◌, false, cond, [], ◌∷◌}
+use Rattle.ev_run.specs.Machine.{Machine}
+use Rattle.ev_routing.specs.Net.{Net}
+use Rattle.ev_routing.specs.Routing.{routing_machine}
+use Rattle.ev_theory.specs.Real.{real}
+
+-- one server with one client, which has no command
+abbrev pub lone : Net real
+lone = record {
+  adverts = false;
+  servers = 1 ∷ [];
+  links = λ server. [];
+  hop = λ server other. other;
+  home = λ client. 1;
+  clients = λ server. cond (server == 1) (1 ∷ []) [];
+  script = λ client. [];
+}
+
+-- its server as a machine
+abbrev pub lone_machine : Machine
+lone_machine = routing_machine real lone
