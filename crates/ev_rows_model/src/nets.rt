@@ -1,0 +1,79 @@
+//! A net of three servers, in a line and from phase 1 on in a star around server 1, which is sound.
+ghost use Rattle.std.specs.Prelude.{◌≡◌, ◌∷◌, [], IfOk};
+ghost use Rattle.ev_model.specs.Nets.{first_tree};
+ghost use Rattle.ev_model.specs.Parts.{client_parts};
+ghost use Rattle.ev_model.specs.Sound.{HasTrees, IsSound};
+
+use ev_model::{Client, Command, Net, Semantics, Turn};
+use ev_tree::Tree;
+use ev_values::Name;
+use ev_wire::{read_filter, read_notice};
+use std::alloc::Global;
+use std::rt::HostRuntime;
+use std::test::Fail;
+
+// The line, and the star.
+fn trees(alloc: Global) -> Result<Vec<(u32, Tree)>, Fail>
+    ensures trees { IfOk result (λ v. HasTrees v.items) }
+    ensures count { IfOk result (λ v. (first_tree v.items).count ≡ 3) }
+{
+    let line = Tree::build(alloc, 3, &[(1, 2), (2, 3)])?;
+    let star = Tree::build(alloc, 3, &[(1, 2), (1, 3)])?;
+    line.laws();
+    star.laws();
+    let mut trees = Vec::new(alloc);
+    trees.push((0, line))?;
+    trees.push((1, star))?;
+    Ok(trees)
+}
+
+// Client a at server 1 subscribes, and client p at server 3 publishes in the next phase.
+fn clients(alloc: Global, subscribes: Command, publishes: Command) -> Result<Vec<Client>, Fail>
+    ensures { IfOk result (λ v. v.items ≡ client_parts (97 ∷ []) 1 0 ((0, subscribes) ∷ []) ∷ client_parts (112 ∷ []) 3 1 ((1, publishes) ∷ []) ∷ []) }
+{
+    let first = Client {
+        name: Name::read(alloc, b"a")?,
+        home: 1,
+        barriers: 0,
+        script: vec![in alloc; (0, subscribes)]?,
+    };
+    let second = Client {
+        name: Name::read(alloc, b"p")?,
+        home: 3,
+        barriers: 1,
+        script: vec![in alloc; (1, publishes)]?,
+    };
+    let mut clients = Vec::new(alloc);
+    clients.push(first)?;
+    clients.push(second)?;
+    Ok(clients)
+}
+
+// The net of both, with one turn of a schedule.
+fn star_net(alloc: Global) -> Result<Net, Fail>
+    ensures { IfOk result (λ net. IsSound net) }
+{
+    let subscribes = Command::Subscribe(read_filter(alloc, b"x int any")?);
+    let publishes = Command::Publish(read_notice(alloc, b"x int 1")?);
+    let mut schedule = Vec::new(alloc);
+    schedule.push((15, Turn::Take { server: 2, from: 1 }))?;
+    Ok(Net {
+        version: 2,
+        semantics: Semantics::Subscription,
+        trees: trees(alloc)?,
+        clients: clients(alloc, subscribes, publishes)?,
+        schedule,
+    })
+}
+
+#[test]
+fn trees_by_phase(rt: HostRuntime) -> Result<(), Fail> {
+    let alloc = rt.alloc();
+    let net = star_net(alloc)?;
+    assert_eq!(rt; net.phases(), 2);
+    let first = net.tree(0);
+    assert_eq!(rt; first.servers(), 3);
+    let later = net.tree(4095);
+    assert_eq!(rt; later.servers(), 3);
+    Ok(())
+}
