@@ -1,6 +1,6 @@
 use Rattle.std.proofs.Common.{◌<◌, ◌≢◌, length, sym, arith}
 use Rattle.ev_pool.specs.Sorted.{place_of}
-use Rattle.ev_control.proofs.Sought.{stands-at, not-there}
+use Rattle.ev_control.proofs.Sought.{not-there}
 use Rattle.ev_control.proofs.stock.sought.Goals as goal
 use Rattle.ev_control.proofs.stock.sought.Goals.{else-at-row-via-then-at-row+else-row-at, else-at-row-via-else-at-row}
 
