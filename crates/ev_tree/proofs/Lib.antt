@@ -8,4 +8,5 @@ pub mod Paths
 pub mod Steps
 pub mod Hopping
 pub mod Verdict
+pub mod Faults
 pub mod Whole

@@ -1,10 +1,11 @@
 -- One edge more: the labels stay those of a forest.
-use Rattle.std.proofs.Common.{◌≡◌, ℕ, zero, suc, ◌+◌, ◌<◌, ◌≤◌, ◌==◌, cond, List, [], ◌∷◌, ◌++◌, ◌⊎◌, inl, inr, length, take, get_or, slice_get, Some, refl, sym, ap, subst, ◌∙◌, arith}
+use Rattle.std.proofs.Common.{◌≡◌, ℕ, zero, suc, ◌+◌, ◌<◌, ◌≤◌, ◌==◌, cond, List, [], ◌∷◌, ◌++◌, ◌⊎◌, inl, inr, length, take, get_or, slice_get, Option, Some, None, IfSome, IfNone, ◌≢◌, ◌↔◌, refl, sym, ap, subst, ◌∙◌, arith}
 use Rattle.std.proofs.lemmas.List.{take_more}
-use Rattle.ev_tree.specs.Graph.{AreJoined, AreWithin, IsForest, IsApart}
+use Rattle.ev_tree.specs.Graph.{AreJoined, AreWithin, IsEdgeWithin, IsForest, IsTree, IsApart}
 use Rattle.ev_tree.specs.Labels.{IsPartition}
 use Rattle.ev_tree.proofs.Joined.{joined-same}
 use Rattle.ev_tree.proofs.Forest.{In, level, labelled}
+use Rattle.ev_tree.proofs.Verdict.{apart-same}
 
 pub own-labels : (n : ℕ) (labels : List ℕ) → n ≤ 64 → ((x : ℕ) → x < 65 → get_or labels x 0 ≡ x) → IsPartition n [] labels
 own-labels n labels few own = record {
@@ -32,28 +33,42 @@ forest-more edges edge f n i other at p = go (snoc-get edges edge i other at)
     go (inl q) = f i other q.0 (subst (λ es. AreJoined es other.0 other.1) q.1 p)
     go (inr q) = n (subst (λ z. AreJoined edges z.0 z.1) (sym q.0) (subst (λ es. AreJoined es other.0 other.1) q.1 p))
 
+-- where the ends have one label, edges join them
+pub alike-joined : (n : ℕ) (edges : List (ℕ × ℕ)) (edge : ℕ × ℕ) (labels : List ℕ) → IsEdgeWithin n edge → IsPartition n edges labels → get_or labels edge.0 0 ≡ get_or labels edge.1 0 → AreJoined edges edge.0 edge.1
+alike-joined n edges edge labels ends p e = p.labelled.joined edge.0 edge.1 (ends.0, ends.1) (ends.2, ends.3) e
+
+-- where edges join the ends, they have one label
+pub joined-alike : (n : ℕ) (edges : List (ℕ × ℕ)) (edge : ℕ × ℕ) (labels : List ℕ) → IsPartition n edges labels → AreJoined edges edge.0 edge.1 → get_or labels edge.0 0 ≡ get_or labels edge.1 0
+joined-alike n edges edge labels p j = level n edges (λ x. get_or labels x 0) p.labelled edge.0 edge.1 j
+
+pub join-more : (n : ℕ) (edges : List (ℕ × ℕ)) (edge : ℕ × ℕ) (old new : List ℕ) → n ≤ 64 → IsEdgeWithin n edge → IsPartition n edges old → (get_or old edge.0 0 ≡ get_or old edge.1 0 → ⊥)
+    → ((x : ℕ) → x < 65 → get_or new x 0 ≡ cond (get_or old x 0 == get_or old edge.1 0) (get_or old edge.0 0) (get_or old x 0)) → IsPartition n (edges ++ edge ∷ []) new
+join-more n edges edge old new few ends p differ is = record {
+  forest = forest-more edges edge p.forest (λ j. differ (joined-alike n edges edge old p j));
+  labelled = labelled n edges (λ x. get_or old x 0) (λ x. get_or new x 0) p.labelled edge (ends.0, ends.1) (ends.2, ends.3) (λ x k. is x (omega (arith, k.1)));
+}
+
 -- the ends of edge i are servers
 pub edge-in : (n : ℕ) (edges : List (ℕ × ℕ)) (i : ℕ) → AreWithin n edges → i < length edges → In n (get_or edges i (0, 0)).0 × In n (get_or edges i (0, 0)).1
 edge-in n edges i within l = let e = within i (0, 0) l in ((e.0, e.1), (e.2, e.3))
 
--- where the ends have one label, edges join them
+-- where the ends of edge i have one label, earlier edges join them
 pub ends-joined : (n : ℕ) (edges : List (ℕ × ℕ)) (i : ℕ) (labels : List ℕ) → AreWithin n edges → i < length edges → IsPartition n (take i edges) labels
     → get_or labels (get_or edges i (0, 0)).0 0 ≡ get_or labels (get_or edges i (0, 0)).1 0 → AreJoined (take i edges) (get_or edges i (0, 0)).0 (get_or edges i (0, 0)).1
-ends-joined n edges i labels within l p e =
-    let ends = edge-in n edges i within l in
-    p.labelled.joined (get_or edges i (0, 0)).0 (get_or edges i (0, 0)).1 ends.0 ends.1 e
+ends-joined n edges i labels within l p e = alike-joined n (take i edges) (get_or edges i (0, 0)) labels (within i (0, 0) l) p e
 
 pub one-more : (n : ℕ) (edges : List (ℕ × ℕ)) (i : ℕ) (old new : List ℕ) → n ≤ 64 → AreWithin n edges → i < length edges → IsPartition n (take i edges) old
     → (get_or old (get_or edges i (0, 0)).0 0 ≡ get_or old (get_or edges i (0, 0)).1 0 → ⊥)
     → ((x : ℕ) → x < 65 → get_or new x 0 ≡ cond (get_or old x 0 == get_or old (get_or edges i (0, 0)).1 0) (get_or old (get_or edges i (0, 0)).0 0) (get_or old x 0))
     → IsPartition n (take (i + 1) edges) new
-one-more n edges i old new few within l p differ is =
-    let edge : ℕ × ℕ = get_or edges i (0, 0) in
-    let ends = edge-in n edges i within l in
-    subst (λ es. IsPartition n es new) (sym (take_more edges i (0, 0) l)) (record {
-      forest = forest-more (take i edges) (get_or edges i (0, 0)) p.forest (λ j. differ (level n (take i edges) (λ x. get_or old x 0) p.labelled (get_or edges i (0, 0)).0 (get_or edges i (0, 0)).1 j));
-      labelled = labelled n (take i edges) (λ x. get_or old x 0) (λ x. get_or new x 0) p.labelled (get_or edges i (0, 0)) ends.0 ends.1 (λ x k. is x (omega (arith, k.1)));
-    })
+one-more n edges i old new few within l p differ is = subst (λ es. IsPartition n es new) (sym (take_more edges i (0, 0) l)) (join-more n (take i edges) (get_or edges i (0, 0)) old new few (within i (0, 0) l) p differ is)
+
+-- all servers have the label of server 1 exactly where the edges are a tree
+pub alike-tree : (n : ℕ) (edges : List (ℕ × ℕ)) (labels : List ℕ) → 1 ≤ n → IsPartition n edges labels → ((x : ℕ) → 1 ≤ x → x ≤ n → get_or labels x 0 ≡ get_or labels 1 0) → IsTree n edges
+alike-tree n edges labels some p alike = record { forest = p.forest; joined = λ s low high. p.labelled.joined 1 s (omega arith, some) (low, high) (sym (alike s low high)) }
+
+pub tree-alike : (n : ℕ) (edges : List (ℕ × ℕ)) (labels : List ℕ) → IsPartition n edges labels → IsTree n edges → (s : ℕ) → 1 ≤ s → s ≤ n → get_or labels s 0 ≡ get_or labels 1 0
+tree-alike n edges labels p tree s low high = sym (level n edges (λ x. get_or labels x 0) p.labelled 1 s (tree.joined s low high))
 
 pub apart-least : (n : ℕ) (edges : List (ℕ × ℕ)) (labels : List ℕ) (s : ℕ) → 1 ≤ n → IsPartition n edges labels → 1 ≤ s → s ≤ n → (get_or labels s 0 ≡ get_or labels 1 0 → ⊥) → ((x : ℕ) → 1 ≤ x → x < s → get_or labels x 0 ≡ get_or labels 1 0) → IsApart n edges s
 apart-least n edges labels s some p from to differ least = record {
@@ -63,3 +78,25 @@ apart-least n edges labels s some p from to differ least = record {
   apart = λ j. differ (sym (level n edges (λ x. get_or labels x 0) p.labelled 1 s j));
   least = λ r low high. p.labelled.joined 1 r (omega arith, some) (low, omega arith) (sym (least r low high));
 }
+
+-- what the search for a server with another label than server 1 may answer
+abbrev pub NoneUnlike : ℕ → List ℕ → Option ℕ → Type 0
+NoneUnlike n labels answer = IfNone answer ((x : ℕ) → 1 ≤ x → x ≤ n → get_or labels x 0 ≡ get_or labels 1 0)
+
+abbrev pub SomeUnlike : ℕ → List ℕ → Option ℕ → Type 0
+SomeUnlike n labels answer = IfSome answer (λ s. (1 ≤ s) × (s ≤ n) × (get_or labels s 0 ≢ get_or labels 1 0) × ((x : ℕ) → 1 ≤ x → x < s → get_or labels x 0 ≡ get_or labels 1 0))
+
+-- it answers none exactly of a tree
+pub tree_answer : (n : ℕ) (edges : List (ℕ × ℕ)) (labels : List ℕ) (answer : Option ℕ) → 1 ≤ n → IsPartition n edges labels → NoneUnlike n labels answer → SomeUnlike n labels answer → (answer ≡ None) ↔ IsTree n edges
+tree_answer n edges labels None some p none one = (λ e. alike-tree n edges labels some p none, λ tree. refl)
+tree_answer n edges labels (Some s) some p none one = (λ e. absurd cc, λ tree. absurd (one.2 (tree-alike n edges labels p tree s one.0 one.1)))
+
+-- and else the least server apart from server 1
+pub apart_answer : (n : ℕ) (edges : List (ℕ × ℕ)) (labels : List ℕ) (answer : Option ℕ) (s : ℕ) → 1 ≤ n → IsPartition n edges labels → NoneUnlike n labels answer → SomeUnlike n labels answer → (answer ≡ Some s) ↔ IsApart n edges s
+apart_answer n edges labels None s some p none one = (λ e. absurd cc, λ a. absurd (a.apart ((alike-tree n edges labels some p none).joined s a.from a.to)))
+apart_answer n edges labels (Some r) s some p none one =
+    let found : IsApart n edges r = apart-least n edges labels r some p one.0 one.1 one.2 one.3 in
+    (λ e. let same : r ≡ s = unsome e in subst (IsApart n edges) same found, λ a. ap Some (apart-same n edges r s found a))
+  where
+    unsome : {a b : ℕ} → Some a ≡ Some b → a ≡ b
+    unsome e = cc

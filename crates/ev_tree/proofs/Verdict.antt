@@ -70,7 +70,7 @@ twice-loop edges i j t u =
     unsome : {X : Type 0} {a b : X} → Some a ≡ Some b → a ≡ b
     unsome e = cc
 
-apart-same : (n : ℕ) (edges : List (ℕ × ℕ)) (s r : ℕ) → IsApart n edges s → IsApart n edges r → s ≡ r
+pub apart-same : (n : ℕ) (edges : List (ℕ × ℕ)) (s r : ℕ) → IsApart n edges s → IsApart n edges r → s ≡ r
 apart-same n edges s r a b = go (order s r)
   where
     go : Order s r → s ≡ r

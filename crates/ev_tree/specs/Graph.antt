@@ -23,9 +23,13 @@ AreJoined edges a b = (trail : List ℕ) × IsTrail edges a trail b
 abbrev pub IsCount : ℕ → Type 0
 IsCount n = (1 ≤ n) × (n ≤ 64)
 
+-- both ends of the edge are servers 1 to n
+abbrev pub IsEdgeWithin : ℕ → ℕ × ℕ → Type 0
+IsEdgeWithin n edge = (1 ≤ edge.0) × (edge.0 ≤ n) × (1 ≤ edge.1) × (edge.1 ≤ n)
+
 -- both ends of each edge are servers 1 to n
 abbrev pub AreWithin : ℕ → List (ℕ × ℕ) → Type 0
-AreWithin n edges = All (λ edge. (1 ≤ edge.0) × (edge.0 ≤ n) × (1 ≤ edge.1) × (edge.1 ≤ n)) edges
+AreWithin n edges = All (IsEdgeWithin n) edges
 
 -- no edge has ends that earlier edges join, nor equal ends
 abbrev pub IsForest : List (ℕ × ℕ) → Type 0

@@ -14,6 +14,18 @@ pub record IsPartition (n : ℕ) (edges : List (ℕ × ℕ)) (labels : List ℕ)
   pub forest : IsForest edges
   pub labelled : Labelled n edges (λ x. slice_index labels x)
 
+-- how many servers there are, and by server its label; place 0 is no server's
+pub record ServerLabels : Type 0 where
+  pub count : ℕ
+  pub labels : List ℕ
+
+abbrev pub server_labels : ℕ → List ℕ → ServerLabels
+server_labels count labels = record { count = count; labels = labels }
+
+-- the edges are a forest of these servers, and servers have one label exactly where the edges join them
+abbrev pub AreLabelsOf : List (ℕ × ℕ) → ServerLabels → Type 0
+AreLabelsOf edges servers = IsPartition servers.count edges servers.labels
+
 -- what is at fault with the edges of n servers
 abbrev pub IsFault : ℕ → List (ℕ × ℕ) → TreeFault → Type 0
 IsFault n edges TooFew = n ≡ 0

@@ -1,4 +1,4 @@
-//! Why a list of edges is no tree.
+//! Why a list of edges is no tree, and why an edge can't come after others.
 ghost use Rattle.std.specs.Prelude.{◌≡◌};
 
 use ev_memory;
@@ -18,6 +18,15 @@ pub enum TreeFault {
     Apart(u32),
     /// Memory ran out.
     NoMemory,
+}
+
+/// Why an edge of a tree can't come after others.
+#[derive(Clone, Copy, Debug, PartialEq, Eq)]
+pub enum EdgeFault {
+    /// An earlier edge joins the same two servers, either way round.
+    Twice,
+    /// The ends are equal, or earlier edges lead from one to the other, though none of them alone.
+    Loop,
 }
 
 impl From<ev_memory::NoMemory> for TreeFault {

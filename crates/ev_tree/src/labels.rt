@@ -1,9 +1,10 @@
 //! Labels of servers: the same exactly where edges join the servers.
-ghost use Rattle.std.specs.Prelude.{◌≡◌, ◌≢◌, ◌==◌, ◌<◌, ◌≤◌, ℕ, cond, length, slice_index, take, IfSome, IfNone, slice_get, MatchResult, Some};
-ghost use Rattle.ev_tree.specs.Graph.{has_edge, AreWithin, AreJoined, IsForest, IsTree, IsCount};
-ghost use Rattle.ev_tree.specs.Labels.{IsPartition, IsFault};
+ghost use Rattle.std.specs.Prelude.{◌≡◌, ◌≢◌, ◌==◌, ◌<◌, ◌≤◌, ◌↔◌, ◌++◌, ◌∷◌, [], ℕ, List, false, true, cond, length, slice_index, take, IfSome, IfNone, slice_get, MatchResult, Some, None};
+ghost use Rattle.ev_tree.specs.Graph.{has_edge, AreWithin, IsEdgeWithin, AreJoined, IsForest, IsTree, IsApart, IsCount};
+ghost use Rattle.ev_tree.specs.Labels.{AreLabelsOf, IsFault};
 
-use crate::fault::TreeFault;
+use crate::fault::{EdgeFault, TreeFault};
+use std::marker::Model;
 
 /// Each place's own number.
 pub fn own_labels() -> [u32; 65]
@@ -34,40 +35,8 @@ fn has_edge(edges: &[(u32, u32)], a: u32, b: u32) -> bool
     edges.iter().any(|edge| (edge.0 == a && edge.1 == b) || (edge.0 == b && edge.1 == a))
 }
 
-// What is at fault with edge i, whose ends are joined by earlier edges.
-fn joined_again(edges: &[(u32, u32)], i: usize) -> TreeFault
-    requires { i < length edges.now }
-    ensures { (n : ℕ) (edge : ℕ × ℕ) → IsCount n → slice_get edges.now i ≡ Some edge → IsForest (take i edges.now) → AreJoined (take i edges.now) edge.0 edge.1 → IsFault n edges.now result }
-{
-    let (a, b) = edges[i];
-    if has_edge(&edges[..i], a, b) {
-        TreeFault::Twice(i)
-    } else {
-        TreeFault::Loop(i)
-    }
-}
-
-/// Labels that are the same exactly where the edges join servers, or the first edge whose ends are joined already.
-pub fn part_labels(n: u32, edges: &[(u32, u32)]) -> Result<[u32; 65], TreeFault>
-    requires few { IsCount n }
-    requires within { AreWithin n edges.now }
-    ensures { MatchResult result (λ labels. IsPartition n edges.now labels) (λ fault. IsFault n edges.now fault) }
-{
-    let mut labels = own_labels();
-    for (i, edge) in edges.iter().enumerate() {
-        let (a, b) = *edge;
-        let to = labels[a as usize];
-        let from = labels[b as usize];
-        if to == from {
-            return Err(joined_again(edges, i));
-        }
-        relabel(&mut labels, from, to);
-    }
-    Ok(labels)
-}
-
 // The least server that has another label than server 1.
-fn apart(n: u32, labels: &[u32]) -> Option<u32>
+fn unlike_first(n: u32, labels: &[u32]) -> Option<u32>
     requires some { 1 ≤ n }
     requires labels { n < length labels.now }
     ensures none { IfNone result ((x : ℕ) → 1 ≤ x → x ≤ n → slice_index labels.now x ≡ slice_index labels.now 1) }
@@ -81,6 +50,99 @@ fn apart(n: u32, labels: &[u32]) -> Option<u32>
     None
 }
 
+/// Which servers the edges so far join: what tells an edge's fault among earlier ones, without memory. It takes as
+/// many steps as there are servers for each edge, and for one at fault as there are earlier edges besides.
+#[derive(Debug, Drop)]
+pub struct Labels {
+    count: u32,
+    labels: [u32; 65],
+}
+
+impl Model for Labels {
+    ghost use Rattle.std.specs.Prelude.{◌≤◌};
+    ghost use Rattle.ev_tree.specs.Labels.{ServerLabels, server_labels};
+
+    ghost Value = { ServerLabels };
+
+    ghost view = { λ l. server_labels l.count l.labels };
+
+    ghost invariant = { λ l. l.count ≤ 64 };
+}
+
+impl Labels {
+    /// Servers 1 to n, at most 64, without edges.
+    pub fn new(n: u32) -> Labels
+        requires { n ≤ 64 }
+        ensures count { result.count ≡ n }
+        ensures none { AreLabelsOf [] result }
+    {
+        Labels {
+            count: n,
+            labels: own_labels(),
+        }
+    }
+
+    /// Joins the ends of an edge after the earlier ones, or tells what is at fault with it; then nothing changes.
+    /// Both ends are servers.
+    pub fn join(&mut self, earlier: &[(u32, u32)], edge: (u32, u32)) -> Option<EdgeFault>
+        requires of { AreLabelsOf earlier.now self.old }
+        requires within { IsEdgeWithin self.old.count edge }
+        ensures twice { (result ≡ Some EdgeFault.Twice) ↔ (has_edge earlier.now edge.0 edge.1 ≡ true) }
+        ensures loops { (result ≡ Some EdgeFault.Loop) ↔ (AreJoined earlier.now edge.0 edge.1 × (has_edge earlier.now edge.0 edge.1 ≡ false)) }
+        ensures none { IfNone result (AreLabelsOf (earlier.now ++ edge ∷ []) self.new) }
+        ensures some { IfSome result (λ _. self.new ≡ self.old) }
+        ensures count { self.new.count ≡ self.old.count }
+    {
+        let (a, b) = edge;
+        let to = self.labels[a as usize];
+        let from = self.labels[b as usize];
+        if to != from {
+            relabel(&mut self.labels, from, to);
+            return None;
+        }
+        if has_edge(earlier, a, b) {
+            Some(EdgeFault::Twice)
+        } else {
+            Some(EdgeFault::Loop)
+        }
+    }
+
+    /// The least server to which no way leads from server 1 by the edges, where there is one.
+    pub fn apart(&self) -> Option<u32>
+        requires { 1 ≤ self.now.count }
+        ensures none { (edges : List (ℕ × ℕ)) → AreLabelsOf edges self.now → (result ≡ None) ↔ IsTree self.now.count edges }
+        ensures some { (edges : List (ℕ × ℕ)) → AreLabelsOf edges self.now → (s : ℕ) → (result ≡ Some s) ↔ IsApart self.now.count edges s }
+    {
+        unlike_first(self.count, &self.labels)
+    }
+}
+
+// The fault of edge i, as one of the list.
+fn fault_at(fault: EdgeFault, i: usize) -> TreeFault
+    ensures twice { fault ≡ EdgeFault.Twice → result ≡ TreeFault.Twice i }
+    ensures loops { fault ≡ EdgeFault.Loop → result ≡ TreeFault.Loop i }
+{
+    match fault {
+        EdgeFault::Twice => TreeFault::Twice(i),
+        EdgeFault::Loop => TreeFault::Loop(i),
+    }
+}
+
+/// The labels of the edges, or the first edge whose ends are joined already.
+pub fn labels_of(n: u32, edges: &[(u32, u32)]) -> Result<Labels, TreeFault>
+    requires few { IsCount n }
+    requires within { AreWithin n edges.now }
+    ensures { MatchResult result (λ labels. (labels.count ≡ n) × AreLabelsOf edges.now labels) (λ fault. IsFault n edges.now fault) }
+{
+    let mut labels = Labels::new(n);
+    for (i, edge) in edges.iter().enumerate() {
+        if let Some(fault) = labels.join(&edges[..i], *edge) {
+            return Err(fault_at(fault, i));
+        }
+    }
+    Ok(labels)
+}
+
 /// Whether servers 1 to n and the edges are a tree, or why not.
 pub fn check(n: u32, edges: &[(u32, u32)]) -> Result<(), TreeFault>
     requires { IsCount n → AreWithin n edges.now }
@@ -92,8 +154,8 @@ pub fn check(n: u32, edges: &[(u32, u32)]) -> Result<(), TreeFault>
     if n > 64 {
         return Err(TreeFault::TooMany);
     }
-    let labels = part_labels(n, edges)?;
-    match apart(n, &labels) {
+    let labels = labels_of(n, edges)?;
+    match labels.apart() {
         Some(s) => Err(TreeFault::Apart(s)),
         None => Ok(()),
     }

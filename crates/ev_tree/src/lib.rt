@@ -6,10 +6,9 @@ mod labels;
 mod law;
 mod row;
 mod tables;
-#[cfg(test)]
-mod tests;
 mod tree;
 
-pub use fault::TreeFault;
+pub use fault::{EdgeFault, TreeFault};
+pub use labels::Labels;
 pub use law::{one_path, sides};
 pub use tree::Tree;

@@ -1,8 +1,8 @@
-use Rattle.std.proofs.Common.{arith}
-use Rattle.ev_tree.proofs.Steps.{apart-least}
+use Rattle.std.proofs.Common.{subst, arith}
+use Rattle.ev_tree.specs.Graph.{IsApart}
 use Rattle.ev_tree.proofs.labels.check.Goals as goal
 
 pub returns-in-Some : goal.returns-in-Some
 returns-in-Some c =
-    let found = c.in-Some.ensures.some in
-    ((omega arith, omega arith), apart-least c.args.n c.args.edges.now c.in_ok-labels.labels c.in-Some.s (omega arith) c.in_ok-labels.ensures found.0 found.1 found.2 found.3)
+    let labels = c.in_ok-labels.ensures in
+    ((omega arith, omega arith), subst (λ n. IsApart n c.args.edges.now c.in-Some.s) labels.0 ((c.apart.ensures.some c.args.edges.now labels.1 c.in-Some.s).0 c.in-Some.is))
