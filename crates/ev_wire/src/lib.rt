@@ -19,8 +19,6 @@ mod reader;
 mod semantics;
 mod sent;
 mod string;
-#[cfg(test)]
-mod tests;
 mod time;
 mod value;
 mod wire;

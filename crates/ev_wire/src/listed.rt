@@ -57,7 +57,7 @@ impl Listed for Filter {
     #[tactic(auto, unfolding(crate::specs::Filters::list_at))]
     fn read(reader: &mut Reader<'_>, alloc: Global) -> Result<Filter, WireFault> {
         let constraints = reader.constraints(alloc, 16)?;
-        match Filter::of_rising(constraints) {
+        match Filter::of_rising(constraints)? {
             Some(filter) => Ok(filter),
             None => Err(WireFault::Outside),
         }
@@ -67,8 +67,9 @@ impl Listed for Filter {
         push_constraints(out, self.constraints())
     }
 
+    #[tactic(auto, unfolding(ev_notice::specs::Before::list_before))]
     fn stands_before(&self, other: &Filter) -> bool {
-        self.is_before(other)
+        self < other
     }
 
     fn copied(&self, alloc: Global) -> Result<Filter, NoMemory> {
@@ -88,7 +89,7 @@ impl Listed for Advert {
     #[tactic(auto, unfolding(crate::specs::Filters::list_at))]
     fn read(reader: &mut Reader<'_>, alloc: Global) -> Result<Advert, WireFault> {
         let constraints = reader.constraints(alloc, 64)?;
-        match Advert::of_rising(constraints) {
+        match Advert::of_rising(constraints)? {
             Some(advert) => Ok(advert),
             None => Err(WireFault::Outside),
         }
@@ -98,8 +99,9 @@ impl Listed for Advert {
         push_constraints(out, self.constraints())
     }
 
+    #[tactic(auto, unfolding(ev_notice::specs::Before::list_before))]
     fn stands_before(&self, other: &Advert) -> bool {
-        self.is_before(other)
+        self < other
     }
 
     fn copied(&self, alloc: Global) -> Result<Advert, NoMemory> {

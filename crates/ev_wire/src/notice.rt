@@ -41,7 +41,7 @@ impl<'a> Reader<'a> {
         if !self.rest.is_empty() {
             return Err(WireFault::Outside);
         }
-        match Notice::of_rising(attributes) {
+        match Notice::of_rising(attributes)? {
             Some(notice) => Ok(notice),
             None => Err(WireFault::Outside),
         }

@@ -1,10 +1,10 @@
-//! Worked rows: texts that are written, read again, and refused.
-use crate::{
+//! Texts that are written, read again, and refused.
+use ev_notice::Notice;
+use ev_values::{Name, Value};
+use ev_wire::{
     Bytes, Command, Delivery, Filters, Id, Message, Sent, WireFault, read_advert, read_filter,
     read_message, read_notice, write_advert, write_filter, write_message, write_notice,
 };
-use ev_notice::Notice;
-use ev_values::{Name, Value};
 use std::alloc::Global;
 use std::rt::HostRuntime;
 use std::test::Fail;
@@ -48,6 +48,16 @@ fn notices(rt: HostRuntime) -> Result<(), Fail> {
         (b"x int 9223372036854775808", false),
         (b"x int -9223372036854775808", true),
         (b"x int -9223372036854775809", false),
+        (b"t time 5", true),
+        (b"t time 05", false),
+        (b"t time 0", true),
+        (b"t time 18446744073709551615", true),
+        (b"t time 18446744073709551616", false),
+        (b"t time +5", false),
+        (b"t time -0", false),
+        (b"t time", false),
+        (b"t time \"5\"", false),
+        (b"a int 5; b time 5", true),
         (b"x bool true; y str \"\"", true),
         (b"x bool yes", false),
         (b"s str \"a\\\"b\\\\c\\nd\\te\"", true),
@@ -127,7 +137,16 @@ fn filters(rt: HostRuntime) -> Result<(), Fail> {
             true,
         ),
         (b"x int = 1; x int < 1", false),
-        (b"x bool any; x int any; x str any", true),
+        (b"x bool any; x int any; x str any; x time any", true),
+        (b"x time any; x str any", false),
+        (
+            b"t time != 1; t time < 1; t time <= 1; t time = 1; t time > 1; t time >= 1; t time any",
+            true,
+        ),
+        (b"t time < 18446744073709551615", true),
+        (b"t time < 18446744073709551616", false),
+        (b"t time < -1", false),
+        (b"t time prefix 1", false),
         (b"x int any; x bool any", false),
     ] {
         assert_eq!(rt; is_filter(rt.alloc(), bytes)?, holds, "at {bytes:?}");
@@ -186,6 +205,11 @@ fn written(rt: HostRuntime) -> Result<(), Fail> {
         return Err(Fail::new("no subs"));
     };
     assert_eq!(rt; (out.as_slice().len(), add.as_slice().len()), (1, 1));
+    let advert = read_advert(alloc, b"x int any")?;
+    assert_eq!(rt;
+        write_advert(alloc, &advert)?.as_slice(),
+        b"x int any".as_slice()
+    );
     Ok(())
 }
 
@@ -202,6 +226,7 @@ fn messages_again(rt: HostRuntime) -> Result<(), Fail> {
     for bytes in [
         b"subs -{x int any} +{x int > 5}".as_slice(),
         b"advs -{x int any; y int any} +{x int > 5}",
+        b"subs +{t time < 18446744073709551615}",
         b"notice 7 12 a int 2; b int 1",
     ] {
         assert!(rt; is_written_again(rt.alloc(), bytes)?, "at {bytes:?}");
