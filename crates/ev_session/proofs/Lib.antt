@@ -1,0 +1,4 @@
+pub mod Same
+pub mod Settling
+pub mod Listing
+pub mod Planning

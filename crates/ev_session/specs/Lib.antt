@@ -1,0 +1,4 @@
+pub mod Inbox
+pub mod Session
+pub mod Plan
+pub mod Own
