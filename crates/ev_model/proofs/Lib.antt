@@ -1,0 +1,5 @@
+pub mod Adding
+pub mod Places
+pub mod SoundNets
+pub mod Walking
+pub mod Counted

@@ -1,0 +1,37 @@
+//! What nets mean, and that a sound net keeps all that the laws of runs ask for.
+ghost use Rattle.std.specs.Prelude.{◌≡◌, ◌<◌, ℕ, List, []};
+ghost use Rattle.ev_sets.specs.Sets.{Has, set_of};
+ghost use Rattle.ev_routing.specs.Net.{Net, NetLaws, PhasedCommand};
+ghost use Rattle.ev_routing.specs.Clients.{filters_after, adverts_after, accepts};
+ghost use Rattle.ev_phases.specs.Trees.{PhasedNetLaws, net_at, tree_at};
+ghost use Rattle.ev_phases.specs.Runs.{PhasedRun};
+ghost use Rattle.ev_theory.specs.Real.{real};
+ghost use Rattle.ev_model.specs.Parts.{NetParts};
+ghost use Rattle.ev_model.specs.Nets.{phased_net, topology_at, tree_of, phases_of};
+ghost use Rattle.ev_model.specs.Sound.{IsSound};
+ghost use Rattle.ev_model.specs.Limits.{StaysLow};
+ghost use Rattle.ev_model.specs.Adding.{own_filters, own_adverts};
+
+use ev_routing::Matching;
+
+/// A sound net keeps what is asked of a net over trees by phase, and so at each phase what is asked of a net on its
+/// tree; each command is of one of its phases.
+pub fn sound_net()
+    ensures laws { (net : NetParts) → IsSound net → PhasedNetLaws real (phased_net net) }
+    ensures each { (net : NetParts) → IsSound net → (phase : ℕ) → NetLaws real (net_at real (phased_net net) phase) }
+    ensures tree { (net : NetParts) (phase : ℕ) → tree_of (topology_at net phase) ≡ tree_at real (phased_net net) phase }
+    ensures phases { (net : NetParts) → IsSound net → (client : ℕ) (command : PhasedCommand real) → Has command ((phased_net net).script client) → command.phase < phases_of net }
+{}
+
+/// A client's own lists in the order of adding, sorted, are its lists in the runs, so they accept the same publishes.
+pub fn order_of_adding<M: Matching>()
+    ensures filters { (commands : List (PhasedCommand M.theory)) → set_of M.theory.before (own_filters M.theory [] commands) ≡ filters_after M.theory [] commands }
+    ensures adverts { (commands : List (PhasedCommand M.theory)) → set_of M.theory.before_advert (own_adverts M.theory [] commands) ≡ adverts_after M.theory [] commands }
+    ensures accepted { (net : Net M.theory) (commands : List (PhasedCommand M.theory)) (notice : M.theory.Notice) → accepts M.theory net (own_adverts M.theory [] commands) notice ≡ accepts M.theory net (adverts_after M.theory [] commands) notice }
+{}
+
+/// Within the limits of a sound net every run has fewer than a thousand million entries, and no stamp is as great, so
+/// none comes near 2^62.
+pub fn within_limits()
+    ensures { (net : NetParts) → IsSound net → (run : PhasedRun real) → run.net ≡ phased_net net → StaysLow run }
+{}
