@@ -11,7 +11,7 @@ use Rattle.ev_wire.specs.declared.command.Command.{Command as WireCommand}
 use Rattle.ev_wire.specs.declared.command.Command.TheVariants as commands
 use Rattle.ev_wire.specs.declared.message.Message.{Message as WireMessage}
 use Rattle.ev_wire.specs.declared.message.Message.TheVariants as messages
-use Rattle.ev_wire.specs.declared.id.Delivery.{Delivery}
+use Rattle.ev_wire.specs.declared.delivery.Delivery.{Delivery}
 use Rattle.ev_model.specs.declared.turn.Act.{Act as EntryAct}
 use Rattle.ev_model.specs.declared.turn.Act.TheVariants as acts
 use Rattle.ev_model.specs.Parts.{EntryParts}

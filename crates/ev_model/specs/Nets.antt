@@ -7,8 +7,8 @@ use Rattle.ev_routing.specs.Net.{PhasedCommand}
 use Rattle.ev_routing.specs.Step.{Task, NextCommand, Version}
 use Rattle.ev_phases.specs.Trees.{Tree, PhasedNet, tree_after}
 use Rattle.ev_theory.specs.Real.{real}
-use Rattle.ev_wire.specs.declared.id.Semantics.{Semantics}
-use Rattle.ev_wire.specs.declared.id.Semantics.TheVariants.{Subscription, Advertisement}
+use Rattle.ev_wire.specs.declared.semantics.Semantics.{Semantics}
+use Rattle.ev_wire.specs.declared.semantics.Semantics.TheVariants.{Subscription, Advertisement}
 use Rattle.ev_model.specs.declared.turn.Turn.{Turn}
 use Rattle.ev_model.specs.declared.turn.Turn.TheVariants as turns
 use Rattle.ev_model.specs.Parts.{ClientParts, NetParts}

@@ -2,7 +2,7 @@
 use Rattle.std.specs.Prelude.{ℕ, List}
 use Rattle.ev_tree.specs.Tree.{Topology}
 use Rattle.ev_wire.specs.declared.command.Command.{Command}
-use Rattle.ev_wire.specs.declared.id.Semantics.{Semantics}
+use Rattle.ev_wire.specs.declared.semantics.Semantics.{Semantics}
 use Rattle.ev_model.specs.declared.turn.Act.{Act}
 use Rattle.ev_model.specs.declared.turn.Turn.{Turn}
 

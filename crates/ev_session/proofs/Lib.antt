@@ -2,3 +2,4 @@ pub mod Same
 pub mod Settling
 pub mod Listing
 pub mod Planning
+pub mod Sessions

@@ -1,5 +1,5 @@
 -- What is planned is the difference of a client's lists, and doing it gives the next ones.
-use Rattle.std.proofs.Common.{◌≡◌, ℕ, suc, ◌≤◌, ◌+◌, Bool, true, false, cond, not, List, [], ◌∷◌, ◌++◌, length, filter, map, take, slice_get, Some, refl, sym, ap, subst, ◌∙◌, inl, inr, arith, append-nil}
+use Rattle.std.proofs.Common.{◌≡◌, ℕ, suc, ◌≤◌, ◌+◌, Bool, true, false, cond, not, List, [], ◌∷◌, ◌++◌, length, filter, map, take, slice_get, Some, refl, sym, ap, subst, ◌∙◌, inl, inr, arith, append-nil, zero-add}
 use Rattle.ev_constraint.specs.Constraint.{ConstraintParts}
 use Rattle.ev_notice.specs.Before.{list_before}
 use Rattle.ev_notice.specs.Cover.{filter_covers, advert_covers}
@@ -103,6 +103,19 @@ module _ {T : Type 0} {covers before : T → T → Bool} (laws : CoverLaws cover
   pub withdrawing-few : length (minus before (without covers f now) now) ≤ 1
   withdrawing-few = rw withdrawing-add (omega arith)
 
+-- what the code says that a command does
+pub subscribe_plan : (f : List ConstraintParts) (filters come : Owned) → come ≡ new_of list_before f filters → plans.Subs [] come ≡ filters_plan filters (with_new list_before f filters)
+subscribe_plan f filters come e = rw (adding-out sub_laws f filters, adding-add sub_laws f filters) (ap (λ xs. plans.Subs [] xs) e)
+
+pub unsubscribe_plan : (f : List ConstraintParts) (filters go : Owned) → go ≡ filter (λ g. filter_covers f g) filters → plans.Subs go [] ≡ filters_plan filters (without filter_covers f filters)
+unsubscribe_plan f filters go e = rw (withdrawing-out sub_laws f filters, withdrawing-add sub_laws f filters) (ap (λ xs. plans.Subs xs []) e)
+
+pub advertise_plan : (a : List ConstraintParts) (adverts come : Owned) → come ≡ new_of list_before a adverts → plans.Advs [] come ≡ adverts_plan adverts (with_new list_before a adverts)
+advertise_plan a adverts come e = rw (adding-out ad_laws a adverts, adding-add ad_laws a adverts) (ap (λ xs. plans.Advs [] xs) e)
+
+pub unadvertise_plan : (a : List ConstraintParts) (adverts go : Owned) → go ≡ filter (λ b. advert_covers a b) adverts → plans.Advs go [] ≡ adverts_plan adverts (without advert_covers a adverts)
+unadvertise_plan a adverts go e = rw (withdrawing-out ad_laws a adverts, withdrawing-add ad_laws a adverts) (ap (λ xs. plans.Advs xs []) e)
+
 -- at most one member comes
 pub plan-few : (client : ℕ) (semantics : Semantics) (filters adverts : Owned) (publishes : ℕ) (command : Command) → AddsFew (own_plan client semantics filters adverts publishes command)
 plan-few client semantics filters adverts publishes (commands.Subscribe f) = adding-few sub_laws f filters
@@ -175,7 +188,9 @@ module _ (session : SessionParts) (step : ℕ × Command) (at : slice_get sessio
   next-publishes = ordinal-next real (map phased_command session.script) session.taken (phased_command step) command-at
 
   pub next-refused : refused_at session (suc session.taken) ≡ refused_at session session.taken ++ add_refused real (net_under session.semantics) (adverts_after real [] (first_commands session session.taken)) (publishes_at session session.taken) (command_of step.1) []
-  next-refused = refused-next real (net_under session.semantics) (map phased_command session.script) [] 0 session.taken (phased_command step) command-at
+  next-refused =
+      refused-next real (net_under session.semantics) (map phased_command session.script) [] 0 session.taken (phased_command step) command-at
+      ∙ ap (λ n. refused_at session session.taken ++ add_refused real (net_under session.semantics) (adverts_after real [] (first_commands session session.taken)) n (command_of step.1) []) (zero-add (publishes_at session session.taken))
 
 -- the plan of a command by the lists now
 pub plan-own : (session : SessionParts) (step : ℕ × Command) → slice_get session.script session.taken ≡ Some step → next_plan session ≡ Some (own_plan session.client session.semantics (filters_at session session.taken) (adverts_at session session.taken) (publishes_at session session.taken) step.1)

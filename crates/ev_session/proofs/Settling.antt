@@ -45,10 +45,10 @@ opposite false = refl
 
 module _ {T : Type 0} {covers before : T → T → Bool} (laws : CoverLaws covers before) where
   pub absent : (x : T) (xs : List T) → (Has x xs → ⊥) → member before x xs ≡ false
-  absent x xs no = go (member before x xs) refl
+  absent x xs missing = go (member before x xs) refl
     where
       go : (b : Bool) → member before x xs ≡ b → member before x xs ≡ false
-      go true e = absurd (no (member-has laws x xs e))
+      go true e = absurd (missing (member-has laws x xs e))
       go false e = e
 
   -- those of now that pass q stay, and others join them that are not in now

@@ -42,12 +42,20 @@ pub(crate) fn covered<M: Member>(alloc: Global, given: &M, list: &[M]) -> Result
     Ok(out)
 }
 
+// Takes these out.
+fn remove<M: Member>(list: &mut Vec<M>, out: &[M])
+    ensures items { list.new.items ≡ minus M.order list.old.items out.now }
+    ensures len { vec_len list.new ≤ vec_len list.old }
+    ensures capacity { vec_capacity list.new ≡ vec_capacity list.old }
+{
+    list.retain(|kept| !is_member(kept, out));
+}
+
 /// Takes these out and puts those at the end, for which there is room. It takes no memory.
 pub(crate) fn change<M: Member>(list: &mut Vec<M>, out: &[M], mut add: Vec<M>)
     requires { vec_len list.old + vec_len add ≤ vec_capacity list.old }
     ensures items { list.new.items ≡ minus M.order list.old.items out.now ++ add.items }
-    ensures capacity { vec_capacity list.old ≤ vec_capacity list.new }
 {
-    list.retain(|kept| !is_member(kept, out));
+    remove(list, out);
     list.append(&mut add).unwrap();
 }

@@ -1,9 +1,10 @@
 //! A client's own lists.
-ghost use Rattle.std.specs.Prelude.{◌≡◌, ◌<◌, ◌≤◌, ◌^◌, vec_len, vec_capacity, IfOk};
+ghost use Rattle.std.specs.Prelude.{◌≡◌, ◌<◌, ◌-◌, ◌^◌, vec_len, vec_capacity, IfOk};
 ghost use Rattle.ev_routing.specs.Clients.{accepts, some_pass};
 ghost use Rattle.ev_theory.specs.Real.{real};
 ghost use Rattle.ev_session.specs.Session.{net_under};
 ghost use Rattle.ev_session.specs.Plan.{publish_plan};
+ghost use Rattle.ev_session.specs.declared.planned.Planned.TheVariants as plans;
 ghost use Rattle.ev_session.specs.Own.{own_plan, filters_by, adverts_by, refused_by, publishes_by, AddsFew};
 
 use crate::list::{change, covered, fresh};
@@ -23,13 +24,20 @@ pub(crate) struct Own {
     pub publishes: u32,
 }
 
+// Whether the advertisement allows the notice.
+fn is_allowed_by(notice: &Notice, advert: &Advert) -> bool
+    ensures { result ≡ real.allows advert.now notice.now }
+{
+    let _ = notice.attributes();
+    allows(advert, notice)
+}
+
 // Whether one of these allows the notice.
 fn is_allowed(adverts: &[Advert], notice: &Notice) -> bool
     ensures { result ≡ some_pass (λ a. real.allows a notice.now) adverts.now }
 {
-    let _ = notice.attributes();
     for advert in adverts {
-        if allows(advert, notice) {
+        if is_allowed_by(notice, advert) {
             return true;
         }
     }
@@ -58,8 +66,27 @@ fn publish(
     Ok(Planned::Publish { id, notice })
 }
 
+// A change of filters.
+fn subs(out: Vec<Filter>, add: Vec<Filter>) -> Planned
+    ensures { result ≡ plans.Subs out.items add.items }
+{
+    let out = Lists::of(out);
+    let add = Lists::of(add);
+    Planned::Subs { out, add }
+}
+
+// A change of advertisements.
+fn advs(out: Vec<Advert>, add: Vec<Advert>) -> Planned
+    ensures { result ≡ plans.Advs out.items add.items }
+{
+    let out = Lists::of(out);
+    let add = Lists::of(add);
+    Planned::Advs { out, add }
+}
+
 impl Own {
     /// What a command of the client does with these lists.
+    #[tactic(auto, using(crate::proofs::Planning::subscribe_plan, crate::proofs::Planning::unsubscribe_plan, crate::proofs::Planning::advertise_plan, crate::proofs::Planning::unadvertise_plan))]
     pub fn plan(
         &self,
         alloc: Global,
@@ -70,32 +97,28 @@ impl Own {
         requires { self.now.publishes < 2 ^ 32 - 1 }
         ensures { IfOk result (λ p. p ≡ own_plan client semantics self.now.filters.items self.now.adverts.items self.now.publishes command.now) }
     {
-        Ok(match command {
-            Command::Subscribe(filter) => Planned::Subs {
-                out: Lists::of(Vec::new(alloc)),
-                add: Lists::of(fresh(alloc, filter, &self.filters)?),
-            },
-            Command::Unsubscribe(filter) => Planned::Subs {
-                out: Lists::of(covered(alloc, filter, &self.filters)?),
-                add: Lists::of(Vec::new(alloc)),
-            },
-            Command::Advertise(advert) => Planned::Advs {
-                out: Lists::of(Vec::new(alloc)),
-                add: Lists::of(fresh(alloc, advert, &self.adverts)?),
-            },
-            Command::Unadvertise(advert) => Planned::Advs {
-                out: Lists::of(covered(alloc, advert, &self.adverts)?),
-                add: Lists::of(Vec::new(alloc)),
-            },
-            Command::Publish(notice) => publish(
-                alloc,
-                client,
-                semantics,
-                &self.adverts,
-                self.publishes + 1,
-                notice,
-            )?,
-        })
+        match command {
+            Command::Subscribe(filter) => {
+                let add = fresh(alloc, filter, &self.filters)?;
+                Ok(subs(Vec::new(alloc), add))
+            }
+            Command::Unsubscribe(filter) => {
+                let out = covered(alloc, filter, &self.filters)?;
+                Ok(subs(out, Vec::new(alloc)))
+            }
+            Command::Advertise(advert) => {
+                let add = fresh(alloc, advert, &self.adverts)?;
+                Ok(advs(Vec::new(alloc), add))
+            }
+            Command::Unadvertise(advert) => {
+                let out = covered(alloc, advert, &self.adverts)?;
+                Ok(advs(out, Vec::new(alloc)))
+            }
+            Command::Publish(notice) => {
+                let ordinal = self.publishes + 1;
+                publish(alloc, client, semantics, &self.adverts, ordinal, notice)
+            }
+        }
     }
 
     /// Does what is planned, for which each list has room for one more. It takes no memory.
