@@ -52,7 +52,8 @@ IsSoundTurn servers clients (turns.Command client) = IsAmong clients client
 IsSoundTurn servers clients (turns.Take server from) = IsAmong servers server × IsAmong servers from
 IsSoundTurn servers clients (turns.Version server) = IsAmong servers server
 
--- a net of version 1 or 2: its trees, at most 1,024 clients of different names, at most 4,096 commands that are no publishes and 100,000 that are, and turns of its own
+-- a net of version 1 or 2: its trees, at most 1,024 clients of different names, at most 4,096 commands that are no publishes and 100,000 that are,
+-- and turns of its own servers and clients
 pub record IsSound (net : NetParts) : Type 0 where
   pub version : (1 ≤ net.version) × (net.version ≤ 2)
   pub trees : HasTrees net.trees

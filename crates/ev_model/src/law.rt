@@ -1,10 +1,11 @@
 //! What nets mean, and that a sound net keeps all that the laws of runs ask for.
-ghost use Rattle.std.specs.Prelude.{◌≡◌, ◌<◌, ℕ, List, []};
-ghost use Rattle.ev_sets.specs.Sets.{Has, set_of};
+ghost use Rattle.std.specs.Prelude.{◌≡◌, ℕ, List, []};
+ghost use Rattle.ev_sets.specs.Sets.{set_of};
 ghost use Rattle.ev_routing.specs.Net.{Net, NetLaws, PhasedCommand};
 ghost use Rattle.ev_routing.specs.Clients.{filters_after, adverts_after, accepts};
 ghost use Rattle.ev_phases.specs.Trees.{PhasedNetLaws, net_at, tree_at};
 ghost use Rattle.ev_phases.specs.Runs.{PhasedRun};
+ghost use Rattle.ev_phases.specs.AtMoments.{AllBelow};
 ghost use Rattle.ev_theory.specs.Real.{real};
 ghost use Rattle.ev_model.specs.Parts.{NetParts};
 ghost use Rattle.ev_model.specs.Nets.{phased_net, topology_at, tree_of, phases_of};
@@ -20,14 +21,17 @@ pub fn sound_net()
     ensures laws { (net : NetParts) → IsSound net → PhasedNetLaws real (phased_net net) }
     ensures each { (net : NetParts) → IsSound net → (phase : ℕ) → NetLaws real (net_at real (phased_net net) phase) }
     ensures tree { (net : NetParts) (phase : ℕ) → tree_of (topology_at net phase) ≡ tree_at real (phased_net net) phase }
-    ensures phases { (net : NetParts) → IsSound net → (client : ℕ) (command : PhasedCommand real) → Has command ((phased_net net).script client) → command.phase < phases_of net }
+    ensures phases { (net : NetParts) → IsSound net → AllBelow real (phased_net net) (phases_of net) }
 {}
 
 /// A client's own lists in the order of adding, sorted, are its lists in the runs, so they accept the same publishes.
 pub fn order_of_adding<M: Matching>()
-    ensures filters { (commands : List (PhasedCommand M.theory)) → set_of M.theory.before (own_filters M.theory [] commands) ≡ filters_after M.theory [] commands }
-    ensures adverts { (commands : List (PhasedCommand M.theory)) → set_of M.theory.before_advert (own_adverts M.theory [] commands) ≡ adverts_after M.theory [] commands }
-    ensures accepted { (net : Net M.theory) (commands : List (PhasedCommand M.theory)) (notice : M.theory.Notice) → accepts M.theory net (own_adverts M.theory [] commands) notice ≡ accepts M.theory net (adverts_after M.theory [] commands) notice }
+    ensures filters { (commands : List (PhasedCommand M.theory))
+        → set_of M.theory.before (own_filters M.theory [] commands) ≡ filters_after M.theory [] commands }
+    ensures adverts { (commands : List (PhasedCommand M.theory))
+        → set_of M.theory.before_advert (own_adverts M.theory [] commands) ≡ adverts_after M.theory [] commands }
+    ensures accepted { (net : Net M.theory) (commands : List (PhasedCommand M.theory)) (notice : M.theory.Notice)
+        → accepts M.theory net (own_adverts M.theory [] commands) notice ≡ accepts M.theory net (adverts_after M.theory [] commands) notice }
 {}
 
 /// Within the limits of a sound net every run has fewer than a thousand million entries, and no stamp is as great, so

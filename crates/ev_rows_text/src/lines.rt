@@ -142,6 +142,9 @@ fn cut(rt: HostRuntime) -> Result<(), Fail> {
     ] {
         assert!(rt; Line::cut(alloc, line)?.first_word() == word, "at {line:?}");
     }
+    let line = Line::cut(alloc, b">= x")?;
+    assert!(rt; matches!(line.first(), Some(Token::Sign(_))));
+    assert!(rt; Line::cut(alloc, b" ")?.first().is_none());
     let command = Line::cut(alloc, b"publish t time 7")?.command(alloc, 2)?;
     assert_eq!(rt;
         carried(alloc, &command)?.as_slice(),

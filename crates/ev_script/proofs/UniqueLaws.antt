@@ -1,6 +1,5 @@
 -- A line spells at most one command.
-use Rattle.std.proofs.Common.{◌≡◌, ◌⊎◌, inl, inr, ℕ, zero, suc, refl, sym, ap, subst, ◌∙◌, arith, List, [], ◌∷◌}
-use Rattle.std.specs.Prelude.{Some}
+use Rattle.std.proofs.Common.{◌≡◌, inl, inr, ℕ, zero, suc, refl, sym, ap, subst, ◌∙◌, arith, List, [], ◌∷◌}
 use Rattle.std.specs.declared.cmp.Ordering.TheVariants.{Less}
 use Rattle.std.specs.Ordering.{nat_cmp}
 use Rattle.std.specs.Cmp.Lexicographic.{slice_cmp, nat_list_cmp_total}
@@ -21,7 +20,7 @@ use Rattle.ev_script.specs.declared.verb.Verb.{Verb}
 use Rattle.ev_script.specs.declared.verb.Verb.TheVariants as verbs
 use Rattle.ev_script.specs.Form.{Form}
 use Rattle.ev_script.specs.Form.Form.{control, publish}
-use Rattle.ev_script.specs.Command.{Spells, IsCommandOf, form_of, wholes, fits}
+use Rattle.ev_script.specs.Command.{Spells, IsCommandOf, wholes, fits}
 
 has-contains : {X : Type 0} (x : X) (xs : List X) → Has x xs → Contains xs x
 has-contains x [] m = absurd m

@@ -4,7 +4,7 @@ use Rattle.std.specs.declared.option.Option.{Option}
 use Rattle.std.specs.declared.result.Result.{Result}
 use Rattle.ev_script.specs.declared.fault.ScriptFault.{ScriptFault}
 use Rattle.ev_script.specs.declared.fault.ScriptFault.TheVariants as faults
-use Rattle.ev_script.specs.declared.tokens.Token.{Token as Read}
+use Rattle.ev_script.specs.declared.token.Token.{Token as Read}
 use Rattle.ev_script.specs.Tokens.{Token}
 use Rattle.ev_script.specs.Seen.{seen}
 

@@ -1,8 +1,8 @@
 -- The tokens of the code, as specifications see them.
 use Rattle.std.specs.Prelude.{List, [], ◌∷◌, Some, None}
 use Rattle.std.specs.declared.option.Option.{Option}
-use Rattle.ev_script.specs.declared.tokens.Token.{Token as Read}
-use Rattle.ev_script.specs.declared.tokens.Token.TheVariants.{Word, Sign, Str, Long, Semicolon, Bad}
+use Rattle.ev_script.specs.declared.token.Token.{Token as Read}
+use Rattle.ev_script.specs.declared.token.Token.TheVariants.{Word, Sign, Str, Long, Semicolon, Bad}
 use Rattle.ev_script.specs.Tokens.{Token}
 use Rattle.ev_script.specs.Tokens.Token.{word, sign, string, long, semicolon, bad}
 

@@ -92,6 +92,11 @@ tokens_in (suc n) bytes = cut_by (λ rest. tokens_in n rest) (skip bytes)
 abbrev pub tokens : List ℕ → List Token
 tokens bytes = tokens_in (length bytes) bytes
 
+-- the token in front, if there is one
+abbrev pub first_token : List Token → Option Token
+first_token [] = None
+first_token (t ∷ ts) = Some t
+
 -- the word in front, if a word stands there
 abbrev pub first_word : List Token → Option (List ℕ)
 first_word (word w ∷ ts) = Some w

@@ -1,7 +1,6 @@
 //! The command of a line.
 ghost use Rattle.std.specs.Prelude.{◌≡◌, ◌≢◌, ◌<◌, length, Some, IfOk, IsErrOf};
 ghost use Rattle.ev_script.specs.declared.verb.Verb.{Verb};
-ghost use Rattle.ev_script.specs.Tokens.{tokens};
 ghost use Rattle.ev_script.specs.Form.{control_in, form_in, publish_in};
 ghost use Rattle.ev_script.specs.Form.Form.{control};
 ghost use Rattle.ev_script.specs.Command.{Answers, IsCommandOf, IsVersion, Spells, fault_in, script_fault};
@@ -40,7 +39,7 @@ fn control_command(
     most: usize,
 ) -> Result<Command, ScriptFault>
     requires { verb ≢ Verb.Publish }
-    ensures { Answers result (control_in version most verb (tokens left.entry.rest.now)) }
+    ensures { Answers result (control_in version most verb left.entry) }
 {
     let parts = left.parts(alloc, version, most)?;
     control(alloc, verb, parts)
@@ -53,7 +52,7 @@ fn publish_command(
     mut left: Tokens<'_>,
     most: usize,
 ) -> Result<Command, ScriptFault>
-    ensures { Answers result (publish_in version most (tokens left.entry.rest.now)) }
+    ensures { Answers result (publish_in version most left.entry) }
 {
     let parts = left.parts(alloc, version, most)?;
     let notice = notice_of(alloc, parts)?;
@@ -68,7 +67,7 @@ pub(crate) fn command_behind(
     left: Tokens<'_>,
     most: usize,
 ) -> Result<Command, ScriptFault>
-    ensures { Answers result (form_in version most verb (tokens left.entry.rest.now)) }
+    ensures { Answers result (form_in version most verb left.entry) }
 {
     match verb {
         Verb::Publish => publish_command(alloc, version, left, most),

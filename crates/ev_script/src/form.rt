@@ -1,14 +1,14 @@
 //! The form of a command, read from its tokens.
 ghost use Rattle.std.specs.Prelude.{◌≡◌, ◌<◌, [], length, IfOk};
 ghost use Rattle.ev_constraint.specs.Faults.{has_op};
-ghost use Rattle.ev_script.specs.Tokens.{tokens};
 ghost use Rattle.ev_script.specs.Form.{attribute_in, constraint_in, given_in, head_in, kind_by, more_in, op_in, operand_in, part_of, parts_in, word_in};
 ghost use Rattle.ev_script.specs.Reading.{Gives, Reads};
 
 use crate::fault::ScriptFault;
 use crate::number::{int_given, time_given};
 use crate::part::CommandPart;
-use crate::tokens::{Token, Tokens};
+use crate::token::Token;
+use crate::tokens::Tokens;
 use ev_constraint::{BadConstraint, Constraint, Op};
 use ev_values::{Kind, Name, Value, is_name};
 use ev_wire::{kind_named, op_named, truth_named};
@@ -80,7 +80,7 @@ fn part_of(name: Name, kind: Kind, op: Op, operand: Option<Given>) -> Option<Par
 impl<'a> Tokens<'a> {
     /// A word.
     pub(crate) fn word(&mut self, alloc: Global) -> Result<&'a [u8], ScriptFault>
-        ensures { Reads (λ w. w.now) result (word_in (tokens self.old.rest.now)) (tokens self.new.rest.now) }
+        ensures { Reads (λ w. w.now) result (word_in self.old) self.new }
     {
         match self.next(alloc)? {
             Some(Token::Word(word)) => Ok(word),
@@ -91,7 +91,7 @@ impl<'a> Tokens<'a> {
     // A name and a kind.
     #[tactic(auto, unfolding(crate::specs::Form::head_in))]
     fn head(&mut self, alloc: Global, version: u32) -> Result<(Name, Kind), ScriptFault>
-        ensures { Reads (λ x. x) result (head_in version (tokens self.old.rest.now)) (tokens self.new.rest.now) }
+        ensures { Reads (λ x. x) result (head_in version self.old) self.new }
     {
         let word = self.word(alloc)?;
         let Some(kind) = kind_by(version, self.word(alloc)?) else {
@@ -107,7 +107,7 @@ impl<'a> Tokens<'a> {
     }
 
     fn op(&mut self, alloc: Global) -> Result<Op, ScriptFault>
-        ensures { Reads (λ o. o) result (op_in (tokens self.old.rest.now)) (tokens self.new.rest.now) }
+        ensures { Reads (λ o. o) result (op_in self.old) self.new }
     {
         match self.next(alloc)? {
             Some(Token::Word(word)) => match op_named(word) {
@@ -121,7 +121,7 @@ impl<'a> Tokens<'a> {
 
     // A value of this kind.
     fn given(&mut self, alloc: Global, kind: Kind) -> Result<Given, ScriptFault>
-        ensures { Reads (λ g. g) result (given_in kind (tokens self.old.rest.now)) (tokens self.new.rest.now) }
+        ensures { Reads (λ g. g) result (given_in kind self.old) self.new }
     {
         let token = self.next(alloc)?;
         let given = match (kind, token) {
@@ -142,7 +142,7 @@ impl<'a> Tokens<'a> {
     }
 
     fn operand(&mut self, alloc: Global, kind: Kind, op: Op) -> Result<Option<Given>, ScriptFault>
-        ensures { Reads (λ u. u) result (operand_in kind op (tokens self.old.rest.now)) (tokens self.new.rest.now) }
+        ensures { Reads (λ u. u) result (operand_in kind op self.old) self.new }
     {
         match op {
             Op::Any => Ok(None),
@@ -153,7 +153,7 @@ impl<'a> Tokens<'a> {
     /// A part of a control command.
     #[tactic(auto, unfolding(crate::specs::Form::constraint_in))]
     pub(crate) fn constraint(&mut self, alloc: Global, version: u32) -> Result<Part, ScriptFault>
-        ensures { Reads (λ p. p) result (constraint_in version (tokens self.old.rest.now)) (tokens self.new.rest.now) }
+        ensures { Reads (λ p. p) result (constraint_in version self.old) self.new }
     {
         let (name, kind) = self.head(alloc, version)?;
         let op = self.op(alloc)?;
@@ -171,7 +171,7 @@ impl<'a> Tokens<'a> {
         alloc: Global,
         version: u32,
     ) -> Result<(Name, Given), ScriptFault>
-        ensures { Reads (λ a. a) result (attribute_in version (tokens self.old.rest.now)) (tokens self.new.rest.now) }
+        ensures { Reads (λ a. a) result (attribute_in version self.old) self.new }
     {
         let (name, kind) = self.head(alloc, version)?;
         let given = self.given(alloc, kind)?;
@@ -180,7 +180,7 @@ impl<'a> Tokens<'a> {
 
     // Whether a semicolon follows, and not the end of the line.
     fn more(&mut self, alloc: Global) -> Result<bool, ScriptFault>
-        ensures { Reads (λ m. m) result (more_in (tokens self.old.rest.now)) (tokens self.new.rest.now) }
+        ensures { Reads (λ m. m) result (more_in self.old) self.new }
     {
         match self.next(alloc)? {
             None => Ok(false),
@@ -196,7 +196,7 @@ impl<'a> Tokens<'a> {
         version: u32,
         most: usize,
     ) -> Result<Vec<P>, ScriptFault>
-        ensures parts { Gives (λ v. v.items) result (parts_in (P.front version) most [] (tokens self.old.rest.now)) }
+        ensures parts { Gives (λ v. v.items) result (parts_in (P.front version) most [] self.old) }
         ensures some { IfOk result (λ v. 0 < length v.items) }
     {
         let mut read = Vec::new(alloc);

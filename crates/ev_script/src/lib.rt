@@ -2,6 +2,7 @@
 #![tactic(auto)]
 
 mod command;
+mod cutter;
 mod fault;
 mod form;
 mod law;
@@ -9,6 +10,7 @@ mod limits;
 mod line;
 mod number;
 mod part;
+mod token;
 mod tokens;
 mod verb;
 
@@ -17,5 +19,6 @@ pub use fault::ScriptFault;
 pub use law::one_command;
 pub use line::Line;
 pub use number::are_digits;
-pub use tokens::{Token, Tokens};
+pub use token::Token;
+pub use tokens::Tokens;
 pub use verb::{Verb, verb_named};

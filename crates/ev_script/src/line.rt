@@ -1,11 +1,12 @@
 //! A line of a script whose first token is cut off, so that what the line is and its command are found by cutting it once.
-ghost use Rattle.std.specs.Prelude.{◌≡◌, Some, IfOk, IsErrOf};
+ghost use Rattle.std.specs.Prelude.{◌≡◌, Some, IfOk, IsErrOf, option_map};
 ghost use Rattle.std.specs.Option.{option_copied};
-ghost use Rattle.ev_script.specs.Tokens.{first_word, tokens};
+ghost use Rattle.ev_script.specs.Tokens.{first_token, first_word, tokens};
 
 use crate::command::command_behind;
 use crate::fault::ScriptFault;
-use crate::tokens::{Token, Tokens};
+use crate::token::Token;
+use crate::tokens::Tokens;
 use crate::verb::verb_named;
 use ev_memory::NoMemory;
 use ev_wire::Command;
@@ -30,11 +31,12 @@ impl<'a> Model for Line<'a> {
 
     ghost view = { λ l. l.bytes.now };
 
-    ghost invariant = { λ l. tokens l.bytes.now ≡ behind l.first (tokens l.rest.rest.now) };
+    ghost invariant = { λ l. tokens l.bytes.now ≡ behind l.first l.rest };
 }
 
 impl<'a> Line<'a> {
     ghost use Rattle.ev_script.specs.Command.{Answers, IsCommandOf, IsVersion, form_of, script_fault};
+    ghost use Rattle.ev_script.specs.Seen.{seen};
 
     /// The line with its first token cut off. It takes memory where that is a string.
     pub fn cut(alloc: Global, bytes: &'a [u8]) -> Result<Line<'a>, NoMemory>
@@ -43,6 +45,13 @@ impl<'a> Line<'a> {
         let mut rest = Tokens::new(bytes);
         let first = rest.next(alloc)?;
         Ok(Line { bytes, first, rest })
+    }
+
+    /// The first token; `None` where the line has none.
+    pub fn first(&self) -> Option<&Token<'a>>
+        ensures { option_map (λ t. seen t.now) result ≡ first_token (tokens self.now) }
+    {
+        self.first.as_ref()
     }
 
     /// The first token, if it is a word.

@@ -1,6 +1,8 @@
 -- Members that are taken out and added, in front of bytes.
 use Rattle.std.specs.Prelude.{◌==◌, ◌&&◌, ◌++◌, ◌+◌, ℕ, zero, suc, nat_lt, Bool, true, false, List, [], ◌∷◌, length, Some, None, if◌then◌else◌}
 use Rattle.std.specs.declared.option.Option.{Option}
+use Rattle.std.specs.List.{flat_map}
+use Rattle.ev_wire.specs.MessageText.{signed}
 use Rattle.ev_wire.specs.Reading.{◌>>=◌, whole}
 use Rattle.ev_wire.specs.Items.{go_on}
 
@@ -28,6 +30,10 @@ changes_at one sign (suc n) read bytes = go_on (marked_at sign bytes) read (λ i
 -- what is taken out and then what is added, and what follows them
 unfoldable pub both_at : {A : Type 0} → (List ℕ → Option (A × List ℕ)) → List ℕ → Option ((List A × List A) × List ℕ)
 both_at one bytes = changes_at one 45 (length bytes) [] bytes >>= λ o. changes_at one 43 (length o.1) [] o.1 >>= λ a. Some ((o.0, a.0), a.1)
+
+-- the text of what is taken out (sign 45, `-`) and of what is added (sign 43, `+`), by the texts of the members
+abbrev pub signed_lists : {A : Type 0} → (A → List ℕ) → List A → List A → List ℕ
+signed_lists text out add = flat_map (λ x. signed 45 (text x)) out ++ flat_map (λ x. signed 43 (text x)) add
 
 -- each stands before the next
 abbrev pub rises : {A : Type 0} → (A → A → Bool) → List A → Bool

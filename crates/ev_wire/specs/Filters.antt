@@ -50,7 +50,9 @@ made (Some e) c rest = None
 
 -- a constraint in front, and what follows it
 unfoldable pub constraint_at : List ℕ → Option (ConstraintParts × List ℕ)
-constraint_at bytes = head_at bytes >>= λ h. space_at h.1 >>= λ r. op_at r.1 >>= λ o. operand_at h.0.1 o.0 o.1 >>= λ u. made (fault_of h.0.1 o.0 u.0) (record { name = h.0.0; kind = h.0.1; op = o.0; operand = u.0 }) u.1
+constraint_at bytes =
+    head_at bytes >>= λ h. space_at h.1 >>= λ r. op_at r.1 >>= λ o. operand_at h.0.1 o.0 o.1 >>= λ u.
+    made (fault_of h.0.1 o.0 u.0) (record { name = h.0.0; kind = h.0.1; op = o.0; operand = u.0 }) u.1
 
 -- constraints that are a list of at most so many
 abbrev pub settled : ℕ → List ConstraintParts → Option (List ConstraintParts)

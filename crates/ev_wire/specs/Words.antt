@@ -55,11 +55,17 @@ fits_i64 (negsuc n) = nat_lt n (2 ^ 63)
 
 -- the integer of which the bytes are the one text
 unfoldable pub int_of : List ℕ → Option ℤ
-int_of bytes = if fits_i64 (signed_digits_value 10 bytes) && bytes_eq (signed_decimal (signed_digits_value 10 bytes)) bytes then Some (signed_digits_value 10 bytes) else None
+int_of bytes =
+    if fits_i64 (signed_digits_value 10 bytes) && bytes_eq (signed_decimal (signed_digits_value 10 bytes)) bytes
+    then Some (signed_digits_value 10 bytes)
+    else None
 
 -- the seconds of which the bytes are the one text
 unfoldable pub time_of : List ℕ → Option ℕ
-time_of bytes = if nat_lt (digits_value 10 bytes) (2 ^ 64) && bytes_eq (decimal (digits_value 10 bytes)) bytes then Some (digits_value 10 bytes) else None
+time_of bytes =
+    if nat_lt (digits_value 10 bytes) (2 ^ 64) && bytes_eq (decimal (digits_value 10 bytes)) bytes
+    then Some (digits_value 10 bytes)
+    else None
 
 -- a number from 1 to the greatest
 abbrev pub counted : ℕ → ℤ → Option ℕ

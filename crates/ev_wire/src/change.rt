@@ -3,7 +3,7 @@ ghost use Rattle.std.specs.Prelude.{◌≡◌, ◌++◌, [], length, OnOk};
 ghost use Rattle.std.specs.List.{flat_map};
 ghost use Rattle.ev_wire.specs.Reading.{Gives, Reads};
 ghost use Rattle.ev_wire.specs.MessageText.{signed, Each};
-ghost use Rattle.ev_wire.specs.Changes.{apart, both_at, braced_at, change_of, changes_at, from, is_change, leads, rises};
+ghost use Rattle.ev_wire.specs.Changes.{apart, both_at, braced_at, change_of, changes_at, from, is_change, leads, rises, signed_lists};
 
 use crate::fault::WireFault;
 use crate::listed::Listed;
@@ -136,7 +136,7 @@ fn push_signed<L: Listed>(out: &mut Vec<u8>, sign: u8, lists: &[L]) -> Result<()
 
 /// Puts the text of lists that are taken out and added at the end.
 pub fn push_change<L: Listed>(text: &mut Vec<u8>, out: &[L], add: &[L]) -> Result<(), NoMemory>
-    ensures text { OnOk result (text.new.items ≡ text.old.items ++ (flat_map (λ x. signed 45 (L.text x)) out.now ++ flat_map (λ x. signed 43 (L.text x)) add.now)) }
+    ensures text { OnOk result (text.new.items ≡ text.old.items ++ signed_lists L.text out.now add.now) }
     ensures sound { OnOk result (Each L.IsSound out.now × Each L.IsSound add.now) }
 {
     push_signed(text, b'-', out)?;

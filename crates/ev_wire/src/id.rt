@@ -1,7 +1,7 @@
 //! Ids of publications.
 
-/// Which publication: its publisher and its ordinal.
-#[derive(Clone, Copy, Debug, PartialEq, Eq)]
+/// Which publication: its publisher and its ordinal. Ids are ordered by publisher, then by ordinal.
+#[derive(Clone, Copy, Debug, PartialEq, Eq, PartialOrd, Ord)]
 pub struct Id {
     /// The number of a client, from 1.
     pub publisher: u32,

@@ -12,6 +12,7 @@ use std::alloc::Global;
 /// The bytes that are still to be read.
 #[derive(Drop)]
 pub struct Reader<'a> {
+    /// The bytes.
     pub rest: &'a [u8],
 }
 

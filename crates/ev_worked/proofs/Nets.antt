@@ -10,7 +10,7 @@ use Rattle.ev_worked.specs.Ranges.{Below, Equal, Above, AtLeast, Any, ranges}
 use Rattle.ev_worked.specs.Nets.{in_phase, pair_links, line_clients, line_of, wide_and_narrow, withdrawn_wide, equal_ranges, advertised_small, subscribed_again}
 
 -- what holds of 1, 2, 3 and of the others holds of all
-each : (P : ℕ → Type 0) → P 1 → P 2 → P 3 → ((t : ℕ) → (t == 1) ≡ false → (t == 2) ≡ false → (t == 3) ≡ false → P t) → (t : ℕ) → P t
+pub each : (P : ℕ → Type 0) → P 1 → P 2 → P 3 → ((t : ℕ) → (t == 1) ≡ false → (t == 2) ≡ false → (t == 3) ≡ false → P t) → (t : ℕ) → P t
 each P p q r s t = by (compare t 1) (compare t 2) (compare t 3)
   where
     by : Same t 1 → Same t 2 → Same t 3 → P t
@@ -34,12 +34,12 @@ just : (a : ℕ) → IsDistinct (a ∷ [])
 just a = ((λ h. h), tt)
 
 -- phases never fall where each command is no later than the next
-abbrev Rises : List (PhasedCommand ranges) → Type 0
+abbrev pub Rises : List (PhasedCommand ranges) → Type 0
 Rises [] = Unit {0}
 Rises (x ∷ []) = Unit {0}
 Rises (x ∷ y ∷ rest) = (x.phase ≤ y.phase) × Rises (y ∷ rest)
 
-rises : (commands : List (PhasedCommand ranges)) → Rises commands → NeverFalls ranges commands
+pub rises : (commands : List (PhasedCommand ranges)) → Rises commands → NeverFalls ranges commands
 rises [] r = tt
 rises (x ∷ []) r = ((λ d h. absurd h), tt)
 rises (x ∷ y ∷ rest) r = go (rises (y ∷ rest) r.1)

@@ -1,20 +1,25 @@
 //! Worked runs: what the definitions of the network come to in small nets over ranges of numbers, computed.
 #![tactic(auto)]
 
-ghost use Rattle.std.specs.Prelude.{◌≡◌, ◌<◌, ℕ, List, [], ◌∷◌, ◌++◌, take};
+ghost use Rattle.std.specs.Prelude.{◌≡◌, ◌<◌, ℕ, List, [], ◌∷◌, ◌++◌, take, map};
 ghost use Rattle.ev_sets.specs.Sets.{Has};
 ghost use Rattle.ev_run.specs.Runs.{IsRun};
 ghost use Rattle.ev_run.specs.Machine.{Act, Did, Took};
 ghost use Rattle.ev_routing.specs.Theory.{TheoryLaws};
 ghost use Rattle.ev_routing.specs.Net.{Net, NetLaws, PhasedCommand};
 ghost use Rattle.ev_routing.specs.Rest.{IsDrained};
-ghost use Rattle.ev_routing.specs.Routing.{Network, routing_machine, opening};
+ghost use Rattle.ev_routing.specs.Routing.{Network, NetEntry, routing_machine, opening};
 ghost use Rattle.ev_routing.specs.Clients.{filters_after};
 ghost use Rattle.ev_routing.specs.Owed.{IsOwed, IsAllowed};
 ghost use Rattle.ev_routing.specs.Server.{Subs, Advs, Noticed};
 ghost use Rattle.ev_routing.specs.Step.{Task, NextCommand, Version};
 ghost use Rattle.ev_worked.specs.Ranges.{Below, Equal, Above, AtLeast, Any, ranges};
 ghost use Rattle.ev_worked.specs.Trace.{line, walk, replay, trace, given, held};
+ghost use Rattle.ev_phases.specs.Trees.{off, entry_off, PhasedNetLaws};
+ghost use Rattle.ev_phases.specs.Moments.{opening_moment};
+ghost use Rattle.ev_phases.specs.Runs.{IsRunTo};
+ghost use Rattle.ev_phases.specs.AtMoments.{DrainsBy};
+ghost use Rattle.ev_worked.specs.Phased.{on_one_tree, phased_trace, phased_walk, phased_given, phased_held, line_becomes_star};
 ghost use Rattle.ev_worked.specs.Nets.{publication, wide_travels, wide_and_narrow, withdrawn_wide, all_know, both_set_out, notice_arrives, withdrawal_known, equal_ranges, advertised_small, subscribed_again};
 
 /// Ranges of numbers are a theory of filters, and the nets below are nets over it, so that every law of runs holds of them.
@@ -35,6 +40,19 @@ pub fn walk_runs()
 /// Schedules of turns, phase by phase, are a legal run of such a net, whatever they try.
 pub fn replay_runs()
     ensures { (net : Net ranges) → NetLaws ranges net → (schedules : List (List (ℕ × Act Task))) → (end : Network ranges net) × (last : ℕ) × IsRun (routing_machine ranges net) (opening ranges net) 0 (replay ranges net schedules) end last }
+{}
+
+/// A net on one tree is a net with trees by phase that keeps its laws: each of its runs is a run of that, its walk is that walk, and they tell the same
+/// line by line. So all the runs below are runs over trees by phase too.
+pub fn one_tree_runs()
+    ensures lawful { (net : Net ranges) → NetLaws ranges net → PhasedNetLaws ranges (on_one_tree ranges net) }
+    ensures runs { (net : Net ranges) (entries : List (NetEntry ranges net)) (end : Network ranges net) (last : ℕ)
+        → IsRun (routing_machine ranges net) (opening ranges net) 0 entries end last
+        → IsRunTo ranges (on_one_tree ranges net) (opening_moment ranges (on_one_tree ranges net)) (map (entry_off ranges net) entries)
+        (record { state = off ranges net end; phase = last }) }
+    ensures walk { (net : Net ranges) (phases : ℕ) → phased_walk ranges (on_one_tree ranges net) phases ≡ map (entry_off ranges net) (walk ranges net phases) }
+    ensures trace { (net : Net ranges) (entries : List (NetEntry ranges net))
+        → phased_trace ranges (on_one_tree ranges net) (map (entry_off ranges net) entries) ≡ trace ranges net entries }
 {}
 
 /// Only the wide range travels; the narrow one in it goes nowhere.
@@ -155,4 +173,26 @@ pub fn withdrawal_takes_all()
     ensures list { held ranges subscribed_again (walk ranges subscribed_again 2) 1 65 ≡ Any ∷ [] }
     ensures allowed { IsAllowed ranges subscribed_again 1 8 1 }
     ensures not_owed { IsOwed ranges subscribed_again 2 1 8 1 → ⊥ }
+{}
+
+/// Three servers in a line become a star around server 1. The range travels along the line in the first phase; the publication of the second takes the
+/// new link, straight to the server of the subscriber.
+pub fn link_after_change()
+    ensures lawful { PhasedNetLaws ranges line_becomes_star }
+    ensures drains { DrainsBy ranges line_becomes_star (phased_walk ranges line_becomes_star 2) }
+    ensures trace { phased_trace ranges line_becomes_star (phased_walk ranges line_becomes_star 2) ≡
+        line ranges 1 1 (Did (NextCommand 1)) ((2, Subs [] (Any ∷ [])) ∷ []) ∷
+        line ranges 2 1 (Did Version) [] ∷
+        line ranges 2 2 (Took 1) ((3, Subs [] (Any ∷ [])) ∷ []) ∷
+        line ranges 3 2 (Did Version) [] ∷
+        line ranges 3 3 (Took 2) [] ∷
+        line ranges 4 3 (Did Version) [] ∷
+        line ranges 5 3 (Did (NextCommand 2)) ((1, Noticed 2 1 1) ∷ []) ∷
+        line ranges 6 1 (Took 3) [] ∷ [] }
+    ensures given { phased_given ranges line_becomes_star (phased_walk ranges line_becomes_star 2) 1 ≡ publication 2 1 1 ∷ [] }
+    ensures publisher { phased_given ranges line_becomes_star (phased_walk ranges line_becomes_star 2) 2 ≡ [] }
+    ensures from_middle { phased_held ranges line_becomes_star (phased_walk ranges line_becomes_star 2) 1 2 ≡ [] }
+    ensures at_middle { phased_held ranges line_becomes_star (phased_walk ranges line_becomes_star 2) 2 1 ≡ Any ∷ [] }
+    ensures at_leaf { phased_held ranges line_becomes_star (phased_walk ranges line_becomes_star 2) 3 1 ≡ Any ∷ [] }
+    ensures old_link { phased_held ranges line_becomes_star (phased_walk ranges line_becomes_star 2) 3 2 ≡ [] }
 {}

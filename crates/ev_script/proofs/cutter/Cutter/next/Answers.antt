@@ -1,6 +1,6 @@
 use Rattle.ev_script.specs.Seen.{seen}
 use Rattle.ev_script.proofs.TokenLaws.{at_end, first_and_rest, next_cut}
-use Rattle.ev_script.proofs.tokens.Tokens.next.Goals as goal
+use Rattle.ev_script.proofs.cutter.Cutter.next.Goals as goal
 
 pub returns-in-empty : goal.returns-in-empty
 returns-in-empty c = at_end c.args.self.now.rest.now c.skip.new.self.rest.now c.skip.ensures c.in-empty.len_below

@@ -1,0 +1,200 @@
+//! How a token is cut off a line.
+ghost use Rattle.std.specs.Prelude.{◌≡◌, ◌∷◌, [], false, IfOk, Some, None};
+ghost use Rattle.std.specs.List.{list_all};
+ghost use Rattle.std.specs.Str.{is_utf8};
+ghost use Rattle.ev_values.specs.Text.{is_open_byte};
+ghost use Rattle.ev_script.specs.Tokens.{equals_at, is_string, is_word_byte, quoted_at, run_at, skip, string_seen, string_token, token_at, tokens};
+ghost use Rattle.ev_script.specs.Seen.{seen};
+ghost use Rattle.ev_script.specs.Reading.{Cuts, Nexts, Quotes};
+
+use crate::token::Token;
+use ev_constraint::Op;
+use ev_memory::NoMemory;
+use ev_values::Text;
+use ev_wire::unescape;
+use std::alloc::Global;
+
+/// The bytes of a line that are still to be cut.
+#[derive(Drop)]
+pub(crate) struct Cutter<'a> {
+    /// The bytes.
+    pub(crate) rest: &'a [u8],
+}
+
+fn is_word_byte(b: u8) -> bool
+    ensures { result ≡ is_word_byte b }
+{
+    match b {
+        b'a'..=b'z' | b'A'..=b'Z' | b'0'..=b'9' | b'_' | b'.' | b'-' | b'+' => true,
+        _ => false,
+    }
+}
+
+fn is_open(b: u8) -> bool
+    ensures { result ≡ is_open_byte b }
+{
+    match b {
+        b'\t' | b'\n' => true,
+        0..=31 | 127 => false,
+        _ => true,
+    }
+}
+
+fn is_utf8(bytes: &[u8]) -> bool
+    ensures { result ≡ is_utf8 bytes.now }
+{
+    match std::str::from_utf8(bytes) {
+        Ok(_) => true,
+        Err(_) => false,
+    }
+}
+
+fn all_open(bytes: &[u8]) -> bool
+    ensures { result ≡ list_all is_open_byte bytes.now }
+{
+    bytes.iter().all(|b| is_open(*b))
+}
+
+fn is_string(bytes: &[u8]) -> bool
+    ensures { result ≡ is_string bytes.now }
+{
+    is_utf8(bytes) && all_open(bytes)
+}
+
+// The token of a string's decoded bytes.
+fn string_seen<'a>(bytes: Vec<u8>) -> Token<'a>
+    ensures { seen result ≡ string_seen bytes.items }
+{
+    if bytes.len() > 1024 {
+        if is_string(&bytes) {
+            Token::Long
+        } else {
+            Token::Bad
+        }
+    } else {
+        match Text::from_bytes(bytes) {
+            Some(text) => Token::Str(text),
+            None => Token::Bad,
+        }
+    }
+}
+
+impl<'a> Cutter<'a> {
+    // Leaves out spaces and tabs in front.
+    fn skip(&mut self)
+        ensures { self.new.rest.now ≡ skip self.old.rest.now }
+    {
+        let bytes = self.rest;
+        for (i, b) in bytes.iter().enumerate() {
+            if *b != b' ' && *b != b'\t' {
+                self.rest = &bytes[i..];
+                return;
+            }
+        }
+        self.rest = &bytes[bytes.len()..];
+    }
+
+    // The longest run of a word's bytes.
+    fn run(&mut self) -> &'a [u8]
+        ensures { (result.now, self.new.rest.now) ≡ run_at [] self.old.rest.now }
+    {
+        let bytes = self.rest;
+        for (i, b) in bytes.iter().enumerate() {
+            if !is_word_byte(*b) {
+                self.rest = &bytes[i..];
+                return &bytes[..i];
+            }
+        }
+        self.rest = &bytes[bytes.len()..];
+        bytes
+    }
+
+    // The decoded bytes up to the closing mark, which is read too; where there are none nothing is read.
+    fn quoted(&mut self, alloc: Global) -> Result<Option<Vec<u8>>, NoMemory>
+        ensures { Quotes (λ v. v.items) result (quoted_at [] false self.old.rest.now) self.old.rest.now self.new.rest.now }
+    {
+        let bytes = self.rest;
+        let mut read = Vec::new(alloc);
+        let mut slashed = false;
+        for (i, b) in bytes.iter().enumerate() {
+            if slashed {
+                let Some(c) = unescape(*b) else {
+                    return Ok(None);
+                };
+                read.push(c)?;
+                slashed = false;
+            } else if *b == b'"' {
+                self.rest = &bytes[i + 1..];
+                return Ok(Some(read));
+            } else if *b == b'\\' {
+                slashed = true;
+            } else if *b == b'\n' {
+                return Ok(None);
+            } else {
+                read.push(*b)?;
+            }
+        }
+        Ok(None)
+    }
+
+    fn string(&mut self, alloc: Global) -> Result<Token<'a>, NoMemory>
+        ensures { Cuts result (string_token (quoted_at [] false self.old.rest.now) self.old.rest.now) self.new.rest.now }
+    {
+        match self.quoted(alloc)? {
+            Some(bytes) => Ok(string_seen(bytes)),
+            None => Ok(Token::Bad),
+        }
+    }
+
+    // Whether `=` stands in front, which is read then.
+    fn equals(&mut self) -> bool
+        ensures { (result, self.new.rest.now) ≡ equals_at self.old.rest.now }
+    {
+        match self.rest {
+            [b'=', rest @ ..] => {
+                self.rest = rest;
+                true
+            }
+            _ => false,
+        }
+    }
+
+    // The token that begins with the first byte.
+    #[tactic(auto, unfolding(crate::specs::Tokens::token_at))]
+    fn cut(&mut self, alloc: Global, first: u8, after: &'a [u8]) -> Result<Token<'a>, NoMemory>
+        requires { self.old.rest.now ≡ first ∷ after.now }
+        ensures { Cuts result (token_at first after.now) self.new.rest.now }
+    {
+        if is_word_byte(first) {
+            return Ok(Token::Word(self.run()));
+        }
+        self.rest = after;
+        match first {
+            b'"' => self.string(alloc),
+            b';' => Ok(Token::Semicolon),
+            b'=' => Ok(Token::Sign(Op::Eq)),
+            b'<' => Ok(Token::Sign(if self.equals() { Op::Le } else { Op::Lt })),
+            b'>' => Ok(Token::Sign(if self.equals() { Op::Ge } else { Op::Gt })),
+            b'!' => Ok(if self.equals() {
+                Token::Sign(Op::Ne)
+            } else {
+                Token::Bad
+            }),
+            _ => Ok(Token::Bad),
+        }
+    }
+
+    /// The next token; `None` at the end of the line.
+    pub(crate) fn next(&mut self, alloc: Global) -> Result<Option<Token<'a>>, NoMemory>
+        ensures { Nexts result (tokens self.old.rest.now) (tokens self.new.rest.now) }
+    {
+        self.skip();
+        match self.rest {
+            [] => Ok(None),
+            [first, after @ ..] => {
+                let token = self.cut(alloc, *first, after)?;
+                Ok(Some(token))
+            }
+        }
+    }
+}
