@@ -1,6 +1,8 @@
 -- What a session keeps is kept by its calls.
 use Rattle.std.proofs.Common.{◌≡◌, ℕ, zero, suc, ◌≤◌, ◌<◌, Bool, true, false, cond, List, [], ◌∷◌, ◌++◌, length, map, take, slice_get, get_or, Option, Some, None, refl, sym, ap, ap₂, subst, ◌∙◌, arith}
+use Rattle.std.specs.Int.{IsInRange}
 use Rattle.ev_wire.specs.declared.command.Command.{Command}
+use Rattle.ev_wire.specs.declared.command.Command.TheVariants as commands
 use Rattle.ev_wire.specs.declared.delivery.Delivery.{Delivery}
 use Rattle.ev_routing.specs.Theory.{Theory}
 use Rattle.ev_routing.specs.Net.{PhasedCommand}
@@ -13,7 +15,8 @@ use Rattle.ev_model.proofs.Adding.{accepts-same}
 use Rattle.ev_session.specs.declared.planned.Planned.{Planned}
 use Rattle.ev_session.specs.Inbox.{IsDelivery, AreDeliveries}
 use Rattle.ev_session.specs.Session.{SessionParts, session_parts, IsSession, first_commands, filters_at, adverts_at, publishes_at, refused_at, net_under}
-use Rattle.ev_session.specs.Plan.{plan_in, next_plan}
+use Rattle.ev_session.specs.declared.planned.Planned.TheVariants as plans
+use Rattle.ev_session.specs.Plan.{plan_in, next_plan, IsCounted}
 use Rattle.ev_session.specs.Own.{Owned, own_plan, filters_by, adverts_by, refused_by, publishes_by, AddsFew}
 use Rattle.ev_session.proofs.Planning.{plan-few, filters-done, adverts-done, refused-done, publishes-done, next-filters, next-adverts, next-publishes, next-refused, plan-own}
 
@@ -104,6 +107,27 @@ module _ (s : SessionParts) (fs xs : Owned) (rs : List ℕ) (p : ℕ) (kept : Is
 
   pub adds-few : (plan : Planned) → next_plan s ≡ Some plan → AddsFew plan
   adds-few plan e = let w = command-of-plan plan e in subst AddsFew (sym w.2) (plan-few s.client s.semantics fs xs p w.0.1)
+
+  -- an accepted publish, or a refused one, is among the publishes of the script
+  counted-own : (step : ℕ × Command) → slice_get s.script s.taken ≡ Some step → IsCounted (own_plan s.client s.semantics fs xs p step.1)
+  counted-own step at = go step.1 (next-publishes s step at)
+    where
+      within : publishes_at s (suc s.taken) ≡ suc (publishes_at s s.taken) → IsInRange 1 100000 (suc p)
+      within e = (omega arith, omega (arith, e, kept.counted, ordinal-take real (map phased_command s.script) (suc s.taken), kept.few))
+
+      go : (command : Command) → publishes_at s (suc s.taken) ≡ cond (is_publish real (command_of command)) (suc (publishes_at s s.taken)) (publishes_at s s.taken) → IsCounted (own_plan s.client s.semantics fs xs p command)
+      go (commands.Subscribe f) e = tt
+      go (commands.Unsubscribe f) e = tt
+      go (commands.Advertise a) e = tt
+      go (commands.Unadvertise a) e = tt
+      go (commands.Publish n) e = either (accepts real (net_under s.semantics) xs n)
+        where
+          either : (b : Bool) → IsCounted (cond b (plans.Publish (record { publisher = s.client; ordinal = suc p }) n) (plans.Refused (suc p)))
+          either true = within e
+          either false = within e
+
+  pub counted-plan : (plan : Planned) → next_plan s ≡ Some plan → IsCounted plan
+  counted-plan plan e = let w = command-of-plan plan e in subst IsCounted (sym w.2) (counted-own w.0 w.1)
 
   pub committed : (plan : Planned) → next_plan s ≡ Some plan → (taken : ℕ) → taken ≡ suc s.taken → IsSession (session_parts s.client s.semantics s.script taken s.inbox s.room false) (filters_by plan fs) (adverts_by plan xs) (refused_by plan rs) (publishes_by plan p)
   committed plan e taken t =

@@ -1,5 +1,5 @@
 //! Sessions.
-ghost use Rattle.std.specs.Prelude.{◌≡◌, ◌<◌, ◌≤◌, suc, true, false, ◌+◌, [], ◌∷◌, ◌++◌, length, map, Some, slice_get, IfOk, OnOk, OnErr, MatchOption};
+ghost use Rattle.std.specs.Prelude.{◌≡◌, ◌<◌, ◌≤◌, ◌↔◌, suc, true, false, ◌+◌, [], ◌∷◌, ◌++◌, length, map, Some, slice_get, IsSome, IfSome, IfOk, OnOk, OnErr};
 ghost use Rattle.ev_routing.specs.Clients.{ordinal};
 ghost use Rattle.ev_theory.specs.Real.{real};
 ghost use Rattle.ev_model.specs.Meaning.{phased_command};
@@ -49,7 +49,7 @@ impl Model for Session {
 
 impl Session {
     ghost use Rattle.ev_session.specs.Session.{session_parts, filters_at, adverts_at, refused_at};
-    ghost use Rattle.ev_session.specs.Plan.{next_plan};
+    ghost use Rattle.ev_session.specs.Plan.{next_plan, IsCounted};
 
     /// The session of a client before its first command: its lists and its inbox are empty. The script has at most
     /// 100,000 publish commands.
@@ -83,7 +83,8 @@ impl Session {
 
     /// The next command with its phase; `None` where none is left.
     pub fn next(&self) -> Option<(u32, &Command)>
-        ensures { MatchOption result (length self.now.script ≤ self.now.taken) (λ step. slice_get self.now.script self.now.taken ≡ Some (step.0, step.1.now)) }
+        ensures left { IsSome result ↔ (self.now.taken < length self.now.script) }
+        ensures next { IfSome result (λ step. slice_get self.now.script self.now.taken ≡ Some (step.0, step.1.now)) }
     {
         match self.script.get(self.taken) {
             Some((phase, command)) => Some((*phase, command)),
@@ -92,10 +93,11 @@ impl Session {
     }
 
     /// What the next command does, of which the caller knows that it is there. No list changes; there is room then for
-    /// what `commit` does.
+    /// what `commit` does. An ordinal is at most 100,000.
     pub fn plan(&mut self) -> Result<Planned, NoMemory>
         requires { self.old.taken < length self.old.script }
-        ensures plan { IfOk result (λ p. next_plan self.old ≡ Some p) }
+        ensures plan { IfOk result (λ p. next_plan self.new ≡ Some p) }
+        ensures counted { IfOk result IsCounted }
         ensures ok { OnOk result (self.new ≡ record self.old { planned = true }) }
         ensures err { OnErr result (self.new ≡ self.old) }
     {
