@@ -31,6 +31,15 @@ ordinal-take th (c ∷ cs) (suc j) = go (is_publish th c.command) (ordinal-take 
     go true l = omega (arith, l)
     go false l = l
 
+-- nor more than it has members
+pub ordinal-length : (th : Theory) (cs : List (PhasedCommand th)) → ordinal th cs ≤ length cs
+ordinal-length th [] = omega arith
+ordinal-length th (c ∷ cs) = go (is_publish th c.command) (ordinal-length th cs)
+  where
+    go : (b : Bool) → ordinal th cs ≤ length cs → cond b (suc (ordinal th cs)) (ordinal th cs) ≤ suc (length cs)
+    go true l = omega (arith, l)
+    go false l = omega (arith, l)
+
 -- a member stands within its list
 get-within : {A : Type 0} (xs : List A) (j : ℕ) (x : A) → slice_get xs j ≡ Some x → suc j ≤ length xs
 get-within [] j x e = absurd cc

@@ -19,10 +19,14 @@ Owned = List (List ConstraintParts)
 
 -- what a command does with these lists
 abbrev pub own_plan : ℕ → Semantics → Owned → Owned → ℕ → Command → Planned
-own_plan client semantics filters adverts publishes (commands.Subscribe f) = filters_plan filters (own_filters_step real filters (command_of (commands.Subscribe f)))
-own_plan client semantics filters adverts publishes (commands.Unsubscribe f) = filters_plan filters (own_filters_step real filters (command_of (commands.Unsubscribe f)))
-own_plan client semantics filters adverts publishes (commands.Advertise a) = adverts_plan adverts (own_adverts_step real adverts (command_of (commands.Advertise a)))
-own_plan client semantics filters adverts publishes (commands.Unadvertise a) = adverts_plan adverts (own_adverts_step real adverts (command_of (commands.Unadvertise a)))
+own_plan client semantics filters adverts publishes (commands.Subscribe f) =
+    filters_plan filters (own_filters_step real filters (command_of (commands.Subscribe f)))
+own_plan client semantics filters adverts publishes (commands.Unsubscribe f) =
+    filters_plan filters (own_filters_step real filters (command_of (commands.Unsubscribe f)))
+own_plan client semantics filters adverts publishes (commands.Advertise a) =
+    adverts_plan adverts (own_adverts_step real adverts (command_of (commands.Advertise a)))
+own_plan client semantics filters adverts publishes (commands.Unadvertise a) =
+    adverts_plan adverts (own_adverts_step real adverts (command_of (commands.Unadvertise a)))
 own_plan client semantics filters adverts publishes (commands.Publish n) = publish_plan client semantics adverts (suc publishes) n
 
 -- the lists, the refused ordinals and the number of publishes after what is planned

@@ -25,7 +25,10 @@ adverts_plan now next = plans.Advs (minus list_before now next) (minus list_befo
 -- a publish of a notice by a client with these advertisements, under this ordinal: under advertisement semantics it is refused where no
 -- single one of them allows the notice
 abbrev pub publish_plan : ℕ → Semantics → List (List ConstraintParts) → ℕ → List Attribute → Planned
-publish_plan client semantics adverts ordinal notice = cond (accepts real (net_under semantics) adverts notice) (plans.Publish (record { publisher = client; ordinal = ordinal }) notice) (plans.Refused ordinal)
+publish_plan client semantics adverts ordinal notice =
+    cond (accepts real (net_under semantics) adverts notice)
+        (plans.Publish (record { publisher = client; ordinal = ordinal }) notice)
+        (plans.Refused ordinal)
 
 -- what a command does as the next one
 abbrev pub plan_by : SessionParts → Command → Planned
@@ -33,7 +36,8 @@ plan_by session (commands.Subscribe f) = filters_plan (filters_at session sessio
 plan_by session (commands.Unsubscribe f) = filters_plan (filters_at session session.taken) (filters_at session (suc session.taken))
 plan_by session (commands.Advertise a) = adverts_plan (adverts_at session session.taken) (adverts_at session (suc session.taken))
 plan_by session (commands.Unadvertise a) = adverts_plan (adverts_at session session.taken) (adverts_at session (suc session.taken))
-plan_by session (commands.Publish n) = publish_plan session.client session.semantics (adverts_at session session.taken) (publishes_at session (suc session.taken)) n
+plan_by session (commands.Publish n) =
+    publish_plan session.client session.semantics (adverts_at session session.taken) (publishes_at session (suc session.taken)) n
 
 -- what a step of a script does, where there is one
 abbrev pub plan_in : SessionParts → Option (ℕ × Command) → Option Planned

@@ -86,7 +86,7 @@ fn advs(out: Vec<Advert>, add: Vec<Advert>) -> Planned
 
 impl Own {
     /// What a command of the client does with these lists.
-    #[tactic(auto, using(crate::proofs::Planning::subscribe_plan, crate::proofs::Planning::unsubscribe_plan, crate::proofs::Planning::advertise_plan, crate::proofs::Planning::unadvertise_plan))]
+    #[tactic(auto, using(crate::proofs::Planning::subscribe_plan, crate::proofs::Planning::advertise_plan))]
     pub fn plan(
         &self,
         alloc: Global,
@@ -95,7 +95,8 @@ impl Own {
         command: &Command,
     ) -> Result<Planned, NoMemory>
         requires { self.now.publishes < 2 ^ 32 - 1 }
-        ensures { IfOk result (λ p. p ≡ own_plan client semantics self.now.filters.items self.now.adverts.items self.now.publishes command.now) }
+        ensures { IfOk result (λ p. p ≡ own_plan client semantics self.now.filters.items self.now.adverts.items
+            self.now.publishes command.now) }
     {
         match command {
             Command::Subscribe(filter) => {

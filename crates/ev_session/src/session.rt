@@ -40,7 +40,8 @@ impl Model for Session {
     ghost view = { λ s. session_parts s.client s.semantics s.script.items s.taken s.inbox.items s.room s.planned };
 
     ghost invariant = { λ s.
-        IsSession (session_parts s.client s.semantics s.script.items s.taken s.inbox.items s.room s.planned) s.own.filters.items s.own.adverts.items s.own.refused.items s.own.publishes
+        IsSession (session_parts s.client s.semantics s.script.items s.taken s.inbox.items s.room s.planned)
+            s.own.filters.items s.own.adverts.items s.own.refused.items s.own.publishes
         × (vec_len s.inbox + s.room ≤ vec_capacity s.inbox)
         × (s.planned ≡ true → vec_len s.own.filters < vec_capacity s.own.filters)
         × (s.planned ≡ true → vec_len s.own.adverts < vec_capacity s.own.adverts)
