@@ -1,6 +1,4 @@
 //! Sessions through their scripts.
-ghost use Rattle.std.specs.Prelude.{◌≤◌, length};
-
 use ev_notice::{Advert, Filter};
 use ev_script::script_command;
 use ev_session::{Planned, Session, read};
@@ -12,13 +10,15 @@ use std::rt::HostRuntime;
 use std::test::Fail;
 
 // The session of client 7 with these commands, all of phase 0.
-fn session(alloc: Global, semantics: Semantics, lines: &[&[u8]]) -> Result<Session, Fail>
-    requires { length lines.now ≤ 100 }
-{
+#[tactic(auto, using(ev_session::proofs::Scripts::script_ordinal))]
+fn session(alloc: Global, semantics: Semantics, lines: &[&[u8]]) -> Result<Session, Fail> {
     let mut script = Vec::new(alloc);
     for line in lines {
         let command: Command = script_command(alloc, line, 1)?;
         script.push((0, command))?;
+    }
+    if script.len() > 100 {
+        return Err(Fail::new("too many commands"));
     }
     Ok(Session::start(alloc, 7, semantics, script))
 }
@@ -35,9 +35,9 @@ fn told(planned: &Planned) -> (usize, usize, u32) {
 
 // Takes the next command.
 fn step(session: &mut Session) -> Result<(usize, usize, u32), Fail> {
-    if session.next().is_none() {
+    let Some(_) = session.next() else {
         return Err(Fail::new("no command is left"));
-    }
+    };
     let planned = session.plan()?;
     let told = told(&planned);
     session.commit(planned);
@@ -173,6 +173,9 @@ fn deliveries_stand_in_order(rt: HostRuntime) -> Result<(), Fail> {
     assert_eq!(rt; received.len(), 2);
     assert_eq!(rt; received[0].id.ordinal, 3);
     assert_eq!(rt; received[1].id.ordinal, 5);
-    assert_eq!(rt; received[1].bytes.as_slice(), b"a bool true; x int 2".as_slice());
+    assert_eq!(rt;
+        received[1].bytes.as_slice(),
+        b"a bool true; x int 2".as_slice()
+    );
     Ok(())
 }

@@ -3,4 +3,5 @@ pub mod Settling
 pub mod Listing
 pub mod Planning
 pub mod Sessions
+pub mod Scripts
 pub mod Turning

@@ -27,8 +27,8 @@ adverts_plan now next = plans.Advs (minus list_before now next) (minus list_befo
 abbrev pub publish_plan : ℕ → Semantics → List (List ConstraintParts) → ℕ → List Attribute → Planned
 publish_plan client semantics adverts ordinal notice =
     cond (accepts real (net_under semantics) adverts notice)
-        (plans.Publish (record { publisher = client; ordinal = ordinal }) notice)
-        (plans.Refused ordinal)
+    (plans.Publish (record { publisher = client; ordinal = ordinal }) notice)
+    (plans.Refused ordinal)
 
 -- what a command does as the next one
 abbrev pub plan_by : SessionParts → Command → Planned

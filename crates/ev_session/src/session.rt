@@ -41,7 +41,7 @@ impl Model for Session {
 
     ghost invariant = { λ s.
         IsSession (session_parts s.client s.semantics s.script.items s.taken s.inbox.items s.room s.planned)
-            s.own.filters.items s.own.adverts.items s.own.refused.items s.own.publishes
+        s.own.filters.items s.own.adverts.items s.own.refused.items s.own.publishes
         × (vec_len s.inbox + s.room ≤ vec_capacity s.inbox)
         × (s.planned ≡ true → vec_len s.own.filters < vec_capacity s.own.filters)
         × (s.planned ≡ true → vec_len s.own.adverts < vec_capacity s.own.adverts)
@@ -103,7 +103,9 @@ impl Session {
         ensures err { OnErr result (self.new ≡ self.old) }
     {
         let command = &self.script[self.taken].1;
-        let planned = self.own.plan(self.alloc, self.client, self.semantics, command)?;
+        let planned = self
+            .own
+            .plan(self.alloc, self.client, self.semantics, command)?;
         self.own.filters.reserve(1)?;
         self.own.adverts.reserve(1)?;
         self.own.refused.reserve(1)?;
