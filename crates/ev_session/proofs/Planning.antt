@@ -1,0 +1,204 @@
+-- What is planned is the difference of a client's lists, and doing it gives the next ones.
+use Rattle.std.proofs.Common.{◌≡◌, ℕ, suc, ◌≤◌, ◌+◌, Bool, true, false, cond, not, List, [], ◌∷◌, ◌++◌, length, filter, map, take, slice_get, Some, refl, sym, ap, subst, ◌∙◌, inl, inr, arith, append-nil, zero-add}
+use Rattle.ev_constraint.specs.Constraint.{ConstraintParts}
+use Rattle.ev_notice.specs.Before.{list_before}
+use Rattle.ev_notice.specs.Cover.{filter_covers, advert_covers}
+use Rattle.ev_cover.specs.Laws.{sub_laws, ad_laws}
+use Rattle.ev_sets.specs.Laws.{CoverLaws}
+use Rattle.ev_sets.specs.Sets.{Has, member, minus}
+use Rattle.ev_sets.proofs.Sets.{has-member}
+use Rattle.ev_wire.specs.declared.command.Command.{Command}
+use Rattle.ev_wire.specs.declared.command.Command.TheVariants as commands
+use Rattle.ev_wire.specs.declared.semantics.Semantics.{Semantics}
+use Rattle.ev_routing.specs.Clients.{is_publish, ordinal, accepts, add_refused, refused_from, adverts_after}
+use Rattle.ev_theory.specs.Real.{real}
+use Rattle.ev_model.specs.Meaning.{command_of, phased_command}
+use Rattle.ev_model.specs.Adding.{own_filters, own_adverts, own_filters_step, own_adverts_step}
+use Rattle.ev_session.specs.declared.planned.Planned.{Planned}
+use Rattle.ev_session.specs.declared.planned.Planned.TheVariants as plans
+use Rattle.ev_session.specs.Session.{SessionParts, first_commands, filters_at, adverts_at, publishes_at, refused_at, net_under}
+use Rattle.ev_session.specs.Plan.{filters_plan, adverts_plan, publish_plan, plan_by, next_plan}
+use Rattle.ev_session.specs.Own.{Owned, own_plan, filters_by, adverts_by, refused_by, publishes_by, AddsFew}
+use Rattle.ev_session.proofs.Settling.{filter-same, filter-all, out, add, settled, absent}
+use Rattle.ev_session.proofs.Listing.{get-map, filters-next, adverts-next, ordinal-next, refused-next}
+
+opposite : (b : Bool) → not (not b) ≡ b
+opposite true = refl
+opposite false = refl
+
+-- an adding, and a withdrawal
+abbrev pub with_new : {T : Type 0} → (T → T → Bool) → T → List T → List T
+with_new before f now = cond (member before f now) now (now ++ f ∷ [])
+
+abbrev pub new_of : {T : Type 0} → (T → T → Bool) → T → List T → List T
+new_of before f now = cond (member before f now) [] (f ∷ [])
+
+abbrev pub without : {T : Type 0} → (T → T → Bool) → T → List T → List T
+without covers f now = filter (λ g. not (covers f g)) now
+
+module _ {T : Type 0} {covers before : T → T → Bool} (laws : CoverLaws covers before) (f : T) (now : List T) where
+  all : T → Bool
+  all x = true
+
+  split : with_new before f now ≡ filter all now ++ new_of before f now
+  unfolding all
+  split = go (member before f now) ∙ ap (λ xs. xs ++ new_of before f now) (sym (filter-all (λ x. true) now (λ x h. refl)))
+    where
+      go : (b : Bool) → cond b now (now ++ f ∷ []) ≡ now ++ cond b [] (f ∷ [])
+      go true = sym (append-nil now)
+      go false = refl
+
+  fresh : (x : T) → Has x (new_of before f now) → Has x now → ⊥
+  fresh x = go (member before f now) refl
+    where
+      go : (b : Bool) → member before f now ≡ b → Has x (cond b [] (f ∷ [])) → Has x now → ⊥
+      go true e h k = h
+      go false e (inr h) k = h
+      go false e (inl q) k = bad (sym e ∙ has-member laws f now (subst (λ z. Has z now) q k))
+        where
+          bad : false ≡ true → ⊥
+          bad w = cc
+
+  pub adding-out : minus before now (with_new before f now) ≡ []
+  unfolding all
+  adding-out = ap (λ next. minus before now next) split ∙ out laws (λ x. true) now (new_of before f now) fresh ∙ none now
+    where
+      none : (xs : List T) → filter (λ x. not true) xs ≡ []
+      none [] = refl
+      none (x ∷ xs) = none xs
+
+  pub adding-add : minus before (with_new before f now) now ≡ new_of before f now
+  unfolding all
+  adding-add = ap (λ next. minus before next now) split ∙ add laws (λ x. true) now (new_of before f now) fresh
+
+  pub adding-settled : minus before now (minus before now (with_new before f now)) ++ minus before (with_new before f now) now ≡ with_new before f now
+  unfolding all
+  adding-settled = ap (λ next. minus before now (minus before now next) ++ minus before next now) split ∙ settled laws (λ x. true) now (new_of before f now) fresh ∙ sym split
+
+  nothing : (x : T) → Has x [] → Has x now → ⊥
+  nothing x h k = h
+
+  whole : without covers f now ≡ without covers f now ++ []
+  whole = sym (append-nil (without covers f now))
+
+  pub withdrawing-out : minus before now (without covers f now) ≡ filter (λ g. covers f g) now
+  withdrawing-out = ap (λ next. minus before now next) whole ∙ out laws (λ g. not (covers f g)) now [] nothing ∙ filter-same (λ g. not (not (covers f g))) (λ g. covers f g) now (λ g h. opposite (covers f g))
+
+  pub withdrawing-add : minus before (without covers f now) now ≡ []
+  withdrawing-add = ap (λ next. minus before next now) whole ∙ add laws (λ g. not (covers f g)) now [] nothing
+
+  pub withdrawing-settled : minus before now (minus before now (without covers f now)) ++ minus before (without covers f now) now ≡ without covers f now
+  withdrawing-settled = ap (λ next. minus before now (minus before now next) ++ minus before next now) whole ∙ settled laws (λ g. not (covers f g)) now [] nothing ∙ sym whole
+
+  few-new : length (new_of before f now) ≤ 1
+  few-new = go (member before f now)
+    where
+      go : (b : Bool) → length (cond b [] (f ∷ [])) ≤ 1
+      go true = omega arith
+      go false = omega arith
+
+  pub adding-few : length (minus before (with_new before f now) now) ≤ 1
+  adding-few = rw adding-add few-new
+
+  pub withdrawing-few : length (minus before (without covers f now) now) ≤ 1
+  withdrawing-few = rw withdrawing-add (omega arith)
+
+-- what the code says that a command does
+pub subscribe_plan : (f : List ConstraintParts) (filters come : Owned) → come ≡ new_of list_before f filters → plans.Subs [] come ≡ filters_plan filters (with_new list_before f filters)
+subscribe_plan f filters come e = rw (adding-out sub_laws f filters, adding-add sub_laws f filters) (ap (λ xs. plans.Subs [] xs) e)
+
+pub unsubscribe_plan : (f : List ConstraintParts) (filters go : Owned) → go ≡ filter (λ g. filter_covers f g) filters → plans.Subs go [] ≡ filters_plan filters (without filter_covers f filters)
+unsubscribe_plan f filters go e = rw (withdrawing-out sub_laws f filters, withdrawing-add sub_laws f filters) (ap (λ xs. plans.Subs xs []) e)
+
+pub advertise_plan : (a : List ConstraintParts) (adverts come : Owned) → come ≡ new_of list_before a adverts → plans.Advs [] come ≡ adverts_plan adverts (with_new list_before a adverts)
+advertise_plan a adverts come e = rw (adding-out ad_laws a adverts, adding-add ad_laws a adverts) (ap (λ xs. plans.Advs [] xs) e)
+
+pub unadvertise_plan : (a : List ConstraintParts) (adverts go : Owned) → go ≡ filter (λ b. advert_covers a b) adverts → plans.Advs go [] ≡ adverts_plan adverts (without advert_covers a adverts)
+unadvertise_plan a adverts go e = rw (withdrawing-out ad_laws a adverts, withdrawing-add ad_laws a adverts) (ap (λ xs. plans.Advs xs []) e)
+
+-- at most one member comes
+pub plan-few : (client : ℕ) (semantics : Semantics) (filters adverts : Owned) (publishes : ℕ) (command : Command) → AddsFew (own_plan client semantics filters adverts publishes command)
+plan-few client semantics filters adverts publishes (commands.Subscribe f) = adding-few sub_laws f filters
+plan-few client semantics filters adverts publishes (commands.Unsubscribe f) = withdrawing-few sub_laws f filters
+plan-few client semantics filters adverts publishes (commands.Advertise a) = adding-few ad_laws a adverts
+plan-few client semantics filters adverts publishes (commands.Unadvertise a) = withdrawing-few ad_laws a adverts
+plan-few client semantics filters adverts publishes (commands.Publish n) = go (accepts real (net_under semantics) adverts n)
+  where
+    go : (b : Bool) → AddsFew (cond b (plans.Publish (record { publisher = client; ordinal = suc publishes }) n) (plans.Refused (suc publishes)))
+    go true = tt
+    go false = tt
+
+-- doing what is planned gives the next lists
+pub filters-done : (client : ℕ) (semantics : Semantics) (filters adverts : Owned) (publishes : ℕ) (command : Command) → filters_by (own_plan client semantics filters adverts publishes command) filters ≡ own_filters_step real filters (command_of command)
+filters-done client semantics filters adverts publishes (commands.Subscribe f) = adding-settled sub_laws f filters
+filters-done client semantics filters adverts publishes (commands.Unsubscribe f) = withdrawing-settled sub_laws f filters
+filters-done client semantics filters adverts publishes (commands.Advertise a) = refl
+filters-done client semantics filters adverts publishes (commands.Unadvertise a) = refl
+filters-done client semantics filters adverts publishes (commands.Publish n) = go (accepts real (net_under semantics) adverts n)
+  where
+    go : (b : Bool) → filters_by (cond b (plans.Publish (record { publisher = client; ordinal = suc publishes }) n) (plans.Refused (suc publishes))) filters ≡ filters
+    go true = refl
+    go false = refl
+
+pub adverts-done : (client : ℕ) (semantics : Semantics) (filters adverts : Owned) (publishes : ℕ) (command : Command) → adverts_by (own_plan client semantics filters adverts publishes command) adverts ≡ own_adverts_step real adverts (command_of command)
+adverts-done client semantics filters adverts publishes (commands.Subscribe f) = refl
+adverts-done client semantics filters adverts publishes (commands.Unsubscribe f) = refl
+adverts-done client semantics filters adverts publishes (commands.Advertise a) = adding-settled ad_laws a adverts
+adverts-done client semantics filters adverts publishes (commands.Unadvertise a) = withdrawing-settled ad_laws a adverts
+adverts-done client semantics filters adverts publishes (commands.Publish n) = go (accepts real (net_under semantics) adverts n)
+  where
+    go : (b : Bool) → adverts_by (cond b (plans.Publish (record { publisher = client; ordinal = suc publishes }) n) (plans.Refused (suc publishes))) adverts ≡ adverts
+    go true = refl
+    go false = refl
+
+-- a publish is refused by any list of advertisements that accepts the same
+pub refused-done : (client : ℕ) (semantics : Semantics) (filters adverts rising : Owned) (publishes : ℕ) (command : Command) → ((n : real.Notice) → accepts real (net_under semantics) adverts n ≡ accepts real (net_under semantics) rising n) → (refused : List ℕ) → refused_by (own_plan client semantics filters adverts publishes command) refused ≡ refused ++ add_refused real (net_under semantics) rising publishes (command_of command) []
+refused-done client semantics filters adverts rising publishes (commands.Subscribe f) same refused = sym (append-nil refused)
+refused-done client semantics filters adverts rising publishes (commands.Unsubscribe f) same refused = sym (append-nil refused)
+refused-done client semantics filters adverts rising publishes (commands.Advertise a) same refused = sym (append-nil refused)
+refused-done client semantics filters adverts rising publishes (commands.Unadvertise a) same refused = sym (append-nil refused)
+refused-done client semantics filters adverts rising publishes (commands.Publish n) same refused = go (accepts real (net_under semantics) adverts n) ∙ ap (λ b. refused ++ cond b [] (suc publishes ∷ [])) (same n)
+  where
+    go : (b : Bool) → refused_by (cond b (plans.Publish (record { publisher = client; ordinal = suc publishes }) n) (plans.Refused (suc publishes))) refused ≡ refused ++ cond b [] (suc publishes ∷ [])
+    go true = sym (append-nil refused)
+    go false = refl
+
+pub publishes-done : (client : ℕ) (semantics : Semantics) (filters adverts : Owned) (publishes : ℕ) (command : Command) → publishes_by (own_plan client semantics filters adverts publishes command) publishes ≡ cond (is_publish real (command_of command)) (suc publishes) publishes
+publishes-done client semantics filters adverts publishes (commands.Subscribe f) = refl
+publishes-done client semantics filters adverts publishes (commands.Unsubscribe f) = refl
+publishes-done client semantics filters adverts publishes (commands.Advertise a) = refl
+publishes-done client semantics filters adverts publishes (commands.Unadvertise a) = refl
+publishes-done client semantics filters adverts publishes (commands.Publish n) = go (accepts real (net_under semantics) adverts n)
+  where
+    go : (b : Bool) → publishes_by (cond b (plans.Publish (record { publisher = client; ordinal = suc publishes }) n) (plans.Refused (suc publishes))) publishes ≡ suc publishes
+    go true = refl
+    go false = refl
+
+module _ (session : SessionParts) (step : ℕ × Command) (at : slice_get session.script session.taken ≡ Some step) where
+  command-at : slice_get (map phased_command session.script) session.taken ≡ Some (phased_command step)
+  command-at = get-map phased_command session.script session.taken step at
+
+  pub next-filters : filters_at session (suc session.taken) ≡ own_filters_step real (filters_at session session.taken) (command_of step.1)
+  next-filters = filters-next real (map phased_command session.script) [] session.taken (phased_command step) command-at
+
+  pub next-adverts : adverts_at session (suc session.taken) ≡ own_adverts_step real (adverts_at session session.taken) (command_of step.1)
+  next-adverts = adverts-next real (map phased_command session.script) [] session.taken (phased_command step) command-at
+
+  pub next-publishes : publishes_at session (suc session.taken) ≡ cond (is_publish real (command_of step.1)) (suc (publishes_at session session.taken)) (publishes_at session session.taken)
+  next-publishes = ordinal-next real (map phased_command session.script) session.taken (phased_command step) command-at
+
+  pub next-refused : refused_at session (suc session.taken) ≡ refused_at session session.taken ++ add_refused real (net_under session.semantics) (adverts_after real [] (first_commands session session.taken)) (publishes_at session session.taken) (command_of step.1) []
+  next-refused =
+      refused-next real (net_under session.semantics) (map phased_command session.script) [] 0 session.taken (phased_command step) command-at
+      ∙ ap (λ n. refused_at session session.taken ++ add_refused real (net_under session.semantics) (adverts_after real [] (first_commands session session.taken)) n (command_of step.1) []) (zero-add (publishes_at session session.taken))
+
+-- the plan of a command by the lists now
+pub plan-own : (session : SessionParts) (step : ℕ × Command) → slice_get session.script session.taken ≡ Some step → next_plan session ≡ Some (own_plan session.client session.semantics (filters_at session session.taken) (adverts_at session session.taken) (publishes_at session session.taken) step.1)
+plan-own session step at = rw at (ap (λ p. Some p) (go step.1 (next-filters session step at) (next-adverts session step at) (next-publishes session step at)))
+  where
+    go : (command : Command) → filters_at session (suc session.taken) ≡ own_filters_step real (filters_at session session.taken) (command_of command) → adverts_at session (suc session.taken) ≡ own_adverts_step real (adverts_at session session.taken) (command_of command) → publishes_at session (suc session.taken) ≡ cond (is_publish real (command_of command)) (suc (publishes_at session session.taken)) (publishes_at session session.taken) → plan_by session command ≡ own_plan session.client session.semantics (filters_at session session.taken) (adverts_at session session.taken) (publishes_at session session.taken) command
+    go (commands.Subscribe f) fs xs ps = ap (λ next. filters_plan (filters_at session session.taken) next) fs
+    go (commands.Unsubscribe f) fs xs ps = ap (λ next. filters_plan (filters_at session session.taken) next) fs
+    go (commands.Advertise a) fs xs ps = ap (λ next. adverts_plan (adverts_at session session.taken) next) xs
+    go (commands.Unadvertise a) fs xs ps = ap (λ next. adverts_plan (adverts_at session session.taken) next) xs
+    go (commands.Publish n) fs xs ps = ap (λ o. publish_plan session.client session.semantics (adverts_at session session.taken) o n) ps

@@ -1,0 +1,141 @@
+-- A planned change turns the set that a server holds of a client into the next one, and what is refused depends on the semantics alone.
+use Rattle.std.proofs.Common.{◌≡◌, ℕ, suc, Bool, true, false, cond, not, ◌||◌, List, [], ◌∷◌, slice_get, Option, Some, None, refl, sym, ap, ap₂, subst, ◌∙◌}
+use Rattle.ev_constraint.specs.Constraint.{ConstraintParts}
+use Rattle.ev_notice.specs.Before.{list_before}
+use Rattle.ev_cover.specs.Laws.{sub_laws, ad_laws}
+use Rattle.ev_sets.specs.Sets.{Has, union, minus, set_of}
+use Rattle.ev_sets.proofs.Sets.{minus-iff}
+use Rattle.ev_wire.specs.declared.command.Command.{Command}
+use Rattle.ev_wire.specs.declared.command.Command.TheVariants as commands
+use Rattle.ev_wire.specs.declared.semantics.Semantics.{Semantics}
+use Rattle.ev_routing.specs.Theory.{Theory}
+use Rattle.ev_routing.specs.Net.{Net, PhasedCommand, Command as RunCommand, Subscribe, Unsubscribe, Advertise, Unadvertise, Publish}
+use Rattle.ev_routing.specs.Clients.{some_pass, accepts, add_refused, refused_from, adverts_step, is_publish, filters_after, adverts_after}
+use Rattle.ev_routing.proofs.Spreading.{unsome}
+use Rattle.ev_theory.specs.Real.{real, real_laws}
+use Rattle.ev_model.proofs.Adding.{filters-sorted, adverts-sorted}
+use Rattle.ev_session.specs.declared.planned.Planned.{Planned}
+use Rattle.ev_session.specs.declared.planned.Planned.TheVariants as plans
+use Rattle.ev_session.specs.Session.{SessionParts, first_commands, filters_at, adverts_at, publishes_at, net_under}
+use Rattle.ev_session.specs.Plan.{filters_plan, adverts_plan, publish_plan, plan_by, plan_in, next_plan}
+use Rattle.ev_session.specs.Own.{Owned}
+use Rattle.ev_session.proofs.Settling.{sets-settled}
+
+-- the parts of a plan of filters, and of one of advertisements
+subs_out : Planned → Owned
+subs_out (plans.Subs out add) = out
+subs_out (plans.Advs out add) = []
+subs_out (plans.Publish id n) = []
+subs_out (plans.Refused o) = []
+
+subs_add : Planned → Owned
+subs_add (plans.Subs out add) = add
+subs_add (plans.Advs out add) = []
+subs_add (plans.Publish id n) = []
+subs_add (plans.Refused o) = []
+
+advs_out : Planned → Owned
+advs_out (plans.Subs out add) = []
+advs_out (plans.Advs out add) = out
+advs_out (plans.Publish id n) = []
+advs_out (plans.Refused o) = []
+
+advs_add : Planned → Owned
+advs_add (plans.Subs out add) = []
+advs_add (plans.Advs out add) = add
+advs_add (plans.Publish id n) = []
+advs_add (plans.Refused o) = []
+
+-- whether a plan is of filters, of advertisements
+is_subs : Planned → Bool
+is_subs (plans.Subs out add) = true
+is_subs (plans.Advs out add) = false
+is_subs (plans.Publish id n) = false
+is_subs (plans.Refused o) = false
+
+is_advs : Planned → Bool
+is_advs (plans.Subs out add) = false
+is_advs (plans.Advs out add) = true
+is_advs (plans.Publish id n) = false
+is_advs (plans.Refused o) = false
+
+differ : {A : Type 0} → false ≡ true → A
+differ e = absurd cc
+
+module _ (s : SessionParts) where
+  -- a plan of filters is the difference of the client's lists
+  subs-by : (command : Command) (out add : Owned) → plan_by s command ≡ plans.Subs out add → (out ≡ minus list_before (filters_at s s.taken) (filters_at s (suc s.taken))) × (add ≡ minus list_before (filters_at s (suc s.taken)) (filters_at s s.taken))
+  unfolding subs_out subs_add is_subs
+  subs-by (commands.Subscribe f) out add e = (sym (ap subs_out e), sym (ap subs_add e))
+  subs-by (commands.Unsubscribe f) out add e = (sym (ap subs_out e), sym (ap subs_add e))
+  subs-by (commands.Advertise a) out add e = differ (ap is_subs e)
+  subs-by (commands.Unadvertise a) out add e = differ (ap is_subs e)
+  subs-by (commands.Publish n) out add e = differ (sym (never (accepts real (net_under s.semantics) (adverts_at s s.taken) n)) ∙ ap is_subs e)
+    where
+      never : (b : Bool) → is_subs (cond b (plans.Publish (record { publisher = s.client; ordinal = publishes_at s (suc s.taken) }) n) (plans.Refused (publishes_at s (suc s.taken)))) ≡ false
+      never true = refl
+      never false = refl
+
+  advs-by : (command : Command) (out add : Owned) → plan_by s command ≡ plans.Advs out add → (out ≡ minus list_before (adverts_at s s.taken) (adverts_at s (suc s.taken))) × (add ≡ minus list_before (adverts_at s (suc s.taken)) (adverts_at s s.taken))
+  unfolding advs_out advs_add is_advs
+  advs-by (commands.Subscribe f) out add e = differ (ap is_advs e)
+  advs-by (commands.Unsubscribe f) out add e = differ (ap is_advs e)
+  advs-by (commands.Advertise a) out add e = (sym (ap advs_out e), sym (ap advs_add e))
+  advs-by (commands.Unadvertise a) out add e = (sym (ap advs_out e), sym (ap advs_add e))
+  advs-by (commands.Publish n) out add e = differ (sym (never (accepts real (net_under s.semantics) (adverts_at s s.taken) n)) ∙ ap is_advs e)
+    where
+      never : (b : Bool) → is_advs (cond b (plans.Publish (record { publisher = s.client; ordinal = publishes_at s (suc s.taken) }) n) (plans.Refused (publishes_at s (suc s.taken)))) ≡ false
+      never true = refl
+      never false = refl
+
+  subs-in : (o : Option (ℕ × Command)) (out add : Owned) → plan_in s o ≡ Some (plans.Subs out add) → (out ≡ minus list_before (filters_at s s.taken) (filters_at s (suc s.taken))) × (add ≡ minus list_before (filters_at s (suc s.taken)) (filters_at s s.taken))
+  subs-in None out add e = absurd cc
+  subs-in (Some step) out add e = subs-by step.1 out add (unsome e)
+
+  advs-in : (o : Option (ℕ × Command)) (out add : Owned) → plan_in s o ≡ Some (plans.Advs out add) → (out ≡ minus list_before (adverts_at s s.taken) (adverts_at s (suc s.taken))) × (add ≡ minus list_before (adverts_at s (suc s.taken)) (adverts_at s s.taken))
+  advs-in None out add e = absurd cc
+  advs-in (Some step) out add e = advs-by step.1 out add (unsome e)
+
+  pub filters-turn : (out add : Owned) → next_plan s ≡ Some (plans.Subs out add) → union list_before add (minus list_before (filters_after real [] (first_commands s s.taken)) out) ≡ filters_after real [] (first_commands s (suc s.taken))
+  filters-turn out add e =
+      let w = subs-in (slice_get s.script s.taken) out add e in
+      let now = filters-sorted real real_laws (first_commands s s.taken) in
+      ap₂ (λ (x y : Owned). union list_before y (minus list_before (filters_after real [] (first_commands s s.taken)) x)) w.0 w.1
+      ∙ ap (λ (held : Owned). union list_before (minus list_before (filters_at s (suc s.taken)) (filters_at s s.taken)) (minus list_before held (minus list_before (filters_at s s.taken) (filters_at s (suc s.taken))))) (sym now)
+      ∙ sets-settled sub_laws (filters_at s s.taken) (filters_at s (suc s.taken))
+      ∙ filters-sorted real real_laws (first_commands s (suc s.taken))
+
+  pub adverts-turn : (out add : Owned) → next_plan s ≡ Some (plans.Advs out add) → union list_before add (minus list_before (adverts_after real [] (first_commands s s.taken)) out) ≡ adverts_after real [] (first_commands s (suc s.taken))
+  adverts-turn out add e =
+      let w = advs-in (slice_get s.script s.taken) out add e in
+      let now = adverts-sorted real real_laws (first_commands s s.taken) in
+      ap₂ (λ (x y : Owned). union list_before y (minus list_before (adverts_after real [] (first_commands s s.taken)) x)) w.0 w.1
+      ∙ ap (λ (held : Owned). union list_before (minus list_before (adverts_at s (suc s.taken)) (adverts_at s s.taken)) (minus list_before held (minus list_before (adverts_at s s.taken) (adverts_at s (suc s.taken))))) (sym now)
+      ∙ sets-settled ad_laws (adverts_at s s.taken) (adverts_at s (suc s.taken))
+      ∙ adverts-sorted real real_laws (first_commands s (suc s.taken))
+
+  pub filters-apart : (out add : Owned) → next_plan s ≡ Some (plans.Subs out add) → (f : List ConstraintParts) → Has f out → Has f add → ⊥
+  filters-apart out add e f h k =
+      let w = subs-in (slice_get s.script s.taken) out add e in
+      ((minus-iff sub_laws f (filters_at s (suc s.taken)) (filters_at s s.taken)).0 (subst (λ (x : Owned). Has f x) w.1 k)).1 ((minus-iff sub_laws f (filters_at s s.taken) (filters_at s (suc s.taken))).0 (subst (λ (x : Owned). Has f x) w.0 h)).0
+
+  pub adverts-apart : (out add : Owned) → next_plan s ≡ Some (plans.Advs out add) → (a : List ConstraintParts) → Has a out → Has a add → ⊥
+  adverts-apart out add e a h k =
+      let w = advs-in (slice_get s.script s.taken) out add e in
+      ((minus-iff ad_laws a (adverts_at s (suc s.taken)) (adverts_at s s.taken)).0 (subst (λ (x : Owned). Has a x) w.1 k)).1 ((minus-iff ad_laws a (adverts_at s s.taken) (adverts_at s (suc s.taken))).0 (subst (λ (x : Owned). Has a x) w.0 h)).0
+
+-- nets of one semantics accept and refuse the same
+module _ (th : Theory) (one other : Net th) (same : one.adverts ≡ other.adverts) where
+  pub accepts-alike : (adverts : List th.Advert) (n : th.Notice) → accepts th one adverts n ≡ accepts th other adverts n
+  accepts-alike adverts n = ap (λ b. not b || some_pass (λ a. th.allows a n) adverts) same
+
+  adds-alike : (adverts : List th.Advert) (o : ℕ) (y : RunCommand th) (os ps : List ℕ) → os ≡ ps → add_refused th one adverts o y os ≡ add_refused th other adverts o y ps
+  adds-alike adverts o (Subscribe f) os ps e = e
+  adds-alike adverts o (Unsubscribe f) os ps e = e
+  adds-alike adverts o (Advertise a) os ps e = e
+  adds-alike adverts o (Unadvertise a) os ps e = e
+  adds-alike adverts o (Publish n) os ps e = ap₂ (λ (b : Bool) (qs : List ℕ). cond b qs (suc o ∷ qs)) (accepts-alike adverts n) e
+
+  pub refused-alike : (cs : List (PhasedCommand th)) (adverts : List th.Advert) (o : ℕ) → refused_from th one adverts o cs ≡ refused_from th other adverts o cs
+  refused-alike [] adverts o = refl
+  refused-alike (c ∷ cs) adverts o = adds-alike adverts o c.command (refused_from th one (adverts_step th adverts c.command) (cond (is_publish th c.command) (suc o) o) cs) (refused_from th other (adverts_step th adverts c.command) (cond (is_publish th c.command) (suc o) o) cs) (refused-alike cs (adverts_step th adverts c.command) (cond (is_publish th c.command) (suc o) o))

@@ -1,0 +1,15 @@
+-- What an inbox holds.
+use Rattle.std.specs.Prelude.{List, [], ◌∷◌}
+use Rattle.ev_notice.specs.Notice.{Attribute}
+use Rattle.ev_wire.specs.declared.id.Id.{Id}
+use Rattle.ev_wire.specs.declared.delivery.Delivery.{Delivery}
+use Rattle.ev_wire.specs.NoticeText.{IsNoticeText}
+
+-- the bytes are the text of a notice
+abbrev pub IsDelivery : Delivery → Type 0
+IsDelivery delivery = (n : List Attribute) × IsNoticeText delivery.bytes n
+
+-- all are so
+abbrev pub AreDeliveries : List Delivery → Type 0
+AreDeliveries [] = Unit {0}
+AreDeliveries (delivery ∷ inbox) = IsDelivery delivery × AreDeliveries inbox

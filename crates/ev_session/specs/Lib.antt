@@ -1,0 +1,5 @@
+pub mod Inbox
+pub mod Session
+pub mod Plan
+pub mod Turn
+pub mod Own
