@@ -1,0 +1,29 @@
+-- The sessions of a server's clients.
+use Rattle.std.specs.Prelude.{◌≡◌, ℕ, ◌==◌, false, cond, suc, ◌-◌, ◌+◌, ◌≤◌, List, [], ◌∷◌, ◌++◌, map}
+use Rattle.ev_sets.specs.Sets.{Has}
+use Rattle.ev_wire.specs.declared.delivery.Delivery.{Delivery}
+use Rattle.ev_session.specs.Session.{SessionParts, session_parts}
+
+-- a session as its commands and deliveries say it: nothing is told of its room and of what it plans
+abbrev pub bare : SessionParts → SessionParts
+bare session = session_parts session.client session.semantics session.script session.taken session.inbox 0 false
+
+-- the clients' numbers
+abbrev pub numbers_of : List SessionParts → List ℕ
+numbers_of sessions = map (λ s. s.client) sessions
+
+-- one client's session changed
+abbrev pub at_client : ℕ → (SessionParts → SessionParts) → List SessionParts → List SessionParts
+at_client client change sessions = map (λ s. cond (s.client == client) (change s) s) sessions
+
+-- one more delivery, which takes up room
+abbrev pub handed : Delivery → SessionParts → SessionParts
+handed delivery s = session_parts s.client s.semantics s.script s.taken (s.inbox ++ delivery ∷ []) (s.room - 1) s.planned
+
+-- one more command taken
+abbrev pub stepped : SessionParts → SessionParts
+stepped s = session_parts s.client s.semantics s.script (suc s.taken) s.inbox s.room false
+
+-- each of these clients has room for one more delivery
+abbrev pub HaveRoom : List ℕ → List SessionParts → Type 0
+HaveRoom clients sessions = (s : SessionParts) → Has s sessions → Has s.client clients → 1 ≤ s.room

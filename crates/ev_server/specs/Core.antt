@@ -1,0 +1,52 @@
+-- What contracts see of a server's core, and the server's state that it stands for in a net.
+use Rattle.std.specs.Prelude.{◌≡◌, ℕ, true, ◌+◌, List, map}
+use Rattle.ev_constraint.specs.Constraint.{ConstraintParts}
+use Rattle.ev_sets.specs.Sets.{Has}
+use Rattle.ev_routing.specs.Net.{Net}
+use Rattle.ev_routing.specs.Server.{ServerState, is_among, interfaces}
+use Rattle.ev_theory.specs.Real.{real}
+use Rattle.ev_counting.specs.declared.change.Change.{Change}
+use Rattle.ev_control.specs.Holdings.{Holding, held_from}
+use Rattle.ev_control.specs.Control.{Controlled}
+use Rattle.ev_control.specs.Routing.{StandsFor}
+use Rattle.ev_model.specs.Meaning.{phased_command, deliveries_of}
+use Rattle.ev_session.specs.Session.{SessionParts}
+use Rattle.ev_server.specs.Clients.{numbers_of}
+use Rattle.ev_server.specs.Staged.{is_some_there}
+use Rattle.ev_server.specs.Ledger.{LedgerParts}
+
+-- a core: its server, what is held from whom, what was published, what changed since, its clients by rising numbers, and its clock
+pub record CoreParts : Type 0 where
+  pub server : ℕ
+  pub control : Controlled
+  pub published : List (Holding (List ConstraintParts))
+  pub staged : List Change
+  pub clients : List SessionParts
+  pub clock : ℕ
+
+-- a core of these parts
+abbrev pub core_parts : ℕ → LedgerParts → List SessionParts → ℕ → CoreParts
+core_parts server ledger clients clock = record {
+  server = server;
+  control = ledger.control;
+  published = ledger.published;
+  staged = ledger.staged;
+  clients = clients;
+  clock = clock;
+}
+
+-- the filters of an interface as they were last published
+abbrev pub published_from : CoreParts → ℕ → List (List ConstraintParts)
+published_from core interface = held_from real.before interface core.published
+
+-- THE SERVER'S STATE that a core stands for in a net: it is a server of the net, holds and published what the state says, and has the net's
+-- clients of this server, with their scripts, with as many commands taken and with the texts of what was delivered
+pub record IsServerState (net : Net real) (core : CoreParts) (state : ServerState real) : Type 0 where
+  pub among : is_among core.server net.servers ≡ true
+  pub control : StandsFor net core.server core.control state
+  pub published : (i : ℕ) → Has i (interfaces real net core.server) → state.published i ≡ published_from core i
+  pub staged : state.staged ≡ is_some_there core.staged
+  pub clients : net.clients core.server ≡ numbers_of core.clients
+  pub scripts : (s : SessionParts) → Has s core.clients → net.script s.client ≡ map phased_command s.script
+  pub taken : (s : SessionParts) → Has s core.clients → state.done s.client ≡ s.taken
+  pub inboxes : (s : SessionParts) → Has s core.clients → s.inbox ≡ deliveries_of (state.inbox s.client)

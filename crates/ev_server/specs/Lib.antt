@@ -1,0 +1,10 @@
+pub mod Core
+pub mod Step
+pub mod Staged
+pub mod Ledger
+pub mod Acting
+pub mod Routed
+pub mod Linked
+pub mod Clients
+pub mod Kept
+pub mod Start

@@ -1,0 +1,15 @@
+//! The core of a server: what it holds, its clients' sessions, its clock, and the one body of its step.
+#![tactic(auto)]
+
+mod acting;
+mod clients;
+mod ledger;
+mod linking;
+mod server;
+mod staged;
+mod start;
+mod stepped;
+
+pub use linking::Relinked;
+pub use server::Core;
+pub use stepped::{StepFault, Stepped};

@@ -1,0 +1,275 @@
+//! Cores of servers.
+ghost use Rattle.std.specs.Prelude.{◌≡◌, ◌<◌, ◌≤◌, ◌^◌, ◌↔◌, ◌+◌, ℕ, List, [], max, length, map, Some, IfOk, OnOk, OnErr, IsErrOf, IsSome, IfSome, MatchOption};
+ghost use Rattle.ev_sets.specs.Sets.{Has};
+ghost use Rattle.ev_notice.specs.Notice.{Attribute};
+ghost use Rattle.ev_run.specs.Machine.{Does, Takes};
+ghost use Rattle.ev_routing.specs.Step.{NextCommand, Version};
+ghost use Rattle.ev_wire.specs.declared.id.Id.{Id};
+ghost use Rattle.ev_wire.specs.MessageText.{IsSendable};
+ghost use Rattle.ev_control.specs.Control.{subs};
+ghost use Rattle.ev_model.specs.Meaning.{message_of};
+ghost use Rattle.ev_session.specs.declared.planned.Planned.TheVariants.{Publish};
+ghost use Rattle.ev_session.specs.Plan.{next_plan};
+ghost use Rattle.ev_session.specs.Session.{SessionParts, net_under, adverts_at};
+ghost use Rattle.ev_routing.specs.Clients.{accepts};
+ghost use Rattle.ev_theory.specs.Real.{real};
+ghost use Rattle.ev_server.specs.Acting.{planned_message};
+ghost use Rattle.ev_server.specs.Clients.{bare, numbers_of};
+ghost use Rattle.ev_server.specs.Core.{CoreParts, core_parts, published_from};
+ghost use Rattle.ev_server.specs.Kept.{IsCore};
+ghost use Rattle.ev_server.specs.Step.{MakesStep, last_stamp};
+ghost use Rattle.ev_server.specs.Staged.{IsStaged};
+ghost use Rattle.ev_server.specs.Routed.{RoutesNext, RoutesMessage};
+ghost use Rattle.ev_server.specs.Linked.{AreHeldLinks, SuitsCore, IsLinked, IsOnLinks};
+
+use crate::acting::{LAST_LINK, act};
+use crate::clients::Clients;
+use crate::ledger::Ledger;
+use crate::linking::Relinked;
+use crate::stepped::{StepFault, Stepped};
+use ev_control::HeldLink;
+use ev_counting::{Change, Route};
+use ev_memory::NoMemory;
+use ev_notice::{Notice, allows};
+use ev_session::{Planned, Session};
+use ev_wire::{Command, Message, Semantics};
+use std::alloc::Global;
+use std::marker::Model;
+
+/// The greatest stamp.
+const LAST_STAMP: u64 = (1 << 62) - 1;
+
+/// The core of a server: what it holds from whom, its clients, and its clock.
+///
+/// Contracts see the server, what is held, published and staged, the clients as their commands and deliveries make
+/// them, and the clock. After any fault it is as before.
+#[derive(Drop)]
+pub struct Core {
+    alloc: Global,
+    server: u32,
+    ledger: Ledger,
+    clients: Clients,
+    clock: u64,
+}
+
+impl Model for Core {
+    ghost use Rattle.std.specs.Prelude.{map};
+    ghost use Rattle.ev_server.specs.Clients.{bare};
+    ghost use Rattle.ev_server.specs.Core.{CoreParts, core_parts};
+    ghost use Rattle.ev_server.specs.Kept.{IsCore};
+
+    ghost Value = { CoreParts };
+
+    ghost view = { λ c. core_parts c.server c.ledger (map bare c.clients) c.clock };
+
+    ghost invariant = { λ c. IsCore (core_parts c.server c.ledger (map bare c.clients) c.clock) };
+}
+
+impl Core {
+    /// A core with the clock 0.
+    pub(crate) fn of(alloc: Global, server: u32, ledger: Ledger, clients: Clients) -> Core
+        requires { IsCore (core_parts server ledger (map bare clients) 0) }
+        ensures { result ≡ core_parts server ledger (map bare clients) 0 }
+    {
+        Core {
+            alloc,
+            server,
+            ledger,
+            clients,
+            clock: 0,
+        }
+    }
+
+    /// Takes the next command of a client that lives here and has one left. Where that is an accepted publish, the route
+    /// is that of its notice by the published table. Messages of a change go to the links where what is sent changed.
+    pub fn take_command(&mut self, client: u32, route: &Route) -> Result<Stepped, StepFault>
+        requires lives { Has client (numbers_of self.old.clients) }
+        requires left { (s : SessionParts) → Has s self.old.clients → s.client ≡ client → s.taken < length s.script }
+        requires route { RoutesNext self.old client route.now }
+        ensures step { IfOk result (λ s. MakesStep (Does (NextCommand client)) 0 self.old self.new s.stamp s.sent.items) }
+        ensures worn { (s : ℕ) → IsErrOf result (StepFault.Worn s) ↔ ((self.old.clock ≡ last_stamp) × (s ≡ last_stamp)) }
+        ensures err { OnErr result (self.new ≡ self.old) }
+    {
+        let stamp = self.next_stamp(0)?;
+        let plan = self.clients.plan(client)?;
+        let sent = match as_message(self.alloc, self.ledger.control().semantics(), &plan)? {
+            Some(message) => act(
+                self.alloc,
+                &mut self.ledger,
+                &mut self.clients,
+                LAST_LINK + client,
+                &message,
+                route,
+            )?,
+            None => Vec::new(self.alloc),
+        };
+        self.clients.commit(client, plan);
+        self.clock = stamp;
+        Ok(Stepped { stamp, sent })
+    }
+
+    /// Takes a message that a neighbour sent with its stamp. Where it is a notice, the route is that of the notice by
+    /// the published table.
+    pub fn take_message(
+        &mut self,
+        from: u32,
+        stamp: u64,
+        message: Message,
+        route: &Route,
+    ) -> Result<Stepped, StepFault>
+        requires from { Has from self.old.control.links }
+        requires stamp { stamp < 2 ^ 62 }
+        requires text { IsSendable message }
+        requires route { RoutesMessage self.old message route.now }
+        ensures step { IfOk result (λ s. MakesStep (Takes from (message_of message)) stamp self.old self.new s.stamp s.sent.items) }
+        ensures worn { (s : ℕ) → IsErrOf result (StepFault.Worn s) ↔ ((max self.old.clock stamp ≡ last_stamp) × (s ≡ last_stamp)) }
+        ensures err { OnErr result (self.new ≡ self.old) }
+    {
+        let stamp = self.next_stamp(stamp)?;
+        let sent = act(
+            self.alloc,
+            &mut self.ledger,
+            &mut self.clients,
+            from,
+            &message,
+            route,
+        )?;
+        self.clock = stamp;
+        Ok(Stepped { stamp, sent })
+    }
+
+    /// The stamp of a step that takes a message with this stamp, or 0.
+    fn next_stamp(&self, taken: u64) -> Result<u64, StepFault>
+        requires { taken < 2 ^ 62 }
+        ensures ok { IfOk result (λ stamp. (stamp ≡ 1 + max self.now.clock taken) × (stamp < 2 ^ 62)) }
+        ensures worn { (s : ℕ) → IsErrOf result (StepFault.Worn s) ↔ ((max self.now.clock taken ≡ last_stamp) × (s ≡ last_stamp)) }
+        ensures memory { IsErrOf result StepFault.NoMemory → ⊥ }
+    {
+        let last = self.clock.max(taken);
+        if last == LAST_STAMP {
+            return Err(StepFault::Worn(last));
+        }
+        Ok(last + 1)
+    }
+
+    /// What changed since the last version: the last change of each pair of an interface and a filter that was touched.
+    /// It turns the published table into what is held.
+    pub fn staged(&self) -> &[Change]
+        ensures changes { result.now ≡ self.now.staged }
+        ensures staged { IsStaged (published_from self.now) (subs self.now.control) self.now.staged }
+    {
+        self.ledger.staged()
+    }
+
+    /// Publishes what is staged. It takes no memory, so its one refusal is `Worn`; the answer is the stamp.
+    pub fn publish(&mut self) -> Result<u64, StepFault>
+        requires { (self.old.staged ≡ []) → ⊥ }
+        ensures step { IfOk result (λ stamp. MakesStep (Does Version) 0 self.old self.new stamp []) }
+        ensures worn { (s : ℕ) → IsErrOf result (StepFault.Worn s) ↔ ((self.old.clock ≡ last_stamp) × (s ≡ last_stamp)) }
+        ensures memory { IsErrOf result StepFault.NoMemory → ⊥ }
+        ensures err { OnErr result (self.new ≡ self.old) }
+    {
+        let stamp = self.next_stamp(0)?;
+        self.ledger.publish();
+        self.clock = stamp;
+        Ok(stamp)
+    }
+
+    /// The stamp of the last step, or what the clock was set to since.
+    pub fn clock(&self) -> u64
+        ensures clock { result ≡ self.now.clock }
+        ensures below { result < 2 ^ 62 }
+    {
+        self.clock
+    }
+
+    /// Sets the clock, which takes no memory. A lower number takes a raise back.
+    pub fn raise(&mut self, clock: u64)
+        requires { clock < 2 ^ 62 }
+        ensures { self.new ≡ record self.old { clock = clock } }
+    {
+        self.clock = clock;
+    }
+
+    /// The session of a client that lives here.
+    pub fn session(&self, client: u32) -> &Session
+        requires { Has client (numbers_of self.now.clients) }
+        ensures session { Has (bare result.now) self.now.clients }
+        ensures client { result.now.client ≡ client }
+    {
+        self.clients.session(client).unwrap()
+    }
+
+    /// The notice of the next command of a client that lives here; `None` where that is no publish that will be
+    /// accepted, or there is none.
+    pub fn next_publish(&self, client: u32) -> Option<&Notice>
+        requires { Has client (numbers_of self.now.clients) }
+        ensures { (s : SessionParts) (n : List Attribute) → Has s self.now.clients → s.client ≡ client
+            → (MatchOption result ⊥ (λ notice. notice.now ≡ n)) ↔ ((id : Id) × (next_plan s ≡ Some (Publish id n))) }
+    {
+        let session = self.clients.session(client).unwrap();
+        match session.next() {
+            Some((_, Command::Publish(notice))) if self.accepts(session, notice) => Some(notice),
+            _ => None,
+        }
+    }
+
+    /// Whether a client may publish a notice now.
+    fn accepts(&self, session: &Session, notice: &Notice) -> bool
+        ensures { result ≡ accepts real (net_under self.now.control.semantics) (adverts_at session.now session.now.taken) notice.now }
+    {
+        match self.ledger.control().semantics() {
+            Semantics::Subscription => true,
+            Semantics::Advertisement => session.adverts().iter().any(|advert| allows(advert, notice)),
+        }
+    }
+
+    /// What the core would have on other links; the core stays as it is.
+    pub fn relinked(&self, held: &[HeldLink]) -> Result<Relinked, NoMemory>
+        requires { AreHeldLinks held.now }
+        ensures linked { IfOk result (λ r. IsLinked held.now self.now.control r) }
+        ensures suits { IfOk result (λ r. SuitsCore self.now r) }
+    {
+        let control = self.ledger.control().relinked(held)?;
+        Ok(Relinked { control })
+    }
+
+    /// Gives the core what was made for it since its last step; what it had comes back, so that a second call takes the
+    /// change back. It takes no memory and stages nothing.
+    pub fn relink(&mut self, r: Relinked) -> Relinked
+        requires staged { self.old.staged ≡ [] }
+        requires suits { SuitsCore self.old r }
+        ensures core { IsOnLinks r self.old self.new }
+        ensures back { result ≡ self.old.control }
+        ensures suits_back { SuitsCore self.new result }
+    {
+        let control = self.ledger.relink(r.control);
+        Relinked { control }
+    }
+}
+
+/// What a plan is as a message from the client's interface; a refused publish is none, and under subscription semantics
+/// neither is a change of advertisements.
+fn as_message(
+    alloc: Global,
+    semantics: Semantics,
+    plan: &Planned,
+) -> Result<Option<Message>, NoMemory>
+    ensures { IfOk result (λ message. message ≡ planned_message semantics plan.now) }
+{
+    Ok(match (plan, semantics) {
+        (Planned::Subs { out, add }, _) => Some(Message::Subs {
+            out: out.copy(alloc)?,
+            add: add.copy(alloc)?,
+        }),
+        (Planned::Advs { out, add }, Semantics::Advertisement) => Some(Message::Advs {
+            out: out.copy(alloc)?,
+            add: add.copy(alloc)?,
+        }),
+        (Planned::Publish { id, notice }, _) => Some(Message::Notice {
+            id: *id,
+            notice: notice.copy(alloc)?,
+        }),
+        _ => None,
+    })
+}
