@@ -27,7 +27,7 @@ impl Core {
         requires sound { IsSound net.now }
         requires among { Has server (servers_in net.now) }
         ensures server { IfOk result (λ core. core.server ≡ server) }
-        ensures state { IfOk result (λ core. IsServerState (net_at real (phased_net net.now) 0) core (empty_server real)) }
+        ensures state { IfOk result (λ core. IsServerState (net_at real (phased_net net.now) 0) core (empty_server real (net_at real (phased_net net.now) 0))) }
         ensures clock { IfOk result (λ core. core.clock ≡ 0) }
     {
         let links = net.tree(0).neighbours(server);
