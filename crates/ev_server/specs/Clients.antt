@@ -1,5 +1,5 @@
 -- The sessions of a server's clients.
-use Rattle.std.specs.Prelude.{◌≡◌, ℕ, ◌==◌, false, cond, suc, ◌-◌, ◌+◌, ◌≤◌, List, [], ◌∷◌, ◌++◌, map}
+use Rattle.std.specs.Prelude.{ℕ, ◌==◌, false, cond, suc, ◌-◌, ◌≤◌, List, [], ◌∷◌, ◌++◌, map}
 use Rattle.ev_sets.specs.Sets.{Has}
 use Rattle.ev_wire.specs.declared.delivery.Delivery.{Delivery}
 use Rattle.ev_session.specs.Session.{SessionParts, session_parts}

@@ -1,0 +1,217 @@
+-- The sessions of a server's clients, which stand by rising numbers.
+use Rattle.std.proofs.Common.{◌≡◌, ◌⊎◌, inl, inr, ℕ, zero, suc, ◌+◌, ◌-◌, ◌<◌, ◌≤◌, ◌==◌, true, false, List, [], ◌∷◌, ◌++◌, length, map, Some, Result, Ok, Err, MatchResult, get_or, set, slice_get, IfSome, IfNone, IfOk, OnOk, OnErr, refl, sym, ap, subst, ◌∙◌, arith}
+use Rattle.std.specs.Prelude.{slice_index}
+use Rattle.std.specs.Result.{result_ok}
+use Rattle.std.specs.List.Sorted.{IsStrictlyIncreasing}
+use Rattle.std.proofs.lemmas.Bool.{cases_lt}
+use Rattle.std.proofs.lemmas.Bool.Decides.{nat_tests}
+use Rattle.ev_memory.specs.declared.NoMemory.{NoMemory}
+use Rattle.ev_sets.specs.Sets.{Has}
+use Rattle.ev_wire.specs.declared.delivery.Delivery.{Delivery}
+use Rattle.ev_session.specs.declared.planned.Planned.{Planned}
+use Rattle.ev_session.specs.Plan.{next_plan}
+use Rattle.ev_session.specs.Session.{SessionParts, session_parts}
+use Rattle.ev_server.specs.Clients.{bare, numbers_of, at_client, handed}
+
+-- lists
+
+unsome : {X : Type 0} {a b : X} → Some a ≡ Some b → a ≡ b
+unsome e = cc
+
+pub got : {X : Type 0} (xs : List X) (i : ℕ) (x : X) → i < length xs → x ≡ get_or xs i x → slice_get xs i ≡ Some x
+got [] i x l e = absurd (omega (arith, l))
+got (y ∷ ys) zero x l e = ap (λ z. Some z) (sym e)
+got (y ∷ ys) (suc i) x l e = got ys i x (omega (arith, l)) e
+
+pub got-has : {X : Type 0} (xs : List X) (i : ℕ) (x : X) → slice_get xs i ≡ Some x → Has x xs
+got-has [] i x e = absurd cc
+got-has (y ∷ ys) zero x e = inl (sym (unsome e))
+got-has (y ∷ ys) (suc i) x e = inr (got-has ys i x e)
+
+-- what is put in is there
+pub put-there : {X : Type 0} (xs : List X) (i : ℕ) (s t : X) → slice_get xs i ≡ Some s → Has t (set xs i t)
+put-there [] i s t e = absurd cc
+put-there (x ∷ xs) zero s t e = inl refl
+put-there (x ∷ xs) (suc i) s t e = inr (put-there xs i s t e)
+
+pub put-has : {X : Type 0} (xs : List X) (i : ℕ) (t y : X) → Has y (set xs i t) → (y ≡ t) ⊎ Has y xs
+put-has [] i t y m = absurd m
+put-has (x ∷ xs) zero t y (inl q) = inl q
+put-has (x ∷ xs) zero t y (inr m) = inr (inr m)
+put-has (x ∷ xs) (suc i) t y (inl q) = inr (inl q)
+put-has (x ∷ xs) (suc i) t y (inr m) = elim (put-has xs i t y m) [ inl q ↦ inl q | inr k ↦ inr (inr k) ]
+
+-- a test that is alike at what is put in and at what was there
+pub map-put : {X Y : Type 0} (f : X → Y) (xs : List X) (i : ℕ) (s t : X) → slice_get xs i ≡ Some s → f t ≡ f s → map f (set xs i t) ≡ map f xs
+map-put f [] i s t e q = absurd cc
+map-put f (x ∷ xs) zero s t e q = ap (λ z. z ∷ map f xs) (q ∙ ap f (sym (unsome e)))
+map-put f (x ∷ xs) (suc i) s t e q = ap (λ z. f x ∷ z) (map-put f xs i s t e q)
+
+pub map-has : {X Y : Type 0} (f : X → Y) (xs : List X) (x : X) → Has x xs → Has (f x) (map f xs)
+map-has f [] x m = absurd m
+map-has f (y ∷ ys) x (inl q) = inl (ap f q)
+map-has f (y ∷ ys) x (inr m) = inr (map-has f ys x m)
+
+pub has-map : {X Y : Type 0} (f : X → Y) (xs : List X) (y : Y) → Has y (map f xs) → (x : X) × Has x xs × (y ≡ f x)
+has-map f [] y m = absurd m
+has-map f (x ∷ xs) y (inl q) = (x, inl refl, q)
+has-map f (x ∷ xs) y (inr m) = let r = has-map f xs y m in (r.0, inr r.1, r.2)
+
+-- rising numbers
+
+pub rest-rises : (x : ℕ) (xs : List ℕ) → IsStrictlyIncreasing (x ∷ xs) → IsStrictlyIncreasing xs
+rest-rises x xs h k l = subst (λ n. slice_index (x ∷ xs) (suc k) < slice_index (x ∷ xs) n) {x = suc k + 1} {y = suc (k + 1)} (omega arith) (h (suc k) (omega (arith, l)))
+
+pub above : (x : ℕ) (xs : List ℕ) → IsStrictlyIncreasing (x ∷ xs) → (z : ℕ) → Has z xs → x < z
+above x [] h z m = absurd m
+above x (y ∷ ys) h z (inl e) =
+    let low : x < y = h 0 (omega arith) in
+    omega (arith, low, e)
+above x (y ∷ ys) h z (inr m) =
+    let low : x < y = h 0 (omega arith) in
+    let high : y < z = above y ys (rest-rises x (y ∷ ys) h) z m in
+    omega (arith, low, high)
+
+pub climbs : (xs : List ℕ) → IsStrictlyIncreasing xs → (i j : ℕ) → i ≤ j → j < length xs → get_or xs i 0 ≤ get_or xs j 0
+climbs [] h i j l m = absurd (omega (arith, m))
+climbs (x ∷ xs) h zero zero l m = omega arith
+climbs (x ∷ xs) h zero (suc j) l m =
+    let more : x < get_or xs j 0 = above x xs h (get_or xs j 0) (at-has xs j (omega (arith, m))) in
+    omega (arith, more)
+  where
+    at-has : (ys : List ℕ) (k : ℕ) → k < length ys → Has (get_or ys k 0) ys
+    at-has [] k l = absurd (omega (arith, l))
+    at-has (y ∷ ys) zero l = inl refl
+    at-has (y ∷ ys) (suc k) l = inr (at-has ys k (omega (arith, l)))
+climbs (x ∷ xs) h (suc i) zero l m = absurd (omega (arith, l))
+climbs (x ∷ xs) h (suc i) (suc j) l m = climbs xs (rest-rises x xs h) i j (omega (arith, l)) (omega (arith, m))
+
+has-index : (xs : List ℕ) (x : ℕ) → Has x xs → (k : ℕ) × (k < length xs) × (get_or xs k 0 ≡ x)
+has-index [] x m = absurd m
+has-index (y ∷ ys) x (inl q) = (zero, omega arith, sym q)
+has-index (y ∷ ys) x (inr m) = let r = has-index ys x m in (suc r.0, omega (arith, r.1), r.2)
+
+-- what a search found
+
+abbrev pub IsFound : List ℕ → ℕ → Result ℕ ℕ → Type 0
+IsFound xs x r = MatchResult r (λ i. (i < length xs) × (get_or xs i 0 ≡ x)) (λ i. (i ≤ length xs) × ((k : ℕ) → k < i → get_or xs k 0 < x) × ((k : ℕ) → i ≤ k → k < length xs → x < get_or xs k 0))
+
+number-at : (ss : List SessionParts) (i : ℕ) (s : SessionParts) → slice_get ss i ≡ Some s → get_or (numbers_of ss) i 0 ≡ s.client
+number-at [] i s e = absurd cc
+number-at (t ∷ ss) zero s e = ap (λ z. z.client) (unsome e)
+number-at (t ∷ ss) (suc i) s e = number-at ss i s e
+
+pub found-session : (ss : List SessionParts) (x : ℕ) (r : Result ℕ ℕ) → IsFound (numbers_of ss) x r → IfSome (result_ok r) (λ i. (s : SessionParts) → slice_get ss i ≡ Some s → s.client ≡ x)
+found-session ss x (Ok i) f = λ s e. sym (number-at ss i s e) ∙ f.1
+found-session ss x (Err i) f = tt
+
+pub found-none : (xs : List ℕ) (x : ℕ) (r : Result ℕ ℕ) → IsFound xs x r → IfNone (result_ok r) (Has x xs → ⊥)
+found-none xs x (Ok i) f = tt
+found-none xs x (Err i) f = apart
+  where
+    apart : Has x xs → ⊥
+    apart m = go (has-index xs x m)
+      where
+        go : (k : ℕ) × (k < length xs) × (get_or xs k 0 ≡ x) → ⊥
+        go (k, l, e) = elim (cases_lt k i) [ inl a ↦ (let b = f.1 k a in absurd (omega (arith, b, e))) | inr a ↦ (let b = f.2 k a l in absurd (omega (arith, b, e))) ]
+
+-- sessions by rising numbers
+
+eq-yes : (a b : ℕ) → a ≡ b → (a == b) ≡ true
+eq-yes a b e = grind (arith, nat_tests)
+
+eq-no : (a b : ℕ) → (a ≡ b → ⊥) → (a == b) ≡ false
+eq-no a b n = grind (arith, nat_tests)
+
+-- a client that isn't there changes nothing
+pub absent-at : (c : ℕ) (f : SessionParts → SessionParts) (ss : List SessionParts) → (Has c (numbers_of ss) → ⊥) → at_client c f ss ≡ ss
+absent-at c f [] n = refl
+absent-at c f (s ∷ ss) n = rw (eq-no s.client c (λ e. n (inl (sym e))), absent-at c f ss (λ m. n (inr m))) refl
+
+-- a session changed at its place is its client's session changed
+pub put-at : (c : ℕ) (f : SessionParts → SessionParts) (ss : List SessionParts) (i : ℕ) (s : SessionParts) → slice_get ss i ≡ Some s → s.client ≡ c → IsStrictlyIncreasing (numbers_of ss) → set ss i (f s) ≡ at_client c f ss
+put-at c f [] i s e q h = absurd cc
+put-at c f (t ∷ ss) zero s e q h =
+    let one : t ≡ s = unsome e in
+    let there : (t.client == c) ≡ true = eq-yes t.client c (ap (λ z. z.client) one ∙ q) in
+    let rest : at_client c f ss ≡ ss = absent-at c f ss (λ m. let more = above t.client (numbers_of ss) h c m in absurd (omega (arith, more, ap (λ z. z.client) one ∙ q))) in
+    rw (there, rest) (ap (λ z. f z ∷ ss) (sym one))
+put-at c f (t ∷ ss) (suc i) s e q h =
+    let more = above t.client (numbers_of ss) h s.client (map-has (λ z. z.client) ss s (got-has ss i s e)) in
+    let other : (t.client == c) ≡ false = eq-no t.client c (λ k. omega (arith, more, q, k)) in
+    rw other (ap (λ z. t ∷ z) (put-at c f ss i s e q (rest-rises t.client (numbers_of ss) h)))
+
+-- each client has one session
+pub only : (ss : List SessionParts) → IsStrictlyIncreasing (numbers_of ss) → (s t : SessionParts) → Has s ss → Has t ss → s.client ≡ t.client → s ≡ t
+only [] h s t m n q = absurd m
+only (u ∷ ss) h s t (inl a) (inl b) q = a ∙ sym b
+only (u ∷ ss) h s t (inl a) (inr n) q =
+    let more = above u.client (numbers_of ss) h t.client (map-has (λ z. z.client) ss t n) in
+    absurd (omega (arith, more, q, ap (λ z. z.client) a))
+only (u ∷ ss) h s t (inr m) (inl b) q =
+    let more = above u.client (numbers_of ss) h s.client (map-has (λ z. z.client) ss s m) in
+    absurd (omega (arith, more, q, ap (λ z. z.client) b))
+only (u ∷ ss) h s t (inr m) (inr n) q = only ss (rest-rises u.client (numbers_of ss) h) s t m n q
+
+-- what a place is known for
+pub record IsPlace (ss now : List SessionParts) (ns : List ℕ) (i c : ℕ) (s : SessionParts) : Type 0 where
+  pub view : ss ≡ now
+  pub numbered : numbers_of ss ≡ ns
+  pub rising : IsStrictlyIncreasing ns
+  pub within : i < length now
+  pub client : (t : SessionParts) → slice_get now i ≡ Some t → t.client ≡ c
+  pub read : s ≡ get_or ss i s
+
+module _ {ss now : List SessionParts} {ns : List ℕ} {i c : ℕ} {s : SessionParts} (p : IsPlace ss now ns i c s) where
+  pub at-place : slice_get ss i ≡ Some s
+  at-place = got ss i s (subst (λ z. i < length z) (sym p.view) p.within) p.read
+
+  pub its-client : s.client ≡ c
+  its-client = p.client s (subst (λ z. slice_get z i ≡ Some s) p.view at-place)
+
+  pub all-rise : IsStrictlyIncreasing (numbers_of ss)
+  all-rise = subst IsStrictlyIncreasing (sym p.numbered) p.rising
+
+  pub is-there : Has s now
+  is-there = subst (λ z. Has s z) p.view (got-has ss i s at-place)
+
+  pub changed : (f : SessionParts → SessionParts) (t : SessionParts) → t ≡ f s → set ss i t ≡ at_client c f now
+  changed f t e = subst (λ z. set ss i z ≡ at_client c f now) (sym e) (put-at c f ss i s at-place its-client all-rise ∙ ap (at_client c f) p.view)
+
+  pub kept-numbers : (t : SessionParts) → t.client ≡ s.client → numbers_of (set ss i t) ≡ ns
+  kept-numbers t e = map-put (λ z. z.client) ss i s t at-place e ∙ p.numbered
+
+  pub kept-bare : (t : SessionParts) → bare t ≡ bare s → map bare (set ss i t) ≡ map bare now
+  kept-bare t e = map-put bare ss i s t at-place e ∙ ap (map bare) p.view
+
+  pub the-one : (t : SessionParts) → Has t now → t.client ≡ c → t ≡ s
+  the-one t m e = only ss all-rise t s (subst (λ z. Has t z) (sym p.view) m) (got-has ss i s at-place) (e ∙ sym its-client)
+
+  pub the-new : (t u : SessionParts) → t.client ≡ s.client → Has u (set ss i t) → u.client ≡ c → u ≡ t
+  the-new t u e m q =
+      only (set ss i t) (subst IsStrictlyIncreasing (sym (kept-numbers t e)) p.rising) u t m (put-there ss i s t at-place) (q ∙ sym its-client ∙ sym e)
+
+-- a session after its calls
+
+pub handed-is : (d : Delivery) (s t : SessionParts) → t.inbox ≡ s.inbox ++ d ∷ [] → t.room + 1 ≡ s.room → record t { inbox = s.inbox; room = s.room } ≡ s → t ≡ handed d s
+handed-is d s t i r e = subst (λ (z : SessionParts). t ≡ session_parts z.client z.semantics z.script z.taken (s.inbox ++ d ∷ []) (s.room - 1) z.planned) e (first ∙ second)
+  where
+    less : t.room ≡ s.room - 1
+    less = omega (arith, r)
+
+    first : t ≡ session_parts t.client t.semantics t.script t.taken (s.inbox ++ d ∷ []) t.room t.planned
+    first = ap (λ z. session_parts t.client t.semantics t.script t.taken z t.room t.planned) i
+
+    second : session_parts t.client t.semantics t.script t.taken (s.inbox ++ d ∷ []) t.room t.planned ≡ session_parts t.client t.semantics t.script t.taken (s.inbox ++ d ∷ []) (s.room - 1) t.planned
+    second = ap (λ z. session_parts t.client t.semantics t.script t.taken (s.inbox ++ d ∷ []) z t.planned) less
+
+pub planned-or : (r : Result Planned NoMemory) (s t : SessionParts) → OnOk r (t ≡ record s { planned = true }) → OnErr r (t ≡ s) → bare t ≡ bare s
+planned-or (Ok p) s t a b = ap bare a
+planned-or (Err e) s t a b = ap bare b
+
+pub client-or : (s t : SessionParts) → bare t ≡ bare s → t.client ≡ s.client
+client-or s t e = ap (λ z. z.client) e
+
+pub plan-or : (r : Result Planned NoMemory) (s t : SessionParts) → IfOk r (λ p. next_plan t ≡ Some p) → OnOk r (t ≡ record s { planned = true }) → IfOk r (λ p. next_plan s ≡ Some p)
+plan-or (Ok p) s t a b = sym (ap next_plan b) ∙ a
+plan-or (Err e) s t a b = tt

@@ -1,0 +1,23 @@
+use Rattle.ev_server.specs.Clients.{handed}
+use Rattle.std.proofs.Common.{sym, ap}
+use Rattle.ev_server.proofs.Sessions.{IsPlace, absent-at, is-there, its-client, changed, kept-numbers, handed-is}
+use Rattle.ev_server.proofs.clients.Clients.deliver.Goals as goal
+
+pub returns-in_default : goal.returns-in_default
+returns-in_default c = sym (absent-at c.args.client (handed c.args.delivery) c.args.self.now c.in_default.ensures.none)
+
+pub deliver-requires-clause-room : goal.deliver-requires-clause-room
+deliver-requires-clause-room c =
+    let p : IsPlace c.self.inside.sessions.items c.args.self.now c.self.inside.numbers.items c.in-Some.place c.args.client c.index_mut.result.now = record { view = c.self.view_is; numbered = c.self.invariant.0; rising = c.self.invariant.1; within = c.in-Some.ensures.some; client = c.in-Some.ensures.session; read = c.index_mut.ensures.value } in
+    c.requires.room c.index_mut.result.now (is-there p) (its-client p)
+
+pub invariant_of-self : goal.invariant_of-self
+invariant_of-self c =
+    let p : IsPlace c.self.inside.sessions.items c.args.self.now c.self.inside.numbers.items c.in-Some.place c.args.client c.index_mut.result.now = record { view = c.self.view_is; numbered = c.self.invariant.0; rising = c.self.invariant.1; within = c.in-Some.ensures.some; client = c.in-Some.ensures.session; read = c.index_mut.ensures.value } in
+    let e = handed-is c.args.delivery c.index_mut.result.now c.deliver.new.self c.deliver.ensures.inbox c.deliver.ensures.room c.deliver.ensures.same in
+    (kept-numbers p c.deliver.new.self (ap (λ z. z.client) e), c.self.invariant.1)
+
+pub returns : goal.returns
+returns c =
+    let p : IsPlace c.self.inside.sessions.items c.args.self.now c.self.inside.numbers.items c.in-Some.place c.args.client c.index_mut.result.now = record { view = c.self.view_is; numbered = c.self.invariant.0; rising = c.self.invariant.1; within = c.in-Some.ensures.some; client = c.in-Some.ensures.session; read = c.index_mut.ensures.value } in
+    changed p (handed c.args.delivery) c.deliver.new.self (handed-is c.args.delivery c.index_mut.result.now c.deliver.new.self c.deliver.ensures.inbox c.deliver.ensures.room c.deliver.ensures.same)
