@@ -26,25 +26,25 @@ one-or a b = go (is_of_one_pair a b) refl
     go true e = inl (one-is a b e)
     go false e = inr (λ q. split (is_of_one_pair a b) (one-yes a b q) e)
 
-has-end : {T : Type 0} (x y : T) (xs : List T) → Has y (xs ++ x ∷ []) → (y ≡ x) ⊎ Has y xs
+pub has-end : {T : Type 0} (x y : T) (xs : List T) → Has y (xs ++ x ∷ []) → (y ≡ x) ⊎ Has y xs
 has-end x y [] (inl e) = inl e
 has-end x y [] (inr r) = absurd r
 has-end x y (z ∷ xs) (inl e) = inr (inl e)
 has-end x y (z ∷ xs) (inr r) = elim (has-end x y xs r) [ inl e ↦ inl e | inr m ↦ inr (inr m) ]
 
-end-has : {T : Type 0} (x : T) (xs : List T) → Has x (xs ++ x ∷ [])
+pub end-has : {T : Type 0} (x : T) (xs : List T) → Has x (xs ++ x ∷ [])
 end-has x [] = inl refl
 end-has x (z ∷ xs) = inr (end-has x xs)
 
-before-end : {T : Type 0} (x y : T) (xs : List T) → Has y xs → Has y (xs ++ x ∷ [])
+pub before-end : {T : Type 0} (x y : T) (xs : List T) → Has y xs → Has y (xs ++ x ∷ [])
 before-end x y [] m = absurd m
 before-end x y (z ∷ xs) (inl e) = inl e
 before-end x y (z ∷ xs) (inr m) = inr (before-end x y xs m)
 
-not-one : (a b : Change) → not (is_of_one_pair a b) ≡ true → pair_of a ≢ pair_of b
+pub not-one : (a b : Change) → not (is_of_one_pair a b) ≡ true → pair_of a ≢ pair_of b
 not-one a b e q = split (not (is_of_one_pair a b)) e (ap not (one-yes a b q))
 
-one-not : (a b : Change) → pair_of a ≢ pair_of b → not (is_of_one_pair a b) ≡ true
+pub one-not : (a b : Change) → pair_of a ≢ pair_of b → not (is_of_one_pair a b) ≡ true
 one-not a b n = go (is_of_one_pair a b) refl
   where
     go : (t : Bool) → is_of_one_pair a b ≡ t → not t ≡ true
@@ -88,3 +88,9 @@ one-apart a b n = go (is_of_one_pair a b) refl
     go : (t : Bool) → is_of_one_pair a b ≡ t → t ≡ false
     go true e = absurd (n (ap (λ z. z.interface) (one-is a b e)))
     go false e = refl
+
+-- two truths that hold where the same does
+pub same-truth : {P : Type 0} (a b : Bool) → ((a ≡ true) ↔ P) → ((b ≡ true) ↔ P) → a ≡ b
+same-truth true b p q = sym (q.1 (p.0 refl))
+same-truth false true p q = p.1 (q.0 refl)
+same-truth false false p q = refl

@@ -1,13 +1,12 @@
 -- What is held, published and staged at a server, and what a change of it is.
-use Rattle.std.specs.Prelude.{◌≡◌, ◌≢◌, ◌↔◌, ℕ, ◌||◌, not, List, []}
+use Rattle.std.specs.Prelude.{◌≡◌, ◌≢◌, ◌↔◌, ℕ, ◌||◌, not, true, false, List, []}
 use Rattle.ev_constraint.specs.Constraint.{ConstraintParts}
 use Rattle.ev_notice.specs.Before.{list_before}
 use Rattle.ev_sets.specs.Sets.{Has, minus, union, same_list}
 use Rattle.ev_wire.specs.declared.sent.Sent.{Sent}
-use Rattle.ev_wire.specs.declared.semantics.Semantics.TheVariants.{Subscription, Advertisement}
 use Rattle.ev_counting.specs.declared.change.Change.{Change}
 use Rattle.ev_control.specs.Holdings.{Holding}
-use Rattle.ev_control.specs.Control.{Controlled, subs, advs, changes_to, texts, HaveTexts}
+use Rattle.ev_control.specs.Control.{Controlled, by_adverts, subs, advs, changes_to, texts, HaveTexts}
 use Rattle.ev_server.specs.Staged.{is_some_there}
 
 -- what is held from whom, what of it was published, and what changed since
@@ -37,6 +36,6 @@ pub record AdvertsSet (interface : ℕ) (out add : List (List ConstraintParts)) 
   pub links : new.control.links ≡ old.control.links
   pub published : new.published ≡ old.published
   pub staged : new.staged ≡ old.staged
-  pub silent : old.control.semantics ≡ Subscription → sent ≡ []
-  pub sent_texts : old.control.semantics ≡ Advertisement → sent ≡ texts (changes_to old.control new.control) old.control.links
+  pub silent : by_adverts old.control.semantics ≡ false → sent ≡ []
+  pub sent_texts : by_adverts old.control.semantics ≡ true → sent ≡ texts (changes_to old.control new.control) old.control.links
   pub readable : (link : ℕ) → Has link old.control.links → HaveTexts (changes_to old.control new.control link)

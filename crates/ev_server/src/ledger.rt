@@ -77,13 +77,21 @@ impl Ledger {
         self.staged.changes()
     }
 
+    /// Whether a filter is held from an interface.
+    fn holds(&self, interface: u32, filter: &Filter) -> Result<bool, NoMemory>
+        ensures { IfOk result (λ holds. holds ≡ member list_before filter.now (subs self.now.control interface)) }
+    {
+        let holds = self.control.holds(interface, filter)?;
+        Ok(holds)
+    }
+
     /// The withdrawals among these filters that make a difference.
     fn withdrawals(&self, interface: u32, out: &[Filter]) -> Result<Vec<Change>, NoMemory>
         ensures { IfOk result (λ changes. changes.items ≡ map (Remove interface) (filter (λ f. member list_before f (subs self.now.control interface)) out.now)) }
     {
         let mut changes = Vec::new(self.alloc);
         for filter in out {
-            if self.control.holds(interface, filter)? {
+            if self.holds(interface, filter)? {
                 changes.push(Change::Remove {
                     iface: interface,
                     filter: filter.copy(self.alloc)?,
@@ -98,7 +106,7 @@ impl Ledger {
         ensures { OnOk result (changes.new.items ≡ changes.old.items ++ map (Add interface) (filter (λ f. not (member list_before f (subs self.now.control interface))) add.now)) }
     {
         for filter in add {
-            if self.control.holds(interface, filter)? {
+            if self.holds(interface, filter)? {
                 continue;
             }
             changes.push(Change::Add {
@@ -132,10 +140,10 @@ impl Ledger {
         ensures err { OnErr result (self.new ≡ self.old) }
     {
         let sent = self.control.change_advs(interface, out, add)?;
-        match self.control.semantics() {
-            Semantics::Subscription => Ok(Vec::new(self.alloc)),
-            Semantics::Advertisement => Ok(sent),
+        if !steer(self.control.semantics()) {
+            return Ok(Vec::new(self.alloc));
         }
+        Ok(sent)
     }
 
     /// All that is held is published. It takes no memory.
@@ -157,7 +165,18 @@ impl Ledger {
         ensures back { result ≡ self.old.control }
     {
         let old = std::mem::replace(&mut self.control, control);
-        self.publish();
+        self.published = Snapshot::of(&self.control);
+        self.staged = Staged::new(self.alloc);
         old
+    }
+}
+
+/// Whether advertisements steer the filters.
+fn steer(semantics: Semantics) -> bool
+    ensures { result ≡ by_adverts semantics }
+{
+    match semantics {
+        Semantics::Subscription => false,
+        Semantics::Advertisement => true,
     }
 }
