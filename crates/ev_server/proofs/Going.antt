@@ -6,14 +6,13 @@ use Rattle.std.specs.Fmt.{decimal}
 use Rattle.std.specs.List.{list_any}
 use Rattle.std.specs.List.Sorted.{IsStrictlyIncreasing}
 use Rattle.std.proofs.lemmas.Bool.Decides.{nat_tests}
-use Rattle.std.proofs.lemmas.List.{length_push, append_assoc}
+use Rattle.std.proofs.lemmas.List.{length_push}
 use Rattle.ev_notice.specs.Notice.{Attribute}
 use Rattle.ev_sets.specs.Sets.{Has}
 use Rattle.ev_sets.proofs.Roots.{filter-Has}
 use Rattle.ev_routing.specs.Server.{is_among}
 use Rattle.ev_wire.specs.declared.delivery.Delivery.{Delivery}
 use Rattle.ev_wire.specs.declared.id.Id.{Id}
-use Rattle.ev_wire.specs.declared.message.Message.{Message}
 use Rattle.ev_wire.specs.declared.message.Message.TheVariants.{Notice}
 use Rattle.ev_wire.specs.NoticeText.{notice_text, IsNoticeText}
 use Rattle.ev_wire.specs.MessageText.{IsId, IsMessageText, id_text, message_text}

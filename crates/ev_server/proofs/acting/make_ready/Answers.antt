@@ -1,4 +1,4 @@
-use Rattle.std.proofs.Common.{◌≡◌, ◌<◌, ℕ, get_or, refl, sym, ap, subst, ◌∙◌, arith, rules}
+use Rattle.std.proofs.Common.{◌≡◌, get_or, rules}
 use Rattle.ev_control.proofs.Taken.{take-all}
 use Rattle.ev_server.proofs.Going.{got-number, made-skip, made-more, from-more}
 use Rattle.ev_server.proofs.acting.make_ready.Goals as goal
