@@ -1,5 +1,5 @@
 -- What a message, or a client's planned change, does at a server.
-use Rattle.std.specs.Prelude.{◌≡◌, ℕ, ◌-◌, ◌==◌, ◌&&◌, not, cond, nat_le, nat_lt, codes, Bool, true, List, [], ◌∷◌, ◌++◌, map, filter, Option, Some, None}
+use Rattle.std.specs.Prelude.{◌≡◌, ℕ, ◌-◌, ◌==◌, ◌&&◌, not, cond, nat_le, nat_lt, List, map, filter, Option, Some, None}
 use Rattle.ev_constraint.specs.Constraint.{ConstraintParts}
 use Rattle.ev_sets.specs.Sets.{Has}
 use Rattle.ev_notice.specs.Notice.{Attribute}
@@ -9,7 +9,7 @@ use Rattle.ev_wire.specs.declared.message.Message.TheVariants.{Notice, Subs, Adv
 use Rattle.ev_wire.specs.declared.sent.Sent.{Sent}
 use Rattle.ev_wire.specs.declared.delivery.Delivery.{Delivery}
 use Rattle.ev_wire.specs.MessageText.{IsId, message_text, IsMessageText}
-use Rattle.ev_wire.specs.NoticeText.{notice_text, IsNoticeText}
+use Rattle.ev_wire.specs.NoticeText.{notice_text}
 use Rattle.ev_routing.specs.Server.{is_among}
 use Rattle.ev_wire.specs.declared.semantics.Semantics.{Semantics}
 use Rattle.ev_wire.specs.declared.semantics.Semantics.TheVariants.{Subscription, Advertisement}

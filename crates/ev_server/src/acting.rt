@@ -1,12 +1,14 @@
 //! What a message, or a client's planned change, does at a server: the one body of its step.
-ghost use Rattle.std.specs.Prelude.{◌≡◌, ◌≤◌, ℕ, codes, [], ◌∷◌, ◌++◌, map, List, IfOk, OnOk, OnErr};
+ghost use Rattle.std.specs.Prelude.{◌≡◌, ◌≤◌, ℕ, ◌==◌, ◌&&◌, not, nat_le, codes, [], ◌∷◌, ◌++◌, map, List, IfOk, OnOk, OnErr};
+ghost use Rattle.ev_routing.specs.Server.{is_among};
 ghost use Rattle.std.specs.List.Sorted.{IsStrictlyIncreasing};
 ghost use Rattle.ev_sets.specs.Sets.{Has};
 ghost use Rattle.ev_session.specs.Inbox.{IsDelivery};
 ghost use Rattle.ev_session.specs.Session.{SessionParts};
 ghost use Rattle.std.specs.Fmt.{decimal};
 ghost use Rattle.ev_wire.specs.MessageText.{IsId};
-ghost use Rattle.ev_wire.specs.declared.delivery.Delivery.{Delivery};
+ghost use Rattle.ev_wire.specs.declared.delivery.Delivery.{Delivery as DeliveryParts};
+ghost use Rattle.ev_server.specs.declared.acting.Ready.{Ready as ReadyParts};
 ghost use Rattle.ev_server.specs.Clients.{bare, HaveRoom};
 ghost use Rattle.ev_server.specs.Acting.{IsClear, HasActed, IsSpread, links_on, clients_on, sent_on, delivered, ready_for};
 
@@ -107,7 +109,7 @@ fn texts_on(
 {
     let mut sent = Vec::new(alloc);
     for link in route {
-        if *link <= LAST_LINK && *link != from && links.contains(link) {
+        if goes_on(links, from, *link) {
             sent.push(Sent {
                 to: *link,
                 bytes: Bytes::of(message.to_vec(alloc)?),
@@ -115,6 +117,13 @@ fn texts_on(
         }
     }
     Ok(sent)
+}
+
+/// Whether a message goes on to an interface: it is one of the links, and not the one that the message came from.
+fn goes_on(links: &[u32], from: u32, interface: u32) -> bool
+    ensures { result ≡ nat_le interface 64 && (not (interface == from) && is_among interface links.now) }
+{
+    interface <= LAST_LINK && interface != from && links.contains(&interface)
 }
 
 /// A delivery for each client of a route, each of which has room for it then.
@@ -146,12 +155,10 @@ fn make_ready(
 
 /// Delivers what was made ready. It takes no memory.
 fn deliver(clients: &mut Clients, ready: Vec<Ready>)
-    ghost whole: { Delivery × List ℕ }
-    requires ready { ready.items ≡ ready_for whole.0 whole.1 }
-    requires rising { IsStrictlyIncreasing whole.1 }
-    requires room { HaveRoom whole.1 clients.old }
-    requires text { IsDelivery whole.0 }
-    ensures { clients.new ≡ delivered whole.1 whole.0 clients.old }
+    requires rising { IsStrictlyIncreasing (map (λ one. one.client) ready.items) }
+    requires room { HaveRoom (map (λ one. one.client) ready.items) clients.old }
+    requires texts { (one : ReadyParts) → Has one ready.items → IsDelivery one.delivery }
+    ensures { (delivery : DeliveryParts) (to : List ℕ) → ready.items ≡ ready_for delivery to → clients.new ≡ delivered to delivery clients.old }
 {
     for one in ready {
         clients.deliver(one.client, one.delivery);
