@@ -75,7 +75,7 @@ module _ (server clock stamp : ℕ) (old new : LedgerParts) (clients : List Sess
   some-staged [] n = absurd (n refl)
   some-staged (x ∷ staged) n = refl
 
-  no-message : (b : Bool) → cond {A = List (Message real)} b [] [] ≡ []
+  pub no-message : (b : Bool) → cond {A = List (Message real)} b [] [] ≡ []
   no-message true = refl
   no-message false = refl
 
@@ -118,19 +118,19 @@ pub record IsOwn (s t : SessionParts) : Type 0 where
   pub script : s.script ≡ t.script
   pub taken : s.taken ≡ t.taken
 
-own-refl : (s : SessionParts) → IsOwn s s
+pub own-refl : (s : SessionParts) → IsOwn s s
 own-refl s = record { client = refl; semantics = refl; script = refl; taken = refl }
 
-filters-own : (s t : SessionParts) → IsOwn s t → filter_set_at s s.taken ≡ filter_set_at t t.taken
+pub filters-own : (s t : SessionParts) → IsOwn s t → filter_set_at s s.taken ≡ filter_set_at t t.taken
 filters-own s t o = ap (λ z. filters_after real [] (take z (map phased_command s.script))) o.taken ∙ ap (λ z. filters_after real [] (take t.taken (map phased_command z))) o.script
 
-adverts-own : (s t : SessionParts) → IsOwn s t → advert_set_at s s.taken ≡ advert_set_at t t.taken
+pub adverts-own : (s t : SessionParts) → IsOwn s t → advert_set_at s s.taken ≡ advert_set_at t t.taken
 adverts-own s t o = ap (λ z. adverts_after real [] (take z (map phased_command s.script))) o.taken ∙ ap (λ z. adverts_after real [] (take t.taken (map phased_command z))) o.script
 
 module _ (server clock clock_after from : ℕ) (old new : LedgerParts) (clients clients_new : List SessionParts) (route : List ℕ) (sent : List Sent)
     (kept : IsCore (core_parts server old (map bare clients) clock)) where
   -- the sessions after an act are those of before but for deliveries
-  own-of : (m : wire.Message) → HasActed from m route old new clients clients_new sent → (s : SessionParts) → Has s (map bare clients_new) → (t : SessionParts) × Has t (map bare clients) × IsOwn s t
+  pub own-of : (m : wire.Message) → HasActed from m route old new clients clients_new sent → (s : SessionParts) → Has s (map bare clients_new) → (t : SessionParts) × Has t (map bare clients) × IsOwn s t
   own-of (wires.Subs out add) a s h = (s, subst (Has s) a.1 h, own-refl s)
   own-of (wires.Advs out add) a s h = (s, subst (Has s) a.1 h, own-refl s)
   own-of (wires.Notice id n) a s h = picked clients (λ t k. k) (subst (Has s) a.1.inboxes h)
@@ -151,7 +151,7 @@ module _ (server clock clock_after from : ℕ) (old new : LedgerParts) (clients 
     pub filters : (i : ℕ) → i ≢ from → subs new.control i ≡ subs old.control i
     pub adverts : (i : ℕ) → i ≢ from → advs new.control i ≡ advs old.control i
 
-  left-of : (m : wire.Message) → HasActed from m route old new clients clients_new sent → IsLeft
+  pub left-of : (m : wire.Message) → HasActed from m route old new clients clients_new sent → IsLeft
   left-of (wires.Subs out add) a = record { semantics = a.0.semantics; links = a.0.links; filters = a.0.others; adverts = λ i n. ap (λ z. held_from real.before_advert i z) a.0.offered }
   left-of (wires.Advs out add) a = record { semantics = a.0.semantics; links = a.0.links; filters = λ i n. ap (λ z. held_from real.before i z) a.0.filters; adverts = a.0.others }
   left-of (wires.Notice id n) a = record { semantics = ap (λ z. z.control.semantics) a.0; links = ap (λ z. z.control.links) a.0; filters = λ i n. ap (λ z. subs z.control i) a.0; adverts = λ i n. ap (λ z. advs z.control i) a.0 }
@@ -173,7 +173,7 @@ module _ (server clock clock_after from : ℕ) (old new : LedgerParts) (clients 
       apart t h e = let one = (kept.ids t h).0 in absurd (omega (arith, low, e, one))
 
   -- the work of an act
-  acted : (m : wire.Message) → HasActed from m route old new clients clients_new sent → (net : Net real) (state : ServerState real) → IsServerState net (core_parts server old (map bare clients) clock) state
+  pub acted : (m : wire.Message) → HasActed from m route old new clients clients_new sent → (net : Net real) (state : ServerState real) → IsServerState net (core_parts server old (map bare clients) clock) state
       → Has from (interfaces real net server) → RoutesMessage (core_parts server old (map bare clients) clock) m route
       → IsDone net server state (act_work old from m) (core_parts server new (map bare clients_new) clock_after) old.control.links sent
   acted (wires.Subs out add) a net state stands reached r = filters-done net server clock clock_after from old new clients clients_new state stands reached out add sent a.1 a.0

@@ -4,7 +4,9 @@ use Rattle.ev_routing.specs.Step.{Version}
 use Rattle.ev_server.specs.Clients.{bare}
 use Rattle.ev_server.specs.Core.{core_parts}
 use Rattle.ev_server.specs.Step.{MakesStep, last_stamp}
-use Rattle.ev_server.proofs.Made.{version-made, version-kept, max-none, next-is}
+use Rattle.ev_server.proofs.Made.{version-made, version-kept}
+use Rattle.ev_server.proofs.Stamps.{max-none, next-is}
+use Rattle.ev_server.proofs.Commands.{committed}
 use Rattle.ev_server.proofs.server.Core.publish.Goals as goal
 
 pub returns-in-Err-clause-worn : goal.returns-in-Err-clause-worn
