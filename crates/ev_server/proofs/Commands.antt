@@ -42,7 +42,7 @@ use Rattle.ev_session.proofs.Turning.{filters-turn, adverts-turn, filters-apart,
 use Rattle.ev_server.specs.Clients.{bare, numbers_of, at_client, stepped}
 use Rattle.ev_server.specs.Staged.{is_some_there}
 use Rattle.ev_server.specs.Ledger.{LedgerParts, FiltersSet, AdvertsSet}
-use Rattle.ev_server.specs.Acting.{HasActed, planned_message, IsClear}
+use Rattle.ev_server.specs.Acting.{HasActed, HasDone, planned_message, IsClear}
 use Rattle.ev_server.specs.Core.{CoreParts, core_parts, published_from, IsServerState}
 use Rattle.ev_server.specs.Kept.{IsCore}
 use Rattle.ev_server.specs.Routed.{IsRoute, RoutesNext, RoutesMessage}
@@ -250,22 +250,17 @@ committed net server clock client ledger sessions state stands = record {
     inboxes s (took t h e q) = subst (λ z. z.inbox ≡ deliveries_of (state.inbox z.client)) (sym q) (stands.inboxes t h)
     inboxes s (kept-on t h n q) = subst (λ z. z.inbox ≡ deliveries_of (state.inbox z.client)) (sym q) (stands.inboxes t h)
 
--- what was done of a plan's message: nothing where there is none
-abbrev pub Deed : ℕ → List ℕ → LedgerParts → LedgerParts → List SessionParts → List SessionParts → List Sent → Option wire.Message → Type 0
-Deed from route old new clients mid sent None = (new ≡ old) × (map bare mid ≡ map bare clients) × (sent ≡ [])
-Deed from route old new clients mid sent (Some m) = HasActed from m route old new clients mid sent
-
 module _ (server clock stamp client : ℕ) (old new : LedgerParts) (clients mid : List SessionParts) (route : List ℕ) (sent : List Sent)
     (kept : IsCore (core_parts server old (map bare clients) clock)) (p : Planned)
     (planned : (s : SessionParts) → Has s (map bare clients) → s.client ≡ client → next_plan s ≡ Some p)
     (some-left : (s : SessionParts) → Has s (map bare clients) → s.client ≡ client → s.taken < length s.script)
-    (deed : Deed (64 + client) route old new clients mid sent (planned_message old.control.semantics p)) where
+    (deed : HasDone (64 + client) (planned_message old.control.semantics p) route old new clients mid sent) where
   -- what a deed leaves
-  deed-left : (o : Option wire.Message) → Deed (64 + client) route old new clients mid sent o → IsLeft server clock stamp (64 + client) old new clients mid route sent kept
+  deed-left : (o : Option wire.Message) → HasDone (64 + client) o route old new clients mid sent → IsLeft server clock stamp (64 + client) old new clients mid route sent kept
   deed-left None d = record { semantics = ap (λ z. z.control.semantics) d.0; links = ap (λ z. z.control.links) d.0; filters = λ i n. ap (λ z. subs z.control i) d.0; adverts = λ i n. ap (λ z. advs z.control i) d.0 }
   deed-left (Some m) d = left-of server clock stamp (64 + client) old new clients mid route sent kept m d
 
-  deed-own : (o : Option wire.Message) → Deed (64 + client) route old new clients mid sent o → (s : SessionParts) → Has s (map bare mid) → (t : SessionParts) × Has t (map bare clients) × IsOwn s t
+  deed-own : (o : Option wire.Message) → HasDone (64 + client) o route old new clients mid sent → (s : SessionParts) → Has s (map bare mid) → (t : SessionParts) × Has t (map bare clients) × IsOwn s t
   deed-own None d s h = (s, subst (Has s) d.1 h, own-refl s)
   deed-own (Some m) d s h = own-of server clock stamp (64 + client) old new clients mid route sent kept m d s h
 
@@ -279,7 +274,7 @@ module _ (server clock stamp client : ℕ) (old new : LedgerParts) (clients mid 
   own-adverts s h e on = ap (λ z. advs old.control (64 + z)) (sym e) ∙ kept.own_adverts s h on
 
   -- what is held from the client then
-  filters-now : (semantics : Semantics) (q : Planned) → ((s : SessionParts) → Has s (map bare clients) → s.client ≡ client → next_plan s ≡ Some q) → Deed (64 + client) route old new clients mid sent (planned_message semantics q)
+  filters-now : (semantics : Semantics) (q : Planned) → ((s : SessionParts) → Has s (map bare clients) → s.client ≡ client → next_plan s ≡ Some q) → HasDone (64 + client) (planned_message semantics q) route old new clients mid sent
       → (s : SessionParts) → Has s (map bare clients) → s.client ≡ client → subs new.control (64 + client) ≡ filters_by s q
   filters-now semantics (plans.Subs out add) pl d s h e = d.0.held ∙ ap (λ z. union real.before add (minus real.before z out)) (own-filters s h e) ∙ filters-turn s out add (pl s h e)
   filters-now Subscription (plans.Advs out add) pl d s h e = ap (λ z. subs z.control (64 + client)) d.0 ∙ own-filters s h e
@@ -287,7 +282,7 @@ module _ (server clock stamp client : ℕ) (old new : LedgerParts) (clients mid 
   filters-now semantics (plans.Publish id n) pl d s h e = ap (λ z. subs z.control (64 + client)) d.0 ∙ own-filters s h e
   filters-now semantics (plans.Refused o) pl d s h e = ap (λ z. subs z.control (64 + client)) d.0 ∙ own-filters s h e
 
-  adverts-now : (semantics : Semantics) → semantics ≡ old.control.semantics → by_adverts semantics ≡ true → (q : Planned) → ((s : SessionParts) → Has s (map bare clients) → s.client ≡ client → next_plan s ≡ Some q) → Deed (64 + client) route old new clients mid sent (planned_message semantics q)
+  adverts-now : (semantics : Semantics) → semantics ≡ old.control.semantics → by_adverts semantics ≡ true → (q : Planned) → ((s : SessionParts) → Has s (map bare clients) → s.client ≡ client → next_plan s ≡ Some q) → HasDone (64 + client) (planned_message semantics q) route old new clients mid sent
       → (s : SessionParts) → Has s (map bare clients) → s.client ≡ client → advs new.control (64 + client) ≡ adverts_by s q
   adverts-now semantics same on (plans.Subs out add) pl d s h e = ap (λ z. held_from real.before_advert (64 + client) z) d.0.offered ∙ own-adverts s h e (ap by_adverts (sym same) ∙ on)
   adverts-now Subscription same on (plans.Advs out add) pl d s h e = absurd cc
@@ -385,7 +380,7 @@ module _ (server clock stamp client : ℕ) (old new : LedgerParts) (clients mid 
           back [] = map-has (λ c. 64 + c) (net.clients server) client client-here
           back (x ∷ xs) = inr (back xs)
 
-      done-by : (semantics : Semantics) → semantics ≡ old.control.semantics → (q : Planned) → ((s : SessionParts) → Has s (map bare clients) → s.client ≡ client → next_plan s ≡ Some q) → Deed (64 + client) route old new clients mid sent (planned_message semantics q)
+      done-by : (semantics : Semantics) → semantics ≡ old.control.semantics → (q : Planned) → ((s : SessionParts) → Has s (map bare clients) → s.client ≡ client → next_plan s ≡ Some q) → HasDone (64 + client) (planned_message semantics q) route old new clients mid sent
           → IsDone net server state (plan_work net.adverts here.0 q) (core_parts server new (map bare mid) stamp) old.control.links sent
       done-by semantics same (plans.Subs out add) pl d =
           let work : SetsFilters (64 + client) (union real.before add (minus real.before (subs old.control (64 + client)) out)) ≡ plan_work net.adverts here.0 (plans.Subs out add) =

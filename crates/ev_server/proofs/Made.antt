@@ -42,7 +42,7 @@ use Rattle.ev_session.proofs.Turning.{filters-turn, adverts-turn, filters-apart,
 use Rattle.ev_server.specs.Clients.{bare, numbers_of, at_client, stepped}
 use Rattle.ev_server.specs.Staged.{is_some_there}
 use Rattle.ev_server.specs.Ledger.{LedgerParts, FiltersSet, AdvertsSet}
-use Rattle.ev_server.specs.Acting.{HasActed, planned_message, IsClear}
+use Rattle.ev_server.specs.Acting.{HasActed, planned_message, IsClear, IsRouted}
 use Rattle.ev_server.specs.Core.{CoreParts, core_parts, published_from, IsServerState}
 use Rattle.ev_server.specs.Kept.{IsCore}
 use Rattle.ev_server.specs.Routed.{IsRoute, RoutesNext, RoutesMessage}
@@ -229,3 +229,14 @@ max-none n = grind arith
 
 pub next-is : (a b : ℕ) → a ≡ 1 + b → a ≡ suc b
 next-is a b e = omega (arith, e)
+
+-- what an act asks of a message
+pub routed-message : (core : CoreParts) (m : wire.Message) (route : List ℕ) → RoutesMessage core m route → IsRouted m route
+routed-message core (wires.Notice id n) route r = r.rising
+routed-message core (wires.Subs out add) route r = tt
+routed-message core (wires.Advs out add) route r = tt
+
+pub clear-message : (m : wire.Message) → IsSendable m → IsClear m
+clear-message (wires.Notice id n) ok = ok
+clear-message (wires.Subs out add) ok = ok.apart
+clear-message (wires.Advs out add) ok = ok.apart

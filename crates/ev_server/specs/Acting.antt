@@ -1,5 +1,6 @@
 -- What a message, or a client's planned change, does at a server.
-use Rattle.std.specs.Prelude.{◌≡◌, ℕ, ◌-◌, ◌==◌, ◌&&◌, not, cond, nat_le, nat_lt, List, map, filter, Option, Some, None}
+use Rattle.std.specs.Prelude.{◌≡◌, ℕ, ◌-◌, ◌==◌, ◌&&◌, not, cond, nat_le, nat_lt, List, [], map, filter, Option, Some, None}
+use Rattle.std.specs.List.Sorted.{IsStrictlyIncreasing}
 use Rattle.ev_constraint.specs.Constraint.{ConstraintParts}
 use Rattle.ev_sets.specs.Sets.{Has}
 use Rattle.ev_notice.specs.Notice.{Attribute}
@@ -25,6 +26,12 @@ abbrev pub IsClear : Message → Type 0
 IsClear (Subs out add) = (f : List ConstraintParts) → Has f out → Has f add → ⊥
 IsClear (Advs out add) = (f : List ConstraintParts) → Has f out → Has f add → ⊥
 IsClear (Notice id n) = IsId id
+
+-- a notice has a rising route
+abbrev pub IsRouted : Message → List ℕ → Type 0
+IsRouted (Notice id n) route = IsStrictlyIncreasing route
+IsRouted (Subs out add) route = Unit {0}
+IsRouted (Advs out add) route = Unit {0}
 
 -- what a planned change is as a message from the client's interface: a refused publish is none, nor is a change of advertisements under
 -- subscription semantics
@@ -70,3 +77,8 @@ abbrev pub HasActed : ℕ → Message → List ℕ → LedgerParts → LedgerPar
 HasActed from (Subs out add) route old new clients clients_new sent = FiltersSet from out add old new sent × (map bare clients_new ≡ map bare clients)
 HasActed from (Advs out add) route old new clients clients_new sent = AdvertsSet from out add old new sent × (map bare clients_new ≡ map bare clients)
 HasActed from (Notice id n) route old new clients clients_new sent = (new ≡ old) × IsSpread from id n route old.control.links clients clients_new sent
+
+-- the same of a plan, which does nothing where it is no message
+abbrev pub HasDone : ℕ → Option Message → List ℕ → LedgerParts → LedgerParts → List SessionParts → List SessionParts → List Sent → Type 0
+HasDone from None route old new clients clients_new sent = (new ≡ old) × (map bare clients_new ≡ map bare clients) × (sent ≡ [])
+HasDone from (Some message) route old new clients clients_new sent = HasActed from message route old new clients clients_new sent

@@ -1,5 +1,5 @@
 //! What a message, or a client's planned change, does at a server: the one body of its step.
-ghost use Rattle.std.specs.Prelude.{◌≡◌, ◌≤◌, ℕ, ◌==◌, ◌&&◌, not, nat_le, codes, [], ◌∷◌, ◌++◌, map, List, IfOk, OnOk, OnErr};
+ghost use Rattle.std.specs.Prelude.{◌≡◌, ◌≤◌, ℕ, ◌==◌, ◌&&◌, not, nat_le, codes, [], ◌∷◌, ◌++◌, map, List, IfOk, IfSome, OnOk, OnErr};
 ghost use Rattle.ev_routing.specs.Server.{is_among};
 ghost use Rattle.std.specs.List.Sorted.{IsStrictlyIncreasing};
 ghost use Rattle.ev_sets.specs.Sets.{Has};
@@ -10,7 +10,7 @@ ghost use Rattle.ev_wire.specs.MessageText.{IsId};
 ghost use Rattle.ev_wire.specs.declared.delivery.Delivery.{Delivery as DeliveryParts};
 ghost use Rattle.ev_server.specs.declared.acting.Ready.{Ready as ReadyParts};
 ghost use Rattle.ev_server.specs.Clients.{bare, HaveRoom};
-ghost use Rattle.ev_server.specs.Acting.{IsClear, HasActed, IsSpread, links_on, clients_on, sent_on, delivered, ready_for};
+ghost use Rattle.ev_server.specs.Acting.{IsClear, IsRouted, HasActed, HasDone, IsSpread, links_on, clients_on, sent_on, delivered, ready_for};
 
 use crate::clients::Clients;
 use crate::ledger::Ledger;
@@ -42,7 +42,7 @@ pub(crate) fn act(
     route: &Route,
 ) -> Result<Vec<Sent>, NoMemory>
     requires clear { IsClear message.now }
-    requires rising { IsStrictlyIncreasing route.now }
+    requires routed { IsRouted message.now route.now }
     ensures acted { IfOk result (λ sent. HasActed from message.now route.now ledger.old ledger.new clients.old clients.new sent.items) }
     ensures planned { (s : SessionParts) → Has s clients.new → (t : SessionParts) × Has t clients.old × (t.client ≡ s.client) × (t.planned ≡ s.planned) }
     ensures ledger { OnErr result (ledger.new ≡ ledger.old) }
@@ -55,6 +55,28 @@ pub(crate) fn act(
             let links = ledger.control().links();
             spread(alloc, links, clients, from, *id, notice, route.ifaces())
         }
+    }
+}
+
+/// What a plan does, if it is as a message.
+pub(crate) fn act_on(
+    alloc: Global,
+    ledger: &mut Ledger,
+    clients: &mut Clients,
+    from: u32,
+    message: Option<Message>,
+    route: &Route,
+) -> Result<Vec<Sent>, NoMemory>
+    requires clear { IfSome message IsClear }
+    requires routed { IfSome message (λ m. IsRouted m route.now) }
+    ensures done { IfOk result (λ sent. HasDone from message route.now ledger.old ledger.new clients.old clients.new sent.items) }
+    ensures planned { (s : SessionParts) → Has s clients.new → (t : SessionParts) × Has t clients.old × (t.client ≡ s.client) × (t.planned ≡ s.planned) }
+    ensures ledger { OnErr result (ledger.new ≡ ledger.old) }
+    ensures clients { OnErr result (map bare clients.new ≡ map bare clients.old) }
+{
+    match message {
+        Some(message) => act(alloc, ledger, clients, from, &message, route),
+        None => Ok(Vec::new(alloc)),
     }
 }
 

@@ -22,7 +22,7 @@ ghost use Rattle.ev_server.specs.Staged.{IsStaged};
 ghost use Rattle.ev_server.specs.Routed.{RoutesNext, RoutesMessage};
 ghost use Rattle.ev_server.specs.Linked.{AreHeldLinks, SuitsCore, IsLinked, IsOnLinks};
 
-use crate::acting::{LAST_LINK, act};
+use crate::acting::{LAST_LINK, act, act_on};
 use crate::clients::Clients;
 use crate::ledger::Ledger;
 use crate::linking::Relinked;
@@ -95,17 +95,15 @@ impl Core {
             Err(fault) => return Err(fault),
         };
         let plan = self.clients.plan(client)?;
-        let sent = match as_message(self.alloc, self.ledger.control().semantics(), &plan)? {
-            Some(message) => act(
-                self.alloc,
-                &mut self.ledger,
-                &mut self.clients,
-                LAST_LINK + client,
-                &message,
-                route,
-            )?,
-            None => Vec::new(self.alloc),
-        };
+        let message = as_message(self.alloc, self.ledger.control().semantics(), &plan)?;
+        let sent = act_on(
+            self.alloc,
+            &mut self.ledger,
+            &mut self.clients,
+            LAST_LINK + client,
+            message,
+            route,
+        )?;
         self.clients.commit(client, plan);
         self.clock = stamp;
         Ok(Stepped { stamp, sent })

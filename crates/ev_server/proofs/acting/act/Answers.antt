@@ -13,3 +13,6 @@ pub set_adverts-requires : goal.set_adverts-requires
 set_adverts-requires c =
     let clear : IsClear (Advs c.in-Advs.out c.in-Advs.add) = subst IsClear c.in-Advs.is c.requires.clear in
     λ f m n. clear f (subst (λ z. Has f z) c.as_slice-in-Advs.ensures m) (subst (λ z. Has f z) c.as_slice-in-Advs-2.ensures n)
+
+pub spread-requires-clause-rising : goal.spread-requires-clause-rising
+spread-requires-clause-rising c = ?
