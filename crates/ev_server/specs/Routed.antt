@@ -1,6 +1,5 @@
 -- What a caller knows of a route that it hands to a step.
 use Rattle.std.specs.Prelude.{◌≡◌, ◌↔◌, ℕ, true, List, Some, nat_lt}
-use Rattle.std.specs.List.{Contains}
 use Rattle.std.specs.List.Sorted.{IsStrictlyIncreasing}
 use Rattle.ev_constraint.specs.Constraint.{ConstraintParts}
 use Rattle.ev_sets.specs.Sets.{Has}
@@ -18,7 +17,7 @@ use Rattle.ev_server.specs.Core.{CoreParts, published_from}
 -- the rising list of exactly the interfaces with a matching filter among those published
 pub record IsRoute (notice : List Attribute) (published : ℕ → List (List ConstraintParts)) (route : List ℕ) : Type 0 where
   pub rising : IsStrictlyIncreasing route
-  pub exact : (i : ℕ) → Contains route i ↔ (some_pass (real.matches notice) (published i) ≡ true)
+  pub exact : (i : ℕ) → Has i route ↔ (some_pass (real.matches notice) (published i) ≡ true)
 
 -- where the next command of the client is a publish that will be accepted, the route is that of its notice by what was published
 abbrev pub RoutesNext : CoreParts → ℕ → List ℕ → Type 0

@@ -90,7 +90,10 @@ impl Core {
         ensures worn { (s : ℕ) → IsErrOf result (StepFault.Worn s) ↔ ((self.old.clock ≡ last_stamp) × (s ≡ last_stamp)) }
         ensures err { OnErr result (self.new ≡ self.old) }
     {
-        let stamp = self.next_stamp(0)?;
+        let stamp = match self.next_stamp(0) {
+            Ok(stamp) => stamp,
+            Err(fault) => return Err(fault),
+        };
         let plan = self.clients.plan(client)?;
         let sent = match as_message(self.alloc, self.ledger.control().semantics(), &plan)? {
             Some(message) => act(
@@ -125,7 +128,10 @@ impl Core {
         ensures worn { (s : ℕ) → IsErrOf result (StepFault.Worn s) ↔ ((max self.old.clock stamp ≡ last_stamp) × (s ≡ last_stamp)) }
         ensures err { OnErr result (self.new ≡ self.old) }
     {
-        let stamp = self.next_stamp(stamp)?;
+        let stamp = match self.next_stamp(stamp) {
+            Ok(stamp) => stamp,
+            Err(fault) => return Err(fault),
+        };
         let sent = act(
             self.alloc,
             &mut self.ledger,
@@ -169,7 +175,10 @@ impl Core {
         ensures memory { IsErrOf result StepFault.NoMemory → ⊥ }
         ensures err { OnErr result (self.new ≡ self.old) }
     {
-        let stamp = self.next_stamp(0)?;
+        let stamp = match self.next_stamp(0) {
+            Ok(stamp) => stamp,
+            Err(fault) => return Err(fault),
+        };
         self.ledger.publish();
         self.clock = stamp;
         Ok(stamp)
