@@ -19,7 +19,7 @@ use Rattle.ev_wire.specs.MessageText.{IsId, IsMessageText, id_text, message_text
 use Rattle.ev_session.specs.Session.{SessionParts}
 use Rattle.ev_control.proofs.Taken.{take-some}
 use Rattle.ev_server.specs.declared.acting.Ready.{Ready}
-use Rattle.ev_server.specs.Clients.{bare, at_client, handed, HaveRoom}
+use Rattle.ev_server.specs.Clients.{bare, at_client, handed, HaveRoom, StayPlanned, HaveMoreRoom}
 use Rattle.ev_server.specs.Acting.{clients_on, delivered, ready_for}
 use Rattle.ev_server.proofs.Sessions.{got, got-has, map-has, has-map, above, rest-rises}
 
@@ -226,7 +226,7 @@ delivered-has to d ss s m = go (has-map (λ s. cond (is_among s.client to) (hand
 pub record IsMade (delivery : Delivery) (route : List ℕ) (ready : List Ready) (old new : List SessionParts) : Type 0 where
   pub made : ready ≡ ready_for delivery (clients_on route)
   pub room : HaveRoom (clients_on route) new
-  pub from : (s : SessionParts) → Has s new → (t : SessionParts) × Has t old × (t.client ≡ s.client) × (t.planned ≡ s.planned)
+  pub from : StayPlanned old new
   pub alike : map bare new ≡ map bare old
 
 pub made-none : (d : Delivery) (ss : List SessionParts) (ready : List Ready) → ready ≡ [] → IsMade d [] ready ss ss
@@ -238,11 +238,7 @@ made-skip d route n x ready old new e l h =
     let same : clients_on (take (n + 1) route) ≡ clients_on (take n route) = ap (map (λ i. i - 64)) (more-no (λ i. nat_lt 64 i) route n x e low) in
     record { made = rw same h.made; room = rw same h.room; from = h.from; alike = h.alike }
 
--- each session had one of its client before, with no more room
-abbrev pub More : List SessionParts → List SessionParts → Type 0
-More mid new = (s : SessionParts) → Has s new → (t : SessionParts) × Has t mid × (t.client ≡ s.client) × (t.room ≤ s.room) × (t.planned ≡ s.planned)
-
-pub from-more : (old mid new : List SessionParts) → ((s : SessionParts) → Has s mid → (t : SessionParts) × Has t old × (t.client ≡ s.client) × (t.planned ≡ s.planned)) → More mid new → (s : SessionParts) → Has s new → (t : SessionParts) × Has t old × (t.client ≡ s.client) × (t.planned ≡ s.planned)
+pub from-more : (old mid new : List SessionParts) → StayPlanned old mid → HaveMoreRoom mid new → StayPlanned old new
 from-more old mid new from more s m =
     let a = more s m in
     let b = from a.0 a.1 in
@@ -255,7 +251,7 @@ has-end x y (z ∷ xs) (inl e) = inr (inl e)
 has-end x y (z ∷ xs) (inr r) = elim (has-end x y xs r) [ inl e ↦ inl e | inr m ↦ inr (inr m) ]
 
 pub made-more : (d : Delivery) (route : List ℕ) (n x : ℕ) (ready : List Ready) (old mid new : List SessionParts) → slice_get route n ≡ Some x → 64 < x → IsMade d (take n route) ready old mid
-    → ((s : SessionParts) → Has s new → s.client ≡ x - 64 → 1 ≤ s.room) → More mid new → map bare new ≡ map bare mid
+    → ((s : SessionParts) → Has s new → s.client ≡ x - 64 → 1 ≤ s.room) → HaveMoreRoom mid new → map bare new ≡ map bare mid
     → IsMade d (take (n + 1) route) (ready ++ (record { client = x - 64; delivery = d }) ∷ []) old new
 made-more d route n x ready old mid new e l h room more alike = record { made = made; room = roomy; from = from-more old mid new h.from more; alike = alike ∙ h.alike }
   where

@@ -1,5 +1,5 @@
 -- The sessions of a server's clients.
-use Rattle.std.specs.Prelude.{ℕ, ◌==◌, false, cond, suc, ◌-◌, ◌≤◌, List, [], ◌∷◌, ◌++◌, map}
+use Rattle.std.specs.Prelude.{◌≡◌, ℕ, ◌==◌, false, cond, suc, ◌-◌, ◌≤◌, List, [], ◌∷◌, ◌++◌, map}
 use Rattle.ev_sets.specs.Sets.{Has}
 use Rattle.ev_wire.specs.declared.delivery.Delivery.{Delivery}
 use Rattle.ev_session.specs.Session.{SessionParts, session_parts}
@@ -27,3 +27,11 @@ stepped s = session_parts s.client s.semantics s.script (suc s.taken) s.inbox s.
 -- each of these clients has room for one more delivery
 abbrev pub HaveRoom : List ℕ → List SessionParts → Type 0
 HaveRoom clients sessions = (s : SessionParts) → Has s sessions → Has s.client clients → 1 ≤ s.room
+
+-- each session had one of its client before, which was planned alike
+abbrev pub StayPlanned : List SessionParts → List SessionParts → Type 0
+StayPlanned old new = (s : SessionParts) → Has s new → (t : SessionParts) × Has t old × (t.client ≡ s.client) × (t.planned ≡ s.planned)
+
+-- each session had one of its client before, which was planned alike and had no more room
+abbrev pub HaveMoreRoom : List SessionParts → List SessionParts → Type 0
+HaveMoreRoom old new = (s : SessionParts) → Has s new → (t : SessionParts) × Has t old × (t.client ≡ s.client) × (t.room ≤ s.room) × (t.planned ≡ s.planned)

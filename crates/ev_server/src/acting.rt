@@ -4,12 +4,11 @@ ghost use Rattle.ev_routing.specs.Server.{is_among};
 ghost use Rattle.std.specs.List.Sorted.{IsStrictlyIncreasing};
 ghost use Rattle.ev_sets.specs.Sets.{Has};
 ghost use Rattle.ev_session.specs.Inbox.{IsDelivery};
-ghost use Rattle.ev_session.specs.Session.{SessionParts};
 ghost use Rattle.std.specs.Fmt.{decimal};
 ghost use Rattle.ev_wire.specs.MessageText.{IsId};
 ghost use Rattle.ev_wire.specs.declared.delivery.Delivery.{Delivery as DeliveryParts};
 ghost use Rattle.ev_server.specs.declared.acting.Ready.{Ready as ReadyParts};
-ghost use Rattle.ev_server.specs.Clients.{bare, HaveRoom};
+ghost use Rattle.ev_server.specs.Clients.{bare, HaveRoom, StayPlanned};
 ghost use Rattle.ev_server.specs.Acting.{IsClear, IsRouted, HasActed, HasDone, IsSpread, links_on, clients_on, sent_on, delivered, ready_for};
 
 use crate::clients::Clients;
@@ -44,7 +43,7 @@ pub(crate) fn act(
     requires clear { IsClear message.now }
     requires routed { IsRouted message.now route.now }
     ensures acted { IfOk result (λ sent. HasActed from message.now route.now ledger.old ledger.new clients.old clients.new sent.items) }
-    ensures planned { (s : SessionParts) → Has s clients.new → (t : SessionParts) × Has t clients.old × (t.client ≡ s.client) × (t.planned ≡ s.planned) }
+    ensures planned { StayPlanned clients.old clients.new }
     ensures ledger { OnErr result (ledger.new ≡ ledger.old) }
     ensures clients { OnErr result (map bare clients.new ≡ map bare clients.old) }
 {
@@ -70,7 +69,7 @@ pub(crate) fn act_on(
     requires clear { IfSome message IsClear }
     requires routed { IfSome message (λ m. IsRouted m route.now) }
     ensures done { IfOk result (λ sent. HasDone from message route.now ledger.old ledger.new clients.old clients.new sent.items) }
-    ensures planned { (s : SessionParts) → Has s clients.new → (t : SessionParts) × Has t clients.old × (t.client ≡ s.client) × (t.planned ≡ s.planned) }
+    ensures planned { StayPlanned clients.old clients.new }
     ensures ledger { OnErr result (ledger.new ≡ ledger.old) }
     ensures clients { OnErr result (map bare clients.new ≡ map bare clients.old) }
 {
@@ -93,7 +92,7 @@ fn spread(
     requires id { IsId id }
     requires rising { IsStrictlyIncreasing route.now }
     ensures spread { IfOk result (λ sent. IsSpread from id notice.now route.now links.now clients.old clients.new sent.items) }
-    ensures planned { (s : SessionParts) → Has s clients.new → (t : SessionParts) × Has t clients.old × (t.client ≡ s.client) × (t.planned ≡ s.planned) }
+    ensures planned { StayPlanned clients.old clients.new }
     ensures err { OnErr result (map bare clients.new ≡ map bare clients.old) }
 {
     let text = write_notice(alloc, notice)?;
@@ -158,7 +157,7 @@ fn make_ready(
 ) -> Result<Vec<Ready>, NoMemory>
     ensures ready { IfOk result (λ ready. ready.items ≡ ready_for (record { id = id; bytes = text.now }) (clients_on route.now)) }
     ensures room { OnOk result (HaveRoom (clients_on route.now) clients.new) }
-    ensures planned { (s : SessionParts) → Has s clients.new → (t : SessionParts) × Has t clients.old × (t.client ≡ s.client) × (t.planned ≡ s.planned) }
+    ensures planned { StayPlanned clients.old clients.new }
     ensures bare { map bare clients.new ≡ map bare clients.old }
 {
     let mut ready = Vec::new(alloc);

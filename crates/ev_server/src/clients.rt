@@ -5,7 +5,7 @@ ghost use Rattle.ev_sets.specs.Sets.{Has};
 ghost use Rattle.ev_session.specs.Inbox.{IsDelivery};
 ghost use Rattle.ev_session.specs.Plan.{next_plan, IsCounted};
 ghost use Rattle.ev_session.specs.Session.{SessionParts};
-ghost use Rattle.ev_server.specs.Clients.{bare, numbers_of, at_client, handed, stepped};
+ghost use Rattle.ev_server.specs.Clients.{bare, numbers_of, at_client, handed, stepped, HaveMoreRoom};
 
 use ev_memory::NoMemory;
 use ev_session::{Planned, Session};
@@ -89,7 +89,7 @@ impl Clients {
     /// Makes room for one more delivery to a client, where it lives here.
     pub(crate) fn make_room(&mut self, client: u32) -> Result<(), NoMemory>
         ensures room { OnOk result ((s : SessionParts) → Has s self.new → s.client ≡ client → 1 ≤ s.room) }
-        ensures more { (s : SessionParts) → Has s self.new → (t : SessionParts) × Has t self.old × (t.client ≡ s.client) × (t.room ≤ s.room) × (t.planned ≡ s.planned) }
+        ensures more { HaveMoreRoom self.old self.new }
         ensures bare { map bare self.new ≡ map bare self.old }
     {
         let Some(place) = self.place(client) else {

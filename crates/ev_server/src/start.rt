@@ -13,8 +13,8 @@ ghost use Rattle.ev_server.specs.Clients.{numbers_of};
 ghost use Rattle.ev_server.specs.Start.{sessions_of};
 
 use crate::clients::Clients;
-use crate::server::Core;
 use crate::ledger::Ledger;
+use crate::server::Core;
 use ev_memory::NoMemory;
 use ev_model::Net;
 use ev_session::Session;
@@ -44,11 +44,12 @@ fn at_home(alloc: Global, net: &Net, server: u32) -> Result<Clients, NoMemory>
 {
     let mut numbers = Vec::new(alloc);
     let mut sessions = Vec::new(alloc);
-    for (place, client) in net.clients.iter().enumerate() {
+    let mut number = 0;
+    for client in &net.clients {
+        number += 1;
         if client.home != server {
             continue;
         }
-        let number = place as u32 + 1;
         let script = copied(alloc, &client.script)?;
         numbers.push(number)?;
         sessions.push(Session::start(alloc, number, net.semantics, script))?;
