@@ -1,5 +1,5 @@
 -- A client's next command as a step of the server.
-use Rattle.std.proofs.Common.{◌≡◌, ◌≢◌, ◌⊎◌, ◌↔◌, inl, inr, ℕ, zero, suc, max, ◌+◌, ◌-◌, ◌^◌, ◌<◌, ◌≤◌, ◌==◌, nat_lt, cond, not, ◌&&◌, ◌||◌, Bool, true, false, List, [], ◌∷◌, ◌++◌, map, filter, take, slice_get, length, Option, Some, None, refl, sym, ap, subst, ◌∙◌, arith}
+use Rattle.std.proofs.Common.{◌≡◌, ◌≢◌, ◌⊎◌, ◌↔◌, inl, inr, ℕ, zero, suc, max, ◌+◌, ◌-◌, ◌^◌, ◌<◌, ◌≤◌, ◌==◌, nat_lt, cond, not, ◌&&◌, ◌||◌, Bool, true, false, List, [], ◌∷◌, ◌++◌, map, filter, take, slice_get, length, IfSome, Option, Some, None, refl, sym, ap, subst, ◌∙◌, arith}
 use Rattle.std.specs.List.{flat_map}
 use Rattle.std.specs.Int.{IsInRange}
 use Rattle.std.specs.List.Sorted.{IsStrictlyIncreasing}
@@ -42,7 +42,7 @@ use Rattle.ev_session.proofs.Turning.{filters-turn, adverts-turn, filters-apart,
 use Rattle.ev_server.specs.Clients.{bare, numbers_of, at_client, stepped}
 use Rattle.ev_server.specs.Staged.{is_some_there}
 use Rattle.ev_server.specs.Ledger.{LedgerParts, FiltersSet, AdvertsSet}
-use Rattle.ev_server.specs.Acting.{HasActed, HasDone, planned_message, IsClear}
+use Rattle.ev_server.specs.Acting.{HasActed, HasDone, planned_message, IsClear, IsRouted}
 use Rattle.ev_server.specs.Core.{CoreParts, core_parts, published_from, IsServerState}
 use Rattle.ev_server.specs.Kept.{IsCore}
 use Rattle.ev_server.specs.Routed.{IsRoute, RoutesNext, RoutesMessage}
@@ -250,6 +250,13 @@ committed net server clock client ledger sessions state stands = record {
     inboxes s (took t h e q) = subst (λ z. z.inbox ≡ deliveries_of (state.inbox z.client)) (sym q) (stands.inboxes t h)
     inboxes s (kept-on t h n q) = subst (λ z. z.inbox ≡ deliveries_of (state.inbox z.client)) (sym q) (stands.inboxes t h)
 
+plan-alike : (s t : SessionParts) → s.client ≡ t.client → s.semantics ≡ t.semantics → s.script ≡ t.script → s.taken ≡ t.taken → next_plan s ≡ next_plan t
+plan-alike s t c m r k =
+    ap (λ z. next_plan (session_parts z s.semantics s.script s.taken [] 0 false)) c
+    ∙ ap (λ z. next_plan (session_parts t.client z s.script s.taken [] 0 false)) m
+    ∙ ap (λ z. next_plan (session_parts t.client t.semantics z s.taken [] 0 false)) r
+    ∙ ap (λ z. next_plan (session_parts t.client t.semantics t.script z [] 0 false)) k
+
 module _ (server clock stamp client : ℕ) (old new : LedgerParts) (clients mid : List SessionParts) (route : List ℕ) (sent : List Sent)
     (kept : IsCore (core_parts server old (map bare clients) clock)) (p : Planned)
     (planned : (s : SessionParts) → Has s (map bare clients) → s.client ≡ client → next_plan s ≡ Some p)
@@ -342,6 +349,12 @@ module _ (server clock stamp client : ℕ) (old new : LedgerParts) (clients mid 
           let u = before t h in
           subst (λ z. advs new.control (64 + z.client) ≡ advert_set_at z z.taken) (sym q)
           (left.adverts (64 + t.client) (λ e. n (omega (arith, e))) ∙ ap (λ z. advs old.control (64 + z)) u.2.client ∙ kept.own_adverts u.0 u.1 (ap by_adverts (sym left.semantics) ∙ on) ∙ sym (adverts-own t u.0 u.2))
+
+  -- the plan stands through the act
+  pub plan-after : (s : SessionParts) → Has s mid → s.client ≡ client → next_plan s ≡ Some p
+  plan-after s m e =
+      let t = deed-own (planned_message old.control.semantics p) deed (bare s) (map-has bare mid s m) in
+      plan-alike s t.0 t.2.client t.2.semantics t.2.script t.2.taken ∙ planned t.0 t.1 (sym t.2.client ∙ e)
 
   -- the step
   module _ (lives : Has client (numbers_of (map bare clients))) (routes : RoutesNext (core_parts server old (map bare clients) clock) client route) where
@@ -441,3 +454,62 @@ module _ (server clock stamp client : ℕ) (old new : LedgerParts) (clients mid 
       same_server = refl;
       same_links = left.links;
     }
+
+-- sessions and what is seen of them
+pub numbers-bare : (sessions : List SessionParts) → numbers_of (map bare sessions) ≡ numbers_of sessions
+numbers-bare [] = refl
+numbers-bare (s ∷ sessions) = ap (λ z. s.client ∷ z) (numbers-bare sessions)
+
+-- what holds of what is seen of a session, where it says nothing of room and plans
+pub of-bare : (clients mid : List SessionParts) → map bare mid ≡ map bare clients → (s : SessionParts) → Has s mid → (t : SessionParts) × Has t clients × (bare t ≡ bare s)
+of-bare clients mid e s m = let r = has-map bare clients (bare s) (subst (Has (bare s)) e (map-has bare mid s m)) in (r.0, r.1, sym r.2)
+
+-- the publisher of a plan's publication
+publisher : ℕ → Planned → ℕ
+publisher client (plans.Subs out add) = client
+publisher client (plans.Advs out add) = client
+publisher client (plans.Publish i n) = i.publisher
+publisher client (plans.Refused o) = client
+
+module _ (s : SessionParts) where
+  chosen-publisher : (b : Bool) (o : ℕ) (n : List Attribute) → publisher s.client (cond b (plans.Publish (record { publisher = s.client; ordinal = o }) n) (plans.Refused o)) ≡ s.client
+  unfolding publisher
+  chosen-publisher true o n = refl
+  chosen-publisher false o n = refl
+
+  publisher-by : (command : Command) → publisher s.client (plan_by s command) ≡ s.client
+  unfolding publisher
+  publisher-by (commands.Subscribe f) = refl
+  publisher-by (commands.Unsubscribe f) = refl
+  publisher-by (commands.Advertise a) = refl
+  publisher-by (commands.Unadvertise a) = refl
+  publisher-by (commands.Publish n) = chosen-publisher (accepts real (net_under s.semantics) (adverts_at s s.taken) n) (publishes_at s (suc s.taken)) n
+
+  publisher-in : (o : Option (ℕ × Command)) (p : Planned) → plan_in s o ≡ Some p → publisher s.client p ≡ s.client
+  publisher-in None p q = absurd cc
+  publisher-in (Some step) p q = ap (publisher s.client) (sym (some-is q)) ∙ publisher-by step.1
+
+  publishes-own : (id : Id) (n : List Attribute) → next_plan s ≡ Some (plans.Publish id n) → id.publisher ≡ s.client
+  unfolding publisher
+  publishes-own id n e = publisher-in (slice_get s.script s.taken) (plans.Publish id n) e
+
+-- what a planned message meets
+pub command-clear : (semantics : Semantics) (s : SessionParts) (p : Planned) → next_plan s ≡ Some p → IsCounted p → IsInRange 1 1024 s.client → IfSome (planned_message semantics p) IsClear
+command-clear semantics s (plans.Subs out add) e counted id = filters-apart s out add e
+command-clear Subscription s (plans.Advs out add) e counted id = tt
+command-clear Advertisement s (plans.Advs out add) e counted id = adverts-apart s out add e
+command-clear semantics s (plans.Publish i n) e counted id = (subst (IsInRange 1 1024) (sym (publishes-own s i n e)) id, counted)
+command-clear semantics s (plans.Refused o) e counted id = tt
+
+pub command-routed : (core : CoreParts) (client : ℕ) (route : List ℕ) → RoutesNext core client route → (semantics : Semantics) (s : SessionParts) → Has s core.clients → s.client ≡ client → (p : Planned) → next_plan s ≡ Some p → IfSome (planned_message semantics p) (λ m. IsRouted m route)
+command-routed core client route r semantics s h e (plans.Subs out add) q = tt
+command-routed core client route r Subscription s h e (plans.Advs out add) q = tt
+command-routed core client route r Advertisement s h e (plans.Advs out add) q = tt
+command-routed core client route r semantics s h e (plans.Publish id n) q = (r s id n h e q).rising
+command-routed core client route r semantics s h e (plans.Refused o) q = tt
+
+-- what a plan says of sessions says the same of what is seen of them
+pub planned-bare : (client : ℕ) (p : Planned) (clients later : List SessionParts) → map bare later ≡ map bare clients → ((s : SessionParts) → Has s clients → s.client ≡ client → next_plan s ≡ Some p) → (s : SessionParts) → Has s (map bare later) → s.client ≡ client → next_plan s ≡ Some p
+planned-bare client p clients later same told s m e =
+    let q = has-map bare clients s (subst (Has s) same m) in
+    subst (λ z. next_plan z ≡ Some p) (sym q.2) (told q.0 q.1 (ap (λ z. z.client) (sym q.2) ∙ e))

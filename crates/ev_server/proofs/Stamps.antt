@@ -1,8 +1,21 @@
--- Numbers of stamps.
-use Rattle.std.proofs.Common.{◌≡◌, ℕ, suc, max, ◌+◌, arith}
+-- Stamps, and the one fault that they have.
+use Rattle.std.proofs.Common.{◌≡◌, ◌↔◌, ℕ, suc, max, ◌+◌, Result, Err, IsErrOf, ap, sym, ◌∙◌, arith}
+use Rattle.ev_server.specs.Step.{last_stamp}
+use Rattle.ev_server.specs.declared.stepped.StepFault.{StepFault}
+use Rattle.ev_server.specs.declared.stepped.StepFault.TheVariants.{Worn}
 
 pub max-none : (n : ℕ) → max n 0 ≡ n
 max-none n = grind arith
 
 pub next-is : (a b : ℕ) → a ≡ 1 + b → a ≡ suc b
 next-is a b e = omega (arith, e)
+
+err-is : {T : Type 0} {f g : StepFault} → IsErrOf {T = T} (Err f) g → f ≡ g
+err-is e = cc
+
+-- a fault is one whatever the answer would have been
+pub worn-of : {A B P : Type 0} (fault : StepFault) (s : ℕ) → IsErrOf {T = A} (Err fault) (Worn s) ↔ P → IsErrOf {T = B} (Err fault) (Worn s) ↔ P
+worn-of fault s told = (λ e. told.0 (ap Err (err-is e)), λ p. ap Err (err-is (told.1 p)))
+
+pub worn-none : {A : Type 0} (clock s : ℕ) (fault : StepFault) → IsErrOf {T = A} (Err fault) (Worn s) ↔ ((max clock 0 ≡ last_stamp) × (s ≡ last_stamp)) → IsErrOf {T = A} (Err fault) (Worn s) ↔ ((clock ≡ last_stamp) × (s ≡ last_stamp))
+worn-none clock s fault told = (λ e. let r = told.0 e in (sym (max-none clock) ∙ r.0, r.1), λ r. told.1 (max-none clock ∙ r.0, r.1))

@@ -1,7 +1,8 @@
-use Rattle.std.proofs.Common.{subst}
+use Rattle.std.proofs.Common.{◌≡◌, sym, subst}
+use Rattle.std.specs.List.Sorted.{IsStrictlyIncreasing}
 use Rattle.ev_sets.specs.Sets.{Has}
-use Rattle.ev_wire.specs.declared.message.Message.TheVariants.{Subs, Advs}
-use Rattle.ev_server.specs.Acting.{IsClear}
+use Rattle.ev_wire.specs.declared.message.Message.TheVariants.{Notice, Subs, Advs}
+use Rattle.ev_server.specs.Acting.{IsClear, IsRouted}
 use Rattle.ev_server.proofs.acting.act.Goals as goal
 
 pub set_filters-requires : goal.set_filters-requires
@@ -15,4 +16,6 @@ set_adverts-requires c =
     λ f m n. clear f (subst (λ z. Has f z) c.as_slice-in-Advs.ensures m) (subst (λ z. Has f z) c.as_slice-in-Advs-2.ensures n)
 
 pub spread-requires-clause-rising : goal.spread-requires-clause-rising
-spread-requires-clause-rising c = ?
+spread-requires-clause-rising c =
+    let routed : IsStrictlyIncreasing c.args.route.now = subst (λ z. IsRouted z c.args.route.now) c.in-Notice.is c.requires.routed in
+    subst IsStrictlyIncreasing (sym c.ifaces.ensures) routed

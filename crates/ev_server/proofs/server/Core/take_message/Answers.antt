@@ -11,11 +11,11 @@ use Rattle.ev_server.specs.Core.{core_parts}
 use Rattle.ev_server.specs.Routed.{RoutesMessage}
 use Rattle.ev_server.specs.Step.{MakesStep, last_stamp}
 use Rattle.ev_server.proofs.Made.{message-made, message-kept, routed-message, clear-message}
-use Rattle.ev_server.proofs.Stamps.{next-is}
+use Rattle.ev_server.proofs.Stamps.{next-is, worn-of}
 use Rattle.ev_server.proofs.server.Core.take_message.Goals as goal
 
 pub returns-in-Err-clause-worn : goal.returns-in-Err-clause-worn
-returns-in-Err-clause-worn c = c.in-Err.ensures.worn
+returns-in-Err-clause-worn c = λ s. worn-of c.in-Err.fault s (c.in-Err.ensures.worn s)
 
 pub act-requires-clause-clear : goal.act-requires-clause-clear
 act-requires-clause-clear c = clear-message c.args.message c.requires.text
