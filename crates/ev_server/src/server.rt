@@ -1,5 +1,5 @@
 //! Cores of servers.
-ghost use Rattle.std.specs.Prelude.{◌≡◌, ◌<◌, ◌≤◌, ◌^◌, ◌↔◌, ◌+◌, ℕ, List, [], max, length, map, Some, IfOk, OnOk, OnErr, IsErrOf, IsSome, IfSome, MatchOption};
+ghost use Rattle.std.specs.Prelude.{◌≡◌, ◌<◌, ◌≤◌, ◌^◌, ◌↔◌, ◌+◌, ℕ, List, [], max, length, map, Some, IfOk, OnOk, OnErr, IsErrOf, IsSome, IfSome, IfNone};
 ghost use Rattle.ev_sets.specs.Sets.{Has};
 ghost use Rattle.ev_notice.specs.Notice.{Attribute};
 ghost use Rattle.ev_run.specs.Machine.{Does, Takes};
@@ -10,8 +10,9 @@ ghost use Rattle.ev_control.specs.Control.{subs};
 ghost use Rattle.ev_model.specs.Meaning.{message_of};
 ghost use Rattle.ev_session.specs.declared.planned.Planned.TheVariants.{Publish};
 ghost use Rattle.ev_session.specs.Plan.{next_plan};
-ghost use Rattle.ev_session.specs.Session.{SessionParts, net_under, adverts_at};
-ghost use Rattle.ev_routing.specs.Clients.{accepts};
+ghost use Rattle.ev_session.specs.Session.{SessionParts};
+ghost use Rattle.ev_routing.specs.Clients.{some_pass};
+ghost use Rattle.ev_wire.specs.declared.command.Command.TheVariants as commands;
 ghost use Rattle.ev_theory.specs.Real.{real};
 ghost use Rattle.ev_server.specs.Acting.{planned_message};
 ghost use Rattle.ev_server.specs.Clients.{bare, numbers_of};
@@ -30,7 +31,7 @@ use crate::stepped::{StepFault, Stepped};
 use ev_control::HeldLink;
 use ev_counting::{Change, Route};
 use ev_memory::NoMemory;
-use ev_notice::{Notice, allows};
+use ev_notice::{Advert, Notice, allows};
 use ev_session::{Planned, Session};
 use ev_wire::{Command, Message, Semantics};
 use std::alloc::Global;
@@ -204,31 +205,21 @@ impl Core {
         ensures session { Has (bare result.now) self.now.clients }
         ensures client { result.now.client ≡ client }
     {
-        self.clients.session(client).unwrap()
+        let Some(session) = self.clients.session(client) else {
+            unreachable!()
+        };
+        session
     }
 
     /// The notice of the next command of a client that lives here; `None` where that is no publish that will be
     /// accepted, or there is none.
     pub fn next_publish(&self, client: u32) -> Option<&Notice>
         requires { Has client (numbers_of self.now.clients) }
-        ensures { (s : SessionParts) (n : List Attribute) → Has s self.now.clients → s.client ≡ client
-            → (MatchOption result ⊥ (λ notice. notice.now ≡ n)) ↔ ((id : Id) × (next_plan s ≡ Some (Publish id n))) }
+        ensures publish { IfSome result (λ n. (s : SessionParts) × Has s self.now.clients × (s.client ≡ client) × ((id : Id) × (next_plan s ≡ Some (Publish id n.now)))) }
+        ensures none { IfNone result ((s : SessionParts) × Has s self.now.clients × (s.client ≡ client) × ((id : Id) (n : List Attribute) → next_plan s ≡ Some (Publish id n) → ⊥)) }
     {
-        let session = self.clients.session(client).unwrap();
-        match session.next() {
-            Some((_, Command::Publish(notice))) if self.accepts(session, notice) => Some(notice),
-            _ => None,
-        }
-    }
-
-    /// Whether a client may publish a notice now.
-    fn accepts(&self, session: &Session, notice: &Notice) -> bool
-        ensures { result ≡ accepts real (net_under self.now.control.semantics) (adverts_at session.now session.now.taken) notice.now }
-    {
-        match self.ledger.control().semantics() {
-            Semantics::Subscription => true,
-            Semantics::Advertisement => session.adverts().iter().any(|advert| allows(advert, notice)),
-        }
+        let session = self.session(client);
+        next_publish_of(self.ledger.control().semantics(), session)
     }
 
     /// What the core would have on other links; the core stays as it is.
@@ -279,4 +270,49 @@ fn as_message(
         }),
         _ => None,
     })
+}
+
+/// The notice of the next command of a session, where it is a publish that will be accepted.
+fn next_publish_of<'a>(semantics: Semantics, session: &'a Session) -> Option<&'a Notice>
+    requires { session.now.semantics ≡ semantics }
+    ensures publish { IfSome result (λ n. (id : Id) × (next_plan session.now ≡ Some (Publish id n.now))) }
+    ensures none { IfNone result ((id : Id) (n : List Attribute) → next_plan session.now ≡ Some (Publish id n) → ⊥) }
+{
+    let (_, command) = session.next()?;
+    let notice = notice_of(command)?;
+    if semantics == Semantics::Advertisement && !is_allowed(session.adverts(), notice) {
+        return None;
+    }
+    Some(notice)
+}
+
+/// The notice of a publish.
+fn notice_of(command: &Command) -> Option<&Notice>
+    ensures publish { IfSome result (λ n. command.now ≡ commands.Publish n.now) }
+    ensures other { IfNone result ((n : List Attribute) → command.now ≡ commands.Publish n → ⊥) }
+{
+    match command {
+        Command::Publish(notice) => Some(notice),
+        _ => None,
+    }
+}
+
+/// Whether the advertisement allows the notice.
+fn is_allowed_by(notice: &Notice, advert: &Advert) -> bool
+    ensures { result ≡ real.allows advert.now notice.now }
+{
+    let _ = notice.attributes();
+    allows(advert, notice)
+}
+
+/// Whether one of these advertisements allows the notice.
+fn is_allowed(adverts: &[Advert], notice: &Notice) -> bool
+    ensures { result ≡ some_pass (λ a. real.allows a notice.now) adverts.now }
+{
+    for advert in adverts {
+        if is_allowed_by(notice, advert) {
+            return true;
+        }
+    }
+    false
 }
