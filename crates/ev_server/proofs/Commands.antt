@@ -513,3 +513,36 @@ pub planned-bare : (client : ℕ) (p : Planned) (clients later : List SessionPar
 planned-bare client p clients later same told s m e =
     let q = has-map bare clients s (subst (Has s) same m) in
     subst (λ z. next_plan z ≡ Some p) (sym q.2) (told q.0 q.1 (ap (λ z. z.client) (sym q.2) ∙ e))
+
+-- whether the next command is a publish that will be accepted
+pub publishes-next : (s : SessionParts) (phase : ℕ) (command : Command) (n : List Attribute) → slice_get s.script s.taken ≡ Some (phase, command) → command ≡ commands.Publish n → accepts real (net_under s.semantics) (adverts_at s s.taken) n ≡ true → (id : Id) × (next_plan s ≡ Some (plans.Publish id n))
+publishes-next s phase command n e q a =
+    (record { publisher = s.client; ordinal = publishes_at s (suc s.taken) },
+    ap (plan_in s) e ∙ ap (λ z. Some (plan_by s z)) q ∙ ap (λ b. Some (cond b (plans.Publish (record { publisher = s.client; ordinal = publishes_at s (suc s.taken) }) n) (plans.Refused (publishes_at s (suc s.taken))))) a)
+
+is-publication : Planned → Bool
+is-publication (plans.Subs out add) = false
+is-publication (plans.Advs out add) = false
+is-publication (plans.Publish id n) = true
+is-publication (plans.Refused o) = false
+
+pub not-accepted : (s : SessionParts) (phase : ℕ) (command : Command) (m : List Attribute) → slice_get s.script s.taken ≡ Some (phase, command) → command ≡ commands.Publish m → accepts real (net_under s.semantics) (adverts_at s s.taken) m ≡ false → (id : Id) (n : List Attribute) → next_plan s ≡ Some (plans.Publish id n) → ⊥
+unfolding is-publication
+not-accepted s phase command m e q a id n r =
+    let planned = ap (plan_in s) e ∙ ap (λ z. Some (plan_by s z)) q ∙ ap (λ b. Some (cond b (plans.Publish (record { publisher = s.client; ordinal = publishes_at s (suc s.taken) }) m) (plans.Refused (publishes_at s (suc s.taken))))) a in
+    let same : plans.Refused (publishes_at s (suc s.taken)) ≡ plans.Publish id n = some-is (sym planned ∙ r) in
+    split true refl (sym (ap is-publication same))
+
+pub no-publish : (s : SessionParts) (phase : ℕ) (command : Command) → slice_get s.script s.taken ≡ Some (phase, command) → ((m : List Attribute) → command ≡ commands.Publish m → ⊥) → (id : Id) (n : List Attribute) → next_plan s ≡ Some (plans.Publish id n) → ⊥
+unfolding is-publication
+no-publish s phase command e never id n r = go command never (some-is (sym (ap (plan_in s) e) ∙ r))
+  where
+    go : (command : Command) → ((m : List Attribute) → command ≡ commands.Publish m → ⊥) → plan_by s command ≡ plans.Publish id n → ⊥
+    go (commands.Subscribe f) other q = split true refl (sym (ap is-publication q))
+    go (commands.Unsubscribe f) other q = split true refl (sym (ap is-publication q))
+    go (commands.Advertise a) other q = split true refl (sym (ap is-publication q))
+    go (commands.Unadvertise a) other q = split true refl (sym (ap is-publication q))
+    go (commands.Publish m) other q = other m refl
+
+pub no-command : (s : SessionParts) → slice_get s.script s.taken ≡ None → (id : Id) (n : List Attribute) → next_plan s ≡ Some (plans.Publish id n) → ⊥
+no-command s e id n r = let empty : None ≡ Some (plans.Publish id n) = sym (ap (plan_in s) e) ∙ r in absurd cc

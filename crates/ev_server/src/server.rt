@@ -10,8 +10,8 @@ ghost use Rattle.ev_control.specs.Control.{subs};
 ghost use Rattle.ev_model.specs.Meaning.{message_of};
 ghost use Rattle.ev_session.specs.declared.planned.Planned.TheVariants.{Publish};
 ghost use Rattle.ev_session.specs.Plan.{next_plan};
-ghost use Rattle.ev_session.specs.Session.{SessionParts};
-ghost use Rattle.ev_routing.specs.Clients.{some_pass};
+ghost use Rattle.ev_session.specs.Session.{SessionParts, net_under};
+ghost use Rattle.ev_routing.specs.Clients.{accepts, some_pass};
 ghost use Rattle.ev_wire.specs.declared.command.Command.TheVariants as commands;
 ghost use Rattle.ev_theory.specs.Real.{real};
 ghost use Rattle.ev_server.specs.Acting.{planned_message};
@@ -219,7 +219,10 @@ impl Core {
         ensures none { IfNone result ((s : SessionParts) × Has s self.now.clients × (s.client ≡ client) × ((id : Id) (n : List Attribute) → next_plan s ≡ Some (Publish id n) → ⊥)) }
     {
         let session = self.session(client);
-        next_publish_of(self.ledger.control().semantics(), session)
+        match next_publish_of(self.ledger.control().semantics(), session) {
+            Some(notice) => Some(notice),
+            None => None,
+        }
     }
 
     /// What the core would have on other links; the core stays as it is.
@@ -280,10 +283,21 @@ fn next_publish_of<'a>(semantics: Semantics, session: &'a Session) -> Option<&'a
 {
     let (_, command) = session.next()?;
     let notice = notice_of(command)?;
-    if semantics == Semantics::Advertisement && !is_allowed(session.adverts(), notice) {
-        return None;
+    if is_accepted(semantics, session.adverts(), notice) {
+        Some(notice)
+    } else {
+        None
     }
-    Some(notice)
+}
+
+/// Whether a client with these advertisements may publish a notice.
+fn is_accepted(semantics: Semantics, adverts: &[Advert], notice: &Notice) -> bool
+    ensures { result ≡ accepts real (net_under semantics) adverts.now notice.now }
+{
+    match semantics {
+        Semantics::Subscription => true,
+        Semantics::Advertisement => is_allowed(adverts, notice),
+    }
 }
 
 /// The notice of a publish.
