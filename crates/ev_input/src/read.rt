@@ -1,5 +1,6 @@
 //! The reader of documents.
-ghost use Rattle.std.specs.Prelude.{◌≡◌, ◌≤◌, ◌⊎◌, ℕ, IfOk, IsErrOf, length};
+ghost use Rattle.std.specs.Prelude.{◌≡◌, ◌≤◌, ◌⊎◌, ℕ, IfOk, IsErrOf, IsOk, length};
+ghost use Rattle.ev_model.specs.Parts.{NetParts};
 ghost use Rattle.ev_input.specs.declared.fault.Fault.{Fault as Kind};
 ghost use Rattle.ev_input.specs.declared.fault.InputFault.TheVariants.{Bad, NoMemory};
 ghost use Rattle.ev_input.specs.Lines.{lines};
@@ -88,6 +89,7 @@ fn answered(alloc: Global, bytes: &[u8]) -> Result<Net, InputFault>
 /// in proportion to the document, but that an edge takes a step for each server and the end builds the trees.
 pub fn read_net(alloc: Global, bytes: &[u8]) -> Result<Net, InputFault>
     ensures net { IfOk result (λ net. IsNetOf bytes.now net) }
+    ensures given { (net : NetParts) → IsNetOf bytes.now net → IsOk result ⊎ IsErrOf result NoMemory }
     ensures bad { (line : ℕ) (kind : Kind) → IsErrOf result (Bad line kind) → IsBadAt bytes.now line kind }
     ensures refused { (line : ℕ) (kind : Kind) → IsBadAt bytes.now line kind → IsErrOf result (Bad line kind) ⊎ IsErrOf result NoMemory }
 {
