@@ -1,19 +1,23 @@
 -- What the rows name, as what servers hold of their neighbours.
-use Rattle.std.proofs.Common.{◌≡◌, ◌⊎◌, inl, inr, ℕ, suc, ◌+◌, ◌-◌, ◌<◌, ◌≤◌, List, [], ◌∷◌, ◌++◌, Some, None, map, take, length, slice_get, get_or, refl, sym, ap, subst, ◌∙◌, arith, add-one}
+use Rattle.std.proofs.Common.{◌≡◌, ◌⊎◌, inl, inr, ℕ, suc, nat_lt, true, ◌+◌, ◌-◌, ◌<◌, ◌≤◌, List, [], ◌∷◌, ◌++◌, Some, None, map, take, length, slice_get, get_or, refl, sym, ap, subst, ◌∙◌, arith, add-one}
+use Rattle.std.proofs.lemmas.Bool.Decides.{nat_tests}
 use Rattle.std.proofs.lemmas.Option.{slice_get_cases}
 use Rattle.std.proofs.lemmas.List.{length-append}
-use Rattle.ev_sets.specs.Sets.{Has}
+use Rattle.ev_sets.specs.Sets.{Has, IsRising}
 use Rattle.ev_constraint.specs.Constraint.{ConstraintParts}
+use Rattle.ev_notice.specs.Before.{list_before}
 use Rattle.ev_pool.specs.Pool.{Pooled, Names}
 use Rattle.ev_poset.proofs.Pairs.{has-push, un-push}
 use Rattle.ev_wire.specs.declared.semantics.Semantics.{Semantics}
-use Rattle.ev_tree.specs.Tree.{Topology, IsServer, links_of}
+use Rattle.ev_tree.specs.Tree.{Topology, TreeLaws, IsServer, links_of}
 use Rattle.ev_routing.proofs.Listing.{has-map}
 use Rattle.ev_control.specs.declared.control.HeldLink.{HeldLink}
 use Rattle.ev_control.proofs.Named.{named-is}
 use Rattle.ev_control.proofs.Taken.{take-some}
 use Rattle.ev_flow.specs.declared.home.Home.{Home}
-use Rattle.ev_flow.specs.Flow.{filters_of, adverts_of, IsFlow}
+use Rattle.ev_flow.specs.Flow.{filters_of, adverts_of, IsFlow, AreGivenLinks}
+use Rattle.ev_flow.proofs.Ordering.{to-small}
+use Rattle.ev_flow.proofs.Filling.{lone, lone-on, lone-union, filters-rise, adverts-rise}
 use Rattle.ev_flow.specs.Rows.{row_at, home_row, AreHomeRows, AreAdverts, AreFilters, IsHeldOf}
 
 map-push : {A B : Type 0} (f : A → B) (xs : List A) (x : A) → map f (xs ++ x ∷ []) ≡ map f xs ++ f x ∷ []
@@ -68,3 +72,27 @@ flow-is semantics tree homes pool ad_pool rows ad_rows table offers named ad_nam
   where
     near : Has link.link (links_of tree server)
     near = subst (Has link.link) is (has-map (λ (l : HeldLink). l.link) link links m)
+
+not-less : (x y : ℕ) → nat_lt x y ≡ true → x ≡ y → ⊥
+not-less x y e q = grind (arith, nat_tests, e, q)
+
+-- links of rising numbers are told apart by them
+apart : (links : List HeldLink) → IsRising nat_lt (map (λ (l : HeldLink). l.link) links) → (a b : HeldLink) → Has a links → Has b links → a.link ≡ b.link → a ≡ b
+apart [] rises a b m n e = absurd m
+apart (x ∷ xs) rises a b (inl p) (inl q) e = p ∙ sym q
+apart (x ∷ xs) rises a b (inl p) (inr n) e = absurd (not-less (x.link) (b.link) (rises.0 b.link (has-map (λ (l : HeldLink). l.link) b xs n)) (ap (λ l. l.link) (sym p) ∙ e))
+apart (x ∷ xs) rises a b (inr m) (inl q) e = absurd (not-less (x.link) (a.link) (rises.0 a.link (has-map (λ (l : HeldLink). l.link) a xs m)) (ap (λ l. l.link) (sym q) ∙ sym e))
+apart (x ∷ xs) rises a b (inr m) (inr n) e = apart xs rises.1 a b m n e
+
+-- what a control asks of the links
+pub given-links : (semantics : Semantics) (tree : Topology) → TreeLaws tree → (homes : List Home) (server : ℕ) (links : List HeldLink) → map (λ (l : HeldLink). l.link) links ≡ links_of tree server
+    → ((link : HeldLink) → Has link links → IsFlow semantics tree homes server link) → AreGivenLinks links
+given-links semantics tree laws homes server links is flows = record {
+  small = λ h m. omega (arith, to-small tree laws server h.link (near h m));
+  distinct = apart links (subst (IsRising nat_lt) (sym is) (laws.rising server));
+  filters = λ h m. subst (IsRising list_before) (sym ((flows h m).filters (lone semantics tree) (λ s i. filters_of homes s) (λ s i. adverts_of homes s) (lone-on semantics tree) (lone-union semantics tree (filters_of homes)) (lone-union semantics tree (adverts_of homes)))) (filters-rise semantics tree laws (filters_of homes) (adverts_of homes) server h.link (near h m));
+  adverts = λ h m. subst (IsRising list_before) (sym ((flows h m).adverts (lone semantics tree) (λ s i. adverts_of homes s) (lone-on semantics tree) (lone-union semantics tree (adverts_of homes)))) (adverts-rise semantics tree laws (adverts_of homes) server h.link (near h m));
+}
+  where
+    near : (h : HeldLink) → Has h links → Has h.link (links_of tree server)
+    near h m = subst (Has h.link) is (has-map (λ (l : HeldLink). l.link) h links m)

@@ -3,10 +3,10 @@ use Rattle.std.proofs.Common.{◌≡◌, ◌⊎◌, ◌↔◌, inl, inr, ℕ, su
 use Rattle.std.proofs.lemmas.Bool.Decides.{nat_tests}
 use Rattle.ev_sets.specs.Sets.{Has, IsRising, roots}
 use Rattle.ev_sets.proofs.Roots.{filter-iff}
-use Rattle.ev_sets.proofs.Sets.{rising-filter}
+use Rattle.ev_sets.proofs.Sets.{rising-filter, rising-roots}
 use Rattle.ev_constraint.specs.Constraint.{ConstraintParts}
 use Rattle.ev_notice.specs.Before.{list_before}
-use Rattle.ev_cover.specs.Laws.{sub_laws}
+use Rattle.ev_cover.specs.Laws.{sub_laws, ad_laws}
 use Rattle.ev_pool.specs.Pool.{Pooled, IsAt, Names}
 use Rattle.ev_poset.proofs.Rows.{at-one}
 use Rattle.ev_wire.specs.declared.semantics.Semantics.{Semantics}
@@ -159,7 +159,7 @@ adverts-none tree laws pool homes table blank given net sets named-homes on unio
     rw (blank a b, none) refl
 
 -- a net on the tree in which each server has one client
-abbrev lone : Semantics → Topology → Net real
+abbrev pub lone : Semantics → Topology → Net real
 lone semantics tree = record {
   adverts = by_adverts semantics;
   servers = servers_of tree;
@@ -171,10 +171,10 @@ lone semantics tree = record {
 }
 
 module _ (semantics : Semantics) (tree : Topology) where
-  lone-on : IsNetOn semantics tree (lone semantics tree)
+  pub lone-on : IsNetOn semantics tree (lone semantics tree)
   lone-on = record { adverts = refl; servers = refl; links = refl; counted = λ s c m. elim m [ inl q ↦ omega (arith, q) | inr n ↦ absurd n ] }
 
-  lone-union : (given : ℕ → List (List ConstraintParts)) → IsUnionOfClients (lone semantics tree) (λ s i. given s) given
+  pub lone-union : (given : ℕ → List (List ConstraintParts)) → IsUnionOfClients (lone semantics tree) (λ s i. given s) given
   lone-union given s h x = (λ m. (suc s, inl refl, m), λ r. r.2)
 
   -- so all rows are of live keys
@@ -186,3 +186,24 @@ module _ (semantics : Semantics) (tree : Topology) where
       → AreFilters semantics tree pool homes ad_pool ad_homes table → (a b : ℕ) → Has b (links_of tree a) → AreLive pool (row_at table a b)
   filters-live pool ad_pool homes ad_homes table given ad_given rows ad_rows subs a b m =
       names-live pool (row_at table a b) _ (subs given ad_given (lone semantics tree) (λ s i. given s) (λ s i. ad_given s) rows ad_rows lone-on (lone-union given) (lone-union ad_given) a b m)
+
+  -- and what flows is rising
+  pub filters-rise : TreeLaws tree → (given ad_given : ℕ → List (List ConstraintParts)) → (a b : ℕ) → Has b (links_of tree a) → IsRising list_before (flow real (lone semantics tree) (λ s i. given s) (λ s i. ad_given s) a b)
+  filters-rise laws given ad_given a b m =
+      let sets : ℕ → ℕ → List (List ConstraintParts) = λ s i. given s in
+      let ads : ℕ → ℕ → List (List ConstraintParts) = λ s i. ad_given s in
+      let wanted : List ConstraintParts → Bool = λ x. not (by_adverts semantics) || some_pass (real.overlaps x) (flow_ad real (lone semantics tree) ads b a) in
+      let all : List (List ConstraintParts) = union_except list_before (holds real (lone semantics tree) sets b (flow real (lone semantics tree) sets ads b)) a (interfaces real (lone semantics tree) b) in
+      subst (IsRising list_before) (sym (sub-is semantics tree laws (lone semantics tree) lone-on sets ads a b m))
+      (rising-roots sub_laws (filter wanted all) (rising-filter sub_laws wanted all (rising-except sub_laws (holds real (lone semantics tree) sets b (flow real (lone semantics tree) sets ads b)) a (interfaces real (lone semantics tree) b))))
+
+  pub adverts-rise : TreeLaws tree → (given : ℕ → List (List ConstraintParts)) → (a b : ℕ) → Has b (links_of tree a) → IsRising list_before (flow_ad real (lone semantics tree) (λ s i. given s) a b)
+  adverts-rise laws given a b m =
+      let sets : ℕ → ℕ → List (List ConstraintParts) = λ s i. given s in
+      let all : List (List ConstraintParts) = union_except list_before (holds real (lone semantics tree) sets b (flow_ad real (lone semantics tree) sets b)) a (interfaces real (lone semantics tree) b) in
+      subst (IsRising list_before) (sym (ad-is semantics tree laws (lone semantics tree) lone-on sets sets a b m))
+      (either (by_adverts semantics) (roots real.covers_advert list_before all) (rising-roots ad_laws all (rising-except sub_laws (holds real (lone semantics tree) sets b (flow_ad real (lone semantics tree) sets b)) a (interfaces real (lone semantics tree) b))))
+    where
+      either : (t : Bool) (xs : List (List ConstraintParts)) → IsRising list_before xs → IsRising list_before (cond t xs [])
+      either true xs r = r
+      either false xs r = tt

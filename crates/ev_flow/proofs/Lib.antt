@@ -6,3 +6,4 @@ pub mod Filling
 pub mod Gathering
 pub mod Making
 pub mod Answering
+pub mod Nets

@@ -1,7 +1,8 @@
 -- What each server holds of its neighbours once a tree comes into force, from what the clients of each server have together.
 use Rattle.std.specs.Prelude.{◌≡◌, ◌↔◌, ℕ, zero, suc, ◌+◌, ◌≤◌, List, [], Option, Some, None, slice_get}
-use Rattle.ev_sets.specs.Sets.{Has}
+use Rattle.ev_sets.specs.Sets.{Has, IsRising}
 use Rattle.ev_constraint.specs.Constraint.{ConstraintParts}
+use Rattle.ev_notice.specs.Before.{list_before}
 use Rattle.ev_wire.specs.declared.semantics.Semantics.{Semantics}
 use Rattle.ev_tree.specs.Tree.{Topology, servers_of, links_of}
 use Rattle.ev_routing.specs.Net.{Net}
@@ -50,3 +51,10 @@ pub record IsFlow (semantics : Semantics) (tree : Topology) (homes : List Home) 
       → IsUnionOfClients net sets (filters_of homes) → IsUnionOfClients net ad_sets (adverts_of homes) → held.filters ≡ flow real net sets ad_sets server held.link
   pub adverts : (net : Net real) (ad_sets : ℕ → ℕ → List (List ConstraintParts)) → IsNetOn semantics tree net
       → IsUnionOfClients net ad_sets (adverts_of homes) → held.adverts ≡ flow_ad real net ad_sets server held.link
+
+-- what a control asks of the links that it is given: numbers of servers, each once, with rising sets
+pub record AreGivenLinks (links : List HeldLink) : Type 0 where
+  pub small : (h : HeldLink) → Has h links → h.link ≤ 64
+  pub distinct : (a b : HeldLink) → Has a links → Has b links → a.link ≡ b.link → a ≡ b
+  pub filters : (h : HeldLink) → Has h links → IsRising list_before h.filters
+  pub adverts : (h : HeldLink) → Has h links → IsRising list_before h.adverts

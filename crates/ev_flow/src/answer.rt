@@ -5,7 +5,7 @@ ghost use Rattle.ev_notice.specs.Before.{list_before};
 ghost use Rattle.ev_tree.specs.Tree.{IsServer, links_of};
 ghost use Rattle.ev_control.specs.declared.control.HeldLink.{HeldLink};
 ghost use Rattle.ev_control.specs.Stock.{named, AreLive};
-ghost use Rattle.ev_flow.specs.Flow.{IsFlow};
+ghost use Rattle.ev_flow.specs.Flow.{IsFlow, AreGivenLinks};
 ghost use Rattle.ev_flow.specs.Rows.{row_at, IsHeldOf};
 
 use crate::gather::gather;
@@ -101,6 +101,9 @@ fn all_links(
 
 /// For each server, by its number, what it holds of each of its neighbours, rising, once the tree
 /// comes into force. There is one home for each server.
+///
+/// Each link is computed once, from what its neighbour holds of its other neighbours. An item enters
+/// a covering graph once; a link then takes a look-up of each of the items that are not covered.
 pub fn flow(
     alloc: Global,
     semantics: Semantics,
@@ -111,6 +114,7 @@ pub fn flow(
     ensures servers { IfOk result (λ held. length held.items ≡ tree.now.count) }
     ensures links { IfOk result (λ held. (place : ℕ) (links : _) → slice_get held.items place ≡ Some links → map (λ link. link.link) links.items ≡ links_of tree.now (suc place)) }
     ensures flow { IfOk result (λ held. (place : ℕ) (links : _) → slice_get held.items place ≡ Some links → (link : HeldLink) → Has link links.items → IsFlow semantics tree.now homes.now (suc place) link) }
+    ensures given { IfOk result (λ held. (place : ℕ) (links : _) → slice_get held.items place ≡ Some links → AreGivenLinks links.items) }
 {
     tree.laws();
     let (filters, filter_homes) = gather::<Sub>(alloc, homes)?;

@@ -11,6 +11,7 @@ mod answer;
 mod gather;
 mod home;
 mod keys;
+mod law;
 mod made;
 mod marks;
 mod order;
@@ -19,3 +20,4 @@ mod table;
 
 pub use answer::flow;
 pub use home::Home;
+pub use law::nets_on_trees;

@@ -3,7 +3,7 @@ use Rattle.ev_flow.specs.declared.home.Home.{Home}
 use Rattle.ev_flow.specs.Flow.{home_filters, home_adverts, filters_of, adverts_of}
 use Rattle.ev_flow.specs.Rows.{AreHomeRows, AreAdverts, AreFilters}
 use Rattle.ev_flow.proofs.Filling.{adverts-live, filters-live}
-use Rattle.ev_flow.proofs.Answering.{home-rows, flow-is}
+use Rattle.ev_flow.proofs.Answering.{home-rows, flow-is, given-links}
 use Rattle.ev_flow.proofs.answer.flow.Goals as goal
 
 pub advert_table-requires-clause-all : goal.advert_table-requires-clause-all
@@ -42,3 +42,13 @@ returns-clause-flow c =
     let subs = subst (λ z. AreFilters c.args.semantics c.args.tree.now c.in_ok-filters.filters.pool c.in_ok-filters.filter_homes.items c.in_ok-adverts.adverts.pool z c.in_ok-table.table) c.deref-4.ensures.value (subst (λ z. AreFilters c.args.semantics c.args.tree.now c.in_ok-filters.filters.pool z c.in_ok-adverts.adverts.pool c.deref-4.result.now c.in_ok-table.table) c.deref-3.ensures.value c.in_ok-table.ensures) in
     λ place links e link m.
     flow-is c.args.semantics c.args.tree.now c.args.homes.now c.in_ok-filters.filters.pool c.in_ok-adverts.adverts.pool c.in_ok-filters.filter_homes.items c.in_ok-adverts.advert_homes.items c.in_ok-table.table c.in_ok-offers.offers rows ad_rows subs advs (suc place) links.items (c.in_ok-held.ensures.links place links e) link m (c.in_ok-held.ensures.held place links e link m)
+
+pub returns-clause-given : goal.returns-clause-given
+returns-clause-given c =
+    let rows = home-rows c.args.tree.now c.args.homes.now c.in_ok-filters.filters.pool c.in_ok-filters.filter_homes.items (λ (home : Home). home.filters) (filters_of c.args.homes.now) (λ place home e. ap home_filters e) c.requires.homes c.in_ok-filters.ensures.named in
+    let ad_rows = home-rows c.args.tree.now c.args.homes.now c.in_ok-adverts.adverts.pool c.in_ok-adverts.advert_homes.items (λ (home : Home). home.adverts) (adverts_of c.args.homes.now) (λ place home e. ap home_adverts e) c.requires.homes c.in_ok-adverts.ensures.named in
+    let advs = subst (λ z. AreAdverts c.args.semantics c.args.tree.now c.in_ok-adverts.adverts.pool z c.in_ok-offers.offers) c.deref.ensures.value c.in_ok-offers.ensures in
+    let subs = subst (λ z. AreFilters c.args.semantics c.args.tree.now c.in_ok-filters.filters.pool c.in_ok-filters.filter_homes.items c.in_ok-adverts.adverts.pool z c.in_ok-table.table) c.deref-4.ensures.value (subst (λ z. AreFilters c.args.semantics c.args.tree.now c.in_ok-filters.filters.pool z c.in_ok-adverts.adverts.pool c.deref-4.result.now c.in_ok-table.table) c.deref-3.ensures.value c.in_ok-table.ensures) in
+    λ place links e.
+    given-links c.args.semantics c.args.tree.now c.laws.ensures c.args.homes.now (suc place) links.items (c.in_ok-held.ensures.links place links e)
+    (λ link m. flow-is c.args.semantics c.args.tree.now c.args.homes.now c.in_ok-filters.filters.pool c.in_ok-adverts.adverts.pool c.in_ok-filters.filter_homes.items c.in_ok-adverts.advert_homes.items c.in_ok-table.table c.in_ok-offers.offers rows ad_rows subs advs (suc place) links.items (c.in_ok-held.ensures.links place links e) link m (c.in_ok-held.ensures.held place links e link m))
