@@ -48,7 +48,8 @@ IsUnionOfClients net sets given = (server : ℕ) → Has server net.servers → 
 -- what a server holds of a neighbour is what flows, whatever the net on the tree and its clients' sets, of which the homes are the unions
 pub record IsFlow (semantics : Semantics) (tree : Topology) (homes : List Home) (server : ℕ) (held : HeldLink) : Type 0 where
   pub filters : (net : Net real) (sets ad_sets : ℕ → ℕ → List (List ConstraintParts)) → IsNetOn semantics tree net
-      → IsUnionOfClients net sets (filters_of homes) → IsUnionOfClients net ad_sets (adverts_of homes) → held.filters ≡ flow real net sets ad_sets server held.link
+      → IsUnionOfClients net sets (filters_of homes) → IsUnionOfClients net ad_sets (adverts_of homes)
+      → held.filters ≡ flow real net sets ad_sets server held.link
   pub adverts : (net : Net real) (ad_sets : ℕ → ℕ → List (List ConstraintParts)) → IsNetOn semantics tree net
       → IsUnionOfClients net ad_sets (adverts_of homes) → held.adverts ≡ flow_ad real net ad_sets server held.link
 

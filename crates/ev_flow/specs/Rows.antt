@@ -1,7 +1,7 @@
 -- What contracts inside this crate see: rows of keys by link, and the order of links.
-use Rattle.std.specs.Prelude.{◌≡◌, ℕ, ◌+◌, ◌*◌, ◌-◌, ◌==◌, ◌&&◌, ◌⊎◌, Bool, List, [], Some, take, slice_get}
+use Rattle.std.specs.Prelude.{◌≡◌, ℕ, ◌+◌, ◌*◌, ◌-◌, ◌==◌, ◌&&◌, ◌⊎◌, ◌↔◌, Bool, true, List, [], Some, take, slice_get}
 use Rattle.std.specs.List.{slice_index_or, list_any}
-use Rattle.ev_sets.specs.Sets.{Has, same}
+use Rattle.ev_sets.specs.Sets.{Has, IsRising, roots, same}
 use Rattle.ev_constraint.specs.Constraint.{ConstraintParts}
 use Rattle.ev_pool.specs.Pool.{Pooled, IsAt, Names}
 use Rattle.ev_poset.specs.Poset.{Held, Agrees}
@@ -13,6 +13,7 @@ use Rattle.ev_routing.specs.Net.{Net}
 use Rattle.ev_routing.specs.Flow.{flow, flow_ad}
 use Rattle.ev_theory.specs.Real.{real}
 use Rattle.ev_control.specs.declared.control.HeldLink.{HeldLink}
+use Rattle.ev_control.specs.Control.{is_wanted}
 use Rattle.ev_control.specs.Stock.{named}
 use Rattle.ev_flow.specs.Flow.{IsNetOn, IsUnionOfClients}
 
@@ -51,13 +52,22 @@ module _ {T : Type 0} where
   abbrev pub IsNeededItem : Pooled T → Topology → List (List ℕ) → List (List ℕ) → ℕ → ℕ → T → Type 0
   IsNeededItem pool tree homes table a b x = (key : ℕ) × IsNeeded tree homes table a b key × IsAt pool key x
 
+  -- the row names the roots of the set of what is due
+  abbrev pub NamesRootsOf : (T → T → Bool) → (T → T → Bool) → Pooled T → List ℕ → (T → Type 0) → Type 0
+  NamesRootsOf covers before pool row IsDue = (xs : List T) → IsRising before xs → ((x : T) → Has x xs ↔ IsDue x) → Names pool row (roots covers before xs)
+
   -- the row of each server's home names what is given of it
   abbrev pub AreHomeRows : Topology → Pooled T → List (List ℕ) → (ℕ → List T) → Type 0
   AreHomeRows tree pool rows given = (server : ℕ) → IsServer tree server → Names pool (home_row rows server) (given server)
 
+-- a needed filter that is wanted by who offers these advertisements
+abbrev pub IsDueFilter : Semantics → List (List ConstraintParts) → (List ConstraintParts → Type 0) → List ConstraintParts → Type 0
+IsDueFilter semantics offered IsNeededFilter x = IsNeededFilter x × (is_wanted semantics offered x ≡ true)
+
 -- for some links, the row names the advertisements that flow, whatever the net
 abbrev pub AdvertsFor : Semantics → Topology → Pooled (List ConstraintParts) → List (List ℕ) → (ℕ → ℕ → Type 0) → List (List ℕ) → Type 0
-AdvertsFor semantics tree pool homes linked table = (given : ℕ → List (List ConstraintParts)) (net : Net real) (sets : ℕ → ℕ → List (List ConstraintParts))
+AdvertsFor semantics tree pool homes linked table =
+    (given : ℕ → List (List ConstraintParts)) (net : Net real) (sets : ℕ → ℕ → List (List ConstraintParts))
     → AreHomeRows tree pool homes given → IsNetOn semantics tree net → IsUnionOfClients net sets given
     → (a b : ℕ) → linked a b → Names pool (row_at table a b) (flow_ad real net sets a b)
 
@@ -75,7 +85,8 @@ FiltersFor semantics tree pool homes ad_pool ad_homes linked table =
     → (a b : ℕ) → linked a b → Names pool (row_at table a b) (flow real net sets ad_sets a b)
 
 -- for all links
-abbrev pub AreFilters : Semantics → Topology → Pooled (List ConstraintParts) → List (List ℕ) → Pooled (List ConstraintParts) → List (List ℕ) → List (List ℕ) → Type 0
+abbrev pub AreFilters : Semantics → Topology → Pooled (List ConstraintParts) → List (List ℕ) → Pooled (List ConstraintParts) → List (List ℕ)
+    → List (List ℕ) → Type 0
 AreFilters semantics tree pool homes ad_pool ad_homes table = FiltersFor semantics tree pool homes ad_pool ad_homes (λ a b. Has b (links_of tree a)) table
 
 -- a link with the items of its rows

@@ -60,7 +60,8 @@ fn held_links(
     requires filters { (a b : ℕ) → Has b (links_of tree.now a) → AreLive filters.now.pool (row_at table.now a b) }
     requires adverts { (a b : ℕ) → Has b (links_of tree.now a) → AreLive adverts.now.pool (row_at offers.now a b) }
     ensures links { IfOk result (λ links. map (λ link. link.link) links.items ≡ links_of tree.now at) }
-    ensures held { IfOk result (λ links. (link : HeldLink) → Has link links.items → IsHeldOf filters.now.pool table.now adverts.now.pool offers.now at link) }
+    ensures held { IfOk result (λ links. (link : HeldLink) → Has link links.items
+        → IsHeldOf filters.now.pool table.now adverts.now.pool offers.now at link) }
 {
     tree.laws();
     let mut links = Vec::new(alloc);
@@ -88,8 +89,10 @@ fn all_links(
     requires filters { (a b : ℕ) → Has b (links_of tree.now a) → AreLive filters.now.pool (row_at table.now a b) }
     requires adverts { (a b : ℕ) → Has b (links_of tree.now a) → AreLive adverts.now.pool (row_at offers.now a b) }
     ensures servers { IfOk result (λ held. length held.items ≡ tree.now.count) }
-    ensures links { IfOk result (λ held. (place : ℕ) (links : _) → slice_get held.items place ≡ Some links → map (λ link. link.link) links.items ≡ links_of tree.now (suc place)) }
-    ensures held { IfOk result (λ held. (place : ℕ) (links : _) → slice_get held.items place ≡ Some links → (link : HeldLink) → Has link links.items → IsHeldOf filters.now.pool table.now adverts.now.pool offers.now (suc place) link) }
+    ensures links { IfOk result (λ held. (place : ℕ) (links : _) → slice_get held.items place ≡ Some links
+        → map (λ link. link.link) links.items ≡ links_of tree.now (suc place)) }
+    ensures held { IfOk result (λ held. (place : ℕ) (links : _) → slice_get held.items place ≡ Some links
+        → (link : HeldLink) → Has link links.items → IsHeldOf filters.now.pool table.now adverts.now.pool offers.now (suc place) link) }
 {
     let mut held = Vec::new(alloc);
     for at in 1..=tree.servers() {
@@ -112,8 +115,10 @@ pub fn flow(
 ) -> Result<Vec<Vec<HeldLink>>, NoMemory>
     requires homes { length homes.now ≡ tree.now.count }
     ensures servers { IfOk result (λ held. length held.items ≡ tree.now.count) }
-    ensures links { IfOk result (λ held. (place : ℕ) (links : _) → slice_get held.items place ≡ Some links → map (λ link. link.link) links.items ≡ links_of tree.now (suc place)) }
-    ensures flow { IfOk result (λ held. (place : ℕ) (links : _) → slice_get held.items place ≡ Some links → (link : HeldLink) → Has link links.items → IsFlow semantics tree.now homes.now (suc place) link) }
+    ensures links { IfOk result (λ held. (place : ℕ) (links : _) → slice_get held.items place ≡ Some links
+        → map (λ link. link.link) links.items ≡ links_of tree.now (suc place)) }
+    ensures flow { IfOk result (λ held. (place : ℕ) (links : _) → slice_get held.items place ≡ Some links
+        → (link : HeldLink) → Has link links.items → IsFlow semantics tree.now homes.now (suc place) link) }
     ensures given { IfOk result (λ held. (place : ℕ) (links : _) → slice_get held.items place ≡ Some links → AreGivenLinks links.items) }
 {
     tree.laws();

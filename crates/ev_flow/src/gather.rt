@@ -57,7 +57,8 @@ pub(crate) fn gather<T: Homed>(
     homes: &[Home],
 ) -> Result<(Stock<T>, Vec<Keys>), NoMemory>
     ensures rows { IfOk result (λ r. length r.1.items ≡ length homes.now) }
-    ensures named { IfOk result (λ r. (place : ℕ) (home : Home) → slice_get homes.now place ≡ Some home → Names r.0.pool (slice_index_or r.1.items place []) (T.of home)) }
+    ensures named { IfOk result (λ r. (place : ℕ) (home : Home) → slice_get homes.now place ≡ Some home
+        → Names r.0.pool (slice_index_or r.1.items place []) (T.of home)) }
 {
     let mut pool = Pool::new(alloc);
     let mut poset = Poset::new(alloc);

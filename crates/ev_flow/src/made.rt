@@ -1,5 +1,5 @@
 //! What a server is to hold of each neighbour, link by link.
-ghost use Rattle.std.specs.Prelude.{◌≡◌, ◌↔◌, ◌&&◌, ℕ, List, true, length, IfOk};
+ghost use Rattle.std.specs.Prelude.{◌≡◌, ◌↔◌, ◌&&◌, ◌≤◌, ℕ, List, true, length, IfOk};
 ghost use Rattle.ev_sets.specs.Sets.{Has, IsRising, roots};
 ghost use Rattle.ev_constraint.specs.Constraint.{ConstraintParts};
 ghost use Rattle.ev_notice.specs.Before.{list_before};
@@ -10,7 +10,7 @@ ghost use Rattle.ev_tree.specs.Tree.{IsServer, links_of};
 ghost use Rattle.ev_routing.specs.Clients.{some_pass};
 ghost use Rattle.ev_control.specs.Stock.{named, AreLive};
 ghost use Rattle.ev_control.specs.Control.{is_wanted};
-ghost use Rattle.ev_flow.specs.Rows.{row_at, IsNeeded, IsNeededItem, IsOrder, is_marked_item, AreAdverts, AreFilters};
+ghost use Rattle.ev_flow.specs.Rows.{row_at, home_row, IsNeeded, IsNeededItem, IsDueFilter, NamesRootsOf, IsOrder, is_marked_item, AreAdverts, AreFilters};
 
 use crate::keys::Keys;
 use crate::marks::mark_all;
@@ -24,6 +24,15 @@ use ev_tree::Tree;
 use ev_wire::Semantics;
 use std::alloc::Global;
 
+/// The keys of what the clients of a server have together.
+fn home_of(homes: &[Keys], server: u32) -> &Keys
+    requires from { 1 ≤ server }
+    requires to { server ≤ length homes.now }
+    ensures { result.now ≡ home_row homes.now server }
+{
+    &homes[server as usize - 1]
+}
+
 /// Marks at the keys of what a server has of its clients and of its neighbours but one.
 fn needed(
     alloc: Global,
@@ -33,13 +42,14 @@ fn needed(
     at: u32,
     of: u32,
 ) -> Result<Vec<bool>, NoMemory>
+    requires at { IsServer tree.now at }
     requires of { IsServer tree.now of }
     requires homes { length homes.now ≡ tree.now.count }
     ensures { IfOk result (λ marks. (k : ℕ) → (is_marked marks.items k ≡ true) ↔ IsNeeded tree.now homes.now table.now at of k) }
 {
     tree.laws();
     let mut marks = Vec::new(alloc);
-    mark_all(&mut marks, homes[of as usize - 1].as_slice())?;
+    mark_all(&mut marks, home_of(homes, of).as_slice())?;
     for next in tree.neighbours(of) {
         if *next != at {
             mark_all(&mut marks, table.row(of, *next).as_slice())?;
@@ -58,9 +68,11 @@ fn advert_row(
     at: u32,
     of: u32,
 ) -> Result<Keys, NoMemory>
+    requires at { IsServer tree.now at }
     requires of { IsServer tree.now of }
     requires homes { length homes.now ≡ tree.now.count }
-    ensures { IfOk result (λ row. (xs : List (List ConstraintParts)) → IsRising list_before xs → ((x : List ConstraintParts) → Has x xs ↔ IsNeededItem adverts.now.pool tree.now homes.now table.now at of x) → Names adverts.now.pool row (roots advert_covers list_before xs)) }
+    ensures { IfOk result (λ row. NamesRootsOf advert_covers list_before adverts.now.pool row
+        (IsNeededItem adverts.now.pool tree.now homes.now table.now at of)) }
 {
     adverts.is_stocked();
     let marks = needed(alloc, tree, homes, table, at, of)?;
@@ -102,7 +114,8 @@ fn is_due(
     filter: &Sub,
 ) -> bool
     requires { AreLive adverts.now.pool offered.now }
-    ensures { result ≡ is_marked_item list_before marks.now filters.now.pairs filter.now && is_wanted semantics (named adverts.now.pool offered.now) filter.now }
+    ensures { result ≡ is_marked_item list_before marks.now filters.now.pairs filter.now
+        && is_wanted semantics (named adverts.now.pool offered.now) filter.now }
 {
     filters.is_marked(marks, filter) && is_wanted(semantics, adverts, offered, filter)
 }
@@ -121,15 +134,18 @@ fn filter_row(
     at: u32,
     of: u32,
 ) -> Result<Keys, NoMemory>
+    requires at { IsServer tree.now at }
     requires of { IsServer tree.now of }
     requires homes { length homes.now ≡ tree.now.count }
     requires offered { AreLive adverts.now.pool offered.now }
-    ensures { IfOk result (λ row. (xs : List (List ConstraintParts)) → IsRising list_before xs → ((x : List ConstraintParts) → Has x xs ↔ (IsNeededItem filters.now.pool tree.now homes.now table.now at of x × (is_wanted semantics (named adverts.now.pool offered.now) x ≡ true))) → Names filters.now.pool row (roots filter_covers list_before xs)) }
+    ensures { IfOk result (λ row. NamesRootsOf filter_covers list_before filters.now.pool row
+        (IsDueFilter semantics (named adverts.now.pool offered.now)
+        (IsNeededItem filters.now.pool tree.now homes.now table.now at of))) }
 {
     filters.is_stocked();
-    let marks = needed(alloc, tree, homes, table, at, of)?;
+    let due = needed(alloc, tree, homes, table, at, of)?;
     let row = filters.roots(&|filter: &Sub| is_due(
-        semantics, filters, adverts, offered, &marks, filter,
+        semantics, filters, adverts, offered, &due, filter,
     ))?;
     Ok(row)
 }

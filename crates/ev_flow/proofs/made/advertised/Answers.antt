@@ -3,7 +3,7 @@ use Rattle.std.proofs.lemmas.Option.{slice_get-get_or}
 use Rattle.ev_sets.specs.Sets.{Has}
 use Rattle.ev_control.proofs.Taken.{take-all}
 use Rattle.ev_flow.proofs.Filling.{advert-step}
-use Rattle.ev_flow.proofs.Ordering.{link-at, to-server, to-small, from-small}
+use Rattle.ev_flow.proofs.Ordering.{link-at, from-server, to-server, to-small, from-small}
 use Rattle.ev_flow.proofs.made.advertised.Goals as goal
 
 pub loop-link-init : goal.loop-link-init
@@ -27,3 +27,6 @@ loop-link-preserved c =
 pub returns : goal.returns
 returns c = λ given net sets rows on union a b m.
     c.loop-link.invariant given net sets rows on union a b (subst (λ z. Has (a, b) z) (sym (take-all c.args.order.now c.loop-link.link-index c.loop-link-test.false)) (c.requires.all a b m))
+
+pub advert_row-requires-clause-at : goal.advert_row-requires-clause-at
+advert_row-requires-clause-at c = from-server c.args.tree.now c.laws.ensures _ _ (link-at c.args.tree.now c.laws.ensures c.args.order.now c.requires.order c.loop-link.link-index c.loop-link-test.true)

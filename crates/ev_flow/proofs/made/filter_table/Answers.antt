@@ -4,7 +4,7 @@ use Rattle.ev_sets.specs.Sets.{Has}
 use Rattle.ev_control.specs.Stock.{AreLive, named}
 use Rattle.ev_control.proofs.Taken.{take-all}
 use Rattle.ev_flow.proofs.Filling.{filter-step}
-use Rattle.ev_flow.proofs.Ordering.{link-at, to-server, to-small, from-small}
+use Rattle.ev_flow.proofs.Ordering.{link-at, from-server, to-server, to-small, from-small}
 use Rattle.ev_flow.proofs.made.filter_table.Goals as goal
 
 pub loop-link-init : goal.loop-link-init
@@ -41,3 +41,6 @@ loop-link-preserved c =
 pub returns : goal.returns
 returns c = λ given ad_given net sets ad_sets rows ad_rows on union ad_union a b m.
     c.loop-link.invariant given ad_given net sets ad_sets rows ad_rows on union ad_union a b (subst (λ z. Has (a, b) z) (sym (take-all c.args.order.now c.loop-link.link-index c.loop-link-test.false)) (c.requires.all a b m))
+
+pub filter_row-requires-clause-at : goal.filter_row-requires-clause-at
+filter_row-requires-clause-at c = from-server c.args.tree.now c.laws.ensures _ _ (link-at c.args.tree.now c.laws.ensures c.args.order.now c.requires.order c.loop-link.link-index c.loop-link-test.true)

@@ -10,9 +10,7 @@ use Rattle.ev_flow.proofs.made.needed.Goals.{then-next-at+in_ok-mark_all-2, else
 
 pub loop-next-init : goal.loop-next-init
 loop-next-init c =
-    let inside : c.args.of - 1 < length c.args.homes.now = omega (arith, c.requires.of.0, c.requires.of.1, c.requires.homes) in
-    let is = c.as_slice.ensures ∙ c.index-homes-of.is ∙ get_or_default c.args.homes.now (c.args.of - 1) c.index-homes-of.result [] inside in
-    need-start c.args.homes.now c.args.table.now c.args.at c.args.of c.new-marks.result.items c.mark_all.new.marks.items c.as_slice.result.now c.neighbours-next-items.result.now c.new-marks.ensures.items is c.in_ok-mark_all.ensures
+    need-start c.args.homes.now c.args.table.now c.args.at c.args.of c.new-marks.result.items c.mark_all.new.marks.items c.as_slice.result.now c.neighbours-next-items.result.now c.new-marks.ensures.items (c.as_slice.ensures ∙ c.home_of.ensures) c.in_ok-mark_all.ensures
 
 pub row-requires-clause-of : goal.row-requires-clause-of
 row-requires-clause-of c =
