@@ -9,7 +9,7 @@ use Rattle.ev_notice.specs.Before.{list_before}
 use Rattle.ev_pool.specs.Pool.{Pooled, Names}
 use Rattle.ev_poset.proofs.Pairs.{has-push, un-push}
 use Rattle.ev_wire.specs.declared.semantics.Semantics.{Semantics}
-use Rattle.ev_tree.specs.Tree.{Topology, TreeLaws, IsServer, links_of}
+use Rattle.ev_tree.specs.Tree.{Topology, TreeLaws, links_of}
 use Rattle.ev_routing.proofs.Listing.{has-map}
 use Rattle.ev_control.specs.declared.control.HeldLink.{HeldLink}
 use Rattle.ev_control.proofs.Named.{named-is}
@@ -18,7 +18,7 @@ use Rattle.ev_flow.specs.declared.home.Home.{Home}
 use Rattle.ev_flow.specs.Flow.{filters_of, adverts_of, IsFlow, AreGivenLinks}
 use Rattle.ev_flow.proofs.Ordering.{to-small}
 use Rattle.ev_flow.proofs.Filling.{lone, lone-on, lone-union, filters-rise, adverts-rise}
-use Rattle.ev_flow.specs.Rows.{row_at, home_row, AreHomeRows, AreAdverts, AreFilters, IsHeldOf}
+use Rattle.ev_flow.specs.Rows.{row_at, AreHomeRows, AreAdverts, AreFilters, IsHeldOf}
 
 map-push : {A B : Type 0} (f : A → B) (xs : List A) (x : A) → map f (xs ++ x ∷ []) ≡ map f xs ++ f x ∷ []
 map-push f [] x = refl

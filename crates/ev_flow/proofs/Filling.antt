@@ -1,5 +1,5 @@
 -- Rows of a table that name what flows.
-use Rattle.std.proofs.Common.{◌≡◌, ◌⊎◌, ◌↔◌, inl, inr, ℕ, suc, ◌+◌, ◌*◌, ◌-◌, ◌<◌, ◌≤◌, ◌==◌, ◌&&◌, Bool, true, false, cond, not, ◌||◌, List, [], ◌∷◌, ◌++◌, length, filter, Some, take, slice_get, refl, sym, ap, subst, ◌∙◌, arith, add-one}
+use Rattle.std.proofs.Common.{◌≡◌, ◌⊎◌, ◌↔◌, inl, inr, ℕ, suc, ◌+◌, ◌<◌, ◌≤◌, ◌==◌, ◌&&◌, Bool, true, false, cond, not, ◌||◌, List, [], ◌∷◌, ◌++◌, length, filter, Some, take, slice_get, refl, sym, ap, subst, ◌∙◌, arith, add-one}
 use Rattle.std.proofs.lemmas.Bool.Decides.{nat_tests}
 use Rattle.ev_sets.specs.Sets.{Has, IsRising, roots}
 use Rattle.ev_sets.proofs.Roots.{filter-iff}
@@ -11,7 +11,7 @@ use Rattle.ev_pool.specs.Pool.{Pooled, IsAt, Names}
 use Rattle.ev_poset.proofs.Rows.{at-one}
 use Rattle.ev_wire.specs.declared.semantics.Semantics.{Semantics}
 use Rattle.ev_wire.specs.declared.semantics.Semantics.TheVariants.{Advertisement, Subscription}
-use Rattle.ev_tree.specs.Tree.{Topology, TreeLaws, IsServer, servers_of, links_of, hop_of}
+use Rattle.ev_tree.specs.Tree.{Topology, TreeLaws, servers_of, links_of, hop_of}
 use Rattle.ev_routing.specs.Net.{Net}
 use Rattle.ev_routing.specs.Server.{union_except, interfaces}
 use Rattle.ev_routing.specs.Clients.{some_pass}
@@ -23,7 +23,7 @@ use Rattle.ev_control.proofs.Named.{named-at, named-length, named-key, named-ite
 use Rattle.ev_control.proofs.Taken.{has-next, has-take, take-some, take-all}
 use Rattle.ev_flow.specs.Flow.{IsNetOn, IsUnionOfClients}
 use Rattle.ev_flow.specs.Rows.{row_at, home_row, IsNeeded, IsNeededItem, IsOrder, AreHomeRows, AdvertsFor, AreAdverts, FiltersFor, AreFilters}
-use Rattle.ev_flow.proofs.Ordering.{from-server, to-server, to-small, in-order}
+use Rattle.ev_flow.proofs.Ordering.{to-server, to-small, in-order}
 use Rattle.ev_flow.proofs.Solving.{rising-except, ad-is, sub-is, made-has}
 
 -- the rows for the links so far name what they are to, and so does one more

@@ -1,10 +1,10 @@
 -- The rows of the homes, one by one.
-use Rattle.std.proofs.Common.{◌≡◌, inl, inr, ℕ, ◌+◌, ◌<◌, List, [], ◌∷◌, ◌++◌, Some, length, slice_get, get_or, refl, sym, ap, subst, ◌∙◌, arith}
+use Rattle.std.proofs.Common.{◌≡◌, ℕ, ◌+◌, ◌<◌, List, [], ◌∷◌, ◌++◌, Some, length, slice_get, get_or, sym, ap, subst, ◌∙◌, arith}
 use Rattle.std.proofs.Math.Seq.{get_or-append_seam}
 use Rattle.std.proofs.lemmas.List.{get_or_append_left, length-append}
 use Rattle.ev_pool.specs.Pool.{Pooled, KeepsItems, Names}
 use Rattle.ev_poset.proofs.Pairs.{some-same}
-use Rattle.ev_run.proofs.Lists.{Same, Is, Not, compare}
+use Rattle.ev_run.proofs.Lists.{Is, Not, compare}
 use Rattle.ev_control.proofs.Named.{named-kept}
 
 pub gather-long : (rows new : List (List ℕ)) (row : List ℕ) (n : ℕ) → length rows ≡ n → new ≡ rows ++ row ∷ [] → length new ≡ n + 1

@@ -1,12 +1,12 @@
 -- Nets over trees by phase as nets on one tree, and the clients' sets in a change of tree.
-use Rattle.std.proofs.Common.{◌≡◌, ◌↔◌, ℕ, ◌+◌, ◌≤◌, nat_le, nat_lt, Bool, true, false, cond, List, [], ◌∷◌, inl, inr, map, refl, sym, ap, subst, ◌∙◌, arith}
+use Rattle.std.proofs.Common.{◌≡◌, ℕ, ◌+◌, ◌≤◌, nat_le, nat_lt, Bool, true, false, cond, List, [], ◌∷◌, inl, inr, refl, sym, ap, subst, arith}
 use Rattle.std.proofs.lemmas.Bool.Decides.{nat_tests}
 use Rattle.ev_sets.specs.Sets.{Has}
 use Rattle.ev_constraint.specs.Constraint.{ConstraintParts}
 use Rattle.ev_wire.specs.declared.semantics.Semantics.{Semantics}
 use Rattle.ev_wire.specs.declared.semantics.Semantics.TheVariants.{Advertisement, Subscription}
 use Rattle.ev_tree.specs.Graph.{servers_to}
-use Rattle.ev_tree.specs.Tree.{Topology, servers_of, links_of}
+use Rattle.ev_tree.specs.Tree.{Topology}
 use Rattle.ev_routing.specs.Net.{Net}
 use Rattle.ev_routing.specs.Change.{client_sets}
 use Rattle.ev_phases.specs.Trees.{Tree, tree_after, net_at}

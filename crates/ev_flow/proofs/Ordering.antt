@@ -1,5 +1,5 @@
 -- The order of links, by how many servers lie beyond.
-use Rattle.std.proofs.Common.{◌≡◌, ◌⊎◌, inl, inr, ℕ, zero, suc, ◌+◌, ◌-◌, ◌<◌, ◌≤◌, ◌==◌, Bool, true, false, cond, List, [], ◌∷◌, ◌++◌, Some, take, length, slice_get, get_or, refl, sym, ap, subst, ◌∙◌, arith, ne_eqb}
+use Rattle.std.proofs.Common.{◌≡◌, inl, inr, ℕ, zero, suc, ◌+◌, ◌-◌, ◌<◌, ◌≤◌, Bool, true, false, List, [], ◌∷◌, ◌++◌, Some, take, length, slice_get, get_or, sym, ap, subst, ◌∙◌, arith}
 use Rattle.std.specs.List.{range_with_len}
 use Rattle.std.proofs.lemmas.List.{take-append-le}
 use Rattle.std.proofs.lemmas.Option.{slice_get-get_or}
@@ -10,10 +10,10 @@ use Rattle.ev_tree.specs.Hops.{side, side_size}
 use Rattle.ev_tree.specs.Tree.{Topology, TreeLaws, IsServer, servers_of, links_of, hop_of}
 use Rattle.ev_tree.proofs.Servers.{server-in}
 use Rattle.ev_tree.proofs.Sums.{part-sum}
-use Rattle.ev_tree.proofs.Sizes.{weighs, total}
+use Rattle.ev_tree.proofs.Sizes.{weighs}
 use Rattle.ev_poset.proofs.Pairs.{un-push, at-has, has-at, has-push}
 use Rattle.std.proofs.lemmas.List.FromFn.{length-range_with_len}
-use Rattle.ev_run.proofs.Lists.{Same, Is, Not, compare}
+use Rattle.ev_run.proofs.Lists.{Is, Not, compare}
 use Rattle.ev_control.proofs.Taken.{has-next}
 use Rattle.ev_flow.specs.Rows.{size_of, IsOrder}
 

@@ -1,7 +1,7 @@
 -- What flows, link by link, and what it is made of.
-use Rattle.std.proofs.Common.{◌≡◌, ◌⊎◌, ◌↔◌, inl, inr, ℕ, ◌+◌, ◌<◌, ◌≤◌, ◌==◌, Bool, true, false, cond, not, ◌||◌, List, [], ◌∷◌, ◌++◌, map, filter, refl, sym, ap, subst, ◌∙◌, arith}
+use Rattle.std.proofs.Common.{◌≡◌, ◌⊎◌, ◌↔◌, inl, inr, ℕ, ◌+◌, ◌<◌, Bool, true, false, cond, not, ◌||◌, List, [], ◌∷◌, map, filter, refl, sym, ap, subst, ◌∙◌, arith}
 use Rattle.ev_sets.specs.Laws.{CoverLaws}
-use Rattle.ev_sets.specs.Sets.{Has, IsRising, union, roots}
+use Rattle.ev_sets.specs.Sets.{Has, IsRising, roots}
 use Rattle.ev_sets.proofs.Sets.{rising-union}
 use Rattle.ev_constraint.specs.Constraint.{ConstraintParts}
 use Rattle.ev_notice.specs.Before.{list_before}
@@ -22,7 +22,7 @@ use Rattle.ev_routing.proofs.Listing.{has-one, has-left, has-right, has-map, has
 use Rattle.ev_routing.proofs.Sizes.{sides-tree}
 use Rattle.ev_theory.specs.Real.{real}
 use Rattle.ev_flow.specs.Flow.{IsNetOn, IsUnionOfClients}
-use Rattle.ev_flow.proofs.Ordering.{from-server, to-small}
+use Rattle.ev_flow.proofs.Ordering.{to-small}
 
 pub rising-except : {T : Type 0} {covers before : T → T → Bool} → CoverLaws covers before → (sets : ℕ → List T) (link : ℕ) (is : List ℕ) → IsRising before (union_except before sets link is)
 rising-except laws sets link [] = tt

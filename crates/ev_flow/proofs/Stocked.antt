@@ -1,17 +1,15 @@
 -- Items that are in a pool and in a covering graph.
-use Rattle.std.proofs.Common.{◌≡◌, ◌⊎◌, ◌↔◌, inl, inr, ℕ, ◌==◌, ◌&&◌, not, Bool, true, false, List, map, filter, Some, refl, sym, ap, subst, ◌∙◌, arith}
-use Rattle.std.specs.List.{list_any}
+use Rattle.std.proofs.Common.{◌≡◌, ◌⊎◌, ◌↔◌, inl, inr, ℕ, ◌==◌, ◌&&◌, not, Bool, true, false, List, map, filter, refl, sym, ap, subst, ◌∙◌}
 use Rattle.ev_sets.specs.Laws.{CoverLaws}
 use Rattle.ev_sets.specs.Sets.{Has, IsRising, same}
 use Rattle.ev_sets.proofs.Sets.{ext, rising-set_of}
 use Rattle.ev_pool.specs.Pool.{Pooled, IsAt, IsAbsent, IsKeptAt, SameElsewhere, KeepsItems, HasDistinctItems}
-use Rattle.ev_pool.specs.declared.counted.Counted.{Counted}
 use Rattle.ev_pool.proofs.Holders.{kept-at}
 use Rattle.ev_poset.specs.Graph.{is_marked}
 use Rattle.ev_poset.specs.Poset.{Held, held_by_others, items_where}
 use Rattle.ev_poset.proofs.Changes.{has-where}
 use Rattle.ev_poset.proofs.Rows.{at-one}
-use Rattle.ev_run.proofs.Lists.{Same, Is, Not, compare}
+use Rattle.ev_run.proofs.Lists.{Is, Not, compare}
 use Rattle.ev_control.proofs.Holdings.{any-of, any-has, split}
 use Rattle.ev_control.proofs.Stocks.{same-is, same-yes}
 use Rattle.ev_flow.specs.Rows.{IsStocked, is_marked_item}

@@ -1,5 +1,5 @@
 -- What contracts inside this crate see: rows of keys by link, and the order of links.
-use Rattle.std.specs.Prelude.{◌≡◌, ℕ, ◌+◌, ◌*◌, ◌-◌, ◌==◌, ◌&&◌, ◌⊎◌, ◌↔◌, Bool, true, List, [], Some, take, slice_get}
+use Rattle.std.specs.Prelude.{◌≡◌, ℕ, ◌+◌, ◌*◌, ◌-◌, ◌&&◌, ◌⊎◌, ◌↔◌, Bool, true, List, [], Some, take, slice_get}
 use Rattle.std.specs.List.{slice_index_or, list_any}
 use Rattle.ev_sets.specs.Sets.{Has, IsRising, roots, same}
 use Rattle.ev_constraint.specs.Constraint.{ConstraintParts}

@@ -1,4 +1,4 @@
-use Rattle.std.proofs.Common.{◌≡◌, ℕ, suc, Some, Vec, Global, map, slice_get, subst}
+use Rattle.std.proofs.Common.{◌≡◌, ℕ, Some, Vec, Global, map, slice_get, subst}
 use Rattle.ev_sets.specs.Sets.{Has}
 use Rattle.ev_tree.specs.Tree.{links_of}
 use Rattle.ev_control.specs.declared.control.HeldLink.{HeldLink}

@@ -1,7 +1,7 @@
 use Rattle.std.proofs.Common.{suc, subst, sym, ap, ◌∙◌}
 use Rattle.ev_flow.specs.declared.home.Home.{Home}
 use Rattle.ev_flow.specs.Flow.{home_filters, home_adverts, filters_of, adverts_of}
-use Rattle.ev_flow.specs.Rows.{AreHomeRows, AreAdverts, AreFilters}
+use Rattle.ev_flow.specs.Rows.{AreAdverts, AreFilters}
 use Rattle.ev_flow.proofs.Filling.{adverts-live, filters-live}
 use Rattle.ev_flow.proofs.Answering.{home-rows, flow-is, given-links}
 use Rattle.ev_flow.proofs.answer.flow.Goals as goal

@@ -1,4 +1,4 @@
-use Rattle.std.proofs.Common.{refl, sym, subst, ◌<◌, ◌≤◌, arith}
+use Rattle.std.proofs.Common.{refl, subst, ◌<◌, arith}
 use Rattle.std.proofs.lemmas.Option.{slice_get_read, slice_get_within}
 use Rattle.ev_pool.specs.Pool.{Names}
 use Rattle.ev_flow.proofs.Gathering.{gather-long, gather-step}

@@ -1,4 +1,4 @@
-use Rattle.std.proofs.Common.{◌≡◌, ◌<◌, ◌+◌, ap, arith}
+use Rattle.std.proofs.Common.{◌<◌, ◌+◌, ap, arith}
 use Rattle.ev_flow.proofs.Ordering.{size-all}
 use Rattle.ev_flow.proofs.order.ordered.Goals as goal
 use Rattle.ev_flow.proofs.order.ordered.Goals.{else-loop-many-test, then-loop-many-test+in_ok-put_size+else-many-many-end}

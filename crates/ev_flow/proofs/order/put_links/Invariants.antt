@@ -1,6 +1,5 @@
 use Rattle.std.proofs.Common.{◌≡◌, ℕ, take}
 use Rattle.ev_sets.specs.Sets.{Has}
-use Rattle.ev_tree.specs.Tree.{links_of}
 use Rattle.ev_flow.specs.Rows.{IsOrder, size_of}
 use Rattle.ev_flow.proofs.order.put_links.Given as goal
 

@@ -1,4 +1,4 @@
-use Rattle.std.proofs.Common.{◌≡◌, arith, ap}
+use Rattle.std.proofs.Common.{◌≡◌, arith}
 use Rattle.ev_flow.proofs.Ordering.{from-server, size-step, size-end}
 use Rattle.ev_flow.proofs.order.put_size.Goals as goal
 
