@@ -106,7 +106,8 @@ fn all_links(
 /// comes into force. There is one home for each server.
 ///
 /// Each link is computed once, from what its neighbour holds of its other neighbours. An item enters
-/// a covering graph once; a link then takes a look-up of each of the items that are not covered.
+/// a covering graph once; a link then takes one pass over the graph, with a look-up of each item
+/// over which nothing needed stands. Want of memory is the only refusal.
 pub fn flow(
     alloc: Global,
     semantics: Semantics,
