@@ -68,5 +68,5 @@ pub(crate) fn gather<T: Homed>(
         let row = enter_all(alloc, &mut pool, &mut poset, items)?;
         rows.push(row)?;
     }
-    Ok((Stock::of(pool, poset), rows))
+    Ok((Stock::stocked(pool, poset), rows))
 }

@@ -83,7 +83,7 @@ pub(crate) fn enter_all<T: Cover + Drop>(
 
 impl<T: Cover> Stock<T> {
     /// The stock of these items.
-    pub(crate) fn of(pool: Pool<T>, poset: Poset<T>) -> Stock<T>
+    pub(crate) fn stocked(pool: Pool<T>, poset: Poset<T>) -> Stock<T>
         requires { IsStocked pool poset }
         ensures pool { result.pool ≡ pool }
         ensures pairs { result.pairs ≡ poset }

@@ -17,4 +17,4 @@ loop-home-preserved g c =
 pub returns-clause-named : goal.returns-clause-named
 returns-clause-named g c = λ place home e.
     let within : place < c.loop-home.home-index = omega (arith, slice_get_within c.args.homes.now place home e, c.loop-home-test.false) in
-    rw c.of.ensures.pool (c.loop-home.invariant.named place home within e)
+    rw c.stocked.ensures.pool (c.loop-home.invariant.named place home within e)
