@@ -1,0 +1,6 @@
+pub mod Lines
+pub mod Published
+pub mod Flood
+pub mod Deliveries
+pub mod Trace
+pub mod Summary
