@@ -1,5 +1,5 @@
 -- What flooding owes: the allowed publications of each client by id, and which of them are owed.
-use Rattle.std.specs.Prelude.{◌≡◌, ◌↔◌, ℕ, suc, ◌||◌, ◌&&◌, ◌==◌, nat_lt, Bool, List, length, slice_get, Some, IsTrue}
+use Rattle.std.specs.Prelude.{◌≡◌, ◌↔◌, ℕ, suc, ◌||◌, ◌&&◌, ◌==◌, nat_lt, Bool, true, List, length, slice_get, Some}
 use Rattle.ev_sets.specs.Sets.{Has, IsRising}
 use Rattle.ev_notice.specs.Notice.{Attribute}
 use Rattle.ev_routing.specs.Net.{Net}
@@ -34,7 +34,7 @@ pub record IsRow (net : NetParts) (client : ℕ) (row : OwedRow) : Type 0 where
   pub notice : List Attribute
   pub published : IsPublication real (net_in net phase) row.id.publisher row.id.ordinal phase notice
   pub allowed : IsAllowed real (net_in net phase) phase notice client
-  pub must : IsTrue row.must ↔ IsOwed real (net_in net phase) row.id.publisher phase notice client
+  pub must : (row.must ≡ true) ↔ IsOwed real (net_in net phase) row.id.publisher phase notice client
 
 -- there is a row of a publication
 abbrev pub HasRow : ℕ → ℕ → List OwedRow → Type 0
