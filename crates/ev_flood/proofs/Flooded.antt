@@ -96,11 +96,11 @@ advertised_from : (net : NetParts) (k place : ℕ) (client : ClientParts) (n : L
     → is_free net.semantics (every_adverts k client.script) n ≡ true
 advertised_from net k place client n e f =
     may_pass (with_adverts net.semantics) (some_pass (λ a. real.allows a n) (every_adverts k client.script)) (λ on.
-        (let x = f on in
-        pass-by (λ a. real.allows a n) x.advert (every_adverts k client.script)
-        (adverts_from k client.script x.advert (λ count from upto.
-            subst (λ z. Has x.advert (adverts_after real [] (take count z))) (script_at net place client e) (x.always count (moment_to net k place count client e from upto))))
-        x.allows))
+    (let x = f on in
+    pass-by (λ a. real.allows a n) x.advert (every_adverts k client.script)
+    (adverts_from k client.script x.advert (λ count from upto.
+    subst (λ z. Has x.advert (adverts_after real [] (take count z))) (script_at net place client e) (x.always count (moment_to net k place count client e from upto))))
+    x.allows))
 
 owed_to : (net : NetParts) (k place whose : ℕ) (client publisher : ClientParts) (n : List Attribute)
     → slice_get net.clients place ≡ Some client → slice_get net.clients whose ≡ Some publisher
@@ -126,7 +126,7 @@ owed_from net k place whose client publisher n e f o =
     (advertised_from net k whose publisher n f o.allowed)
     (pass-by (λ g. real.matches n g) o.filter (every_filters k client.script)
     (throughout_from k client.script o.filter (λ count from upto.
-        subst (λ z. Has o.filter (filters_after real [] (take count z))) (script_at net place client e) (o.always count (moment_to net k place count client e from upto))))
+    subst (λ z. Has o.filter (filters_after real [] (take count z))) (script_at net place client e) (o.always count (moment_to net k place count client e from upto))))
     o.matches)
 
 no_more : (m : ℕ) → 0 + m ≡ m
@@ -195,13 +195,13 @@ whole_row : (net : NetParts) (place whose o k : ℕ) (client publisher : ClientP
 whole_row net place whose o k client publisher n e f p a = (
   is_free net.semantics (every_adverts k publisher.script) n && is_met (every_filters k client.script) n,
   rows_from client.script (accepted_of net.semantics 1 net.clients) (publication_of net.semantics (suc whose) publisher.script o k n)
-    (of_client net.semantics net.clients 1 whose publisher (publication_of net.semantics (suc whose) publisher.script o k n) f
-    (subst (λ z. Has (publication_of net.semantics (suc whose) publisher.script o k n) (accepted_from net.semantics z publisher.script [] 0 publisher.script)) (one_more whose)
-    (accepted_has net.semantics (suc whose) publisher.script publisher.script [] [] (λ x. ((λ h. h), (λ h. h))) 0 p.index k n o
-    (ap (λ z. slice_get z p.index) (sym s) ∙ p.at ∙ ap Some (is_publish_at p.command k n p.phase p.publishes))
-    (no_more (ordinal real (take (suc p.index) (ps publisher.script))) ∙ ap (λ z. ordinal real (take (suc p.index) z)) (sym s) ∙ p.ordinal)
-    (ap (λ z. is_free net.semantics (adverts_after real [] (take p.index z)) n) (sym s) ∙ p.allowed))))
-    (allowed_from net k place client n e a),
+      (of_client net.semantics net.clients 1 whose publisher (publication_of net.semantics (suc whose) publisher.script o k n) f
+      (subst (λ z. Has (publication_of net.semantics (suc whose) publisher.script o k n) (accepted_from net.semantics z publisher.script [] 0 publisher.script)) (one_more whose)
+      (accepted_has net.semantics (suc whose) publisher.script publisher.script [] [] (λ x. ((λ h. h), (λ h. h))) 0 p.index k n o
+      (ap (λ z. slice_get z p.index) (sym s) ∙ p.at ∙ ap Some (is_publish_at p.command k n p.phase p.publishes))
+      (no_more (ordinal real (take (suc p.index) (ps publisher.script))) ∙ ap (λ z. ordinal real (take (suc p.index) z)) (sym s) ∙ p.ordinal)
+      (ap (λ z. is_free net.semantics (adverts_after real [] (take p.index z)) n) (sym s) ∙ p.allowed))))
+      (allowed_from net k place client n e a),
 )
   where
     s : script_of net (suc whose) ≡ ps publisher.script

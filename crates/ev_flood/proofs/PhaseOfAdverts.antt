@@ -57,6 +57,6 @@ pub throughout_from : (k : ℕ) (script : Script) (f : List ConstraintParts)
 unfolding every_adverts
 throughout_from k script f h =
     let r = every_to (within k script) (at_first k script) f (λ n l.
-        subst (Has f) (at_count k n script (short k n script l))
-        (h (below k script + n) (omega arith) (omega (arith, short k n script l, below_rises k script)))) in
+    subst (Has f) (at_count k n script (short k n script l))
+    (h (below k script + n) (omega arith) (omega (arith, short k n script l, below_rises k script)))) in
     Has-filter (λ g. not (unadvertised g (within k script))) f (held_adverts [] (before k script)) ((same_held k script f).1 r.0) (tonot (unadvertised f (within k script)) r.1)

@@ -17,7 +17,11 @@ fn withdraw(adverts: &mut Vec<Advert>, advert: &Advert)
 }
 
 /// One command.
-pub(crate) fn step(alloc: Global, adverts: &mut Vec<Advert>, command: &Command) -> Result<(), NoMemory>
+pub(crate) fn step(
+    alloc: Global,
+    adverts: &mut Vec<Advert>,
+    command: &Command,
+) -> Result<(), NoMemory>
     ensures { OnOk result (adverts.new.items ≡ advert_step adverts.old.items command.now) }
 {
     match command {
@@ -67,7 +71,11 @@ fn is_withdrawn(advert: &Advert, script: &[(u32, Command)]) -> bool
 }
 
 /// Those of the advertisements that no command takes away.
-pub(crate) fn lasting(alloc: Global, adverts: &[Advert], script: &[(u32, Command)]) -> Result<Vec<Advert>, NoMemory>
+pub(crate) fn lasting(
+    alloc: Global,
+    adverts: &[Advert],
+    script: &[(u32, Command)],
+) -> Result<Vec<Advert>, NoMemory>
     ensures { IfOk result (λ kept. kept.items ≡ filter (λ a. not (unadvertised a script.now)) adverts.now) }
 {
     let mut kept = Vec::new(alloc);

@@ -83,7 +83,11 @@ fn is_withdrawn(filter: &Filter, script: &[(u32, Command)]) -> bool
 }
 
 /// Those of the filters that no command takes away.
-pub(crate) fn lasting(alloc: Global, filters: &[Filter], script: &[(u32, Command)]) -> Result<Vec<Filter>, NoMemory>
+pub(crate) fn lasting(
+    alloc: Global,
+    filters: &[Filter],
+    script: &[(u32, Command)],
+) -> Result<Vec<Filter>, NoMemory>
     ensures { IfOk result (λ kept. kept.items ≡ filter (λ f. not (withdrawn f script.now)) filters.now) }
 {
     let mut kept = Vec::new(alloc);

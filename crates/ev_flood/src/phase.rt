@@ -57,7 +57,11 @@ fn within(script: &[(u32, Command)], phase: u32) -> &[(u32, Command)]
 
 /// The filters of a client within a phase.
 #[tactic(auto, unfolding(crate::specs::Held::some_filters, crate::specs::Held::every_filters))]
-pub(crate) fn filters(alloc: Global, script: &[(u32, Command)], phase: u32) -> Result<PhaseFilters, NoMemory>
+pub(crate) fn filters(
+    alloc: Global,
+    script: &[(u32, Command)],
+    phase: u32,
+) -> Result<PhaseFilters, NoMemory>
     ensures phase { IfOk result (λ lists. lists.phase ≡ phase) }
     ensures some { IfOk result (λ lists. lists.some.items ≡ some_filters phase script.now) }
     ensures every { IfOk result (λ lists. lists.every.items ≡ every_filters phase script.now) }
@@ -88,7 +92,11 @@ pub(crate) fn renewed_filters(
 
 /// The advertisements of a client at every moment of a phase.
 #[tactic(auto, unfolding(crate::specs::Held::every_adverts))]
-pub(crate) fn adverts(alloc: Global, script: &[(u32, Command)], phase: u32) -> Result<PhaseAdverts, NoMemory>
+pub(crate) fn adverts(
+    alloc: Global,
+    script: &[(u32, Command)],
+    phase: u32,
+) -> Result<PhaseAdverts, NoMemory>
     ensures phase { IfOk result (λ lists. lists.phase ≡ phase) }
     ensures every { IfOk result (λ lists. lists.every.items ≡ every_adverts phase script.now) }
 {

@@ -13,7 +13,11 @@ use ev_wire::Lists;
 use std::alloc::Global;
 
 // A client's rows, by the publications of all clients.
-fn rows(alloc: Global, script: &[(u32, Command)], publications: &[Publication]) -> Result<Vec<OwedRow>, NoMemory>
+fn rows(
+    alloc: Global,
+    script: &[(u32, Command)],
+    publications: &[Publication],
+) -> Result<Vec<OwedRow>, NoMemory>
     ensures { IfOk result (λ rows. rows.items ≡ rows_of script.now publications.now) }
 {
     let mut rows = Vec::new(alloc);
@@ -32,14 +36,24 @@ fn rows(alloc: Global, script: &[(u32, Command)], publications: &[Publication]) 
 }
 
 /// The accepted publications of all clients, by publisher and ordinal.
-pub(crate) fn accepted(alloc: Global, semantics: Semantics, clients: &[Client]) -> Result<Vec<Publication>, NoMemory>
+pub(crate) fn accepted(
+    alloc: Global,
+    semantics: Semantics,
+    clients: &[Client],
+) -> Result<Vec<Publication>, NoMemory>
     requires few { length clients.now ≤ 1024 }
     requires publishes { sum_over publishes clients.now ≤ 100000 }
     ensures { IfOk result (λ accepted. accepted.items ≡ accepted_of semantics 1 clients.now) }
 {
     let mut accepted = Vec::new(alloc);
     for (i, client) in clients.iter().enumerate() {
-        push_accepted(alloc, &mut accepted, semantics, i as u32 + 1, &client.script)?;
+        push_accepted(
+            alloc,
+            &mut accepted,
+            semantics,
+            i as u32 + 1,
+            &client.script,
+        )?;
     }
     Ok(accepted)
 }
@@ -60,7 +74,11 @@ pub(crate) fn all_rows(
 }
 
 /// The refused ordinals of all clients.
-pub(crate) fn all_refusals(alloc: Global, semantics: Semantics, clients: &[Client]) -> Result<Vec<Lists<u32>>, NoMemory>
+pub(crate) fn all_refusals(
+    alloc: Global,
+    semantics: Semantics,
+    clients: &[Client],
+) -> Result<Vec<Lists<u32>>, NoMemory>
     requires { sum_over publishes clients.now ≤ 100000 }
     ensures { IfOk result (λ refused. refused.items ≡ all_refusals_of semantics clients.now) }
 {

@@ -87,10 +87,7 @@ pub fn generate(alloc: Global, seed: u64) -> Result<Vec<u8>, NoMemory>
     ensures { IfOk result (λ text. text.items ≡ generated seed) }
 {
     let mut draws = Draws { state: seed };
-    let mut out = Vec::from_slice(
-        alloc,
-        b"siena 1\nsemantics subscription\nservers 16\n",
-    )?;
+    let mut out = Vec::from_slice(alloc, b"siena 1\nsemantics subscription\nservers 16\n")?;
     push_edges(&mut out, &mut draws)?;
     push_clients(&mut out)?;
     push_scripts(&mut out, &mut draws)?;

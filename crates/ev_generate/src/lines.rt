@@ -1,7 +1,8 @@
 //! The lines of a document.
 ghost use Rattle.std.specs.Prelude.{◌≡◌, ◌++◌, ◌<◌, ℕ, decimal, OnOk};
 ghost use Rattle.ev_generate.specs.Draws.{after};
-ghost use Rattle.ev_generate.specs.Lines.{labelled, edge_line, client_line, test_text, prefix_text, subscribe_text, subscribe_line, attribute_text, publish_line};
+ghost use Rattle.ev_generate.specs.Lines.{labelled, edge_line, client_line, test_text, prefix_text};
+ghost use Rattle.ev_generate.specs.Lines.{subscribe_text, subscribe_line, attribute_text, publish_line};
 
 use crate::draws::Draws;
 use ev_memory::NoMemory;

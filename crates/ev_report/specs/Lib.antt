@@ -4,3 +4,4 @@ pub mod Flood
 pub mod Deliveries
 pub mod Trace
 pub mod Summary
+pub mod Drained

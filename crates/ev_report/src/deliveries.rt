@@ -14,11 +14,21 @@ use std::alloc::Global;
 fn push_delivery(out: &mut Vec<u8>, clients: &[Client], delivery: &Delivery) -> Result<(), NoMemory>
     ensures { OnOk result (out.new.items ≡ out.old.items ++ delivery_line clients.now delivery.now) }
 {
-    push_publication(out, b"deliver ", clients, delivery.id, delivery.bytes.as_slice())
+    push_publication(
+        out,
+        b"deliver ",
+        clients,
+        delivery.id,
+        delivery.bytes.as_slice(),
+    )
 }
 
 // In their order.
-fn push_received(out: &mut Vec<u8>, clients: &[Client], received: &[Delivery]) -> Result<(), NoMemory>
+fn push_received(
+    out: &mut Vec<u8>,
+    clients: &[Client],
+    received: &[Delivery],
+) -> Result<(), NoMemory>
     ensures { OnOk result (out.new.items ≡ out.old.items ++ flat_map (delivery_line clients.now) received.now) }
 {
     for delivery in received {
@@ -38,7 +48,12 @@ fn push_listed(out: &mut Vec<u8>, clients: &[Client], listed: &[&Delivery]) -> R
 }
 
 // By their ids.
-fn push_sorted(alloc: Global, out: &mut Vec<u8>, clients: &[Client], received: &[Delivery]) -> Result<(), NoMemory>
+fn push_sorted(
+    alloc: Global,
+    out: &mut Vec<u8>,
+    clients: &[Client],
+    received: &[Delivery],
+) -> Result<(), NoMemory>
     ensures { OnOk result (out.new.items ≡ out.old.items ++ flat_map (delivery_line clients.now) (by_id received.now)) }
 {
     let sorted = by_id(alloc, received)?;
@@ -82,7 +97,15 @@ pub fn deliveries_text(
 {
     let mut out = Vec::new(alloc);
     for (i, client) in net.clients.iter().enumerate() {
-        push_section(alloc, &mut out, &net.clients, client, refused[i].as_slice(), received[i].as_slice(), sorted)?;
+        push_section(
+            alloc,
+            &mut out,
+            &net.clients,
+            client,
+            refused[i].as_slice(),
+            received[i].as_slice(),
+            sorted,
+        )?;
     }
     Ok(out)
 }

@@ -21,13 +21,29 @@ fn row_word(must: bool) -> &'static [u8]
 }
 
 #[tactic(auto, unfolding(crate::specs::Flood::row_line))]
-fn push_row(out: &mut Vec<u8>, clients: &[Client], texts: &[Lists<Bytes>], row: &OwedRow) -> Result<(), NoMemory>
+fn push_row(
+    out: &mut Vec<u8>,
+    clients: &[Client],
+    texts: &[Lists<Bytes>],
+    row: &OwedRow,
+) -> Result<(), NoMemory>
     ensures { OnOk result (out.new.items ≡ out.old.items ++ row_line clients.now texts.now row.now) }
 {
-    push_publication(out, row_word(row.must), clients, row.id, text_at(texts, row.id))
+    push_publication(
+        out,
+        row_word(row.must),
+        clients,
+        row.id,
+        text_at(texts, row.id),
+    )
 }
 
-fn push_rows(out: &mut Vec<u8>, clients: &[Client], texts: &[Lists<Bytes>], rows: &[OwedRow]) -> Result<(), NoMemory>
+fn push_rows(
+    out: &mut Vec<u8>,
+    clients: &[Client],
+    texts: &[Lists<Bytes>],
+    rows: &[OwedRow],
+) -> Result<(), NoMemory>
     ensures { OnOk result (out.new.items ≡ out.old.items ++ flat_map (row_line clients.now texts.now) rows.now) }
 {
     for row in rows {
@@ -62,7 +78,14 @@ pub fn flood_text(alloc: Global, net: &Net, owed: &Owed) -> Result<Vec<u8>, NoMe
     let texts = texts_in(alloc, &net.clients)?;
     let mut out = Vec::new(alloc);
     for (i, client) in net.clients.iter().enumerate() {
-        push_section(&mut out, &net.clients, &texts, client, owed.refused[i].as_slice(), owed.rows[i].as_slice())?;
+        push_section(
+            &mut out,
+            &net.clients,
+            &texts,
+            client,
+            owed.refused[i].as_slice(),
+            owed.rows[i].as_slice(),
+        )?;
     }
     Ok(out)
 }

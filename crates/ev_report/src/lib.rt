@@ -3,6 +3,7 @@
 
 mod deliveries;
 mod flood;
+pub mod law;
 mod lines;
 mod publish;
 mod sorted;

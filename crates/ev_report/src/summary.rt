@@ -25,7 +25,13 @@ fn push_labelled(out: &mut Vec<u8>, label: &[u8], number: u64) -> Result<(), NoM
 
 // The line of how much a run did.
 #[tactic(auto, unfolding(crate::specs::Summary::summary_text))]
-fn push_summary(out: &mut Vec<u8>, publications: u64, deliveries: u64, entries: u64, messages: u64) -> Result<(), NoMemory>
+fn push_summary(
+    out: &mut Vec<u8>,
+    publications: u64,
+    deliveries: u64,
+    entries: u64,
+    messages: u64,
+) -> Result<(), NoMemory>
     ensures { OnOk result (out.new.items ≡ out.old.items ++ summary_text publications deliveries entries messages) }
 {
     push_labelled(out, b"publications ", publications)?;

@@ -66,7 +66,12 @@ fn push_messages(out: &mut Vec<u8>, messages: &[Sent]) -> Result<(), NoMemory>
 }
 
 #[tactic(auto, unfolding(crate::specs::Trace::entry_text))]
-fn push_entry(out: &mut Vec<u8>, clients: &[Client], entry: &Entry, messages: &[Sent]) -> Result<(), NoMemory>
+fn push_entry(
+    out: &mut Vec<u8>,
+    clients: &[Client],
+    entry: &Entry,
+    messages: &[Sent],
+) -> Result<(), NoMemory>
     ensures { OnOk result (out.new.items ≡ out.old.items ++ entry_text clients.now entry.now messages.now) }
 {
     push_line(out, clients, entry)?;

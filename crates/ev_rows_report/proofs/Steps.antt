@@ -1,5 +1,5 @@
 -- What is asked of the scripts of a sound net.
-use Rattle.std.proofs.Common.{◌≡◌, ℕ, zero, suc, ◌+◌, ◌≤◌, Bool, true, false, not, cond, ◌&&◌, nat_le, List, [], ◌∷◌, length, map, inl, inr, refl, sym, ap, subst, ◌∙◌, arith}
+use Rattle.std.proofs.Common.{◌≡◌, ℕ, zero, suc, ◌+◌, ◌≤◌, ◌<◌, Bool, true, false, not, cond, ◌&&◌, nat_le, List, [], ◌∷◌, length, map, get_or, inl, inr, refl, sym, ap, subst, ◌∙◌, arith}
 use Rattle.std.proofs.lemmas.Bool.Decides.{nat_tests}
 use Rattle.ev_sets.specs.Sets.{Has}
 use Rattle.ev_sets.specs.Numbers.{sum_over, count}
@@ -8,8 +8,11 @@ use Rattle.ev_theory.specs.Real.{real}
 use Rattle.ev_wire.specs.declared.command.Command.{Command}
 use Rattle.ev_routing.specs.Clients.{is_publish}
 use Rattle.ev_model.specs.Meaning.{command_of, phased_command}
-use Rattle.ev_model.specs.Parts.{ClientParts, client_parts}
-use Rattle.ev_model.specs.Sound.{IsSoundClient, publishes, controls}
+use Rattle.ev_tree.specs.Tree.{Topology}
+use Rattle.ev_wire.specs.declared.semantics.Semantics.{Semantics}
+use Rattle.ev_model.specs.Nets.{first_tree}
+use Rattle.ev_model.specs.Parts.{ClientParts, client_parts, net_parts}
+use Rattle.ev_model.specs.Sound.{IsSoundClient, HasTrees, IsSound, publishes, controls}
 use Rattle.ev_rows_report.specs.Steps.{rise_from, is_script}
 
 both : (a b : Bool) → a && b ≡ true → (a ≡ true) × (b ≡ true)
@@ -71,3 +74,46 @@ few_publishes name script e = omega (arith, at_most (λ (step : ℕ × Command).
 
 pub few_controls : (name : List ℕ) (script : List (ℕ × Command)) → is_script script ≡ true → controls (client_parts name 1 1 script) ≤ 9
 few_controls name script e = omega (arith, at_most (λ (step : ℕ × Command). not (is_publish real (command_of step.1))) script, short script e)
+
+-- three clients at the one server
+abbrev pub three : List (ℕ × Command) → List (ℕ × Command) → List (ℕ × Command) → List ClientParts
+three a b p = client_parts (97 ∷ []) 1 1 a ∷ client_parts (98 ∷ []) 1 1 b ∷ client_parts (112 ∷ []) 1 1 p ∷ []
+
+differ : (x y : ℕ) → (x ≡ y → ⊥) → x ∷ [] ≡ y ∷ [] → ⊥
+differ x y f e = f (first e)
+  where
+    first : {a b : ℕ} → a ∷ [] ≡ b ∷ [] → a ≡ b
+    first e = cc
+
+each : (a b p : List (ℕ × Command)) → is_script a ≡ true → is_script b ≡ true → is_script p ≡ true → (client : ClientParts) → Has client (three a b p) → IsSoundClient 1 client
+each a b p e f g client (inl i) = subst (IsSoundClient 1) (sym i) (sound_client (97 ∷ []) 1 1 a (omega arith) (omega arith) e)
+each a b p e f g client (inr (inl i)) = subst (IsSoundClient 1) (sym i) (sound_client (98 ∷ []) 1 1 b (omega arith) (omega arith) f)
+each a b p e f g client (inr (inr (inl i))) = subst (IsSoundClient 1) (sym i) (sound_client (112 ∷ []) 1 1 p (omega arith) (omega arith) g)
+each a b p e f g client (inr (inr (inr z))) = absurd z
+
+names : (a b p : List (ℕ × Command)) (i j : ℕ) (d : ClientParts) → i < j → j < 3 → (get_or (three a b p) i d).name ≡ (get_or (three a b p) j d).name → ⊥
+names a b p zero zero d l h e = absurd (omega (arith, l))
+names a b p zero (suc zero) d l h e = differ 97 98 (λ q. absurd (omega (arith, q))) e
+names a b p zero (suc (suc zero)) d l h e = differ 97 112 (λ q. absurd (omega (arith, q))) e
+names a b p zero (suc (suc (suc j))) d l h e = absurd (omega (arith, h))
+names a b p (suc zero) zero d l h e = absurd (omega (arith, l))
+names a b p (suc zero) (suc zero) d l h e = absurd (omega (arith, l))
+names a b p (suc zero) (suc (suc zero)) d l h e = differ 98 112 (λ q. absurd (omega (arith, q))) e
+names a b p (suc zero) (suc (suc (suc j))) d l h e = absurd (omega (arith, h))
+names a b p (suc (suc i)) zero d l h e = absurd (omega (arith, l))
+names a b p (suc (suc i)) (suc zero) d l h e = absurd (omega (arith, l))
+names a b p (suc (suc i)) (suc (suc zero)) d l h e = absurd (omega (arith, l))
+names a b p (suc (suc i)) (suc (suc (suc j))) d l h e = absurd (omega (arith, h))
+
+pub sound_net : (semantics : Semantics) (trees : List (ℕ × Topology)) (a b p : List (ℕ × Command)) → HasTrees trees → (first_tree trees).count ≡ 1
+    → is_script a ≡ true → is_script b ≡ true → is_script p ≡ true → IsSound (net_parts 1 semantics trees (three a b p) [])
+sound_net semantics trees a b p has one e f g = record {
+  version = (omega arith, omega arith);
+  trees = has;
+  few = omega arith;
+  names = λ i j d l h. names a b p i j d l h;
+  clients = λ client h. subst (λ n. IsSoundClient n client) (sym one) (each a b p e f g client h);
+  controls = omega (arith, few_controls (97 ∷ []) a e, few_controls (98 ∷ []) b f, few_controls (112 ∷ []) p g);
+  publishes = omega (arith, few_publishes (97 ∷ []) a e, few_publishes (98 ∷ []) b f, few_publishes (112 ∷ []) p g);
+  turns = λ turn h. absurd h;
+}

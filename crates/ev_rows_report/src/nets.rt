@@ -50,7 +50,7 @@ fn clients(
 }
 
 /// The net of these scripts.
-#[tactic(auto, using(crate::proofs::Steps::sound_client, crate::proofs::Steps::short, crate::proofs::Steps::few_publishes, crate::proofs::Steps::few_controls))]
+
 pub(crate) fn net(
     alloc: Global,
     semantics: Semantics,

@@ -5,7 +5,7 @@ use Rattle.ev_generate.proofs.document.push_clients.Goals as goal
 
 pub loop-i-preserved : goal.loop-i-preserved
 loop-i-preserved c = λ seed.
-  text_step client_line (λ n. 0) 64 c.loop-i.i seed seed c.loop-i.out.items c.push_client.new.out.items _ c.loop-i-test.true
+    text_step client_line (λ n. 0) 64 c.loop-i.i seed seed c.loop-i.out.items c.push_client.new.out.items _ c.loop-i-test.true
     (c.loop-i.invariant seed) (c.in_ok-push_client.ensures seed) refl
 
 pub returns : goal.returns

@@ -6,7 +6,7 @@ use Rattle.ev_generate.proofs.document.push_edges.Goals as goal
 pub loop-i-preserved : goal.loop-i-preserved
 loop-i-preserved c = (
   text_step edge_line (λ n. 1) 15 c.loop-i.i c.loop-i.draws.state c.push_edge.new.draws.state c.loop-i.out.items c.push_edge.new.out.items _ c.loop-i-test.true
-    c.loop-i.invariant.0 c.in_ok-push_edge.ensures.text c.in_ok-push_edge.ensures.state,
+      c.loop-i.invariant.0 c.in_ok-push_edge.ensures.text c.in_ok-push_edge.ensures.state,
   one_step 15 c.loop-i.i c.loop-i.draws.state c.push_edge.new.draws.state _ c.loop-i-test.true c.loop-i.invariant.1 c.in_ok-push_edge.ensures.state,
 )
 

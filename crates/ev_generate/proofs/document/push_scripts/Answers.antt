@@ -5,7 +5,7 @@ use Rattle.ev_generate.proofs.document.push_scripts.Goals as goal
 
 pub loop-i-preserved : goal.loop-i-preserved
 loop-i-preserved c =
-  text_step script_text script_draws 64 c.loop-i.i c.loop-i.draws.state c.push_script.new.draws.state c.loop-i.out.items c.push_script.new.out.items _ c.loop-i-test.true
+    text_step script_text script_draws 64 c.loop-i.i c.loop-i.draws.state c.push_script.new.draws.state c.loop-i.out.items c.push_script.new.out.items _ c.loop-i-test.true
     c.loop-i.invariant c.in_ok-push_script.ensures.text c.in_ok-push_script.ensures.state
 
 pub returns : goal.returns
