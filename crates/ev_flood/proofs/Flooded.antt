@@ -1,24 +1,22 @@
 -- What the code lists is what flooding owes.
-use Rattle.std.proofs.Common.{◌≡◌, ℕ, zero, suc, ◌+◌, ◌≤◌, Bool, true, false, not, ◌&&◌, ◌||◌, ◌↔◌, List, [], ◌∷◌, map, take, length, slice_get, Option, Some, None, refl, sym, ap, subst, ◌∙◌, arith}
+use Rattle.std.proofs.Common.{◌≡◌, ℕ, zero, suc, ◌+◌, ◌≤◌, true, ◌&&◌, List, [], ◌∷◌, map, take, length, slice_get, Option, Some, None, refl, sym, ap, subst, ◌∙◌, arith}
 use Rattle.std.proofs.Math.Seq.{take-length}
-use Rattle.ev_sets.specs.Sets.{Has, IsRising}
+use Rattle.ev_sets.specs.Sets.{Has}
 use Rattle.ev_notice.specs.Notice.{Attribute}
-use Rattle.ev_constraint.specs.Constraint.{ConstraintParts}
 use Rattle.ev_routing.specs.Net.{PhasedCommand, Command, Publish}
-use Rattle.ev_routing.specs.Clients.{ordinal, adverts_after, filters_after, accepts, commands_below, refused_from, some_pass}
+use Rattle.ev_routing.specs.Clients.{ordinal, adverts_after, filters_after, commands_below, refused_from, some_pass}
 use Rattle.ev_routing.specs.Owed.{IsMomentOfPhase, IsPublication, IsAdvertisedThroughout, IsOwed, IsAllowed}
 use Rattle.ev_routing.proofs.Listing.{pass-by, by-pass}
 use Rattle.ev_theory.specs.Real.{real}
-use Rattle.ev_wire.specs.declared.semantics.Semantics.{Semantics}
 use Rattle.ev_model.specs.Parts.{ClientParts, NetParts}
-use Rattle.ev_model.specs.Nets.{with_adverts, client_at, script_in, script_of}
+use Rattle.ev_model.specs.Nets.{with_adverts, script_in, script_of}
 use Rattle.ev_flood.specs.declared.owed.OwedRow.{OwedRow}
 use Rattle.ev_flood.specs.declared.publication.Publication.{Publication}
-use Rattle.ev_flood.specs.Flooding.{net_in, row_before, row_of, IsRow, HasRow, AreRows, all_refused, IsFlooding}
+use Rattle.ev_flood.specs.Flooding.{net_in, IsRow, HasRow, AreRows, all_refused, IsFlooding}
 use Rattle.ev_flood.specs.Held.{Script, below, some_filters, every_filters, every_adverts}
 use Rattle.ev_flood.specs.Publications.{is_free, is_met, publication_of, accepted_from, accepted_of, refusals_from, rows_of, all_rows_of, all_refusals_of}
 use Rattle.ev_flood.proofs.Moments.{ps, below_same}
-use Rattle.ev_flood.proofs.PhaseOfFilters.{Sometime, throughout_to, throughout_from, sometime_to, sometime_from}
+use Rattle.ev_flood.proofs.PhaseOfFilters.{throughout_to, throughout_from, sometime_to, sometime_from}
 use Rattle.ev_flood.proofs.PhaseOfAdverts.{throughout_to as adverts_to, throughout_from as adverts_from}
 use Rattle.ev_flood.proofs.Passing.{both_true, and_true, must_pass, may_pass, map_get}
 use Rattle.ev_flood.proofs.Publishing.{publish_at, Accepted, accepted_to, accepted_has, refusals_same}

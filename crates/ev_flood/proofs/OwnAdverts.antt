@@ -1,5 +1,5 @@
 -- A client's advertisements through its script are those of the runs.
-use Rattle.std.proofs.Common.{◌≡◌, ℕ, zero, suc, ◌+◌, ◌-◌, ◌≤◌, Bool, true, false, cond, not, ◌||◌, ◌↔◌, ◌⊎◌, inl, inr, List, [], ◌∷◌, ◌++◌, map, filter, take, drop, length, refl, sym, ap, subst, ◌∙◌, arith, zero-le, suc-le-suc}
+use Rattle.std.proofs.Common.{◌≡◌, ℕ, zero, suc, ◌≤◌, Bool, true, false, ◌||◌, inl, inr, List, [], ◌∷◌, ◌++◌, take, length, refl, zero-le, suc-le-suc}
 use Rattle.ev_sets.specs.Sets.{Has}
 use Rattle.ev_constraint.specs.Constraint.{ConstraintParts}
 use Rattle.ev_notice.specs.Cover.{advert_covers}
@@ -9,7 +9,7 @@ use Rattle.ev_routing.proofs.Listing.{has-left, has-right, has-either}
 use Rattle.ev_theory.specs.Real.{real, real_laws}
 use Rattle.ev_wire.specs.declared.command.Command.{Command}
 use Rattle.ev_wire.specs.declared.command.Command.TheVariants as commands
-use Rattle.ev_model.specs.Meaning.{command_of, phased_command}
+use Rattle.ev_model.specs.Meaning.{command_of}
 use Rattle.ev_flood.specs.Held.{Script, Owned, advert_step, held_adverts, unadvertises, unadvertised}
 use Rattle.ev_flood.proofs.Moments.{Same, ps}
 

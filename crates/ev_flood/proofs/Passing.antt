@@ -1,5 +1,5 @@
 -- Tests over lists with the same members, and joined lists that rise.
-use Rattle.std.proofs.Common.{◌≡◌, ℕ, zero, suc, Bool, true, false, not, ◌&&◌, ◌||◌, ◌↔◌, ◌⊎◌, inl, inr, List, [], ◌∷◌, ◌++◌, map, slice_get, Option, Some, None, refl, sym, ap, ◌∙◌, arith}
+use Rattle.std.proofs.Common.{◌≡◌, ℕ, zero, suc, Bool, true, false, not, ◌&&◌, ◌||◌, inl, inr, List, [], ◌∷◌, ◌++◌, map, slice_get, Some, refl, sym}
 use Rattle.ev_sets.specs.Sets.{Has, IsRising}
 use Rattle.ev_routing.specs.Clients.{some_pass}
 use Rattle.ev_routing.proofs.Listing.{pass-by, by-pass, has-either}

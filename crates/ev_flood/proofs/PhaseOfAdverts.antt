@@ -1,10 +1,9 @@
 -- A client's advertisements at each moment of a phase.
-use Rattle.std.proofs.Common.{◌≡◌, ℕ, zero, suc, ◌+◌, ◌-◌, ◌≤◌, Bool, true, false, not, ◌↔◌, ◌⊎◌, inl, inr, List, [], ◌∷◌, ◌++◌, filter, take, drop, length, refl, sym, ap, subst, ◌∙◌, arith}
+use Rattle.std.proofs.Common.{◌≡◌, ℕ, ◌+◌, ◌-◌, ◌≤◌, Bool, true, false, not, List, [], take, drop, length, refl, sym, ap, subst, ◌∙◌, arith}
 use Rattle.ev_sets.specs.Sets.{Has}
 use Rattle.ev_sets.proofs.Roots.{Has-filter, filter-Has}
 use Rattle.ev_constraint.specs.Constraint.{ConstraintParts}
 use Rattle.ev_routing.specs.Clients.{adverts_after}
-use Rattle.ev_routing.proofs.Listing.{has-left, has-right, has-either}
 use Rattle.ev_theory.specs.Real.{real}
 use Rattle.ev_flood.specs.Held.{Script, Owned, below, before, within, held_adverts, unadvertised, every_adverts}
 use Rattle.ev_flood.proofs.Below.{below_rises}

@@ -1,9 +1,9 @@
 -- The accepted publications and the refused ordinals of a script are those of the runs.
-use Rattle.std.proofs.Common.{◌≡◌, ℕ, zero, suc, ◌+◌, ◌<◌, ◌≤◌, Bool, true, false, cond, not, ◌||◌, ◌&&◌, ◌==◌, nat_lt, ◌⊎◌, inl, inr, List, [], ◌∷◌, ◌++◌, take, slice_get, Option, Some, None, refl, sym, ap, subst, ◌∙◌, arith}
+use Rattle.std.proofs.Common.{◌≡◌, ℕ, zero, suc, ◌+◌, ◌<◌, ◌≤◌, Bool, true, false, cond, not, ◌||◌, ◌⊎◌, inl, inr, List, [], ◌∷◌, take, slice_get, Some, refl, sym, ap, subst, ◌∙◌, arith}
 use Rattle.std.proofs.lemmas.Bool.Decides.{nat_tests}
 use Rattle.ev_sets.specs.Sets.{Has, IsRising}
 use Rattle.ev_notice.specs.Notice.{Attribute}
-use Rattle.ev_routing.specs.Net.{Net, PhasedCommand, Command, Publish}
+use Rattle.ev_routing.specs.Net.{Net, PhasedCommand, Publish}
 use Rattle.ev_routing.specs.Clients.{is_publish, ordinal, adverts_step, adverts_after, some_pass, accepts, add_refused, refused_from}
 use Rattle.ev_theory.specs.Real.{real}
 use Rattle.ev_wire.specs.declared.semantics.Semantics.{Semantics}

@@ -1,7 +1,6 @@
 -- How the code follows a client's lists through its script; no promise to a caller speaks of it.
 use Rattle.std.specs.Prelude.{ℕ, suc, ◌+◌, ◌-◌, Bool, false, cond, not, ◌||◌, nat_lt, List, [], ◌∷◌, ◌++◌, filter, take, drop}
 use Rattle.ev_constraint.specs.Constraint.{ConstraintParts}
-use Rattle.ev_notice.specs.Notice.{Attribute}
 use Rattle.ev_notice.specs.Cover.{filter_covers, advert_covers}
 use Rattle.ev_wire.specs.declared.command.Command.{Command}
 use Rattle.ev_wire.specs.declared.command.Command.TheVariants as commands

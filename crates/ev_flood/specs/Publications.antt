@@ -1,11 +1,10 @@
 -- How the code lists publications and a client's rows; no promise to a caller speaks of it.
-use Rattle.std.specs.Prelude.{ℕ, suc, ◌+◌, Bool, cond, not, ◌||◌, ◌&&◌, List, [], ◌∷◌, ◌++◌, map}
+use Rattle.std.specs.Prelude.{ℕ, ◌+◌, Bool, cond, not, ◌||◌, ◌&&◌, List, [], ◌∷◌, ◌++◌, map}
 use Rattle.ev_notice.specs.Notice.{Attribute}
 use Rattle.ev_routing.specs.Clients.{is_publish, some_pass}
 use Rattle.ev_sets.specs.Numbers.{sum_over, count}
 use Rattle.ev_model.specs.Meaning.{command_of}
 use Rattle.ev_theory.specs.Real.{real}
-use Rattle.ev_wire.specs.declared.id.Id.{Id}
 use Rattle.ev_wire.specs.declared.semantics.Semantics.{Semantics}
 use Rattle.ev_wire.specs.declared.command.Command.{Command}
 use Rattle.ev_wire.specs.declared.command.Command.TheVariants as commands

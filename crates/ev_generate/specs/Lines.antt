@@ -1,5 +1,5 @@
 -- The lines of a generated document, each ended by a newline (10), made of the numbers drawn from a state on.
-use Rattle.std.specs.Prelude.{ℕ, zero, suc, ◌+◌, ◌-◌, ◌%◌, ◌==◌, Bool, true, false, List, [], ◌∷◌, ◌++◌, codes, decimal, if◌then◌else◌}
+use Rattle.std.specs.Prelude.{ℕ, zero, suc, ◌+◌, ◌%◌, ◌==◌, Bool, true, false, List, [], ◌∷◌, ◌++◌, codes, decimal, if◌then◌else◌}
 use Rattle.ev_generate.specs.Draws.{draw, letter, after}
 
 -- the texts at places from one on, so many, each made of the state that is left by the draws of those before it

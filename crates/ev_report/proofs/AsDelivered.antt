@@ -9,7 +9,6 @@ use Rattle.ev_notice.specs.Notice.{Attribute}
 use Rattle.ev_routing.specs.Owed.{IsPublication, IsOwed}
 use Rattle.ev_routing.proofs.Current.{one-publication}
 use Rattle.ev_routing.proofs.Listing.{get-has}
-use Rattle.ev_phases.specs.Trees.{PhasedNet}
 use Rattle.ev_phases.specs.Owing.{IsOwedTo, IsAllowedTo}
 use Rattle.ev_theory.specs.Real.{real}
 use Rattle.ev_wire.specs.declared.delivery.Delivery.{Delivery}
@@ -23,7 +22,7 @@ use Rattle.ev_report.specs.Published.{texts_in}
 use Rattle.ev_report.specs.Flood.{row_line, flood_section, flood_sections, flood_text}
 use Rattle.ev_report.specs.Deliveries.{by_id, delivery_line, delivery_section, delivery_sections, deliveries_text}
 use Rattle.ev_report.specs.Drained.{inboxes, AllOwed}
-use Rattle.ev_report.proofs.Given.{given_by, given_same, once_apart, lines_same, lives_there, Publisher, publisher_is}
+use Rattle.ev_report.proofs.Given.{given_same, once_apart, lines_same, lives_there, publisher_is}
 
 next : (m i : ℕ) → suc m + i ≡ m + suc i
 next m i = omega arith

@@ -1,17 +1,17 @@
 -- The rows of a client are what it received.
-use Rattle.std.proofs.Common.{◌≡◌, ℕ, zero, suc, ◌+◌, ◌<◌, ◌≤◌, Bool, true, false, cond, ◌&&◌, ◌||◌, ◌==◌, ◌⊎◌, inl, inr, ◌↔◌, List, [], ◌∷◌, ◌++◌, map, take, length, slice_get, slice_index_or, Option, Some, None, codes, refl, sym, ap, subst, ◌∙◌, arith}
+use Rattle.std.proofs.Common.{◌≡◌, ℕ, zero, suc, ◌+◌, ◌<◌, ◌≤◌, Bool, true, false, cond, ◌&&◌, ◌==◌, inl, inr, ◌↔◌, List, [], ◌∷◌, ◌++◌, map, take, length, slice_get, slice_index_or, Option, Some, None, refl, sym, ap, subst, ◌∙◌, arith}
 use Rattle.std.specs.List.{flat_map, range_with_len}
 use Rattle.std.proofs.lemmas.Bool.Decides.{nat_tests}
 use Rattle.ev_sets.specs.Sets.{Has, IsRising}
 use Rattle.ev_sets.proofs.Roots.{Has-filter}
 use Rattle.ev_notice.specs.Notice.{Attribute}
-use Rattle.ev_routing.specs.Net.{Net, PhasedCommand, Command, Publish}
+use Rattle.ev_routing.specs.Net.{Net, PhasedCommand, Publish}
 use Rattle.ev_routing.specs.Clients.{is_publish, ordinal}
 use Rattle.ev_routing.specs.Server.{Publication}
 use Rattle.ev_routing.specs.AsOf.{times_delivered}
-use Rattle.ev_routing.specs.Owed.{IsPublication, IsOwed, IsAllowed}
+use Rattle.ev_routing.specs.Owed.{IsPublication}
 use Rattle.ev_routing.proofs.Listing.{has-map, map-has}
-use Rattle.ev_phases.specs.Owing.{IsOwedTo, IsAllowedTo}
+use Rattle.ev_phases.specs.Owing.{IsAllowedTo}
 use Rattle.ev_theory.specs.Real.{real}
 use Rattle.ev_wire.specs.NoticeText.{notice_text}
 use Rattle.ev_wire.specs.declared.command.Command.{Command as WireCommand}
@@ -21,12 +21,12 @@ use Rattle.ev_model.specs.Meaning.{command_of, phased_command, delivery_of, deli
 use Rattle.ev_model.specs.Nets.{phased_net, script_in, script_of, home_of, clients_of}
 use Rattle.ev_model.specs.Parts.{ClientParts, NetParts}
 use Rattle.ev_flood.specs.declared.owed.OwedRow.{OwedRow}
-use Rattle.ev_flood.specs.Flooding.{net_in, row_before, row_of, IsRow, AreRows}
+use Rattle.ev_flood.specs.Flooding.{net_in, row_before, row_of, AreRows}
 use Rattle.ev_report.specs.Lines.{publication_line}
 use Rattle.ev_report.specs.Published.{texts_of, texts_in, numbered, text_at}
 use Rattle.ev_report.specs.Flood.{row_word, row_line}
 use Rattle.ev_report.specs.Deliveries.{by_id, delivery_line}
-use Rattle.ev_report.proofs.Strict.{d_before, one_rising, Differs, AreApart, by_id_has, has_by_id, by_id_rising, never_itself, never_both}
+use Rattle.ev_report.proofs.Strict.{d_before, one_rising, AreApart, by_id_has, has_by_id, by_id_rising, never_itself, never_both}
 
 -- the text of a publish
 publish_back : (c : WireCommand) (n : List Attribute) → command_of c ≡ Publish n → c ≡ commands.Publish n

@@ -1,12 +1,12 @@
 -- Deliveries of different ids, by their ids.
-use Rattle.std.proofs.Common.{◌≡◌, ℕ, ◌<◌, ◌≤◌, suc, Bool, true, false, cond, ◌&&◌, ◌||◌, ◌==◌, nat_lt, ◌⊎◌, inl, inr, List, [], ◌∷◌, refl, sym, ap, subst, ◌∙◌, arith}
+use Rattle.std.proofs.Common.{◌≡◌, Bool, true, false, cond, ◌⊎◌, inl, inr, List, [], ◌∷◌, refl, sym, ap, subst, ◌∙◌, arith}
 use Rattle.std.proofs.lemmas.Bool.Decides.{nat_tests}
 use Rattle.ev_sets.specs.Sets.{Has, IsRising}
 use Rattle.ev_wire.specs.declared.id.Id.{Id}
 use Rattle.ev_wire.specs.declared.delivery.Delivery.{Delivery}
 use Rattle.ev_flood.specs.Flooding.{id_before}
 use Rattle.ev_report.specs.Deliveries.{put_by_id, by_id}
-use Rattle.ev_report.proofs.Ids.{before_self, before_one_way, before_chain}
+use Rattle.ev_report.proofs.Ids.{before_self, before_one_way}
 
 abbrev pub d_before : Delivery → Delivery → Bool
 d_before d e = id_before d.id e.id

@@ -1,5 +1,5 @@
 -- Lines of clients, refused publishes and publications, each ended by a newline (10).
-use Rattle.std.specs.Prelude.{ℕ, List, [], ◌∷◌, ◌++◌, codes, Option, Some, None}
+use Rattle.std.specs.Prelude.{ℕ, List, [], ◌++◌, codes, Option, Some, None}
 use Rattle.std.specs.Fmt.{decimal}
 use Rattle.ev_wire.specs.declared.id.Id.{Id}
 use Rattle.ev_model.specs.Parts.{ClientParts}

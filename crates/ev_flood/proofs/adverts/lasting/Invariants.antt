@@ -1,4 +1,4 @@
-use Rattle.std.proofs.Common.{◌≡◌, ◌++◌, [], ◌≤◌, ◌+◌, take, drop, filter, not}
+use Rattle.std.proofs.Common.{◌≡◌, ◌++◌, drop, filter, not}
 use Rattle.ev_flood.specs.Held.{unadvertised}
 use Rattle.ev_flood.proofs.adverts.lasting.Given as goal
 

@@ -1,4 +1,4 @@
-use Rattle.std.proofs.Common.{◌≡◌, ◌++◌, [], ◌≤◌, ◌+◌, take, drop, filter, not}
+use Rattle.std.proofs.Common.{◌≡◌, [], drop}
 use Rattle.ev_flood.specs.Held.{held}
 use Rattle.ev_flood.proofs.held.held.Given as goal
 

@@ -1,4 +1,4 @@
-use Rattle.std.proofs.Common.{◌≡◌, ◌++◌, [], ◌≤◌, ◌+◌, take, drop, filter, not}
+use Rattle.std.proofs.Common.{◌≡◌, drop}
 use Rattle.ev_routing.specs.Clients.{some_pass}
 use Rattle.ev_theory.specs.Real.{real}
 use Rattle.ev_flood.proofs.publication.is_allowed.Given as goal

@@ -1,4 +1,4 @@
-use Rattle.std.proofs.Common.{◌≡◌, ◌++◌, [], ◌≤◌, ◌+◌, take, drop, filter, not}
+use Rattle.std.proofs.Common.{◌≡◌, drop}
 use Rattle.ev_flood.specs.Publications.{is_met}
 use Rattle.ev_flood.proofs.publication.is_met.Given as goal
 

@@ -1,4 +1,4 @@
-use Rattle.std.proofs.Common.{◌≡◌, ◌++◌, [], ◌≤◌, ◌+◌, take, drop, filter, not}
+use Rattle.std.proofs.Common.{◌≡◌, ◌++◌, [], ◌+◌, drop}
 use Rattle.ev_flood.specs.Lasting.{AreAdverts}
 use Rattle.ev_flood.specs.Publications.{accepted_from, publishes_in}
 use Rattle.ev_flood.proofs.publication.push_accepted.Given as goal

@@ -1,4 +1,4 @@
-use Rattle.std.proofs.Common.{◌≡◌, ◌++◌, [], ◌≤◌, ◌+◌, take, drop, filter, not}
+use Rattle.std.proofs.Common.{◌≡◌, ◌++◌, [], ◌+◌, drop}
 use Rattle.ev_flood.specs.Publications.{refusals_from, publishes_in}
 use Rattle.ev_flood.proofs.publication.refusals.Given as goal
 

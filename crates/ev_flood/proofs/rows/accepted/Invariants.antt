@@ -1,4 +1,4 @@
-use Rattle.std.proofs.Common.{◌≡◌, ◌++◌, [], ◌≤◌, ◌+◌, take, drop, filter, not}
+use Rattle.std.proofs.Common.{◌≡◌, ◌++◌, ◌≤◌, ◌+◌, drop}
 use Rattle.ev_sets.specs.Numbers.{sum_over}
 use Rattle.ev_model.specs.Sound.{publishes}
 use Rattle.ev_flood.specs.Publications.{accepted_of}

@@ -1,4 +1,4 @@
-use Rattle.std.proofs.Common.{◌≡◌, ◌++◌, [], ◌≤◌, ◌+◌, take, drop, filter, not}
+use Rattle.std.proofs.Common.{◌≡◌, take}
 use Rattle.ev_flood.specs.Publications.{all_rows_of}
 use Rattle.ev_flood.proofs.rows.all_rows.Given as goal
 

@@ -1,4 +1,4 @@
-use Rattle.std.proofs.Common.{◌≡◌, ◌++◌, [], ◌≤◌, ◌+◌, take, drop, filter, not}
+use Rattle.std.proofs.Common.{◌≡◌, ◌++◌, drop}
 use Rattle.ev_flood.specs.Lasting.{AreFilters}
 use Rattle.ev_flood.specs.Publications.{rows_of}
 use Rattle.ev_flood.proofs.rows.rows.Given as goal

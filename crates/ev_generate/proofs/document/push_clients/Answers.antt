@@ -1,5 +1,5 @@
 use Rattle.std.proofs.Common.{refl}
-use Rattle.ev_generate.specs.Lines.{numbered, client_line}
+use Rattle.ev_generate.specs.Lines.{client_line}
 use Rattle.ev_generate.proofs.Rest.{text_step, text_end}
 use Rattle.ev_generate.proofs.document.push_clients.Goals as goal
 

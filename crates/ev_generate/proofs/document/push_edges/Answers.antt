@@ -1,5 +1,4 @@
-use Rattle.ev_generate.specs.Draws.{after}
-use Rattle.ev_generate.specs.Lines.{numbered, edge_line}
+use Rattle.ev_generate.specs.Lines.{edge_line}
 use Rattle.ev_generate.proofs.Rest.{text_step, text_end, one_step}
 use Rattle.ev_generate.proofs.document.push_edges.Goals as goal
 

@@ -1,4 +1,4 @@
-use Rattle.std.proofs.Common.{◌≡◌, ◌-◌, ◌*◌, ◌++◌}
+use Rattle.std.proofs.Common.{◌≡◌, ◌-◌, ◌++◌}
 use Rattle.ev_generate.specs.Draws.{after}
 use Rattle.ev_generate.specs.Lines.{numbered, edge_line}
 use Rattle.ev_generate.proofs.document.push_edges.Given as goal

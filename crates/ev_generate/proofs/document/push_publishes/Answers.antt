@@ -1,5 +1,4 @@
-use Rattle.ev_generate.specs.Draws.{after}
-use Rattle.ev_generate.specs.Lines.{numbered, publish_line}
+use Rattle.ev_generate.specs.Lines.{publish_line}
 use Rattle.ev_generate.proofs.Rest.{text_step, text_end, six_step, none_left}
 use Rattle.ev_generate.proofs.document.push_publishes.Goals as goal
 

@@ -1,4 +1,3 @@
-use Rattle.ev_generate.specs.Lines.{numbered}
 use Rattle.ev_generate.specs.Document.{script_text, script_draws}
 use Rattle.ev_generate.proofs.Rest.{text_step, text_end}
 use Rattle.ev_generate.proofs.document.push_scripts.Goals as goal

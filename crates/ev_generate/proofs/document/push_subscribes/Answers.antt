@@ -1,5 +1,4 @@
-use Rattle.ev_generate.specs.Draws.{after}
-use Rattle.ev_generate.specs.Lines.{numbered, subscribe_line}
+use Rattle.ev_generate.specs.Lines.{subscribe_line}
 use Rattle.ev_generate.proofs.Rest.{text_step, text_end, five_step, none_left}
 use Rattle.ev_generate.proofs.document.push_subscribes.Goals as goal
 

@@ -1,11 +1,11 @@
 -- A run of the net, drained, has in its inboxes exactly what is allowed, each once.
-use Rattle.std.proofs.Common.{◌≡◌, ℕ, ◌≤◌, ◌↔◌, length, ap, subst}
+use Rattle.std.proofs.Common.{◌≤◌, ◌↔◌, length, subst}
 use Rattle.ev_sets.specs.Sets.{Has}
 use Rattle.ev_routing.specs.Server.{Publication}
 use Rattle.ev_routing.specs.AsOf.{times_delivered}
-use Rattle.ev_phases.specs.Trees.{PhasedNet, State}
+use Rattle.ev_phases.specs.Trees.{PhasedNet}
 use Rattle.ev_phases.specs.Moments.{Moment}
-use Rattle.ev_phases.specs.AtMoments.{net_then, inbox_of, moment_at, end_moment}
+use Rattle.ev_phases.specs.AtMoments.{net_then, inbox_of}
 use Rattle.ev_phases.specs.Owing.{IsOwedTo, IsAllowedTo}
 use Rattle.ev_theory.specs.Real.{real}
 use Rattle.ev_report.proofs.AsDelivered.{as_delivered}

@@ -3,7 +3,6 @@ use Rattle.std.proofs.Common.{rules, ◌∙◌, ap, map}
 use Rattle.std.proofs.lemmas.List.Sorted.{answers_always}
 use Rattle.ev_report.proofs.Ids.{id_lt, id_weak, by_id_same}
 use Rattle.ev_report.proofs.Sorting.{inserted, inserted_from_sort, map_inserted, taken}
-use Rattle.ev_report.specs.Deliveries.{by_id}
 use Rattle.ev_report.proofs.sorted.by_id.Goals as goal
 
 pub returns : goal.returns

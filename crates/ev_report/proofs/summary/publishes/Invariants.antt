@@ -1,4 +1,4 @@
-use Rattle.std.proofs.Common.{◌≡◌, ◌+◌, ◌≤◌, not, drop}
+use Rattle.std.proofs.Common.{◌≡◌, ◌+◌, ◌≤◌, drop}
 use Rattle.ev_sets.specs.Numbers.{sum_over, count}
 use Rattle.ev_routing.specs.Clients.{is_publish}
 use Rattle.ev_theory.specs.Real.{real}
