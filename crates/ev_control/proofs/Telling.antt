@@ -2,7 +2,7 @@
 use Rattle.std.proofs.Common.{◌≡◌, ◌≢◌, inl, inr, ℕ, ◌+◌, ◌==◌, ◌&&◌, not, Bool, true, false, List, [], ◌∷◌, ◌++◌, map, filter, take, slice_get, Option, Some, None, MatchOption, refl, sym, ap, subst, ◌∙◌, add-one, append_assoc, append-nil}
 use Rattle.std.specs.List.{flat_map}
 use Rattle.std.specs.Option.{option_map}
-use Rattle.ev_sets.specs.Sets.{IsRising, minus, same_list}
+use Rattle.ev_sets.specs.Sets.{Has, IsRising, minus, same_list}
 use Rattle.ev_sets.proofs.Sets.{same_list-iff, rising-roots, rising-set_of}
 use Rattle.ev_cover.specs.Laws.{sub_laws, ad_laws}
 use Rattle.ev_constraint.specs.Constraint.{ConstraintParts}
@@ -12,42 +12,43 @@ use Rattle.ev_wire.specs.declared.message.Message as wire
 use Rattle.ev_wire.specs.declared.message.Message.TheVariants as wires
 use Rattle.ev_wire.specs.declared.sent.Sent.{Sent}
 use Rattle.ev_wire.specs.declared.semantics.Semantics.{Semantics}
-use Rattle.ev_wire.specs.MessageText.{IsMessageText}
+use Rattle.ev_wire.specs.MessageText.{message_text, IsMessageText}
+use Rattle.ev_routing.specs.Server.{Message, Subs, Advs}
 use Rattle.ev_theory.specs.Real.{real}
 use Rattle.ev_control.specs.Stock.{named, left_for, stays}
-use Rattle.ev_control.specs.Control.{text_to, sent_to, filter_change, advert_change, AreTexts, filters_left, adverts_left, is_wanted}
+use Rattle.ev_control.specs.Control.{text_to, sent_to, wired, filter_change, advert_change, HaveTexts, filters_left, adverts_left, is_wanted}
 use Rattle.ev_control.proofs.Named.{named-is}
 use Rattle.ev_control.proofs.Taken.{take-some}
 
-no-texts : AreTexts []
-no-texts s m = absurd m
+no-texts : HaveTexts []
+no-texts m h = absurd h
 
-one-text : (link : ℕ) (bytes : List ℕ) (m : wire.Message) → IsMessageText bytes m → AreTexts (text_to link (Some bytes))
-one-text link bytes m text s (inl q) = (m, subst (λ z. IsMessageText z m) (sym (ap (λ z. z.bytes) q)) text)
-one-text link bytes m text s (inr r) = absurd r
+one-text : (bytes : List ℕ) (m : Message real) → IsMessageText bytes (wired m) → HaveTexts (m ∷ [])
+one-text bytes m text other (inl q) = subst (λ z. IsMessageText (message_text (wired z)) (wired z)) (sym q) (subst (λ z. IsMessageText z (wired m)) text.text text)
+one-text bytes m text other (inr r) = absurd r
 
 module _ {V : Type 0} (items : V → List ℕ) (link : ℕ) (old new : List (List ConstraintParts)) where
   filters-told : (o : Option V) → MatchOption o (old ≡ new) (λ v. (old ≢ new) × IsMessageText (items v) (wires.Subs (minus real.before old new) (minus real.before new old)))
-      → (text_to link (option_map items o) ≡ map (sent_to link) (filter_change old new)) × AreTexts (text_to link (option_map items o))
+      → (text_to link (option_map items o) ≡ map (sent_to link) (filter_change old new)) × HaveTexts (filter_change old new)
   filters-told None e =
       let same : same_list real.before old new ≡ true = (same_list-iff sub_laws old new).1 e in
-      (rw same, no-texts)
+      (rw same, rw same no-texts)
   filters-told (Some v) (n, text) =
       let two : same_list real.before old new ≡ false = go (same_list real.before old new) refl in
-      (rw (two, text.text), one-text link (items v) (wires.Subs (minus real.before old new) (minus real.before new old)) text)
+      (rw (two, text.text), rw two (one-text (items v) (Subs (minus real.before old new) (minus real.before new old)) text))
     where
       go : (b : Bool) → same_list real.before old new ≡ b → b ≡ false
       go true e = absurd (n ((same_list-iff sub_laws old new).0 e))
       go false e = refl
 
   adverts-told : (o : Option V) → MatchOption o (old ≡ new) (λ v. (old ≢ new) × IsMessageText (items v) (wires.Advs (minus real.before_advert old new) (minus real.before_advert new old)))
-      → (text_to link (option_map items o) ≡ map (sent_to link) (advert_change old new)) × AreTexts (text_to link (option_map items o))
+      → (text_to link (option_map items o) ≡ map (sent_to link) (advert_change old new)) × HaveTexts (advert_change old new)
   adverts-told None e =
       let same : same_list real.before_advert old new ≡ true = (same_list-iff ad_laws old new).1 e in
-      (rw same, no-texts)
+      (rw same, rw same no-texts)
   adverts-told (Some v) (n, text) =
       let two : same_list real.before_advert old new ≡ false = go (same_list real.before_advert old new) refl in
-      (rw (two, text.text), one-text link (items v) (wires.Advs (minus real.before_advert old new) (minus real.before_advert new old)) text)
+      (rw (two, text.text), rw two (one-text (items v) (Advs (minus real.before_advert old new) (minus real.before_advert new old)) text))
     where
       go : (b : Bool) → same_list real.before_advert old new ≡ b → b ≡ false
       go true e = absurd (n ((same_list-iff ad_laws old new).0 e))
@@ -56,11 +57,11 @@ module _ {V : Type 0} (items : V → List ℕ) (link : ℕ) (old new : List (Lis
   -- of rows that name the two
   module _ (pool : Pooled (List ConstraintParts)) (from to : List ℕ) (olds : Names pool from old) (news : Names pool to new) where
     pub filter-rows : (o : Option V) → MatchOption o (named pool from ≡ named pool to) (λ v. (named pool from ≢ named pool to) × IsMessageText (items v) (wires.Subs (minus real.before (named pool from) (named pool to)) (minus real.before (named pool to) (named pool from))))
-        → (text_to link (option_map items o) ≡ map (sent_to link) (filter_change old new)) × AreTexts (text_to link (option_map items o))
+        → (text_to link (option_map items o) ≡ map (sent_to link) (filter_change old new)) × HaveTexts (filter_change old new)
     filter-rows o m = filters-told o (subst (λ z. MatchOption o (old ≡ z) (λ v. (old ≢ z) × IsMessageText (items v) (wires.Subs (minus real.before old z) (minus real.before z old)))) (named-is pool to new news) (subst (λ z. MatchOption o (z ≡ named pool to) (λ v. (z ≢ named pool to) × IsMessageText (items v) (wires.Subs (minus real.before z (named pool to)) (minus real.before (named pool to) z)))) (named-is pool from old olds) m))
 
     pub advert-rows : (o : Option V) → MatchOption o (named pool from ≡ named pool to) (λ v. (named pool from ≢ named pool to) × IsMessageText (items v) (wires.Advs (minus real.before_advert (named pool from) (named pool to)) (minus real.before_advert (named pool to) (named pool from))))
-        → (text_to link (option_map items o) ≡ map (sent_to link) (advert_change old new)) × AreTexts (text_to link (option_map items o))
+        → (text_to link (option_map items o) ≡ map (sent_to link) (advert_change old new)) × HaveTexts (advert_change old new)
     advert-rows o m = adverts-told o (subst (λ z. MatchOption o (old ≡ z) (λ v. (old ≢ z) × IsMessageText (items v) (wires.Advs (minus real.before_advert old z) (minus real.before_advert z old)))) (named-is pool to new news) (subst (λ z. MatchOption o (z ≡ named pool to) (λ v. (z ≢ named pool to) × IsMessageText (items v) (wires.Advs (minus real.before_advert z (named pool to)) (minus real.before_advert (named pool to) z)))) (named-is pool from old olds) m))
 
 -- what is left is a set
@@ -88,7 +89,12 @@ pub flat-same : {A B : Type 0} (f g : A → List B) (xs : List A) → ((x : A) �
 flat-same f g [] same = refl
 flat-same f g (x ∷ xs) same = rw (same x, flat-same f g xs same)
 
-pub texts-more : (xs ys : List Sent) → AreTexts xs → AreTexts ys → AreTexts (xs ++ ys)
-texts-more [] ys p q s m = q s m
-texts-more (x ∷ xs) ys p q s (inl e) = p s (inl e)
-texts-more (x ∷ xs) ys p q s (inr m) = texts-more xs ys (λ t n. p t (inr n)) q s m
+-- what holds of the first so many and of the next one holds of one more
+pub next-has : {P : ℕ → Type 0} (xs : List ℕ) (n x : ℕ) → slice_get xs n ≡ Some x → ((y : ℕ) → Has y (take n xs) → P y) → P x → (y : ℕ) → Has y (take (n + 1) xs) → P y
+next-has {P} xs n x at done now = rw (add-one, take-some xs n x at) (last (take n xs) done)
+  where
+    last : (ys : List ℕ) → ((y : ℕ) → Has y ys → P y) → (y : ℕ) → Has y (ys ++ x ∷ []) → P y
+    last [] d y (inl q) = subst P (sym q) now
+    last [] d y (inr r) = absurd r
+    last (z ∷ ys) d y (inl q) = d y (inl q)
+    last (z ∷ ys) d y (inr r) = last ys (λ w m. d w (inr m)) y r

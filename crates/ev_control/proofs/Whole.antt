@@ -11,7 +11,7 @@ use Rattle.ev_theory.specs.Real.{real}
 use Rattle.ev_wire.specs.declared.semantics.Semantics.{Semantics}
 use Rattle.ev_control.specs.Holdings.{held_elsewhere}
 use Rattle.ev_control.specs.Stock.{holdings_of, held_without}
-use Rattle.ev_control.specs.Control.{Controlled, advs, is_wanted, sent, sent_adverts, filter_change, advert_change, changes_to, sent_to, filters_left, adverts_left, filters_to, adverts_to}
+use Rattle.ev_control.specs.Control.{Controlled, advs, is_wanted, sent, sent_adverts, filter_change, advert_change, changes_to, sent_to, filters_left, adverts_left, filter_messages, advert_messages, filters_to, adverts_to}
 use Rattle.ev_control.proofs.Changed.{Removed, removed-none, left-is, left-plain, left-none, without-is, elsewhere-same, from-same}
 
 Pairs : Type 0
@@ -45,23 +45,26 @@ module _ (semantics : Semantics) (links : List ℕ) (interface : ℕ) (out fresh
     same-sent : (link : ℕ) → link ≡ interface → sent (seen semantics links old adverts) link ≡ sent (seen semantics links new adverts) link
     same-sent link q = ap (λ z. roots real.covers real.before (filter (is_wanted semantics (advs (seen semantics links old adverts) link)) z)) (elsewhere-same sub_laws held old new link fresh out (subst (λ z. Removed held old z fresh) (sym q) was) (subst (λ z. Removed held new z out) (sym q) now))
 
-    pub subs-texts : (link : ℕ) → filters_to semantics interface out fresh held adverts link ≡ map (sent_to link) (changes_to (seen semantics links old adverts) (seen semantics links new adverts) link)
-    subs-texts link = go (link == interface) refl
+    pub subs-messages : (link : ℕ) → filter_messages semantics interface out fresh held adverts link ≡ changes_to (seen semantics links old adverts) (seen semantics links new adverts) link
+    subs-messages link = go (link == interface) refl
       where
         none : changes_to (seen semantics links old adverts) (seen semantics links new adverts) link ≡ filter_change (sent (seen semantics links old adverts) link) (sent (seen semantics links new adverts) link)
         none = no-adverts (filter_change (sent (seen semantics links old adverts) link) (sent (seen semantics links new adverts) link)) (sent_adverts (seen semantics links old adverts) link) (sent_adverts (seen semantics links new adverts) link) refl
 
-        go : (b : Bool) → (link == interface) ≡ b → filters_to semantics interface out fresh held adverts link ≡ map (sent_to link) (changes_to (seen semantics links old adverts) (seen semantics links new adverts) link)
+        go : (b : Bool) → (link == interface) ≡ b → filter_messages semantics interface out fresh held adverts link ≡ changes_to (seen semantics links old adverts) (seen semantics links new adverts) link
         go true e =
             let q : link ≡ interface = grind (arith, nat_tests, e) in
             let still : filter_change (sent (seen semantics links old adverts) link) (sent (seen semantics links new adverts) link) ≡ [] = subst (λ z. filter_change (sent (seen semantics links old adverts) link) z ≡ []) (same-sent link q) (still-filters (sent (seen semantics links old adverts) link)) in
-            ap (λ b. cond b [] (map (sent_to link) (filter_change (filters_left semantics interface link (held_without real.before_advert link [] adverts) fresh held) (filters_left semantics interface link (held_without real.before_advert link [] adverts) out held)))) e ∙ sym (ap (map (sent_to link)) (none ∙ still))
+            ap (λ b. cond b [] ((filter_change (filters_left semantics interface link (held_without real.before_advert link [] adverts) fresh held) (filters_left semantics interface link (held_without real.before_advert link [] adverts) out held)))) e ∙ sym (none ∙ still)
         go false e =
             let n : link ≢ interface = grind (arith, nat_tests, e) in
-            ap (λ b. cond b [] (map (sent_to link) (filter_change (filters_left semantics interface link (held_without real.before_advert link [] adverts) fresh held) (filters_left semantics interface link (held_without real.before_advert link [] adverts) out held)))) e
-            ∙ ap (λ z. map (sent_to link) (filter_change z (filters_left semantics interface link (held_without real.before_advert link [] adverts) out held))) (before-is link n)
-            ∙ ap (λ z. map (sent_to link) (filter_change (sent (seen semantics links old adverts) link) z)) (after-is link n)
-            ∙ sym (ap (map (sent_to link)) none)
+            ap (λ b. cond b [] ((filter_change (filters_left semantics interface link (held_without real.before_advert link [] adverts) fresh held) (filters_left semantics interface link (held_without real.before_advert link [] adverts) out held)))) e
+            ∙ ap (λ z. (filter_change z (filters_left semantics interface link (held_without real.before_advert link [] adverts) out held))) (before-is link n)
+            ∙ ap (λ z. (filter_change (sent (seen semantics links old adverts) link) z)) (after-is link n)
+            ∙ sym none
+
+    pub subs-texts : (link : ℕ) → filters_to semantics interface out fresh held adverts link ≡ map (sent_to link) (changes_to (seen semantics links old adverts) (seen semantics links new adverts) link)
+    subs-texts link = ap (map (sent_to link)) (subs-messages link)
 
   -- of advertisements
   module _ (filters held old new : List (Held (List ConstraintParts))) (was : Removed held old interface fresh) (now : Removed held new interface out) where
@@ -74,24 +77,27 @@ module _ (semantics : Semantics) (links : List ℕ) (interface : ℕ) (out fresh
     adverts-after : (link : ℕ) → link ≢ interface → adverts_left interface link out held ≡ sent_adverts (seen semantics links filters new) link
     adverts-after link n = ap (roots real.covers_advert real.before_advert) (left-plain ad_laws held new interface link out now n)
 
-    pub advs-texts : (link : ℕ) → adverts_to semantics interface out fresh filters held link ≡ map (sent_to link) (changes_to (seen semantics links filters old) (seen semantics links filters new) link)
-    advs-texts link = go (link == interface) refl
+    pub advs-messages : (link : ℕ) → advert_messages semantics interface out fresh filters held link ≡ changes_to (seen semantics links filters old) (seen semantics links filters new) link
+    advs-messages link = go (link == interface) refl
       where
-        go : (b : Bool) → (link == interface) ≡ b → adverts_to semantics interface out fresh filters held link ≡ map (sent_to link) (changes_to (seen semantics links filters old) (seen semantics links filters new) link)
+        go : (b : Bool) → (link == interface) ≡ b → advert_messages semantics interface out fresh filters held link ≡ changes_to (seen semantics links filters old) (seen semantics links filters new) link
         go true e =
             let q : link ≡ interface = grind (arith, nat_tests, e) in
             let first = subst (λ z. Removed held old z fresh) (sym q) was in
             let second = subst (λ z. Removed held new z out) (sym q) now in
             let rest = no-adverts (filter_change (sent (seen semantics links filters old) link) (sent (seen semantics links filters new) link)) (sent_adverts (seen semantics links filters old) link) (sent_adverts (seen semantics links filters new) link) (ap (roots real.covers_advert real.before_advert) (elsewhere-same ad_laws held old new link fresh out first second)) in
-            ap (λ b. cond b (map (sent_to link) (filter_change (filters_left semantics interface link (held_without real.before_advert link fresh held) [] filters) (filters_left semantics interface link (held_without real.before_advert link out held) [] filters))) (map (sent_to link) (advert_change (adverts_left interface link fresh held) (adverts_left interface link out held)))) e
-            ∙ ap (λ z. map (sent_to link) (filter_change z (filters_left semantics interface link (held_without real.before_advert link out held) [] filters))) (offer-is [] fresh old link first)
-            ∙ ap (λ z. map (sent_to link) (filter_change (sent (seen semantics links filters old) link) z)) (offer-is [] out new link second)
-            ∙ sym (ap (map (sent_to link)) rest)
+            ap (λ b. cond b ((filter_change (filters_left semantics interface link (held_without real.before_advert link fresh held) [] filters) (filters_left semantics interface link (held_without real.before_advert link out held) [] filters))) ((advert_change (adverts_left interface link fresh held) (adverts_left interface link out held)))) e
+            ∙ ap (λ z. (filter_change z (filters_left semantics interface link (held_without real.before_advert link out held) [] filters))) (offer-is [] fresh old link first)
+            ∙ ap (λ z. (filter_change (sent (seen semantics links filters old) link) z)) (offer-is [] out new link second)
+            ∙ sym rest
         go false e =
             let n : link ≢ interface = grind (arith, nat_tests, e) in
             let same-advs = from-same ad_laws held old new interface link fresh out n was now in
             let rest = no-filters (sent (seen semantics links filters old) link) (sent (seen semantics links filters new) link) (advert_change (sent_adverts (seen semantics links filters old) link) (sent_adverts (seen semantics links filters new) link)) (ap (λ z. roots real.covers real.before (filter (is_wanted semantics z) (held_elsewhere real.before link (holdings_of real.before filters)))) same-advs) in
-            ap (λ b. cond b (map (sent_to link) (filter_change (filters_left semantics interface link (held_without real.before_advert link fresh held) [] filters) (filters_left semantics interface link (held_without real.before_advert link out held) [] filters))) (map (sent_to link) (advert_change (adverts_left interface link fresh held) (adverts_left interface link out held)))) e
-            ∙ ap (λ z. map (sent_to link) (advert_change z (adverts_left interface link out held))) (adverts-before link n)
-            ∙ ap (λ z. map (sent_to link) (advert_change (sent_adverts (seen semantics links filters old) link) z)) (adverts-after link n)
-            ∙ sym (ap (map (sent_to link)) rest)
+            ap (λ b. cond b ((filter_change (filters_left semantics interface link (held_without real.before_advert link fresh held) [] filters) (filters_left semantics interface link (held_without real.before_advert link out held) [] filters))) ((advert_change (adverts_left interface link fresh held) (adverts_left interface link out held)))) e
+            ∙ ap (λ z. (advert_change z (adverts_left interface link out held))) (adverts-before link n)
+            ∙ ap (λ z. (advert_change (sent_adverts (seen semantics links filters old) link) z)) (adverts-after link n)
+            ∙ sym rest
+
+    pub advs-texts : (link : ℕ) → adverts_to semantics interface out fresh filters held link ≡ map (sent_to link) (changes_to (seen semantics links filters old) (seen semantics links filters new) link)
+    advs-texts link = ap (map (sent_to link)) (advs-messages link)

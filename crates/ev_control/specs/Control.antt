@@ -91,17 +91,48 @@ abbrev pub text_to : ℕ → Option (List ℕ) → List Sent
 text_to link None = []
 text_to link (Some bytes) = record { to = link; bytes = bytes } ∷ []
 
--- each is the text of some message
-abbrev pub AreTexts : List Sent → Type 0
-AreTexts sent = (s : Sent) → Has s sent → (m : wire.Message) × IsMessageText s.bytes m
+-- each of these messages has a text, by which it travels
+abbrev pub HaveTexts : List (Message real) → Type 0
+HaveTexts messages = (m : Message real) → Has m messages → IsMessageText (message_text (wired m)) (wired m)
 
--- the texts of a change of filters of an interface to a link, between what is left without the added and what is left without the withdrawn ones
-abbrev pub filters_to : Semantics → ℕ → List (List ConstraintParts) → List (List ConstraintParts) → List (Held (List ConstraintParts)) → List (Held (List ConstraintParts)) → ℕ → List Sent
-filters_to semantics interface out add filters adverts link = cond (link == interface) [] (map (sent_to link) (filter_change (filters_left semantics interface link (held_without real.before_advert link [] adverts) add filters) (filters_left semantics interface link (held_without real.before_advert link [] adverts) out filters)))
+-- lists of filters, of advertisements, and of pairs of an interface and one of them
+abbrev pub Lists : Type 0
+Lists = List (List ConstraintParts)
 
--- the texts of a change of advertisements of an interface to a link: of filters to that interface, of advertisements to the others
-abbrev pub adverts_to : Semantics → ℕ → List (List ConstraintParts) → List (List ConstraintParts) → List (Held (List ConstraintParts)) → List (Held (List ConstraintParts)) → ℕ → List Sent
-adverts_to semantics interface out add filters adverts link = cond (link == interface) (map (sent_to link) (filter_change (filters_left semantics interface link (held_without real.before_advert link add adverts) [] filters) (filters_left semantics interface link (held_without real.before_advert link out adverts) [] filters))) (map (sent_to link) (advert_change (adverts_left interface link add adverts) (adverts_left interface link out adverts)))
+abbrev pub Pairs : Type 0
+Pairs = List (Held (List ConstraintParts))
+
+-- the change of filters to a link that offers first these advertisements and then those, once an interface holds no more first what is added
+-- and then what is withdrawn
+abbrev pub filters_turn : Semantics → ℕ → ℕ → Lists → Lists → Lists → Lists → Pairs → List (Message real)
+filters_turn semantics interface link offered offered_then out add filters =
+    filter_change (filters_left semantics interface link offered add filters) (filters_left semantics interface link offered_then out filters)
+
+-- the messages of a change of filters of an interface to a link, between what is left without the added and what is left without the
+-- withdrawn ones
+abbrev pub filter_messages : Semantics → ℕ → Lists → Lists → Pairs → Pairs → ℕ → List (Message real)
+filter_messages semantics interface out add filters adverts link =
+    cond (link == interface) []
+    (filters_turn semantics interface link (held_without real.before_advert link [] adverts) (held_without real.before_advert link [] adverts) out add filters)
+
+-- their texts
+abbrev pub filters_to : Semantics → ℕ → Lists → Lists → Pairs → Pairs → ℕ → List Sent
+filters_to semantics interface out add filters adverts link = map (sent_to link) (filter_messages semantics interface out add filters adverts link)
+
+-- the change of advertisements to a link
+abbrev pub adverts_turn : ℕ → ℕ → Lists → Lists → Pairs → List (Message real)
+adverts_turn interface link out add adverts = advert_change (adverts_left interface link add adverts) (adverts_left interface link out adverts)
+
+-- the messages of a change of advertisements of an interface to a link: of filters to that interface, of advertisements to the others
+abbrev pub advert_messages : Semantics → ℕ → Lists → Lists → Pairs → Pairs → ℕ → List (Message real)
+advert_messages semantics interface out add filters adverts link =
+    cond (link == interface)
+    (filters_turn semantics interface link (held_without real.before_advert link add adverts) (held_without real.before_advert link out adverts) [] [] filters)
+    (adverts_turn interface link out add adverts)
+
+-- their texts
+abbrev pub adverts_to : Semantics → ℕ → Lists → Lists → Pairs → Pairs → ℕ → List Sent
+adverts_to semantics interface out add filters adverts link = map (sent_to link) (advert_messages semantics interface out add filters adverts link)
 
 -- what is held once links are given: from a link what is given, from a client what was held, from no other interface anything
 pub record IsRelinked (given : HeldLink → List (List ConstraintParts)) (held : List HeldLink) (old new : ℕ → List (List ConstraintParts)) : Type 0 where

@@ -13,7 +13,7 @@ ghost use Rattle.ev_wire.specs.declared.sent.Sent.{Sent};
 ghost use Rattle.ev_wire.specs.MessageText.{IsMessageText};
 ghost use Rattle.ev_routing.specs.Clients.{some_pass};
 ghost use Rattle.ev_control.specs.Stock.{named, AreLive, stays, held_without};
-ghost use Rattle.ev_control.specs.Control.{is_wanted, filter_change, advert_change, sent_to, text_to, AreTexts, filters_left, adverts_left, filters_to, adverts_to};
+ghost use Rattle.ev_control.specs.Control.{is_wanted, filter_change, advert_change, sent_to, text_to, HaveTexts, filters_left, adverts_left, filters_turn, adverts_turn, filter_messages, advert_messages, filters_to, adverts_to};
 
 use crate::stock::Stock;
 use ev_cover::{Ad, Sub};
@@ -115,8 +115,8 @@ fn filter_text(
     out: &[Sub],
     add: &[Sub],
 ) -> Result<Option<Bytes>, NoMemory>
-    ensures change { IfOk result (λ text. text_to link text ≡ map (sent_to link) (filter_change (filters_left semantics interface link (held_without list_before link [] adverts.now.pairs) add.now filters.now.pairs) (filters_left semantics interface link (held_without list_before link [] adverts.now.pairs) out.now filters.now.pairs))) }
-    ensures text { IfOk result (λ text. AreTexts (text_to link text)) }
+    ensures change { IfOk result (λ text. text_to link text ≡ map (sent_to link) (filters_turn semantics interface link (held_without list_before link [] adverts.now.pairs) (held_without list_before link [] adverts.now.pairs) out.now add.now filters.now.pairs)) }
+    ensures text { OnOk result (HaveTexts (filters_turn semantics interface link (held_without list_before link [] adverts.now.pairs) (held_without list_before link [] adverts.now.pairs) out.now add.now filters.now.pairs)) }
 {
     let offered = adverts.kept(link, &[])?;
     let before = filter_row(semantics, filters, adverts, &offered, interface, link, add)?;
@@ -134,8 +134,8 @@ fn offer_text(
     out: &[Ad],
     add: &[Ad],
 ) -> Result<Option<Bytes>, NoMemory>
-    ensures change { IfOk result (λ text. text_to link text ≡ map (sent_to link) (filter_change (filters_left semantics link link (held_without list_before link add.now adverts.now.pairs) [] filters.now.pairs) (filters_left semantics link link (held_without list_before link out.now adverts.now.pairs) [] filters.now.pairs))) }
-    ensures text { IfOk result (λ text. AreTexts (text_to link text)) }
+    ensures change { IfOk result (λ text. text_to link text ≡ map (sent_to link) (filters_turn semantics link link (held_without list_before link add.now adverts.now.pairs) (held_without list_before link out.now adverts.now.pairs) [] [] filters.now.pairs)) }
+    ensures text { OnOk result (HaveTexts (filters_turn semantics link link (held_without list_before link add.now adverts.now.pairs) (held_without list_before link out.now adverts.now.pairs) [] [] filters.now.pairs)) }
 {
     let offered = adverts.kept(link, add)?;
     let before = filter_row(semantics, filters, adverts, &offered, link, link, &[])?;
@@ -153,8 +153,8 @@ fn advert_text(
     out: &[Ad],
     add: &[Ad],
 ) -> Result<Option<Bytes>, NoMemory>
-    ensures change { IfOk result (λ text. text_to link text ≡ map (sent_to link) (advert_change (adverts_left interface link add.now adverts.now.pairs) (adverts_left interface link out.now adverts.now.pairs))) }
-    ensures text { IfOk result (λ text. AreTexts (text_to link text)) }
+    ensures change { IfOk result (λ text. text_to link text ≡ map (sent_to link) (adverts_turn interface link out.now add.now adverts.now.pairs)) }
+    ensures text { OnOk result (HaveTexts (adverts_turn interface link out.now add.now adverts.now.pairs)) }
 {
     let before = advert_row(adverts, interface, link, add)?;
     let after = advert_row(adverts, interface, link, out)?;
@@ -197,7 +197,8 @@ pub(crate) fn filter_texts(
     add: &[Sub],
 ) -> Result<Vec<Sent>, NoMemory>
     ensures sent { IfOk result (λ sent. sent.items ≡ flat_map (filters_to semantics interface out.now add.now filters.now.pairs adverts.now.pairs) links.now) }
-    ensures texts { IfOk result (λ sent. AreTexts sent.items) }
+    ensures texts { OnOk result ((link : ℕ) → Has link links.now
+        → HaveTexts (filter_messages semantics interface out.now add.now filters.now.pairs adverts.now.pairs link)) }
 {
     let mut sent = Vec::new(alloc);
     for link in links {
@@ -223,7 +224,8 @@ pub(crate) fn advert_texts(
     add: &[Ad],
 ) -> Result<Vec<Sent>, NoMemory>
     ensures sent { IfOk result (λ sent. sent.items ≡ flat_map (adverts_to semantics interface out.now add.now filters.now.pairs adverts.now.pairs) links.now) }
-    ensures texts { IfOk result (λ sent. AreTexts sent.items) }
+    ensures texts { OnOk result ((link : ℕ) → Has link links.now
+        → HaveTexts (advert_messages semantics interface out.now add.now filters.now.pairs adverts.now.pairs link)) }
 {
     let mut sent = Vec::new(alloc);
     for link in links {
@@ -244,7 +246,7 @@ fn one_advert_text(
     add: &[Ad],
 ) -> Result<Option<Bytes>, NoMemory>
     ensures change { IfOk result (λ text. text_to link text ≡ adverts_to semantics interface out.now add.now filters.now.pairs adverts.now.pairs link) }
-    ensures text { IfOk result (λ text. AreTexts (text_to link text)) }
+    ensures text { OnOk result (HaveTexts (advert_messages semantics interface out.now add.now filters.now.pairs adverts.now.pairs link)) }
 {
     if link == interface {
         let text = offer_text(semantics, filters, adverts, link, out, add)?;
