@@ -1,78 +1,129 @@
-//! Values, constraints and lists of them, as the rows spell them.
-use Operand::{Bytes, Nothing, Number, Seconds, Truth};
-use ev_constraint::{Constraint, Op};
-use ev_notice::{Advert, Filter};
-use ev_values::{Kind, Name, Text, Value};
+//! Constraints, notices, filters and advertisements that are made and refused.
+use ev_constraint::{Constraint, Normal};
+use ev_notice::{Advert, Filter, FilterFault, Notice, NoticeFault};
+use ev_rows::{RowFault, first_constraint, first_value, first_word, truth, truths};
+use ev_values::{Name, Value};
+use ev_wire::{kind_named, op_named, write_advert, write_filter, write_notice};
 use std::alloc::Global;
-use std::test::Fail;
 
-/// An operand or a value.
-#[derive(Clone, Copy)]
-pub enum Operand<'a> {
-    Nothing,
-    Truth(bool),
-    Number(i64),
-    Bytes(&'a [u8]),
-    Seconds(u64),
-}
-
-/// An attribute's name, its kind, an operator and an operand.
-pub type Row<'a> = (&'a [u8], Kind, Op, Operand<'a>);
-
-pub fn value(alloc: Global, operand: Operand<'_>) -> Result<Option<Value>, Fail> {
-    Ok(match operand {
-        Nothing => None,
-        Truth(b) => Some(Value::Bool(b)),
-        Number(n) => Some(Value::Int(n)),
-        Bytes(bytes) => Some(Value::Str(Text::read(alloc, bytes)?)),
-        Seconds(n) => Some(Value::Time(n)),
-    })
-}
-
-/// A value; the row has one.
-pub fn given(alloc: Global, operand: Operand<'_>) -> Result<Value, Fail> {
-    match value(alloc, operand)? {
-        Some(value) => Ok(value),
-        None => Err(Fail::new("no value")),
+/// The fault of the constraint of a kind, an operator, and a value where one is given.
+pub fn constraint(alloc: Global, rest: &str) -> Result<Vec<u8>, RowFault> {
+    let (kind, rest) = first_word(rest);
+    let (op, rest) = first_word(rest);
+    let Some(kind) = kind_named(kind.as_bytes()) else {
+        return Err(RowFault::Form);
+    };
+    let Some(op) = op_named(op.as_bytes()) else {
+        return Err(RowFault::Form);
+    };
+    let operand = match rest {
+        "" => None,
+        text => Some(first_value(alloc, text)?),
+    };
+    let Ok(name) = Name::read(alloc, b"x") else {
+        return Err(RowFault::NoMemory);
+    };
+    match Constraint::make(name, kind, op, operand) {
+        Ok(_) => Ok(Vec::from_slice(alloc, b"made")?),
+        Err(fault) => told(alloc, format!(in alloc; "{fault:?}")?),
     }
 }
 
-pub fn constraint(alloc: Global, row: Row<'_>) -> Result<Constraint, Fail> {
-    let (name, kind, op, operand) = row;
-    let name = Name::read(alloc, name)?;
-    Ok(Constraint::make(name, kind, op, value(alloc, operand)?)?)
+/// A text as an answer.
+fn told(alloc: Global, text: String) -> Result<Vec<u8>, RowFault> {
+    Ok(Vec::from_slice(alloc, text.as_bytes())?)
 }
 
-/// A constraint on the attribute x.
-pub type Part<'a> = (Kind, Op, Operand<'a>);
-
-pub fn on(alloc: Global, part: Part<'_>) -> Result<Constraint, Fail> {
-    constraint(alloc, (b"x", part.0, part.1, part.2))
+/// The normal form of a constraint, if it is a set of numbers or of times.
+pub fn normal(alloc: Global, rest: &str) -> Result<Vec<u8>, RowFault> {
+    let constraint = first_constraint(alloc, rest)?;
+    let text = match constraint.normal() {
+        Normal::Empty => return Ok(Vec::from_slice(alloc, b"nothing")?),
+        Normal::All => return Ok(Vec::from_slice(alloc, b"all")?),
+        Normal::Int(set) => format!(in alloc; "{set:?}")?,
+        Normal::Time(set) => format!(in alloc; "{set:?}")?,
+        Normal::Bool(one) => format!(in alloc; "{one}")?,
+        Normal::Str(op, _) => format!(in alloc; "{op:?}")?,
+    };
+    told(alloc, text)
 }
 
-pub fn constraints(alloc: Global, rows: &[Row<'_>]) -> Result<Vec<Constraint>, Fail> {
+/// The attributes of a list, in its order, which need not be that of a notice.
+fn attributes(alloc: Global, rest: &str) -> Result<Vec<(Name, Value)>, RowFault> {
+    let mut attributes = Vec::new(alloc);
+    if rest.is_empty() {
+        return Ok(attributes);
+    }
+    for part in rest.split("; ") {
+        let notice = ev_rows::notice(alloc, part)?;
+        let Some((name, value)) = notice.attributes().first() else {
+            return Err(RowFault::Form);
+        };
+        attributes.push((name.copy(alloc)?, value.copy(alloc)?))?;
+    }
+    Ok(attributes)
+}
+
+/// The constraints of a list, in its order, which need not be that of a filter.
+fn constraints(alloc: Global, rest: &str) -> Result<Vec<Constraint>, RowFault> {
     let mut constraints = Vec::new(alloc);
-    for row in rows {
-        constraints.push(constraint(alloc, *row)?)?;
+    if rest.is_empty() {
+        return Ok(constraints);
+    }
+    for part in rest.split("; ") {
+        constraints.push(first_constraint(alloc, part)?)?;
     }
     Ok(constraints)
 }
 
-pub fn filter(alloc: Global, rows: &[Row<'_>]) -> Result<Filter, Fail> {
-    Ok(Filter::make(constraints(alloc, rows)?)?)
-}
-
-pub fn advert(alloc: Global, rows: &[Row<'_>]) -> Result<Advert, Fail> {
-    Ok(Advert::make(constraints(alloc, rows)?)?)
-}
-
-pub fn attributes(
-    alloc: Global,
-    rows: &[(&[u8], Operand<'_>)],
-) -> Result<Vec<(Name, Value)>, Fail> {
-    let mut attributes = Vec::new(alloc);
-    for (name, operand) in rows {
-        attributes.push((Name::read(alloc, name)?, given(alloc, *operand)?))?;
+/// The notice of a list of attributes, or why there is none.
+pub fn notice(alloc: Global, rest: &str) -> Result<Vec<u8>, RowFault> {
+    match Notice::make(attributes(alloc, rest)?) {
+        Ok(notice) => Ok(write_notice(alloc, &notice.copy(alloc)?)?),
+        Err(NoticeFault::NoMemory) => Err(RowFault::NoMemory),
+        Err(fault) => told(alloc, format!(in alloc; "{fault:?}")?),
     }
-    Ok(attributes)
+}
+
+/// Whether a list of attributes is in order.
+pub fn notice_in_order(alloc: Global, rest: &str) -> Result<Vec<u8>, RowFault> {
+    let notice = Notice::of_rising(attributes(alloc, rest)?)?;
+    truth(alloc, notice.is_some())
+}
+
+/// The filter of a list of constraints, or why there is none.
+pub fn filter(alloc: Global, rest: &str) -> Result<Vec<u8>, RowFault> {
+    match Filter::make(constraints(alloc, rest)?) {
+        Ok(filter) => Ok(write_filter(alloc, &filter.copy(alloc)?)?),
+        Err(FilterFault::NoMemory) => Err(RowFault::NoMemory),
+        Err(fault) => told(alloc, format!(in alloc; "{fault:?}")?),
+    }
+}
+
+/// The advertisement of a list of constraints, or why there is none.
+pub fn advert(alloc: Global, rest: &str) -> Result<Vec<u8>, RowFault> {
+    match Advert::make(constraints(alloc, rest)?) {
+        Ok(advert) => Ok(write_advert(alloc, &advert.copy(alloc)?)?),
+        Err(FilterFault::NoMemory) => Err(RowFault::NoMemory),
+        Err(fault) => told(alloc, format!(in alloc; "{fault:?}")?),
+    }
+}
+
+/// Whether a list of constraints is in order, for a filter and for an advertisement.
+pub fn filter_in_order(alloc: Global, rest: &str) -> Result<Vec<u8>, RowFault> {
+    let filter = Filter::of_rising(constraints(alloc, rest)?)?;
+    let advert = Advert::of_rising(constraints(alloc, rest)?)?;
+    truths(alloc, filter.is_some(), advert.is_some())
+}
+
+/// Whether a copy of a constraint and a copy of its operand, if it has one, are equal to it.
+pub fn copied(alloc: Global, rest: &str) -> Result<Vec<u8>, RowFault> {
+    let constraint = first_constraint(alloc, rest)?;
+    let copy = constraint.copy(alloc)?;
+    let same = match (constraint.operand(), copy.operand()) {
+        (Some(value), Some(other)) => *value == other.copy(alloc)?,
+        (None, None) => true,
+        _ => false,
+    };
+    truths(alloc, constraint == copy, same)
 }

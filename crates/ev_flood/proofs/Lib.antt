@@ -1,0 +1,10 @@
+pub mod Below
+pub mod Moments
+pub mod OwnFilters
+pub mod OwnAdverts
+pub mod PhaseOfFilters
+pub mod PhaseOfAdverts
+pub mod Passing
+pub mod Publishing
+pub mod RowsOf
+pub mod Flooded

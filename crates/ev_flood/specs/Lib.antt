@@ -1,0 +1,4 @@
+pub mod Flooding
+pub mod Held
+pub mod Lasting
+pub mod Publications

@@ -1,0 +1,32 @@
+use Rattle.std.proofs.Common.{get_or, subst, sym}
+use Rattle.std.proofs.lemmas.Option.{slice_get-get_or}
+use Rattle.ev_sets.specs.Sets.{Has}
+use Rattle.ev_control.proofs.Taken.{take-all}
+use Rattle.ev_flow.proofs.Filling.{advert-step}
+use Rattle.ev_flow.proofs.Ordering.{link-at, from-server, to-server, to-small, from-small}
+use Rattle.ev_flow.proofs.made.advertised.Goals as goal
+
+pub loop-link-init : goal.loop-link-init
+loop-link-init c = λ given net sets rows on union a b m. absurd m
+
+pub advert_row-requires-clause-of : goal.advert_row-requires-clause-of
+advert_row-requires-clause-of c = to-server c.args.tree.now c.laws.ensures _ _ (link-at c.args.tree.now c.laws.ensures c.args.order.now c.requires.order c.loop-link.link-index c.loop-link-test.true)
+
+pub set-requires-clause-at : goal.set-requires-clause-at
+set-requires-clause-at c = from-small c.args.tree.now c.laws.ensures _ _ (link-at c.args.tree.now c.laws.ensures c.args.order.now c.requires.order c.loop-link.link-index c.loop-link-test.true)
+
+pub set-requires-clause-of : goal.set-requires-clause-of
+set-requires-clause-of c = to-small c.args.tree.now c.laws.ensures _ _ (link-at c.args.tree.now c.laws.ensures c.args.order.now c.requires.order c.loop-link.link-index c.loop-link-test.true)
+
+pub loop-link-preserved : goal.loop-link-preserved
+loop-link-preserved c =
+    let at = slice_get-get_or c.args.order.now c.loop-link.link-index (0, 0) c.loop-link-test.true in
+    let link = get_or c.args.order.now c.loop-link.link-index (0, 0) in
+    advert-step c.args.tree.now c.laws.ensures c.args.adverts.now.pool c.args.homes.now c.args.order.now c.requires.order c.loop-link.link-index link.0 link.1 at c.loop-link.table c.set.new.self c.in_ok-row.row c.set.ensures c.in_ok-row.ensures c.loop-link.invariant
+
+pub returns : goal.returns
+returns c = λ given net sets rows on union a b m.
+    c.loop-link.invariant given net sets rows on union a b (subst (λ z. Has (a, b) z) (sym (take-all c.args.order.now c.loop-link.link-index c.loop-link-test.false)) (c.requires.all a b m))
+
+pub advert_row-requires-clause-at : goal.advert_row-requires-clause-at
+advert_row-requires-clause-at c = from-server c.args.tree.now c.laws.ensures _ _ (link-at c.args.tree.now c.laws.ensures c.args.order.now c.requires.order c.loop-link.link-index c.loop-link-test.true)

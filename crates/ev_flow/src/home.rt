@@ -1,0 +1,11 @@
+//! What all clients of a server have together.
+use ev_wire::{Adverts, Filters};
+
+/// What all clients of a server have together.
+#[derive(Drop)]
+pub struct Home {
+    /// The filters, in any order.
+    pub filters: Filters,
+    /// The advertisements, in any order.
+    pub adverts: Adverts,
+}

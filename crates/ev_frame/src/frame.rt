@@ -1,0 +1,69 @@
+//! The text of a message under a stamp.
+ghost use Rattle.std.specs.Prelude.{◌≡◌, ◌<◌, ◌^◌, IfOk};
+ghost use Rattle.ev_wire.specs.declared.message.Message.{Message};
+ghost use Rattle.ev_wire.specs.MessageText.{IsMessageText};
+ghost use Rattle.ev_frame.specs.Frame.{HasMessage};
+
+use ev_memory::NoMemory;
+use ev_wire::{Message, WireFault, read_message};
+use std::alloc::Global;
+use std::marker::Model;
+
+/// A message on its way from one server to another: its text, under the stamp of the step that sent it.
+///
+/// The bytes are always the text of a message, and the stamp is below 2^62.
+#[derive(Drop)]
+pub struct Frame {
+    stamp: u64,
+    bytes: Vec<u8>,
+}
+
+impl Model for Frame {
+    ghost use Rattle.std.specs.Prelude.{◌<◌, ◌^◌};
+    ghost use Rattle.ev_frame.specs.Frame.{FrameParts, HasMessage, frame_parts};
+
+    ghost Value = { FrameParts };
+
+    ghost view = { λ frame. frame_parts frame.stamp frame.bytes.items };
+
+    ghost invariant = { λ frame. (frame.stamp < 2 ^ 62) × ∥ HasMessage frame.bytes.items ∥₁ };
+}
+
+impl Frame {
+    /// These bytes under this stamp. The caller has the text of a message, and a stamp below 2^62. It takes no memory.
+    pub fn make(stamp: u64, bytes: Vec<u8>) -> Frame
+        requires below { stamp < 2 ^ 62 }
+        requires text { HasMessage bytes.items }
+        ensures stamp { result.stamp ≡ stamp }
+        ensures bytes { result.bytes ≡ bytes.items }
+    {
+        Frame { stamp, bytes }
+    }
+
+    /// The stamp of the step that sent it, below 2^62.
+    pub fn stamp(&self) -> u64
+        ensures stamp { result ≡ self.now.stamp }
+        ensures below { result < 2 ^ 62 }
+    {
+        self.stamp
+    }
+
+    /// The text of the message.
+    pub fn bytes(&self) -> &[u8]
+        ensures { result.now ≡ self.now.bytes }
+    {
+        &self.bytes
+    }
+
+    /// The message whose text was put in.
+    pub fn message(&self, alloc: Global) -> Result<Message, NoMemory>
+        ensures text { IfOk result (λ m. IsMessageText self.now.bytes m) }
+        ensures same { (sent : Message) → IsMessageText self.now.bytes sent → IfOk result (λ m. m ≡ sent) }
+    {
+        match read_message(alloc, &self.bytes) {
+            Ok(message) => Ok(message),
+            Err(WireFault::NoMemory) => Err(NoMemory),
+            Err(WireFault::Outside) => unreachable!(),
+        }
+    }
+}

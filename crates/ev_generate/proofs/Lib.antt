@@ -1,0 +1,3 @@
+pub mod Wrapping
+pub mod Chain
+pub mod Rest

@@ -1,0 +1,16 @@
+pub mod Pairs
+pub mod Notices
+pub mod Cutting
+pub mod Joining
+pub mod Drawing
+pub mod NamePlaces
+pub mod Drafting
+pub mod Spelled
+pub mod Meaning
+pub mod Members
+pub mod SoundParts
+pub mod Standing
+pub mod SoundDocuments
+pub mod Built
+pub mod Faultless
+pub mod Reading

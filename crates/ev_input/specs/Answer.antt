@@ -1,0 +1,35 @@
+-- Tests in their order, the first of which that fails is the fault, and how the code follows them.
+use Rattle.std.specs.Prelude.{◌≡◌, Bool, Option, Some, None, Result, Ok, Err, cond}
+use Rattle.ev_input.specs.declared.fault.Fault.{Fault}
+use Rattle.ev_input.specs.declared.fault.LineFault.{LineFault}
+use Rattle.ev_input.specs.declared.fault.LineFault.TheVariants.{NoMemory, Bad}
+
+-- what comes next, unless there was a fault
+infixl 10 ◌>>=◌
+abbrev pub ◌>>=◌ : {A B : Type 0} → Result A Fault → (A → Result B Fault) → Result B Fault
+(Ok x) >>= f = f x
+(Err e) >>= f = Err e
+
+-- the fault, unless the test holds
+abbrev pub need : Bool → Fault → Result (Unit {0}) Fault
+need holds fault = cond holds (Ok tt) (Err fault)
+
+-- the fault, unless something is there
+abbrev pub want : {A : Type 0} → Option A → Fault → Result A Fault
+want None fault = Err fault
+want (Some x) fault = Ok x
+
+-- the rule has this fault; want of memory tells nothing of it
+abbrev pub Fails : {A : Type 0} → LineFault → Result A Fault → Type 0
+Fails NoMemory rule = Unit {0}
+Fails (Bad fault) rule = rule ≡ Err fault
+
+-- after the call there stands what the rule gives, or the rule has the fault that the call told, or memory ran out
+abbrev pub Steps : {S A : Type 0} → Result A LineFault → S → Result S Fault → Type 0
+Steps (Ok _) new rule = rule ≡ Ok new
+Steps (Err e) new rule = Fails e rule
+
+-- the call gives what the rule gives, or the rule has the fault that the call told, or memory ran out
+abbrev pub Gives : {A : Type 0} → Result A LineFault → Result A Fault → Type 0
+Gives (Ok x) rule = rule ≡ Ok x
+Gives (Err e) rule = Fails e rule

@@ -1,0 +1,55 @@
+-- The command of a line of a script, or what is at fault with it.
+use Rattle.std.specs.Prelude.{◌≡◌, ℕ, List, [], Option, Some, None, Result, Ok, Err}
+use Rattle.ev_sets.specs.Sets.{set_of}
+use Rattle.ev_notice.specs.Canonical.{canonical}
+use Rattle.ev_notice.specs.Notice.{is_name_less}
+use Rattle.ev_wire.specs.declared.command.Command.{Command}
+use Rattle.ev_wire.specs.declared.command.Command.TheVariants as commands
+use Rattle.ev_script.specs.declared.fault.ScriptFault.{ScriptFault}
+use Rattle.ev_script.specs.declared.fault.ScriptFault.TheVariants as faults
+use Rattle.ev_script.specs.declared.verb.Verb.TheVariants as verbs
+use Rattle.ev_script.specs.Form.{Form}
+use Rattle.ev_script.specs.Form.Form.{control, publish}
+use Rattle.ev_script.specs.Command.{fault_in, fits, form_of, wholes}
+use Rattle.ev_input.specs.declared.fault.Fault.{Fault}
+use Rattle.ev_input.specs.declared.fault.LineFault.{LineFault}
+use Rattle.ev_input.specs.declared.fault.LineFault.TheVariants.{NoMemory, Bad}
+use Rattle.ev_input.specs.declared.fault.Fault.TheVariants as is
+
+-- a fault of a command line, as one of a document; want of memory is no fault of a line
+abbrev pub kind_of : ScriptFault → Fault
+kind_of faults.Syntax = is.Syntax
+kind_of faults.Value = is.Value
+kind_of faults.Operand = is.Operand
+kind_of faults.Count = is.Count
+kind_of faults.Repeat = is.Repeat
+kind_of faults.NoMemory = is.Syntax
+
+-- the command of a form without fault: constraints once each, in canonical order; attributes by their names, of which no two
+-- are the same (no form has the first word `publish` and constraints)
+abbrev pub command_in : Form → Command
+command_in (control verbs.Subscribe parts) = commands.Subscribe (canonical (wholes parts))
+command_in (control verbs.Unsubscribe parts) = commands.Unsubscribe (canonical (wholes parts))
+command_in (control verbs.Advertise parts) = commands.Advertise (canonical (wholes parts))
+command_in (control verbs.Unadvertise parts) = commands.Unadvertise (canonical (wholes parts))
+command_in (control verbs.Publish parts) = commands.Publish []
+command_in (publish attributes) = commands.Publish (set_of is_name_less (fits attributes))
+
+-- the fault, if there is one, and else the form's command
+abbrev pub unless_fault : Option ScriptFault → Form → Result Command Fault
+unless_fault (Some fault) form = Err (kind_of fault)
+unless_fault None form = Ok (command_in form)
+
+-- a line without a form is at fault by that
+abbrev pub command_of_form : Option Form → Result Command Fault
+command_of_form None = Err is.Syntax
+command_of_form (Some form) = unless_fault (fault_in form) form
+
+-- the command of a line, or its first fault, in documents of the version
+unfoldable pub command_of : ℕ → List ℕ → Result Command Fault
+command_of version line = command_of_form (form_of version line)
+
+-- the fault of a line that a fault of its command is; want of memory stays what it is
+abbrev pub Tells : LineFault → ScriptFault → Type 0
+Tells fault faults.NoMemory = fault ≡ NoMemory
+Tells fault e = fault ≡ Bad (kind_of e)

@@ -1,0 +1,44 @@
+-- What the words of a line are.
+use Rattle.std.specs.Prelude.{Bool, ℕ, ◌+◌, ◌*◌, ◌-◌, List, [], ◌∷◌, ◌&&◌, nat_lt, nat_le, length, if◌then◌else◌, Option, Some, None}
+use Rattle.std.specs.Option.{option_and_then, option_zip}
+use Rattle.ev_values.specs.Name.{is_name}
+
+-- a decimal digit of ASCII
+abbrev pub is_digit : ℕ → Bool
+is_digit b = nat_le 48 b && nat_le b 57
+
+-- the number of further digits behind those of which this is the number
+abbrev pub number_from : ℕ → List ℕ → Option ℕ
+number_from n [] = Some n
+number_from n (b ∷ bs) = if is_digit b then number_from (n * 10 + (b - 48)) bs else None
+
+-- a number: 1 to 10 digits
+unfoldable pub number : List ℕ → Option ℕ
+number w = if nat_lt 0 (length w) && nat_le (length w) 10 then number_from 0 w else None
+
+-- the one word, the two words that there are
+abbrev pub one : List (List ℕ) → Option (List ℕ)
+one [] = None
+one (a ∷ []) = Some a
+one (a ∷ b ∷ ws) = None
+
+abbrev pub two : List (List ℕ) → Option (List ℕ × List ℕ)
+two [] = None
+two (a ∷ []) = None
+two (a ∷ b ∷ []) = Some (a, b)
+two (a ∷ b ∷ c ∷ ws) = None
+
+-- the one number, the two numbers that there are
+unfoldable pub one_number : List (List ℕ) → Option ℕ
+one_number ws = option_and_then number (one ws)
+
+unfoldable pub two_numbers : List (List ℕ) → Option (ℕ × ℕ)
+two_numbers ws = option_and_then (λ p. option_zip (number p.0) (number p.1)) (two ws)
+
+-- a name and a number
+unfoldable pub name_and_number : List (List ℕ) → Option (List ℕ × ℕ)
+name_and_number ws = option_and_then (λ p. if is_name p.0 then option_zip (Some p.0) (number p.1) else None) (two ws)
+
+-- one name
+unfoldable pub one_name : List (List ℕ) → Option (List ℕ)
+one_name ws = option_and_then (λ w. if is_name w then Some w else None) (one ws)

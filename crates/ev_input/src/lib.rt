@@ -1,0 +1,26 @@
+//! The input document: read whole into a net, or refused with its first line at fault and the first fault there.
+#![tactic(auto)]
+
+mod block;
+mod clients;
+mod cut;
+mod draft;
+mod fault;
+pub mod law;
+mod names;
+mod near;
+mod net;
+mod network;
+mod places;
+mod read;
+mod schedule;
+mod scripts;
+mod state;
+mod tally;
+mod trees;
+mod turns;
+mod version;
+mod words;
+
+pub use fault::{Fault, InputFault};
+pub use read::read_net;

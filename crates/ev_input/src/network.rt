@@ -1,0 +1,154 @@
+//! The lines of servers, trees and clients.
+ghost use Rattle.std.specs.Prelude.{◌≡◌, false};
+ghost use Rattle.ev_input.specs.Lines.{words};
+ghost use Rattle.ev_input.specs.Answer.{Steps};
+ghost use Rattle.ev_input.specs.Drawn.{are_servers, is_apart, is_server};
+ghost use Rattle.ev_input.specs.Rules.{client_rule, edge_rule, header_rule, phase_rule, semantics_named, semantics_rule, servers_rule};
+
+use crate::fault::{Fault, LineFault};
+use crate::state::{Place, State};
+use crate::trees::Trees;
+use crate::version::version_named;
+use crate::words::{name_and_number, one, one_number, two_numbers};
+use ev_tree::EdgeFault;
+use ev_wire::Semantics;
+use std::alloc::Global;
+
+/// Whether the number is a server's.
+pub fn is_server(servers: u32, a: u64) -> bool
+    ensures { result ≡ is_server servers a }
+{
+    0 < a && a <= servers as u64
+}
+
+/// Whether both numbers are servers'.
+pub fn are_servers(servers: u32, a: u64, b: u64) -> bool
+    ensures { result ≡ are_servers servers (a, b) }
+{
+    is_server(servers, a) && is_server(servers, b)
+}
+
+fn semantics_named(word: &[u8]) -> Option<Semantics>
+    ensures { result ≡ semantics_named word.now }
+{
+    if word == b"subscription".as_slice() {
+        Some(Semantics::Subscription)
+    } else if word == b"advertisement".as_slice() {
+        Some(Semantics::Advertisement)
+    } else {
+        None
+    }
+}
+
+/// `siena 1`, `siena 2`.
+#[tactic(auto, unfolding(crate::specs::Rules::header_rule))]
+pub fn header(state: &mut State, word: &[u8], rest: &[u8]) -> Result<(), LineFault>
+    ensures { Steps result state.new (header_rule state.old word.now (words rest.now)) }
+{
+    if word != b"siena".as_slice() {
+        return Err(LineFault::Bad(Fault::Header));
+    }
+    let Some(word) = one(rest) else {
+        return Err(LineFault::Bad(Fault::Header));
+    };
+    let Some(version) = version_named(word) else {
+        return Err(LineFault::Bad(Fault::Header));
+    };
+    state.place = Place::Semantics;
+    state.version = version;
+    Ok(())
+}
+
+/// `semantics subscription`, `semantics advertisement`.
+#[tactic(auto, unfolding(crate::specs::Rules::semantics_rule))]
+pub fn semantics(state: &mut State, word: &[u8], rest: &[u8]) -> Result<(), LineFault>
+    ensures { Steps result state.new (semantics_rule state.old word.now (words rest.now)) }
+{
+    if word != b"semantics".as_slice() {
+        return Err(LineFault::Bad(Fault::Order));
+    }
+    let Some(word) = one(rest) else {
+        return Err(LineFault::Bad(Fault::Words));
+    };
+    let Some(semantics) = semantics_named(word) else {
+        return Err(LineFault::Bad(Fault::Words));
+    };
+    state.place = Place::Servers;
+    state.semantics = semantics;
+    Ok(())
+}
+
+/// `servers N`.
+#[tactic(auto, unfolding(crate::specs::Rules::servers_rule))]
+pub fn servers(alloc: Global, state: &mut State, word: &[u8], rest: &[u8]) -> Result<(), LineFault>
+    ensures { Steps result state.new (servers_rule state.old word.now (words rest.now)) }
+{
+    if word != b"servers".as_slice() {
+        return Err(LineFault::Bad(Fault::Order));
+    }
+    let Some(n) = one_number(rest) else {
+        return Err(LineFault::Bad(Fault::Words));
+    };
+    if !is_server(64, n) {
+        return Err(LineFault::Bad(Fault::Range));
+    }
+    state.place = Place::Edges;
+    state.trees = Trees::new(alloc, n as u32);
+    Ok(())
+}
+
+/// `edge A B`.
+#[tactic(auto, unfolding(crate::specs::Rules::edge_rule, crate::specs::Drawn::edge_fault))]
+pub fn edge(state: &mut State, rest: &[u8]) -> Result<(), LineFault>
+    ensures { Steps result state.new (edge_rule state.old (words rest.now)) }
+{
+    let Some((a, b)) = two_numbers(rest) else {
+        return Err(LineFault::Bad(Fault::Words));
+    };
+    if !are_servers(state.trees.servers(), a, b) {
+        return Err(LineFault::Bad(Fault::Range));
+    }
+    match state.trees.join(a as u32, b as u32)? {
+        Some(EdgeFault::Twice) => Err(LineFault::Bad(Fault::Twice)),
+        Some(EdgeFault::Loop) => Err(LineFault::Bad(Fault::Loop)),
+        None => Ok(()),
+    }
+}
+
+/// `phase K`, where the edges before join all servers.
+#[tactic(auto, unfolding(crate::specs::Rules::phase_rule))]
+pub fn phase(alloc: Global, state: &mut State, rest: &[u8]) -> Result<(), LineFault>
+    requires { is_apart state.old.trees ≡ false }
+    ensures { Steps result state.new (phase_rule state.old (words rest.now)) }
+{
+    let Some(k) = one_number(rest) else {
+        return Err(LineFault::Bad(Fault::Words));
+    };
+    if k <= state.trees.phase() as u64 || k > 4095 {
+        return Err(LineFault::Bad(Fault::Range));
+    }
+    state.trees.begin(alloc, k as u32)?;
+    Ok(())
+}
+
+/// `client NAME SERVER`.
+#[tactic(auto, unfolding(crate::specs::Rules::client_rule))]
+pub fn client(alloc: Global, state: &mut State, rest: &[u8]) -> Result<(), LineFault>
+    ensures { Steps result state.new (client_rule state.old (words rest.now)) }
+{
+    let Some((name, server)) = name_and_number(rest) else {
+        return Err(LineFault::Bad(Fault::Words));
+    };
+    if !is_server(state.trees.servers(), server) {
+        return Err(LineFault::Bad(Fault::Range));
+    }
+    if state.clients.find(name).is_some() {
+        return Err(LineFault::Bad(Fault::Name));
+    }
+    if state.clients.count() >= 1024 {
+        return Err(LineFault::Bad(Fault::Count));
+    }
+    state.clients.add(alloc, name, server as u32)?;
+    state.place = Place::Clients;
+    Ok(())
+}

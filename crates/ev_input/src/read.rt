@@ -1,0 +1,97 @@
+//! The reader of documents.
+ghost use Rattle.std.specs.Prelude.{◌≡◌, ◌≤◌, ◌⊎◌, ℕ, IfOk, IsErrOf, IsOk, length};
+ghost use Rattle.ev_model.specs.Parts.{NetParts};
+ghost use Rattle.ev_input.specs.declared.fault.Fault.{Fault as Kind};
+ghost use Rattle.ev_input.specs.declared.fault.InputFault.TheVariants.{Bad, NoMemory};
+ghost use Rattle.ev_input.specs.Lines.{lines};
+ghost use Rattle.ev_input.specs.Net.{IsBadAt, IsNetOf, Places, Reads};
+ghost use Rattle.ev_input.specs.Places.{document_of, read_from, start};
+
+use crate::clients::Clients;
+use crate::cut::next_line;
+use crate::fault::{Fault, InputFault, LineFault};
+use crate::net::net;
+use crate::places::{end, line};
+use crate::state::{Place, State};
+use crate::tally::Tally;
+use crate::trees::Trees;
+use crate::turns::Turns;
+use crate::version::Version;
+use ev_model::{Net, Semantics};
+use std::alloc::Global;
+
+const MOST_BYTES: usize = 4_194_304;
+
+fn start(alloc: Global) -> State
+    ensures { result ≡ start }
+{
+    State {
+        place: Place::Header,
+        version: Version::One,
+        semantics: Semantics::Subscription,
+        trees: Trees::new(alloc, 0),
+        clients: Clients::new(alloc),
+        client: 0,
+        tally: Tally::new(),
+        schedule: Turns::new(alloc),
+    }
+}
+
+// The fault of a line, with the number of the line.
+fn bad(line: u32, fault: LineFault) -> InputFault
+    ensures { Places result line fault }
+{
+    match fault {
+        LineFault::Bad(kind) => InputFault::Bad { line, kind },
+        LineFault::NoMemory => InputFault::NoMemory,
+    }
+}
+
+fn read_lines(alloc: Global, bytes: &[u8]) -> Result<Net, InputFault>
+    requires { length bytes.now ≤ 4194304 }
+    ensures { Reads result (read_from 1 start (lines bytes.now)) }
+{
+    let mut state = start(alloc);
+    let mut number: u32 = 1;
+    let mut rest = bytes;
+    'lines: while let Some((text, after)) = next_line(rest) {
+        match line(alloc, &mut state, number, text) {
+            Ok(()) => {}
+            Err(fault) => return Err(bad(number, fault)),
+        }
+        number += 1;
+        rest = after;
+    }
+    match end(&state) {
+        Ok(()) => {}
+        Err(missing) => return Err(bad(number, missing)),
+    }
+    match net(alloc, state) {
+        Ok(net) => Ok(net),
+        Err(_) => Err(InputFault::NoMemory),
+    }
+}
+
+#[tactic(auto, unfolding(crate::specs::Places::document_of))]
+fn answered(alloc: Global, bytes: &[u8]) -> Result<Net, InputFault>
+    ensures { Reads result (document_of bytes.now) }
+{
+    if bytes.len() > MOST_BYTES {
+        return Err(InputFault::Bad {
+            line: 0,
+            kind: Fault::TooLong,
+        });
+    }
+    read_lines(alloc, bytes)
+}
+
+/// The net of a document of at most 4,194,304 bytes, or its first line at fault with the first fault there. It takes time
+/// in proportion to the document, but that an edge takes a step for each server and the end builds the trees.
+pub fn read_net(alloc: Global, bytes: &[u8]) -> Result<Net, InputFault>
+    ensures net { IfOk result (λ net. IsNetOf bytes.now net) }
+    ensures given { (net : NetParts) → IsNetOf bytes.now net → IsOk result ⊎ IsErrOf result NoMemory }
+    ensures bad { (line : ℕ) (kind : Kind) → IsErrOf result (Bad line kind) → IsBadAt bytes.now line kind }
+    ensures refused { (line : ℕ) (kind : Kind) → IsBadAt bytes.now line kind → IsErrOf result (Bad line kind) ⊎ IsErrOf result NoMemory }
+{
+    answered(alloc, bytes)
+}

@@ -1,0 +1,132 @@
+//! The lines of scripts.
+ghost use Rattle.std.specs.Prelude.{◌≡◌, ◌≤◌, length};
+ghost use Rattle.ev_input.specs.Lines.{words};
+ghost use Rattle.ev_input.specs.Answer.{Gives, Steps};
+ghost use Rattle.ev_input.specs.Commands.{Tells, command_of};
+ghost use Rattle.ev_input.specs.Rules.{barrier_rule, command_rule, count_rule, schedule_rule, script_rule, version_number};
+
+use crate::cut::next_word;
+use crate::fault::{Fault, LineFault};
+use crate::state::{Place, State};
+use crate::tally::Tally;
+use crate::version::Version;
+use crate::words::one_name;
+use ev_script::{Line, ScriptFault};
+use ev_wire::Command;
+use std::alloc::Global;
+
+/// `script NAME`.
+#[tactic(auto, unfolding(crate::specs::Rules::script_rule))]
+pub fn script(state: &mut State, word: &[u8], rest: &[u8]) -> Result<(), LineFault>
+    ensures { Steps result state.new (script_rule state.old word.now (words rest.now)) }
+{
+    if word != b"script".as_slice() {
+        return Err(LineFault::Bad(Fault::Words));
+    }
+    let Some(name) = one_name(rest) else {
+        return Err(LineFault::Bad(Fault::Words));
+    };
+    let Some(client) = state.clients.find(name) else {
+        return Err(LineFault::Bad(Fault::Name));
+    };
+    if state.clients.has_script(client) {
+        return Err(LineFault::Bad(Fault::Name));
+    }
+    state.clients.begin_script(client);
+    state.place = Place::Scripts;
+    state.client = client;
+    Ok(())
+}
+
+/// `barrier`.
+#[tactic(auto, unfolding(crate::specs::Rules::barrier_rule))]
+pub fn barrier(state: &mut State, word: &[u8], rest: &[u8]) -> Result<(), LineFault>
+    ensures { Steps result state.new (barrier_rule state.old word.now (words rest.now)) }
+{
+    if word != b"barrier".as_slice() || next_word(rest).is_some() {
+        return Err(LineFault::Bad(Fault::Words));
+    }
+    if state.clients.barriers(state.client) >= 4095 {
+        return Err(LineFault::Bad(Fault::Count));
+    }
+    state.clients.add_barrier(state.client);
+    Ok(())
+}
+
+/// `schedule`.
+#[tactic(auto, unfolding(crate::specs::Rules::schedule_rule))]
+pub fn schedule(state: &mut State, word: &[u8], rest: &[u8]) -> Result<(), LineFault>
+    ensures { Steps result state.new (schedule_rule state.old word.now (words rest.now)) }
+{
+    if word != b"schedule".as_slice() || next_word(rest).is_some() {
+        return Err(LineFault::Bad(Fault::Words));
+    }
+    state.place = Place::Schedule;
+    Ok(())
+}
+
+// A fault of a command line, as one of a document.
+fn line_fault(fault: ScriptFault) -> LineFault
+    ensures { Tells result fault }
+{
+    match fault {
+        ScriptFault::Syntax => LineFault::Bad(Fault::Syntax),
+        ScriptFault::Value => LineFault::Bad(Fault::Value),
+        ScriptFault::Operand => LineFault::Bad(Fault::Operand),
+        ScriptFault::Count => LineFault::Bad(Fault::Count),
+        ScriptFault::Repeat => LineFault::Bad(Fault::Repeat),
+        ScriptFault::NoMemory => LineFault::NoMemory,
+    }
+}
+
+// The command of a line whose first token is cut off.
+fn command_of(alloc: Global, version: Version, line: Line<'_>) -> Result<Command, LineFault>
+    ensures { Gives result (command_of (version_number version) line.entry) }
+{
+    match line.command(alloc, version.number()) {
+        Ok(command) => Ok(command),
+        Err(fault) => Err(line_fault(fault)),
+    }
+}
+
+// Counts the command, on a line of so many bytes, if that is within the limits.
+fn count(
+    tally: &mut Tally,
+    command: &Command,
+    bytes: u64,
+    servers: u64,
+    clients: u64,
+) -> Result<(), LineFault>
+    requires short { bytes ≤ 4194304 }
+    requires servers { servers ≤ 64 }
+    requires clients { clients ≤ 1024 }
+    ensures { Steps result tally.new (count_rule tally.old command.now bytes servers clients) }
+{
+    match command {
+        Command::Subscribe(_) | Command::Advertise(_) => tally.add_control(false, bytes, servers),
+        Command::Unsubscribe(_) | Command::Unadvertise(_) => {
+            tally.add_control(true, bytes, servers)
+        }
+        Command::Publish(_) => tally.add_publish(bytes, clients),
+    }
+}
+
+/// A command, by its line of so many bytes, whose first token is cut off.
+#[tactic(auto, unfolding(crate::specs::Rules::command_rule))]
+pub fn command(
+    alloc: Global,
+    state: &mut State,
+    line: Line<'_>,
+    bytes: usize,
+) -> Result<(), LineFault>
+    requires bytes { bytes ≡ length line }
+    requires short { bytes ≤ 4194304 }
+    ensures { Steps result state.new (command_rule state.old line.entry) }
+{
+    let command = command_of(alloc, state.version, line)?;
+    let servers = state.trees.servers() as u64;
+    let clients = state.clients.count() as u64;
+    count(&mut state.tally, &command, bytes as u64, servers, clients)?;
+    state.clients.add_command(state.client, command)?;
+    Ok(())
+}

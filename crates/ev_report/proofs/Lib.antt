@@ -1,0 +1,6 @@
+pub mod Chain
+pub mod Sorting
+pub mod Ids
+pub mod Strict
+pub mod Given
+pub mod AsDelivered

@@ -1,0 +1,23 @@
+-- What the clients received by the end of a run, and what flooding owes where nothing is allowed alone.
+use Rattle.std.specs.Prelude.{◌≡◌, ℕ, suc, true, List, [], ◌∷◌}
+use Rattle.ev_sets.specs.Sets.{Has}
+use Rattle.ev_phases.specs.Runs.{PhasedRun}
+use Rattle.ev_phases.specs.AtMoments.{inbox_of}
+use Rattle.ev_theory.specs.Real.{real}
+use Rattle.ev_wire.specs.declared.delivery.Delivery.{Delivery}
+use Rattle.ev_model.specs.Parts.{ClientParts}
+use Rattle.ev_model.specs.Meaning.{deliveries_of}
+use Rattle.ev_flood.specs.declared.owed.OwedRow.{OwedRow}
+
+-- the inboxes of clients numbered on from one
+abbrev pub inboxes : (ℕ → List Delivery) → ℕ → List ClientParts → List (List Delivery)
+inboxes inbox number [] = []
+inboxes inbox number (client ∷ clients) = inbox number ∷ inboxes inbox (suc number) clients
+
+-- what each client received by the end of a run
+abbrev pub received_by : PhasedRun real → List ClientParts → List (List Delivery)
+received_by run clients = inboxes (λ client. deliveries_of (inbox_of real run client)) 1 clients
+
+-- all that is allowed is owed
+abbrev pub AllOwed : List (List OwedRow) → Type 0
+AllOwed rows = (list : List OwedRow) → Has list rows → (row : OwedRow) → Has row list → row.must ≡ true

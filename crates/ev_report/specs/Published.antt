@@ -1,0 +1,33 @@
+-- The texts of what clients publish.
+use Rattle.std.specs.Prelude.{ℕ, zero, suc, List, [], ◌∷◌, map, slice_index_or}
+use Rattle.ev_wire.specs.NoticeText.{notice_text}
+use Rattle.ev_wire.specs.declared.id.Id.{Id}
+use Rattle.ev_wire.specs.declared.command.Command.{Command}
+use Rattle.ev_wire.specs.declared.command.Command.TheVariants as commands
+use Rattle.ev_model.specs.Parts.{ClientParts}
+
+-- a publish puts the text of its notice in front
+abbrev pub with_text : Command → List (List ℕ) → List (List ℕ)
+with_text (commands.Subscribe f) texts = texts
+with_text (commands.Unsubscribe f) texts = texts
+with_text (commands.Advertise a) texts = texts
+with_text (commands.Unadvertise a) texts = texts
+with_text (commands.Publish n) texts = notice_text n ∷ texts
+
+-- the texts of a script's publishes, in order
+abbrev pub texts_of : List (ℕ × Command) → List (List ℕ)
+texts_of [] = []
+texts_of (step ∷ steps) = with_text step.1 (texts_of steps)
+
+-- those of each client
+abbrev pub texts_in : List ClientParts → List (List (List ℕ))
+texts_in clients = map (λ client. texts_of client.script) clients
+
+-- the member of a list by its number, from 1; nothing where there is none
+abbrev pub numbered : {A : Type 0} → List (List A) → ℕ → List A
+numbered lists zero = []
+numbered lists (suc place) = slice_index_or lists place []
+
+-- the text of a publish by its publisher and its ordinal
+abbrev pub text_at : List (List (List ℕ)) → Id → List ℕ
+text_at texts id = numbered (numbered texts id.publisher) id.ordinal

@@ -1,0 +1,85 @@
+//! Parts of lines.
+ghost use Rattle.std.specs.Prelude.{◌≡◌, ◌++◌, OnOk};
+ghost use Rattle.std.specs.List.{flat_map};
+ghost use Rattle.std.specs.Fmt.{decimal};
+ghost use Rattle.ev_report.specs.Lines.{name_of, client_line, refused_line, publication_line};
+
+use ev_memory::NoMemory;
+use ev_model::Client;
+use ev_values::Name;
+use ev_wire::Id;
+use itoa::Buffer;
+
+/// The name of a client, by its number from 1.
+pub(crate) fn name_of(clients: &[Client], number: u32) -> &[u8]
+    ensures { result.now ≡ name_of clients.now number }
+{
+    let Some(place) = number.checked_sub(1) else {
+        return &[];
+    };
+    match clients.get(place as usize) {
+        Some(client) => client.name.bytes(),
+        None => &[],
+    }
+}
+
+/// A number in decimal.
+pub(crate) fn push_number(out: &mut Vec<u8>, number: u64) -> Result<(), NoMemory>
+    ensures { OnOk result (out.new.items ≡ out.old.items ++ decimal number) }
+{
+    let mut buffer = Buffer::new();
+    out.extend_from_slice(buffer.format(number).as_bytes())?;
+    Ok(())
+}
+
+/// The line before what a client receives.
+#[tactic(auto, unfolding(crate::specs::Lines::client_line))]
+pub(crate) fn push_client(out: &mut Vec<u8>, name: &Name) -> Result<(), NoMemory>
+    ensures { OnOk result (out.new.items ≡ out.old.items ++ client_line name.now) }
+{
+    out.extend_from_slice(b"client ")?;
+    out.extend_from_slice(name.bytes())?;
+    out.extend_from_slice(b"\n")?;
+    Ok(())
+}
+
+#[tactic(auto, unfolding(crate::specs::Lines::refused_line))]
+fn push_refusal(out: &mut Vec<u8>, ordinal: u32) -> Result<(), NoMemory>
+    ensures { OnOk result (out.new.items ≡ out.old.items ++ refused_line ordinal) }
+{
+    out.extend_from_slice(b"refused ")?;
+    push_number(out, u64::from(ordinal))?;
+    out.extend_from_slice(b" unadvertised\n")?;
+    Ok(())
+}
+
+/// A line for each refused publish.
+pub(crate) fn push_refused(out: &mut Vec<u8>, ordinals: &[u32]) -> Result<(), NoMemory>
+    ensures { OnOk result (out.new.items ≡ out.old.items ++ flat_map refused_line ordinals.now) }
+{
+    for ordinal in ordinals {
+        push_refusal(out, *ordinal)?;
+    }
+    Ok(())
+}
+
+/// A line of a publication: a word, its publisher's name, its ordinal and the text of its notice.
+#[tactic(auto, unfolding(crate::specs::Lines::publication_line))]
+pub(crate) fn push_publication(
+    out: &mut Vec<u8>,
+    word: &[u8],
+    clients: &[Client],
+    id: Id,
+    text: &[u8],
+) -> Result<(), NoMemory>
+    ensures { OnOk result (out.new.items ≡ out.old.items ++ publication_line word.now clients.now id text.now) }
+{
+    out.extend_from_slice(word)?;
+    out.extend_from_slice(name_of(clients, id.publisher))?;
+    out.extend_from_slice(b" ")?;
+    push_number(out, u64::from(id.ordinal))?;
+    out.extend_from_slice(b" ")?;
+    out.extend_from_slice(text)?;
+    out.extend_from_slice(b"\n")?;
+    Ok(())
+}

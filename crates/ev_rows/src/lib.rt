@@ -1,0 +1,18 @@
+//! Rows of worked questions with their answers. A program of such rows reads them on its standard
+//! input, a row a line: the question, ` => `, and the answer that is wanted. A line that begins
+//! with `#`, or that is empty, is none.
+#![tactic(auto)]
+
+mod fault;
+mod parts;
+mod rows;
+mod texts;
+
+pub use fault::RowFault;
+pub use parts::{
+    first_word, number, put, put_number, put_truth, spelled, truth, truths, two_parts,
+};
+pub use rows::{Answers, try_rows};
+pub use texts::{
+    advert, adverts, filter, filters, first_constraint, first_value, notice, put_filter,
+};

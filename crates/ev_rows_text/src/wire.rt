@@ -1,0 +1,120 @@
+//! Wire texts that are written, read again, and refused.
+use crate::long::{marks, members};
+use ev_rows::{RowFault, first_word, number, spelled, truth};
+use ev_wire::{
+    Bytes, Command, Delivery, Id, Sent, WireFault, read_advert, read_filter, read_message,
+    read_notice, write_advert, write_filter, write_message, write_notice,
+};
+use std::alloc::Global;
+
+/// Whether bytes that are the text of nothing were asked for; else why they were not read.
+fn refused(alloc: Global, fault: WireFault) -> Result<Vec<u8>, RowFault> {
+    match fault {
+        WireFault::Outside => truth(alloc, false),
+        WireFault::NoMemory => Err(RowFault::NoMemory),
+    }
+}
+
+/// Whether the bytes are a notice's text, and are written as they were read.
+fn is_notice(alloc: Global, bytes: &[u8]) -> Result<Vec<u8>, RowFault> {
+    match read_notice(alloc, bytes) {
+        Ok(notice) => truth(alloc, write_notice(alloc, &notice)?.as_slice() == bytes),
+        Err(fault) => refused(alloc, fault),
+    }
+}
+
+/// The same of a filter.
+fn is_filter(alloc: Global, bytes: &[u8]) -> Result<Vec<u8>, RowFault> {
+    match read_filter(alloc, bytes) {
+        Ok(filter) => truth(alloc, write_filter(alloc, &filter)?.as_slice() == bytes),
+        Err(fault) => refused(alloc, fault),
+    }
+}
+
+/// The same of an advertisement.
+fn is_advert(alloc: Global, bytes: &[u8]) -> Result<Vec<u8>, RowFault> {
+    match read_advert(alloc, bytes) {
+        Ok(advert) => truth(alloc, write_advert(alloc, &advert)?.as_slice() == bytes),
+        Err(fault) => refused(alloc, fault),
+    }
+}
+
+/// The same of a message.
+fn is_message(alloc: Global, bytes: &[u8]) -> Result<Vec<u8>, RowFault> {
+    match read_message(alloc, bytes) {
+        Ok(message) => truth(alloc, write_message(alloc, &message)?.as_slice() == bytes),
+        Err(fault) => refused(alloc, fault),
+    }
+}
+
+/// Whether a notice's text is spelled.
+pub fn notice(alloc: Global, rest: &str) -> Result<Vec<u8>, RowFault> {
+    is_notice(alloc, &spelled(alloc, rest)?)
+}
+
+/// Whether a filter's text is spelled.
+pub fn filter(alloc: Global, rest: &str) -> Result<Vec<u8>, RowFault> {
+    is_filter(alloc, &spelled(alloc, rest)?)
+}
+
+/// Whether an advertisement's text is spelled.
+pub fn advert(alloc: Global, rest: &str) -> Result<Vec<u8>, RowFault> {
+    is_advert(alloc, &spelled(alloc, rest)?)
+}
+
+/// Whether a message's text is spelled.
+pub fn message(alloc: Global, rest: &str) -> Result<Vec<u8>, RowFault> {
+    is_message(alloc, &spelled(alloc, rest)?)
+}
+
+/// The text of a copy of a message.
+pub fn written(alloc: Global, rest: &str) -> Result<Vec<u8>, RowFault> {
+    match read_message(alloc, rest.as_bytes()) {
+        Ok(message) => Ok(write_message(alloc, &message)?),
+        Err(fault) => refused(alloc, fault),
+    }
+}
+
+/// Whether a notice may have so many quotation marks.
+pub fn long_notice(alloc: Global, rest: &str) -> Result<Vec<u8>, RowFault> {
+    is_notice(alloc, &marks(alloc, b"s str \"", number(rest)?)?)
+}
+
+/// Whether there may be so many members.
+pub fn many(alloc: Global, rest: &str) -> Result<Vec<u8>, RowFault> {
+    let (what, count) = first_word(rest);
+    let count = number(count)?;
+    match what {
+        "notice" => is_notice(alloc, &members(alloc, b"", count, b" int 1")?),
+        "filter" => is_filter(alloc, &members(alloc, b"", count, b" int any")?),
+        "advert" => is_advert(alloc, &members(alloc, b"", count, b" int any")?),
+        _ => Err(RowFault::Form),
+    }
+}
+
+/// A delivery, what is sent of it, and a command of it, each by its copy.
+fn carried(alloc: Global, bytes: Vec<u8>) -> Result<Bytes, RowFault> {
+    let id = Id {
+        publisher: 7,
+        ordinal: 12,
+    };
+    let bytes = Bytes::of(bytes);
+    let delivery = Delivery { id, bytes }.copy(alloc)?;
+    let sent = Sent {
+        to: delivery.id.publisher,
+        bytes: delivery.bytes,
+    };
+    Ok(sent.copy(alloc)?.bytes)
+}
+
+/// The text of a notice that was copied as a delivery, as what is sent, and as a command.
+pub fn copied(alloc: Global, rest: &str) -> Result<Vec<u8>, RowFault> {
+    let bytes = carried(alloc, Vec::from_slice(alloc, rest.as_bytes())?)?;
+    match read_notice(alloc, bytes.as_slice()) {
+        Ok(notice) => match Command::Publish(notice).copy(alloc)? {
+            Command::Publish(notice) => Ok(write_notice(alloc, &notice)?),
+            _ => Err(RowFault::Form),
+        },
+        Err(fault) => refused(alloc, fault),
+    }
+}

@@ -1,0 +1,19 @@
+use Rattle.std.proofs.Common.{drop, ap, ◌∙◌}
+use Rattle.ev_versions.specs.Pairs.{pair_set}
+use Rattle.ev_versions.proofs.Chains.{shows_fold, fold_is, match_both, Told}
+use Rattle.ev_versions.proofs.publishing.publish_now.Goals as goal
+
+pub publish_as-requires : goal.publish_as-requires
+publish_as-requires g c next is =
+    let now = c.args.writer.desk.shown.value in
+    shows_fold _ _ now next (drop c.args.writer.behind c.args.writer.log.items) c.requires.folded c.requires.may is
+
+pub returns-clause-shown : goal.returns-clause-shown
+returns-clause-shown g c =
+    let now = c.args.writer.desk.shown.value in
+    let ops = drop c.args.writer.behind c.args.writer.log.items in
+    let done = c.publish_as.ensures in
+    match_both c.publish_as.result.1 _ _ _ _ _ _ (λ x a b. (b.0, ap (λ (t : Told). t.1) (a.0 ∙ fold_is (pair_set now.table) now.front.seen ops))) (λ y a b. a.0) done.values done.rule
+
+pub returns-clause-left : goal.returns-clause-left
+returns-clause-left g c = let done = c.publish_as.ensures in match_both c.publish_as.result.1 _ _ _ _ _ _ (λ x a b. a.1) (λ y a b. a.1) done.values done.rule

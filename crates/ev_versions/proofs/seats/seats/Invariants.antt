@@ -1,0 +1,14 @@
+use Rattle.std.proofs.Common.{◌≡◌, length, All}
+use Rattle.left_right.specs.Sides.{view}
+use Rattle.ev_versions.specs.Chain.{named_by}
+use Rattle.ev_versions.proofs.seats.seats.Given as goal
+
+abbrev pub invariant-loop : goal.invariant-loop
+invariant-loop l = record {
+  long : length l.viewers.items ≡ l.counter;
+  seen : All (λ v. v.front.seen ≡ l.front.seen) l.viewers.items;
+  desk : l.writer.desk.shown ≡ l.initial.writer.desk.shown;
+  log : l.writer.log ≡ l.initial.writer.log;
+  behind : l.writer.behind ≡ l.initial.writer.behind;
+  told : view l.writer.desk.place ≡ named_by l.front.seen.book;
+}

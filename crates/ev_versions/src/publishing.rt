@@ -1,0 +1,126 @@
+//! What a publisher does.
+ghost use Rattle.std.specs.Prelude.{◌≡◌, ◌↔◌, ◌++◌, ◌∷◌, [], false, drop, length, IfOk, OnOk, MatchResult};
+ghost use Rattle.ev_counting.specs.Table.{IsRouteOf};
+ghost use Rattle.ev_versions.specs.Pairs.{pairs_after};
+ghost use Rattle.ev_versions.specs.Chain.{IsFolded, IsShownAfter, MayShow};
+ghost use Rattle.ev_versions.specs.Ends.{staged, published, IsSamePublisher};
+
+use crate::publisher::Publisher;
+use crate::rule::{Shows, VersionWriter};
+use crate::version::Step;
+use core::mem::{replace, replace_with};
+use ev_counting::{Change, Route, Scratch};
+use ev_memory::NoMemory;
+use ev_notice::Notice;
+use std::alloc::AllocError;
+use std::sync::Wait;
+
+/// No more changes are staged than this.
+const MOST: u64 = 1 << 62;
+
+impl Publisher {
+    /// How many changes are published.
+    pub fn count(&self) -> u128
+        ensures { result ≡ length (published self.now) }
+    {
+        u128::from(self.shown.count)
+    }
+
+    /// The route of a notice by what is published.
+    pub fn route(&self, notice: &Notice, scratch: &mut Scratch) -> Result<Route, NoMemory>
+        ensures { IfOk result (IsRouteOf notice.now (pairs_after (published self.now))) }
+    {
+        self.writer.published().table.route(notice, scratch)
+    }
+
+    /// Stages a change. It wants memory where there is none, and where 2^62 changes were staged.
+    pub fn stage(&mut self, change: Change) -> Result<(), NoMemory>
+        ensures same { IsSamePublisher self.old self.new }
+        ensures published { published self.new ≡ published self.old }
+        ensures staged { MatchResult result (λ _. staged self.new ≡ staged self.old ++ change ∷ []) (λ _. staged self.new ≡ staged self.old) }
+    {
+        if self.top.count >= MOST {
+            return Err(NoMemory);
+        }
+        self.waiting.reserve(1)?;
+        let Some(front) = self.top.grown(&self.head, &change) else {
+            return Err(NoMemory);
+        };
+        self.waiting.push_reserved(change);
+        self.top = front;
+        Ok(())
+    }
+
+    /// Publishes all staged changes at once, or none where it finds no memory. `false` exactly where nothing is staged.
+    /// It may wait for a viewer that is inside a match.
+    pub fn publish<R: Wait>(&mut self, rt: &R) -> Result<bool, NoMemory>
+        ensures same { IsSamePublisher self.old self.new }
+        ensures staged { staged self.new ≡ staged self.old }
+        ensures some { IfOk result (λ b. (b ≡ false) ↔ (staged self.old ≡ published self.old)) }
+        ensures published { MatchResult result (λ _. published self.new ≡ staged self.old) (λ _. published self.new ≡ published self.old) }
+    {
+        if self.top.count == self.shown.count {
+            return Ok(false);
+        }
+        self.hand_over()?;
+        self.show(rt)?;
+        Ok(true)
+    }
+
+    /// Hands the waiting changes over to the writer.
+    fn hand_over(&mut self) -> Result<(), NoMemory>
+        ensures fronts { (self.new.top ≡ self.old.top) × (self.new.shown ≡ self.old.shown) }
+        ensures handed { OnOk result (self.new.waiting.items ≡ []) }
+    {
+        if self.waiting.is_empty() {
+            return Ok(());
+        }
+        let step = Step {
+            changes: replace(&mut self.waiting, Vec::new(self.alloc)),
+            front: self.top.again(),
+        };
+        if let Err(step) = self.writer.append(step) {
+            self.waiting = step.changes;
+            return Err(NoMemory);
+        }
+        Ok(())
+    }
+
+    /// Publishes what the writer was handed, which is all that is staged.
+    fn show<R: Wait>(&mut self, rt: &R) -> Result<(), NoMemory>
+        requires { self.old.waiting.items ≡ [] }
+        ensures top { self.new.top ≡ self.old.top }
+        ensures shown { MatchResult result (λ _. self.new.shown.seen ≡ self.old.top.seen) (λ _. self.new.shown ≡ self.old.shown) }
+    {
+        replace_with(&mut self.writer, rt, |writer, rt| publish_now(rt, writer))?;
+        self.shown = self.top.again();
+        Ok(())
+    }
+
+    /// Ends the publisher. It may wait for a viewer that is inside a match.
+    pub fn end<R: Wait>(self, rt: &R) {
+        let Publisher {
+            alloc: _,
+            writer,
+            head: _head,
+            waiting: _waiting,
+            top: _top,
+            shown: _shown,
+        } = self;
+        drop(writer.take(rt));
+    }
+}
+
+/// Publishes what the writer was handed.
+fn publish_now<R: Wait>(rt: &R, writer: VersionWriter) -> (VersionWriter, Result<(), AllocError>)
+    requires folded { IsFolded writer.desk.shown.value }
+    requires may { MayShow writer.desk.shown.value (drop writer.behind writer.log.items) }
+    ensures shown { MatchResult result.1
+        (λ _. IsShownAfter writer.desk.shown.value (drop writer.behind writer.log.items) result.0.desk.shown.value)
+        (λ _. result.0.desk.shown.value ≡ writer.desk.shown.value) }
+    ensures left { MatchResult result.1
+        (λ _. drop result.0.behind result.0.log.items ≡ [])
+        (λ _. drop result.0.behind result.0.log.items ≡ drop writer.behind writer.log.items) }
+{
+    writer.publish_as::<Shows, R>(rt)
+}
