@@ -1,19 +1,15 @@
 -- A client's next command as a step of the server.
-use Rattle.std.proofs.Common.{◌≡◌, ◌≢◌, ◌⊎◌, ◌↔◌, inl, inr, ℕ, zero, suc, max, ◌+◌, ◌-◌, ◌^◌, ◌<◌, ◌≤◌, ◌==◌, nat_lt, cond, not, ◌&&◌, ◌||◌, Bool, true, false, List, [], ◌∷◌, ◌++◌, map, filter, take, slice_get, length, IfSome, Option, Some, None, refl, sym, ap, subst, ◌∙◌, arith}
-use Rattle.std.specs.List.{flat_map}
+use Rattle.std.proofs.Common.{◌≡◌, ◌≢◌, inr, ℕ, zero, suc, max, ◌+◌, ◌^◌, ◌<◌, ◌≤◌, ◌==◌, nat_lt, cond, not, ◌&&◌, ◌||◌, Bool, true, false, List, [], ◌∷◌, ◌++◌, map, take, slice_get, length, IfSome, Option, Some, None, refl, sym, ap, subst, ◌∙◌, arith}
 use Rattle.std.specs.Int.{IsInRange}
-use Rattle.std.specs.List.Sorted.{IsStrictlyIncreasing}
-use Rattle.std.proofs.lemmas.Bool.{cases_eq}
 use Rattle.std.proofs.lemmas.Bool.Decides.{nat_tests}
 use Rattle.ev_constraint.specs.Constraint.{ConstraintParts}
 use Rattle.ev_notice.specs.Notice.{Attribute}
 use Rattle.ev_sets.specs.Sets.{Has, IsRising, union, minus}
-use Rattle.ev_cover.specs.Laws.{sub_laws, ad_laws}
-use Rattle.ev_run.specs.Machine.{Outcome, Does, Takes, at}
+use Rattle.ev_run.specs.Machine.{Does, at}
 use Rattle.ev_routing.specs.Net.{Net, PhasedCommand}
 use Rattle.ev_routing.specs.Clients.{filters_step, filters_after, adverts_step, adverts_after, accepts, ordinal}
 use Rattle.ev_routing.specs.Server.{Message, ServerState, is_among, interfaces}
-use Rattle.ev_routing.specs.Step.{Task, NextCommand, Version, Work, SetsFilters, SetsAdverts, Routes, ShowsVersion, Nothing, with_version, with_command_taken, effect, command_work, message_work, command_outcome, local_step}
+use Rattle.ev_routing.specs.Step.{NextCommand, Work, SetsFilters, SetsAdverts, Routes, ShowsVersion, Nothing, with_command_taken, effect, command_work, command_outcome}
 use Rattle.ev_routing.proofs.Listing.{has-one}
 use Rattle.ev_theory.specs.Real.{real, real_laws}
 use Rattle.ev_wire.specs.declared.id.Id.{Id}
@@ -24,31 +20,28 @@ use Rattle.ev_wire.specs.declared.message.Message.TheVariants as wires
 use Rattle.ev_wire.specs.declared.semantics.Semantics.{Semantics}
 use Rattle.ev_wire.specs.declared.semantics.Semantics.TheVariants.{Subscription, Advertisement}
 use Rattle.ev_wire.specs.declared.sent.Sent.{Sent}
-use Rattle.ev_wire.specs.MessageText.{IsSendable}
 use Rattle.ev_control.specs.Holdings.{held_from}
-use Rattle.ev_control.specs.Control.{Controlled, by_adverts, subs, advs, sent_to, texts, HaveTexts}
-use Rattle.ev_control.proofs.Routed.{either-way}
-use Rattle.ev_control.proofs.Holdings.{rising-where, split}
-use Rattle.ev_model.specs.Meaning.{phased_command, message_of, command_of, deliveries_of}
+use Rattle.ev_control.specs.Control.{by_adverts, subs, advs, sent_to, texts, HaveTexts}
+use Rattle.ev_control.proofs.Holdings.{split}
+use Rattle.ev_model.specs.Meaning.{phased_command, command_of, deliveries_of}
 use Rattle.ev_model.specs.Nets.{with_adverts}
-use Rattle.ev_model.proofs.Adding.{filters-sorted, adverts-sorted, accepts-same}
+use Rattle.ev_model.proofs.Adding.{accepts-same}
 use Rattle.ev_session.specs.declared.planned.Planned.{Planned}
 use Rattle.ev_session.specs.declared.planned.Planned.TheVariants as plans
 use Rattle.ev_session.specs.Session.{SessionParts, session_parts, adverts_at, publishes_at, net_under}
 use Rattle.ev_session.specs.Plan.{plan_by, plan_in, next_plan, IsCounted}
 use Rattle.ev_session.specs.Turn.{filter_set_at, advert_set_at}
 use Rattle.ev_session.proofs.Listing.{get-map}
-use Rattle.ev_session.proofs.Turning.{filters-turn, adverts-turn, filters-apart, adverts-apart, accepts-alike}
+use Rattle.ev_session.proofs.Turning.{filters-turn, adverts-turn, filters-apart, adverts-apart}
 use Rattle.ev_server.specs.Clients.{bare, numbers_of, at_client, stepped}
-use Rattle.ev_server.specs.Staged.{is_some_there}
-use Rattle.ev_server.specs.Ledger.{LedgerParts, FiltersSet, AdvertsSet}
-use Rattle.ev_server.specs.Acting.{HasActed, HasDone, planned_message, IsClear, IsRouted}
-use Rattle.ev_server.specs.Core.{CoreParts, core_parts, published_from, IsServerState}
+use Rattle.ev_server.specs.Ledger.{LedgerParts}
+use Rattle.ev_server.specs.Acting.{HasDone, planned_message, IsClear, IsRouted}
+use Rattle.ev_server.specs.Core.{CoreParts, core_parts, IsServerState}
 use Rattle.ev_server.specs.Kept.{IsCore}
-use Rattle.ev_server.specs.Routed.{IsRoute, RoutesNext, RoutesMessage}
-use Rattle.ev_server.specs.Step.{IsStep, MakesStep, stamp_after}
+use Rattle.ev_server.specs.Routed.{RoutesNext}
+use Rattle.ev_server.specs.Step.{IsStep, MakesStep}
 use Rattle.ev_server.proofs.Sessions.{has-map, map-has}
-use Rattle.ev_server.proofs.Steps.{IsDone, act_work, flat-none}
+use Rattle.ev_server.proofs.Steps.{IsDone, flat-none}
 use Rattle.ev_server.proofs.Made.{IsOwn, own-refl, filters-own, adverts-own, own-of, IsLeft, left-of, acted}
 
 some-is : {X : Type 0} {a b : X} → Some a ≡ Some b → a ≡ b
@@ -159,9 +152,11 @@ module _ (s : SessionParts) where
     -- the work of the next command, by its plan
     pub work-planned : (l : s.taken < length s.script) (p : Planned) → next_plan s ≡ Some p → (x : PhasedCommand real) × (slice_get (net.script s.client) s.taken ≡ Some x) × (command_work real net s.client s.taken x.command ≡ plan_work net.adverts s p)
     work-planned l p q =
-        let r = get-some s.script s.taken l in
-        (phased_command r.0, ap (λ z. slice_get z s.taken) one-script ∙ get-map phased_command s.script s.taken r.0 r.1,
-        work-is r.0.1 ∙ ap (plan_work net.adverts s) (plan-is r.0.0 r.0.1 r.1 p q))
+        let r = get-some s.script s.taken l in (
+          phased_command r.0,
+          ap (λ z. slice_get z s.taken) one-script ∙ get-map phased_command s.script s.taken r.0 r.1,
+          work-is r.0.1 ∙ ap (plan_work net.adverts s) (plan-is r.0.0 r.0.1 r.1 p q),
+        )
 
 -- a command that is taken besides a work
 taken-state : (net : Net real) (server client : ℕ) (state : ServerState real) (w : Work real) → (effect real net server (with_command_taken real net state client) w).state ≡ with_command_taken real net (effect real net server state w).state client
@@ -397,8 +392,8 @@ module _ (server clock stamp client : ℕ) (old new : LedgerParts) (clients mid 
           → IsDone net server state (plan_work net.adverts here.0 q) (core_parts server new (map bare mid) stamp) old.control.links sent
       done-by semantics same (plans.Subs out add) pl d =
           let work : SetsFilters (64 + client) (union real.before add (minus real.before (subs old.control (64 + client)) out)) ≡ plan_work net.adverts here.0 (plans.Subs out add) =
-              ap (SetsFilters (64 + client)) (ap (λ z. union real.before add (minus real.before z out)) (own-filters here.0 here.1 here.2) ∙ filters-turn here.0 out add (pl here.0 here.1 here.2))
-              ∙ ap (λ z. SetsFilters (64 + z) (filter_set_at here.0 (suc here.0.taken))) (sym here.2) in
+          ap (SetsFilters (64 + client)) (ap (λ z. union real.before add (minus real.before z out)) (own-filters here.0 here.1 here.2) ∙ filters-turn here.0 out add (pl here.0 here.1 here.2))
+          ∙ ap (λ z. SetsFilters (64 + z) (filter_set_at here.0 (suc here.0.taken))) (sym here.2) in
           subst (λ z. IsDone net server state z (core_parts server new (map bare mid) stamp) old.control.links sent) work (acted server clock stamp (64 + client) old new clients mid route sent kept (wires.Subs out add) d net state stands reached tt)
       done-by Subscription same (plans.Advs out add) pl d =
           let off : net.adverts ≡ false = stands.control.adverts ∙ ap by_adverts (sym same) in
@@ -406,9 +401,9 @@ module _ (server clock stamp client : ℕ) (old new : LedgerParts) (clients mid 
       done-by Advertisement same (plans.Advs out add) pl d =
           let on : net.adverts ≡ true = stands.control.adverts ∙ ap by_adverts (sym same) in
           let work : SetsAdverts (64 + client) (union real.before_advert add (minus real.before_advert (advs old.control (64 + client)) out)) ≡ plan_work net.adverts here.0 (plans.Advs out add) =
-              ap (SetsAdverts (64 + client)) (ap (λ z. union real.before_advert add (minus real.before_advert z out)) (own-adverts here.0 here.1 here.2 (ap by_adverts (sym same))) ∙ adverts-turn here.0 out add (pl here.0 here.1 here.2))
-              ∙ ap (λ z. SetsAdverts (64 + z) (advert_set_at here.0 (suc here.0.taken))) (sym here.2)
-              ∙ sym (ap (λ b. cond b (SetsAdverts (64 + here.0.client) (advert_set_at here.0 (suc here.0.taken))) Nothing) on) in
+          ap (SetsAdverts (64 + client)) (ap (λ z. union real.before_advert add (minus real.before_advert z out)) (own-adverts here.0 here.1 here.2 (ap by_adverts (sym same))) ∙ adverts-turn here.0 out add (pl here.0 here.1 here.2))
+          ∙ ap (λ z. SetsAdverts (64 + z) (advert_set_at here.0 (suc here.0.taken))) (sym here.2)
+          ∙ sym (ap (λ b. cond b (SetsAdverts (64 + here.0.client) (advert_set_at here.0 (suc here.0.taken))) Nothing) on) in
           subst (λ z. IsDone net server state z (core_parts server new (map bare mid) stamp) old.control.links sent) work (acted server clock stamp (64 + client) old new clients mid route sent kept (wires.Advs out add) d net state stands reached tt)
       done-by semantics same (plans.Publish id n) pl d =
           subst (λ z. IsDone net server state z (core_parts server new (map bare mid) stamp) old.control.links sent) (ap (λ z. Routes (64 + z) id.publisher id.ordinal n) (sym here.2))
@@ -516,9 +511,10 @@ planned-bare client p clients later same told s m e =
 
 -- whether the next command is a publish that will be accepted
 pub publishes-next : (s : SessionParts) (phase : ℕ) (command : Command) (n : List Attribute) → slice_get s.script s.taken ≡ Some (phase, command) → command ≡ commands.Publish n → accepts real (net_under s.semantics) (adverts_at s s.taken) n ≡ true → (id : Id) × (next_plan s ≡ Some (plans.Publish id n))
-publishes-next s phase command n e q a =
-    (record { publisher = s.client; ordinal = publishes_at s (suc s.taken) },
-    ap (plan_in s) e ∙ ap (λ z. Some (plan_by s z)) q ∙ ap (λ b. Some (cond b (plans.Publish (record { publisher = s.client; ordinal = publishes_at s (suc s.taken) }) n) (plans.Refused (publishes_at s (suc s.taken))))) a)
+publishes-next s phase command n e q a = (
+  record { publisher = s.client; ordinal = publishes_at s (suc s.taken) },
+  ap (plan_in s) e ∙ ap (λ z. Some (plan_by s z)) q ∙ ap (λ b. Some (cond b (plans.Publish (record { publisher = s.client; ordinal = publishes_at s (suc s.taken) }) n) (plans.Refused (publishes_at s (suc s.taken))))) a,
+)
 
 is-publication : Planned → Bool
 is-publication (plans.Subs out add) = false

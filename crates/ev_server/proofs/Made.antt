@@ -1,53 +1,35 @@
 -- The calls of a core as steps of the server, and what the code keeps of the core through them.
-use Rattle.std.proofs.Common.{◌≡◌, ◌≢◌, ◌⊎◌, ◌↔◌, inl, inr, ℕ, zero, suc, max, ◌+◌, ◌-◌, ◌^◌, ◌<◌, ◌≤◌, ◌==◌, nat_lt, cond, not, ◌&&◌, ◌||◌, Bool, true, false, List, [], ◌∷◌, ◌++◌, map, filter, take, slice_get, Option, Some, None, refl, sym, ap, subst, ◌∙◌, arith}
-use Rattle.std.specs.List.{flat_map}
+use Rattle.std.proofs.Common.{◌≡◌, ◌≢◌, inl, inr, ℕ, suc, max, ◌+◌, ◌^◌, ◌<◌, ◌≤◌, ◌==◌, nat_lt, cond, ◌&&◌, Bool, true, false, List, [], ◌∷◌, ◌++◌, map, take, Some, None, refl, sym, ap, subst, ◌∙◌, arith}
 use Rattle.std.specs.Int.{IsInRange}
-use Rattle.std.specs.List.Sorted.{IsStrictlyIncreasing}
-use Rattle.std.proofs.lemmas.Bool.{cases_eq}
-use Rattle.std.proofs.lemmas.Bool.Decides.{nat_tests}
-use Rattle.ev_constraint.specs.Constraint.{ConstraintParts}
-use Rattle.ev_notice.specs.Notice.{Attribute}
 use Rattle.ev_sets.specs.Sets.{Has, IsRising, union, minus}
 use Rattle.ev_cover.specs.Laws.{sub_laws, ad_laws}
-use Rattle.ev_run.specs.Machine.{Outcome, Does, Takes, at}
-use Rattle.ev_routing.specs.Net.{Net, PhasedCommand}
-use Rattle.ev_routing.specs.Clients.{filters_step, filters_after, adverts_step, adverts_after, accepts, ordinal}
+use Rattle.ev_run.specs.Machine.{Does, Takes}
+use Rattle.ev_routing.specs.Net.{Net}
+use Rattle.ev_routing.specs.Clients.{filters_after, adverts_after}
 use Rattle.ev_routing.specs.Server.{Message, ServerState, is_among, interfaces}
-use Rattle.ev_routing.specs.Step.{Task, NextCommand, Version, Work, SetsFilters, SetsAdverts, Routes, ShowsVersion, Nothing, with_version, with_command_taken, effect, command_work, message_work, command_outcome, local_step}
+use Rattle.ev_routing.specs.Step.{Version, SetsFilters, SetsAdverts, ShowsVersion, with_version, effect, message_work}
 use Rattle.ev_routing.proofs.Listing.{has-one}
 use Rattle.ev_theory.specs.Real.{real}
-use Rattle.ev_wire.specs.declared.id.Id.{Id}
-use Rattle.ev_wire.specs.declared.command.Command.{Command}
-use Rattle.ev_wire.specs.declared.command.Command.TheVariants as commands
 use Rattle.ev_wire.specs.declared.message.Message as wire
 use Rattle.ev_wire.specs.declared.message.Message.TheVariants as wires
-use Rattle.ev_wire.specs.declared.semantics.Semantics.{Semantics}
-use Rattle.ev_wire.specs.declared.semantics.Semantics.TheVariants.{Subscription, Advertisement}
 use Rattle.ev_wire.specs.declared.sent.Sent.{Sent}
 use Rattle.ev_wire.specs.MessageText.{IsSendable}
 use Rattle.ev_control.specs.Holdings.{held_from}
-use Rattle.ev_control.specs.Control.{Controlled, by_adverts, subs, advs, sent_to, texts, HaveTexts}
+use Rattle.ev_control.specs.Control.{by_adverts, subs, advs, sent_to, HaveTexts}
 use Rattle.ev_control.proofs.Routed.{either-way}
-use Rattle.ev_control.proofs.Holdings.{rising-where, split}
-use Rattle.ev_model.specs.Meaning.{phased_command, message_of, command_of, deliveries_of}
-use Rattle.ev_model.specs.Nets.{with_adverts}
-use Rattle.ev_model.proofs.Adding.{filters-sorted, adverts-sorted}
-use Rattle.ev_session.specs.declared.planned.Planned.{Planned}
-use Rattle.ev_session.specs.declared.planned.Planned.TheVariants as plans
-use Rattle.ev_session.specs.Session.{SessionParts, session_parts, adverts_at, publishes_at, net_under}
-use Rattle.ev_session.specs.Plan.{plan_by, next_plan}
+use Rattle.ev_control.proofs.Holdings.{rising-where}
+use Rattle.ev_model.specs.Meaning.{phased_command, message_of}
+use Rattle.ev_session.specs.Session.{SessionParts}
 use Rattle.ev_session.specs.Turn.{filter_set_at, advert_set_at}
-use Rattle.ev_session.proofs.Listing.{get-map}
-use Rattle.ev_session.proofs.Turning.{filters-turn, adverts-turn, filters-apart, adverts-apart, accepts-alike}
 use Rattle.ev_server.specs.Clients.{bare, numbers_of, at_client, stepped}
 use Rattle.ev_server.specs.Staged.{is_some_there}
-use Rattle.ev_server.specs.Ledger.{LedgerParts, FiltersSet, AdvertsSet}
+use Rattle.ev_server.specs.Ledger.{LedgerParts}
 use Rattle.ev_server.specs.Acting.{HasActed, planned_message, IsClear, IsRouted}
-use Rattle.ev_server.specs.Core.{CoreParts, core_parts, published_from, IsServerState}
+use Rattle.ev_server.specs.Core.{CoreParts, core_parts, IsServerState}
 use Rattle.ev_server.specs.Kept.{IsCore}
-use Rattle.ev_server.specs.Routed.{IsRoute, RoutesNext, RoutesMessage}
-use Rattle.ev_server.specs.Step.{IsStep, MakesStep, stamp_after}
-use Rattle.ev_server.proofs.Sessions.{has-map, map-has}
+use Rattle.ev_server.specs.Routed.{RoutesMessage}
+use Rattle.ev_server.specs.Step.{IsStep, MakesStep}
+use Rattle.ev_server.proofs.Sessions.{map-has}
 use Rattle.ev_server.proofs.Steps.{IsDone, act_work, filters-done, adverts-done, spread-done, flat-none}
 
 -- a version

@@ -1,16 +1,12 @@
 -- Changes of pairs of an interface and a filter.
-use Rattle.std.proofs.Common.{◌≡◌, ◌≢◌, ◌⊎◌, ◌↔◌, IsTrue, inl, inr, ℕ, ◌==◌, ◌&&◌, ◌||◌, not, nat_lt, Bool, true, false, List, [], ◌∷◌, ◌++◌, filter, refl, sym, ap, subst, ◌∙◌, arith}
-use Rattle.std.proofs.lemmas.Bool.Decides.{nat_tests}
-use Rattle.ev_constraint.specs.Constraint.{ConstraintParts}
-use Rattle.ev_notice.specs.Before.{list_before}
-use Rattle.ev_sets.specs.Sets.{Has, same}
-use Rattle.ev_sets.proofs.Roots.{Has-filter, filter-Has}
+use Rattle.std.proofs.Common.{◌≡◌, ◌≢◌, ◌⊎◌, ◌↔◌, IsTrue, inl, inr, not, Bool, true, false, List, [], ◌∷◌, ◌++◌, refl, sym, ap, subst}
+use Rattle.ev_sets.specs.Sets.{Has}
+use Rattle.ev_sets.proofs.Roots.{filter-Has}
 use Rattle.ev_cover.specs.Laws.{sub_laws}
 use Rattle.ev_counting.specs.declared.change.Change.{Change}
-use Rattle.ev_control.specs.Holdings.{Holding, earlier}
 use Rattle.ev_control.proofs.Holdings.{earlier-laws, split}
 use Rattle.ev_control.proofs.Stocks.{same-yes, same-is}
-use Rattle.ev_server.specs.Staged.{pair_of, is_of_one_pair, others, AreOnce, staged_with}
+use Rattle.ev_server.specs.Staged.{pair_of, is_of_one_pair, others, AreOnce}
 
 pub one-yes : (a b : Change) → pair_of a ≡ pair_of b → is_of_one_pair a b ≡ true
 one-yes a b e = same-yes (earlier-laws sub_laws) (pair_of a) (pair_of b) e
@@ -64,9 +60,10 @@ once-others change (c ∷ old) o = go (not (is_of_one_pair c change)) refl (once
 
 once-end : (change : Change) (changes : List Change) → ((other : Change) → Has other changes → pair_of other ≢ pair_of change) → AreOnce changes → AreOnce (changes ++ change ∷ [])
 once-end change [] n o = (λ other m. absurd m, o)
-once-end change (c ∷ changes) n o =
-    (λ other m. elim (has-end change other changes m) [ inl e ↦ subst (λ z. pair_of c ≢ pair_of z) (sym e) (n c (inl refl)) | inr k ↦ o.0 other k ],
-    once-end change changes (λ other m. n other (inr m)) o.1)
+once-end change (c ∷ changes) n o = (
+  λ other m. elim (has-end change other changes m) [ inl e ↦ subst (λ z. pair_of c ≢ pair_of z) (sym e) (n c (inl refl)) | inr k ↦ o.0 other k ],
+  once-end change changes (λ other m. n other (inr m)) o.1,
+)
 
 pub once-put : (change : Change) (old : List Change) → AreOnce old → AreOnce (others change old ++ change ∷ [])
 once-put change old o = once-end change (others change old) (λ other m. not-one other change (filter-Has (λ c. not (is_of_one_pair c change)) other old m).1) (once-others change old o)

@@ -1,5 +1,5 @@
 -- Stamps, and the one fault that they have.
-use Rattle.std.proofs.Common.{◌≡◌, ◌↔◌, ℕ, suc, max, ◌+◌, Result, Err, IsErrOf, ap, sym, ◌∙◌, arith}
+use Rattle.std.proofs.Common.{◌≡◌, ◌↔◌, ℕ, suc, max, ◌+◌, Err, IsErrOf, ap, sym, ◌∙◌, arith}
 use Rattle.ev_server.specs.Step.{last_stamp}
 use Rattle.ev_server.specs.declared.stepped.StepFault.{StepFault}
 use Rattle.ev_server.specs.declared.stepped.StepFault.TheVariants.{Worn}

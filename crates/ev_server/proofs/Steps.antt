@@ -1,5 +1,5 @@
 -- What a call does to a core is what a work does to the server's state that the core stands for.
-use Rattle.std.proofs.Common.{◌≡◌, ◌≢◌, ◌⊎◌, ◌↔◌, inl, inr, ℕ, suc, ◌+◌, ◌-◌, ◌<◌, ◌≤◌, ◌==◌, nat_lt, nat_le, cond, not, ◌&&◌, ◌||◌, Bool, true, false, List, [], ◌∷◌, ◌++◌, map, filter, refl, sym, ap, subst, ◌∙◌, arith}
+use Rattle.std.proofs.Common.{◌≡◌, ◌≢◌, ◌↔◌, inl, inr, ℕ, ◌+◌, ◌-◌, ◌<◌, ◌≤◌, ◌==◌, nat_lt, nat_le, cond, not, ◌&&◌, ◌||◌, Bool, true, false, List, [], ◌∷◌, ◌++◌, map, filter, refl, sym, ap, subst, ◌∙◌, arith}
 use Rattle.std.specs.List.{flat_map}
 use Rattle.std.specs.List.Sorted.{IsStrictlyIncreasing}
 use Rattle.std.proofs.lemmas.Bool.{cases_eq}
@@ -10,31 +10,29 @@ use Rattle.ev_sets.specs.Laws.{CoverLaws}
 use Rattle.ev_sets.specs.Sets.{Has, IsRising, union, minus, roots, same_list}
 use Rattle.ev_sets.proofs.Roots.{Has-filter, filter-Has}
 use Rattle.ev_sets.proofs.Sets.{ext, rising-filter, same_list-self}
-use Rattle.ev_cover.specs.Laws.{sub_laws, ad_laws}
-use Rattle.ev_run.specs.Machine.{Outcome, at}
+use Rattle.ev_cover.specs.Laws.{sub_laws}
 use Rattle.ev_routing.specs.Net.{Net}
 use Rattle.ev_routing.specs.Clients.{some_pass}
-use Rattle.ev_routing.specs.Server.{Message, Subs, Advs, Noticed, Publication, ServerState, is_among, union_except, interfaces, needed, messages_to, needed_adverts}
-use Rattle.ev_routing.specs.Step.{Work, SetsFilters, SetsAdverts, Routes, ShowsVersion, Nothing, with_filters, with_adverts, with_deliveries, with_version, with_command_taken, effect}
+use Rattle.ev_routing.specs.Server.{Message, Subs, Noticed, Publication, ServerState, is_among, union_except, interfaces, messages_to, needed_adverts}
+use Rattle.ev_routing.specs.Step.{Work, SetsFilters, SetsAdverts, Routes, with_filters, with_adverts, with_deliveries, effect}
 use Rattle.ev_routing.proofs.Laws.{one-has}
 use Rattle.ev_routing.proofs.Listing.{has-one}
 use Rattle.ev_theory.specs.Real.{real}
 use Rattle.ev_wire.specs.declared.id.Id.{Id}
-use Rattle.ev_wire.specs.declared.delivery.Delivery.{Delivery}
 use Rattle.ev_wire.specs.declared.sent.Sent.{Sent}
 use Rattle.ev_wire.specs.declared.message.Message as wire
 use Rattle.ev_wire.specs.declared.message.Message.TheVariants as wires
 use Rattle.ev_wire.specs.MessageText.{message_text, IsMessageText}
-use Rattle.ev_control.specs.Holdings.{Holding, held_from}
-use Rattle.ev_control.specs.Control.{Controlled, by_adverts, subs, advs, sent_to, wired, texts, HaveTexts, changes_to, filter_change, advert_change}
+use Rattle.ev_control.specs.Holdings.{held_from}
+use Rattle.ev_control.specs.Control.{by_adverts, subs, advs, sent_to, wired, texts, HaveTexts, changes_to, filter_change, advert_change}
 use Rattle.ev_control.specs.Routing.{StandsFor}
 use Rattle.ev_control.proofs.Routed.{messages-are as control-messages}
 use Rattle.ev_model.specs.Meaning.{phased_command, deliveries_of}
-use Rattle.ev_session.specs.Session.{SessionParts, session_parts}
-use Rattle.ev_server.specs.Clients.{bare, numbers_of, at_client, handed, stepped}
+use Rattle.ev_session.specs.Session.{SessionParts}
+use Rattle.ev_server.specs.Clients.{bare, numbers_of, handed}
 use Rattle.ev_server.specs.Staged.{is_some_there}
 use Rattle.ev_server.specs.Ledger.{LedgerParts, FiltersSet, AdvertsSet}
-use Rattle.ev_server.specs.Acting.{links_on, clients_on, delivery_of, sent_on, delivered, IsSpread, HasActed}
+use Rattle.ev_server.specs.Acting.{links_on, clients_on, delivery_of, sent_on, delivered, IsSpread}
 use Rattle.ev_server.specs.Core.{CoreParts, core_parts, published_from, IsServerState}
 use Rattle.ev_server.specs.Routed.{IsRoute}
 use Rattle.ev_server.proofs.Sessions.{has-map, map-has, above, rest-rises}
@@ -193,7 +191,7 @@ module _ (net : Net real) (server clock clock_after from : ℕ) (old new : Ledge
           let all = union_except real.before state.subs link (interfaces real net server) in
           let still = roots real.covers real.before (filter (λ (f : List ConstraintParts). true) all) in
           ap (λ b. filter_change (roots real.covers real.before (filter (λ f. not b || some_pass (real.overlaps f) (state.advs link)) all)) (roots real.covers real.before (filter (λ f. not b || some_pass (real.overlaps f) (offered.advs link)) all))
-              ++ advert_change (cond b (roots real.covers_advert real.before_advert (needed_adverts real net state server link)) []) (cond b (roots real.covers_advert real.before_advert (needed_adverts real net offered server link)) [])) e
+          ++ advert_change (cond b (roots real.covers_advert real.before_advert (needed_adverts real net state server link)) []) (cond b (roots real.covers_advert real.before_advert (needed_adverts real net offered server link)) [])) e
           ∙ ap (λ b. cond b [] (Subs (minus real.before still still) (minus real.before still still) ∷ []) ++ []) (same_list-self sub_laws still)
 
       messages-offered : by_adverts old.control.semantics ≡ true → (link : ℕ) → Has link old.control.links → changes_to old.control new.control link ≡ messages_to real net state offered server link
@@ -310,7 +308,7 @@ module _ (net : Net real) (server clock clock_after from : ℕ) (old new : Ledge
         let p = on-route (64 + t.client) (client-in t.client (lives t m)) in
         ap (λ b. b && some_pass (real.matches n) (state.published (64 + t.client))) here
         ∙ truth (some_pass (real.matches n) (state.published (64 + t.client))) (is_among t.client (clients_on route)) ((λ e. p.1 e), (λ h. p.0 h))
-          ((λ e. of-client t.client (one-has t.client (clients_on route) e)), (λ h. has-one t.client (clients_on route) (to-client t.client (ids (bare t) (map-has bare clients t m)) h)))
+        ((λ e. of-client t.client (one-has t.client (clients_on route) e)), (λ h. has-one t.client (clients_on route) (to-client t.client (ids (bare t) (map-has bare clients t m)) h)))
 
     abbrev pub pick : Bool → SessionParts → SessionParts
     pick b t = bare (cond b (handed (delivery_of id n) t) t)
@@ -399,6 +397,6 @@ module _ (net : Net real) (server clock clock_after from : ℕ) (old new : Ledge
       });
       sent_texts = spread.sent_texts ∙ ap (sent_on (message_text (wires.Notice id n))) (sym same-links) ∙ sym (texts-filter goes note old.control.links)
           ∙ flat-same-on (λ link. map (sent_to link) (cond (goes link) (note ∷ []) [])) (λ link. map (sent_to link) (cond (is_among link (net.links server)) (cond (goes link) (note ∷ []) []) [])) old.control.links
-            (λ link m. ap (λ b. map (sent_to link) (cond b (cond (goes link) (note ∷ []) []) [])) (sym (among link m)));
+          (λ link m. ap (λ b. map (sent_to link) (cond b (cond (goes link) (note ∷ []) []) [])) (sym (among link m)));
       readable = λ link m. out-texts link;
     }

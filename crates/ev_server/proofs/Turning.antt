@@ -1,11 +1,11 @@
 -- What is staged after a change of an interface's filters.
-use Rattle.std.proofs.Common.{◌≡◌, ◌≢◌, ◌⊎◌, ◌↔◌, inl, inr, ℕ, ◌||◌, not, Bool, true, false, List, [], ◌∷◌, ◌++◌, map, filter, refl, sym, ap, subst, ◌∙◌, arith}
+use Rattle.std.proofs.Common.{◌≡◌, ◌≢◌, ◌⊎◌, ◌↔◌, inl, inr, ℕ, ◌||◌, not, Bool, true, false, List, [], ◌∷◌, ◌++◌, map, filter, refl, sym, ap, subst, ◌∙◌}
 use Rattle.std.proofs.lemmas.Bool.{cases_eq}
 use Rattle.ev_constraint.specs.Constraint.{ConstraintParts}
 use Rattle.ev_notice.specs.Before.{list_before}
 use Rattle.ev_sets.specs.Sets.{Has, IsRising, member, union, minus, same_list}
 use Rattle.ev_sets.proofs.Roots.{Has-filter, filter-Has}
-use Rattle.ev_sets.proofs.Sets.{ext, has-union, minus-iff, member-iff, member-has, has-member, rising-union, rising-minus, same_list-iff, same_list-self}
+use Rattle.ev_sets.proofs.Sets.{ext, has-union, minus-iff, member-has, has-member, rising-union, rising-minus, same_list-iff}
 use Rattle.ev_cover.specs.Laws.{sub_laws}
 use Rattle.ev_poset.proofs.Names.{Has-map, map-Has}
 use Rattle.ev_session.proofs.Settling.{has-append}

@@ -1,5 +1,5 @@
 -- What contracts see of a server's core, and the server's state that it stands for in a net.
-use Rattle.std.specs.Prelude.{◌≡◌, ℕ, true, ◌+◌, List, map}
+use Rattle.std.specs.Prelude.{◌≡◌, ℕ, true, List, map}
 use Rattle.ev_constraint.specs.Constraint.{ConstraintParts}
 use Rattle.ev_sets.specs.Sets.{Has}
 use Rattle.ev_routing.specs.Net.{Net}

@@ -1,6 +1,5 @@
 -- A change of tree at one server: other links, with what is held from them.
 use Rattle.std.specs.Prelude.{◌≡◌, ℕ, ◌<◌, ◌≤◌, List, [], map, nat_lt}
-use Rattle.ev_constraint.specs.Constraint.{ConstraintParts}
 use Rattle.ev_notice.specs.Before.{list_before}
 use Rattle.ev_sets.specs.Sets.{Has, IsRising}
 use Rattle.ev_control.specs.declared.control.HeldLink.{HeldLink}

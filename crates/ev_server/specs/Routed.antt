@@ -1,5 +1,5 @@
 -- What a caller knows of a route that it hands to a step.
-use Rattle.std.specs.Prelude.{◌≡◌, ◌↔◌, ℕ, true, List, Some, nat_lt}
+use Rattle.std.specs.Prelude.{◌≡◌, ◌↔◌, ℕ, true, List, Some}
 use Rattle.std.specs.List.Sorted.{IsStrictlyIncreasing}
 use Rattle.ev_constraint.specs.Constraint.{ConstraintParts}
 use Rattle.ev_sets.specs.Sets.{Has}

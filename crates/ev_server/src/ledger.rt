@@ -47,7 +47,11 @@ impl Ledger {
     ghost use Rattle.ev_control.specs.Holdings.{held_from};
 
     /// Nothing is held or published.
-    pub(crate) fn new(alloc: Global, semantics: Semantics, links: &[u32]) -> Result<Ledger, NoMemory>
+    pub(crate) fn new(
+        alloc: Global,
+        semantics: Semantics,
+        links: &[u32],
+    ) -> Result<Ledger, NoMemory>
         ensures control { IfOk result (λ ledger. ledger.control ≡ record { semantics = semantics; links = links.now; filters = []; adverts = [] }) }
         ensures published { IfOk result (λ ledger. ledger.published ≡ []) }
         ensures staged { IfOk result (λ ledger. ledger.staged ≡ []) }
@@ -102,7 +106,12 @@ impl Ledger {
     }
 
     /// The additions among these filters that make a difference, at the end of other changes.
-    fn additions(&self, interface: u32, add: &[Filter], changes: &mut Vec<Change>) -> Result<(), NoMemory>
+    fn additions(
+        &self,
+        interface: u32,
+        add: &[Filter],
+        changes: &mut Vec<Change>,
+    ) -> Result<(), NoMemory>
         ensures { OnOk result (changes.new.items ≡ changes.old.items ++ map (Add interface) (filter (λ f. not (member list_before f (subs self.now.control interface))) add.now)) }
     {
         for filter in add {
@@ -119,7 +128,12 @@ impl Ledger {
 
     /// An interface holds the first filters no more and then the second ones too, which is staged. The answer is the
     /// texts of the messages that this makes due, by link.
-    pub(crate) fn set_filters(&mut self, interface: u32, out: &[Filter], add: &[Filter]) -> Result<Vec<Sent>, NoMemory>
+    pub(crate) fn set_filters(
+        &mut self,
+        interface: u32,
+        out: &[Filter],
+        add: &[Filter],
+    ) -> Result<Vec<Sent>, NoMemory>
         requires { (f : List ConstraintParts) → Has f out.now → Has f add.now → ⊥ }
         ensures set { IfOk result (λ sent. FiltersSet interface out.now add.now self.old self.new sent.items) }
         ensures err { OnErr result (self.new ≡ self.old) }
@@ -134,7 +148,12 @@ impl Ledger {
 
     /// An interface holds the first advertisements no more and then the second ones too. The answer is the texts of the
     /// messages that this makes due, by link; under subscription semantics there are none.
-    pub(crate) fn set_adverts(&mut self, interface: u32, out: &[Advert], add: &[Advert]) -> Result<Vec<Sent>, NoMemory>
+    pub(crate) fn set_adverts(
+        &mut self,
+        interface: u32,
+        out: &[Advert],
+        add: &[Advert],
+    ) -> Result<Vec<Sent>, NoMemory>
         requires { (a : List ConstraintParts) → Has a out.now → Has a add.now → ⊥ }
         ensures set { IfOk result (λ sent. AdvertsSet interface out.now add.now self.old self.new sent.items) }
         ensures err { OnErr result (self.new ≡ self.old) }

@@ -61,8 +61,7 @@ impl Staged {
     fn put(&mut self, change: Change) -> Result<(), NoMemory>
         ensures { OnOk result (self.new ≡ others change self.old ++ change ∷ []) }
     {
-        self.changes
-            .retain(|other| !is_of_one_pair(other, &change));
+        self.changes.retain(|other| !is_of_one_pair(other, &change));
         self.changes.push(change)?;
         Ok(())
     }

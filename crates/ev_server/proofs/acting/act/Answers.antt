@@ -1,7 +1,7 @@
-use Rattle.std.proofs.Common.{◌≡◌, sym, subst}
+use Rattle.std.proofs.Common.{sym, subst}
 use Rattle.std.specs.List.Sorted.{IsStrictlyIncreasing}
 use Rattle.ev_sets.specs.Sets.{Has}
-use Rattle.ev_wire.specs.declared.message.Message.TheVariants.{Notice, Subs, Advs}
+use Rattle.ev_wire.specs.declared.message.Message.TheVariants.{Subs, Advs}
 use Rattle.ev_server.specs.Acting.{IsClear, IsRouted}
 use Rattle.ev_server.proofs.acting.act.Goals as goal
 

@@ -1,4 +1,4 @@
-use Rattle.std.proofs.Common.{◌≡◌, ℕ, true, false, Bool, refl, sym, ap, subst, ◌∙◌}
+use Rattle.std.proofs.Common.{◌≡◌, true, false, refl, sym, ap, subst, ◌∙◌}
 use Rattle.ev_notice.specs.Before.{list_before}
 use Rattle.ev_control.specs.Control.{by_adverts}
 use Rattle.ev_control.proofs.Holdings.{split}

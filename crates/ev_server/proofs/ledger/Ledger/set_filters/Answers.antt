@@ -1,15 +1,13 @@
-use Rattle.std.proofs.Common.{◌≡◌, ◌≢◌, ◌++◌, ℕ, ◌==◌, not, List, map, filter, refl, sym, ap, subst, ◌∙◌}
-use Rattle.ev_constraint.specs.Constraint.{ConstraintParts}
+use Rattle.std.proofs.Common.{◌≡◌, ◌++◌, ◌==◌, not, map, filter, refl, sym, ap, subst, ◌∙◌}
 use Rattle.ev_notice.specs.Before.{list_before}
-use Rattle.ev_sets.specs.Sets.{Has, IsRising, member, union, minus, same_list}
-use Rattle.ev_counting.specs.declared.change.Change.{Change}
+use Rattle.ev_sets.specs.Sets.{member}
 use Rattle.ev_cover.specs.Laws.{sub_laws}
 use Rattle.ev_counting.specs.declared.change.Change.TheVariants.{Add, Remove}
 use Rattle.ev_control.specs.Holdings.{held_from}
-use Rattle.ev_control.specs.Control.{Controlled, subs, HaveTexts, changes_to}
+use Rattle.ev_control.specs.Control.{subs}
 use Rattle.ev_control.proofs.Holdings.{rising-where}
 use Rattle.ev_server.specs.Staged.{staged_with, Turns, is_some_there}
-use Rattle.ev_server.specs.Ledger.{LedgerParts, FiltersSet}
+use Rattle.ev_server.specs.Ledger.{FiltersSet}
 use Rattle.ev_server.proofs.Turning.{made, turned, flag}
 use Rattle.ev_server.proofs.ledger.Ledger.set_filters.Goals as goal
 
@@ -24,9 +22,9 @@ invariant_of-self-2 c =
     let old = c.self.inside.control in
     let held = subs old i in
     let first : c.in_ok-changes.changes.items ≡ map (Remove i) (filter (λ f. member list_before f held) out) =
-        subst (λ z. c.in_ok-changes.changes.items ≡ map (Remove i) (filter (λ f. member list_before f (subs z.control i)) out)) (sym c.self.view_is) c.in_ok-changes.ensures in
+    subst (λ z. c.in_ok-changes.changes.items ≡ map (Remove i) (filter (λ f. member list_before f (subs z.control i)) out)) (sym c.self.view_is) c.in_ok-changes.ensures in
     let more : c.additions.new.changes.items ≡ c.in_ok-changes.changes.items ++ map (Add i) (filter (λ f. not (member list_before f held)) add) =
-        subst (λ z. c.additions.new.changes.items ≡ c.in_ok-changes.changes.items ++ map (Add i) (filter (λ f. not (member list_before f (subs z.control i))) add)) (sym c.self.view_is) c.in_ok-additions.ensures in
+    subst (λ z. c.additions.new.changes.items ≡ c.in_ok-changes.changes.items ++ map (Add i) (filter (λ f. not (member list_before f (subs z.control i))) add)) (sym c.self.view_is) c.in_ok-additions.ensures in
     let listed : c.deref.result.now ≡ made i held out add = c.deref.ensures.value ∙ more ∙ ap (λ z. z ++ map (Add i) (filter (λ f. not (member list_before f held)) add)) first in
     let staged : c.in_ok-staged.staged ≡ staged_with (made i held out add) c.self.inside.staged = c.in_ok-staged.ensures ∙ ap (λ z. staged_with z c.self.inside.staged) listed in
     subst (λ z. Turns (λ i. held_from list_before i c.self.inside.published.value.filters) (subs c.change_subs.new.self) z) (sym staged)
@@ -40,9 +38,9 @@ returns-clause-set c =
     let old = c.self.inside.control in
     let held = subs old i in
     let first : c.in_ok-changes.changes.items ≡ map (Remove i) (filter (λ f. member list_before f held) out) =
-        subst (λ z. c.in_ok-changes.changes.items ≡ map (Remove i) (filter (λ f. member list_before f (subs z.control i)) out)) (sym c.self.view_is) c.in_ok-changes.ensures in
+    subst (λ z. c.in_ok-changes.changes.items ≡ map (Remove i) (filter (λ f. member list_before f (subs z.control i)) out)) (sym c.self.view_is) c.in_ok-changes.ensures in
     let more : c.additions.new.changes.items ≡ c.in_ok-changes.changes.items ++ map (Add i) (filter (λ f. not (member list_before f held)) add) =
-        subst (λ z. c.additions.new.changes.items ≡ c.in_ok-changes.changes.items ++ map (Add i) (filter (λ f. not (member list_before f (subs z.control i))) add)) (sym c.self.view_is) c.in_ok-additions.ensures in
+    subst (λ z. c.additions.new.changes.items ≡ c.in_ok-changes.changes.items ++ map (Add i) (filter (λ f. not (member list_before f (subs z.control i))) add)) (sym c.self.view_is) c.in_ok-additions.ensures in
     let listed : c.deref.result.now ≡ made i held out add = c.deref.ensures.value ∙ more ∙ ap (λ z. z ++ map (Add i) (filter (λ f. not (member list_before f held)) add)) first in
     let staged : c.in_ok-staged.staged ≡ staged_with (made i held out add) c.self.inside.staged = c.in_ok-staged.ensures ∙ ap (λ z. staged_with z c.self.inside.staged) listed in
     let flagged = flag i held out add c.requires (λ i. held_from list_before i c.self.inside.published.value.filters) (subs old) (subs c.change_subs.new.self) c.self.inside.staged refl c.in_ok-sent.ensures.held c.in_ok-sent.ensures.others c.self.invariant (rising-where sub_laws (λ h. h.interface == i) old.filters) in

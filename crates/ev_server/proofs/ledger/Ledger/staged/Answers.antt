@@ -1,4 +1,4 @@
-use Rattle.std.proofs.Common.{◌≡◌, sym, ap, subst, ◌∙◌}
+use Rattle.std.proofs.Common.{subst}
 use Rattle.ev_notice.specs.Before.{list_before}
 use Rattle.ev_control.specs.Holdings.{held_from}
 use Rattle.ev_control.specs.Control.{subs}

@@ -1,5 +1,4 @@
-use Rattle.std.proofs.Common.{◌≡◌, map, sym, ap, subst, ◌∙◌}
-use Rattle.ev_sets.specs.Sets.{Has}
+use Rattle.std.proofs.Common.{sym, ap, subst, ◌∙◌}
 use Rattle.ev_server.specs.Clients.{bare}
 use Rattle.ev_server.specs.Kept.{IsCore}
 use Rattle.ev_server.proofs.server.Core.next_publish.Goals as goal

@@ -1,12 +1,11 @@
-use Rattle.std.proofs.Common.{◌≡◌, ◌↔◌, ◌+◌, ◌<◌, ◌^◌, ℕ, zero, suc, max, [], map, refl, sym, ap, subst, ◌∙◌, arith}
+use Rattle.std.proofs.Common.{◌≡◌, ◌+◌, suc, max, [], map, sym, subst, ◌∙◌}
 use Rattle.ev_run.specs.Machine.{Does}
 use Rattle.ev_routing.specs.Step.{Version}
 use Rattle.ev_server.specs.Clients.{bare}
 use Rattle.ev_server.specs.Core.{core_parts}
-use Rattle.ev_server.specs.Step.{MakesStep, last_stamp}
+use Rattle.ev_server.specs.Step.{MakesStep}
 use Rattle.ev_server.proofs.Made.{version-made, version-kept}
 use Rattle.ev_server.proofs.Stamps.{max-none, next-is}
-use Rattle.ev_server.proofs.Commands.{committed}
 use Rattle.ev_server.proofs.server.Core.publish.Goals as goal
 
 pub returns-in-Err-clause-worn : goal.returns-in-Err-clause-worn

@@ -1,6 +1,4 @@
-use Rattle.std.proofs.Common.{◌≡◌, ℕ, ◌+◌, ◌<◌, ◌≤◌, nat_lt, true, map, sym, ap, subst, ◌∙◌, arith}
-use Rattle.ev_sets.specs.Sets.{Has, IsRising}
-use Rattle.ev_control.specs.Control.{Controlled, subs, advs}
+use Rattle.std.proofs.Common.{◌≡◌, map, sym, subst}
 use Rattle.ev_server.specs.Clients.{bare}
 use Rattle.ev_server.specs.Core.{core_parts}
 use Rattle.ev_server.specs.Linked.{SuitsCore}

@@ -1,4 +1,4 @@
-use Rattle.std.proofs.Common.{◌≡◌, map, sym, ap, subst, ◌∙◌}
+use Rattle.std.proofs.Common.{◌≡◌, map, ap, subst, ◌∙◌}
 use Rattle.ev_control.specs.Control.{subs, advs, IsRelinked}
 use Rattle.ev_server.proofs.Relinks.{links-distinct, suits-relinked}
 use Rattle.ev_server.proofs.server.Core.relinked.Goals as goal

@@ -1,4 +1,4 @@
-use Rattle.std.proofs.Common.{◌≡◌, sym, ap, subst, ◌∙◌}
+use Rattle.std.proofs.Common.{sym, subst}
 use Rattle.ev_sets.specs.Sets.{Has}
 use Rattle.ev_server.specs.Clients.{bare, numbers_of}
 use Rattle.ev_server.proofs.Commands.{numbers-bare}

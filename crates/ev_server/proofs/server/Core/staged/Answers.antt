@@ -1,4 +1,4 @@
-use Rattle.std.proofs.Common.{◌≡◌, sym, ap, subst, ◌∙◌}
+use Rattle.std.proofs.Common.{subst}
 use Rattle.ev_control.specs.Control.{subs}
 use Rattle.ev_server.specs.Core.{published_from}
 use Rattle.ev_server.specs.Staged.{IsStaged}

@@ -1,18 +1,18 @@
-use Rattle.std.proofs.Common.{◌≡◌, ◌↔◌, ◌+◌, ◌<◌, ◌≤◌, ◌^◌, ℕ, suc, max, true, List, [], length, map, Option, Some, IfSome, refl, sym, ap, subst, ◌∙◌, arith}
+use Rattle.std.proofs.Common.{◌≡◌, ◌+◌, ◌<◌, suc, max, length, map, Some, IfSome, sym, ap, subst, ◌∙◌, arith}
 use Rattle.ev_run.specs.Machine.{Does}
 use Rattle.ev_routing.specs.Step.{NextCommand}
 use Rattle.ev_sets.specs.Sets.{Has}
 use Rattle.ev_session.specs.Session.{SessionParts}
 use Rattle.ev_session.specs.Plan.{next_plan}
 use Rattle.ev_server.specs.Acting.{HasDone, IsClear, IsRouted, planned_message}
-use Rattle.ev_server.specs.Clients.{bare, numbers_of, at_client, stepped}
-use Rattle.ev_server.specs.Core.{CoreParts, core_parts}
+use Rattle.ev_server.specs.Clients.{bare, numbers_of}
+use Rattle.ev_server.specs.Core.{core_parts}
 use Rattle.ev_server.specs.Kept.{IsCore}
 use Rattle.ev_server.specs.Routed.{RoutesNext}
-use Rattle.ev_server.specs.Step.{MakesStep, last_stamp}
+use Rattle.ev_server.specs.Step.{MakesStep}
 use Rattle.ev_server.proofs.Commands.{command-made, command-kept, command-clear, command-routed, plan-after, planned-bare, numbers-bare}
 use Rattle.ev_server.proofs.Sessions.{map-has, has-map}
-use Rattle.ev_server.proofs.Stamps.{max-none, next-is, worn-of, worn-none}
+use Rattle.ev_server.proofs.Stamps.{next-is, worn-of, worn-none}
 use Rattle.ev_server.proofs.server.Core.take_command.Goals as goal
 
 pub returns-in-Err-clause-worn : goal.returns-in-Err-clause-worn
@@ -62,7 +62,7 @@ commit-requires-clause-plan c =
     let kept = subst (λ z. IsCore (core_parts c.self.inside.server c.self.inside.ledger z c.self.inside.clock)) (sym same) c.self.invariant in
     let planned = planned-bare c.args.client c.in_ok-plan.plan c.self.inside.clients c.plan.new.self same c.in_ok-plan.ensures.plan in
     let some-left : (s : SessionParts) → Has s (map bare c.plan.new.self) → s.client ≡ c.args.client → s.taken < length s.script =
-        subst (λ z. (s : SessionParts) → Has s z → s.client ≡ c.args.client → s.taken < length s.script) (sym same) (subst (λ z. (s : SessionParts) → Has s z.clients → s.client ≡ c.args.client → s.taken < length s.script) (sym c.self.view_is) c.requires.left) in
+    subst (λ z. (s : SessionParts) → Has s z → s.client ≡ c.args.client → s.taken < length s.script) (sym same) (subst (λ z. (s : SessionParts) → Has s z.clients → s.client ≡ c.args.client → s.taken < length s.script) (sym c.self.view_is) c.requires.left) in
     let message : c.in_ok-message.message ≡ planned_message c.self.inside.ledger.control.semantics c.in_ok-plan.plan = c.in_ok-message.ensures ∙ ap (λ z. planned_message z c.in_ok-plan.plan) (c.semantics.ensures ∙ ap (λ z. z.semantics) c.control.ensures) in
     let deed = subst (λ z. HasDone (64 + c.args.client) z c.args.route.now c.self.inside.ledger c.act_on.new.ledger c.plan.new.self c.act_on.new.clients c.in_ok-sent.sent.items) message c.in_ok-sent.ensures.done in
     plan-after c.self.inside.server c.self.inside.clock c.in-Ok.stamp c.args.client c.self.inside.ledger c.act_on.new.ledger c.plan.new.self c.act_on.new.clients c.args.route.now c.in_ok-sent.sent.items kept c.in_ok-plan.plan planned some-left deed
@@ -73,7 +73,7 @@ invariant_of-self-2 c =
     let kept = subst (λ z. IsCore (core_parts c.self.inside.server c.self.inside.ledger z c.self.inside.clock)) (sym same) c.self.invariant in
     let planned = planned-bare c.args.client c.in_ok-plan.plan c.self.inside.clients c.plan.new.self same c.in_ok-plan.ensures.plan in
     let some-left : (s : SessionParts) → Has s (map bare c.plan.new.self) → s.client ≡ c.args.client → s.taken < length s.script =
-        subst (λ z. (s : SessionParts) → Has s z → s.client ≡ c.args.client → s.taken < length s.script) (sym same) (subst (λ z. (s : SessionParts) → Has s z.clients → s.client ≡ c.args.client → s.taken < length s.script) (sym c.self.view_is) c.requires.left) in
+    subst (λ z. (s : SessionParts) → Has s z → s.client ≡ c.args.client → s.taken < length s.script) (sym same) (subst (λ z. (s : SessionParts) → Has s z.clients → s.client ≡ c.args.client → s.taken < length s.script) (sym c.self.view_is) c.requires.left) in
     let message : c.in_ok-message.message ≡ planned_message c.self.inside.ledger.control.semantics c.in_ok-plan.plan = c.in_ok-message.ensures ∙ ap (λ z. planned_message z c.in_ok-plan.plan) (c.semantics.ensures ∙ ap (λ z. z.semantics) c.control.ensures) in
     let deed = subst (λ z. HasDone (64 + c.args.client) z c.args.route.now c.self.inside.ledger c.act_on.new.ledger c.plan.new.self c.act_on.new.clients c.in_ok-sent.sent.items) message c.in_ok-sent.ensures.done in
     subst (λ z. IsCore (core_parts c.self.inside.server c.act_on.new.ledger (map bare z) c.in-Ok.stamp)) (sym c.commit.ensures)
@@ -85,7 +85,7 @@ returns-clause-step c =
     let kept = subst (λ z. IsCore (core_parts c.self.inside.server c.self.inside.ledger z c.self.inside.clock)) (sym same) c.self.invariant in
     let planned = planned-bare c.args.client c.in_ok-plan.plan c.self.inside.clients c.plan.new.self same c.in_ok-plan.ensures.plan in
     let some-left : (s : SessionParts) → Has s (map bare c.plan.new.self) → s.client ≡ c.args.client → s.taken < length s.script =
-        subst (λ z. (s : SessionParts) → Has s z → s.client ≡ c.args.client → s.taken < length s.script) (sym same) (subst (λ z. (s : SessionParts) → Has s z.clients → s.client ≡ c.args.client → s.taken < length s.script) (sym c.self.view_is) c.requires.left) in
+    subst (λ z. (s : SessionParts) → Has s z → s.client ≡ c.args.client → s.taken < length s.script) (sym same) (subst (λ z. (s : SessionParts) → Has s z.clients → s.client ≡ c.args.client → s.taken < length s.script) (sym c.self.view_is) c.requires.left) in
     let message : c.in_ok-message.message ≡ planned_message c.self.inside.ledger.control.semantics c.in_ok-plan.plan = c.in_ok-message.ensures ∙ ap (λ z. planned_message z c.in_ok-plan.plan) (c.semantics.ensures ∙ ap (λ z. z.semantics) c.control.ensures) in
     let deed = subst (λ z. HasDone (64 + c.args.client) z c.args.route.now c.self.inside.ledger c.act_on.new.ledger c.plan.new.self c.act_on.new.clients c.in_ok-sent.sent.items) message c.in_ok-sent.ensures.done in
     let lives = subst (λ z. Has c.args.client (numbers_of z)) (sym same) (subst (λ z. Has c.args.client (numbers_of z.clients)) (sym c.self.view_is) c.requires.lives) in

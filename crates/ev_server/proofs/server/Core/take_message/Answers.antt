@@ -1,15 +1,11 @@
-use Rattle.std.proofs.Common.{◌≡◌, ◌↔◌, ◌+◌, ◌<◌, ◌≤◌, ◌^◌, ℕ, suc, max, List, [], map, refl, sym, ap, subst, ◌∙◌, arith}
+use Rattle.std.proofs.Common.{◌≡◌, ◌+◌, suc, max, map, sym, subst}
 use Rattle.ev_run.specs.Machine.{Takes}
 use Rattle.ev_sets.specs.Sets.{Has}
-use Rattle.ev_wire.specs.declared.message.Message.{Message}
-use Rattle.ev_wire.specs.declared.message.Message.TheVariants.{Notice, Subs, Advs}
-use Rattle.ev_wire.specs.MessageText.{IsSendable}
 use Rattle.ev_model.specs.Meaning.{message_of}
-use Rattle.ev_server.specs.Acting.{IsRouted}
 use Rattle.ev_server.specs.Clients.{bare}
 use Rattle.ev_server.specs.Core.{core_parts}
 use Rattle.ev_server.specs.Routed.{RoutesMessage}
-use Rattle.ev_server.specs.Step.{MakesStep, last_stamp}
+use Rattle.ev_server.specs.Step.{MakesStep}
 use Rattle.ev_server.proofs.Made.{message-made, message-kept, routed-message, clear-message}
 use Rattle.ev_server.proofs.Stamps.{next-is, worn-of}
 use Rattle.ev_server.proofs.server.Core.take_message.Goals as goal
