@@ -208,3 +208,17 @@ route-is n table cs r e is = one-route n (pairs_after cs) r (route_of n (pairs_a
 
 pub is-route : (n : List Attribute) (cs : List Change) (r : List ℕ) → r ≡ route_of n (pairs_after cs) → IsRouteOf n (pairs_after cs) r
 is-route n cs r e = subst (λ (x : List ℕ). IsRouteOf n (pairs_after cs) x) (sym e) (routes n (pairs_after cs))
+
+-- further changes go on from the pairs after the earlier ones
+pub goes_on : (xs ys : List Change) → AreApplied ys (pairs_after xs) (pairs_after (xs ++ ys))
+goes_on xs ys = subst (λ (s : List Held). AreApplied ys (pairs_after xs) s) (sym (more-after xs ys)) (applied-from ys (pairs_after xs))
+
+-- a route is told by the members of a table alone
+pub by_members : (n : List Attribute) (a b : List Held) (r : List ℕ) → ((x : Held) → Contains a x ↔ Contains b x) → IsRouteOf n a r → IsRouteOf n b r
+by_members n a b r same is = record {
+  rising = is.rising;
+  exact = λ i. (
+    λ m. let h = (is.exact i).0 m in (h.0, (same (i, h.0)).0 h.1, h.2),
+    λ h. (is.exact i).1 (h.0, (same (i, h.0)).1 h.1, h.2),
+  );
+}
