@@ -12,5 +12,5 @@ returns c =
     let filter = c.args.filter.now in
     let told = has-from sub_laws c.self.inside.filters.pairs c.args.interface filter in
     let found : (c.holds.result ≡ true) ↔ IsHeld c.self.inside.filters.pairs c.args.interface filter =
-        subst (λ z. (c.holds.result ≡ true) ↔ IsHeld c.self.inside.filters.pairs c.args.interface z) c.in_ok-copy.ensures c.holds.ensures in
+    subst (λ z. (c.holds.result ≡ true) ↔ IsHeld c.self.inside.filters.pairs c.args.interface z) c.in_ok-copy.ensures c.holds.ensures in
     subst (λ z. (c.holds.result ≡ true) ↔ Has filter (subs z c.args.interface)) c.self.view_is ((λ e. told.1 (found.0 e)), (λ h. found.1 (told.0 h)))
