@@ -91,7 +91,8 @@ impl Ledger {
 
     /// The withdrawals among these filters that make a difference.
     fn withdrawals(&self, interface: u32, out: &[Filter]) -> Result<Vec<Change>, NoMemory>
-        ensures { IfOk result (λ changes. changes.items ≡ map (Remove interface) (filter (λ f. member list_before f (subs self.now.control interface)) out.now)) }
+        ensures { IfOk result (λ changes. changes.items
+            ≡ map (Remove interface) (filter (λ f. member list_before f (subs self.now.control interface)) out.now)) }
     {
         let mut changes = Vec::new(self.alloc);
         for filter in out {
@@ -112,7 +113,8 @@ impl Ledger {
         add: &[Filter],
         changes: &mut Vec<Change>,
     ) -> Result<(), NoMemory>
-        ensures { OnOk result (changes.new.items ≡ changes.old.items ++ map (Add interface) (filter (λ f. not (member list_before f (subs self.now.control interface))) add.now)) }
+        ensures { OnOk result (changes.new.items ≡ changes.old.items
+            ++ map (Add interface) (filter (λ f. not (member list_before f (subs self.now.control interface))) add.now)) }
     {
         for filter in add {
             if self.holds(interface, filter)? {

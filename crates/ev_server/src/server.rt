@@ -215,8 +215,10 @@ impl Core {
     /// accepted, or there is none.
     pub fn next_publish(&self, client: u32) -> Option<&Notice>
         requires { Has client (numbers_of self.now.clients) }
-        ensures publish { IfSome result (λ n. (s : SessionParts) × Has s self.now.clients × (s.client ≡ client) × ((id : Id) × (next_plan s ≡ Some (Publish id n.now)))) }
-        ensures none { IfNone result ((s : SessionParts) × Has s self.now.clients × (s.client ≡ client) × ((id : Id) (n : List Attribute) → next_plan s ≡ Some (Publish id n) → ⊥)) }
+        ensures publish { IfSome result (λ n. (s : SessionParts) × Has s self.now.clients × (s.client ≡ client)
+            × ((id : Id) × (next_plan s ≡ Some (Publish id n.now)))) }
+        ensures none { IfNone result ((s : SessionParts) × Has s self.now.clients × (s.client ≡ client)
+            × ((id : Id) (n : List Attribute) → next_plan s ≡ Some (Publish id n) → ⊥)) }
     {
         let session = self.session(client);
         match next_publish_of(self.ledger.control().semantics(), session) {
