@@ -8,3 +8,4 @@ pub mod Passing
 pub mod Publishing
 pub mod RowsOf
 pub mod Flooded
+pub mod Finding

@@ -2,3 +2,4 @@ pub mod Flooding
 pub mod Held
 pub mod Lasting
 pub mod Publications
+pub mod Tables
