@@ -8,4 +8,3 @@ pub mod Passing
 pub mod Publishing
 pub mod RowsOf
 pub mod Flooded
-pub mod Finding

@@ -2,4 +2,3 @@ pub mod Flooding
 pub mod Held
 pub mod Lasting
 pub mod Publications
-pub mod Tables

@@ -8,7 +8,6 @@ mod owed;
 mod phase;
 mod publication;
 mod rows;
-mod tables;
 
 pub use flood::must_may;
 pub use owed::{Owed, OwedRow};

@@ -1,7 +1,7 @@
 //! A client's lists within a phase.
 ghost use Rattle.std.specs.Prelude.{◌≡◌, ◌≤◌, length, IfOk};
 ghost use Rattle.ev_flood.specs.Held.{below, before, within, some_filters, every_filters, every_adverts};
-ghost use Rattle.ev_flood.specs.Lasting.{AreAdverts};
+ghost use Rattle.ev_flood.specs.Lasting.{AreFilters, AreAdverts};
 
 use crate::{adverts, held};
 use ev_memory::NoMemory;
@@ -71,6 +71,23 @@ pub(crate) fn filters(
     let every = held::lasting(alloc, &some, within)?;
     held::push_subscribed(alloc, &mut some, within)?;
     Ok(PhaseFilters { phase, some, every })
+}
+
+/// The same where those of another phase are at hand.
+pub(crate) fn renewed_filters(
+    alloc: Global,
+    lists: PhaseFilters,
+    script: &[(u32, Command)],
+    phase: u32,
+) -> Result<PhaseFilters, NoMemory>
+    requires { AreFilters script.now lists }
+    ensures phase { IfOk result (λ lists. lists.phase ≡ phase) }
+    ensures lists { IfOk result (AreFilters script.now) }
+{
+    if lists.phase == phase {
+        return Ok(lists);
+    }
+    filters(alloc, script, phase)
 }
 
 /// The advertisements of a client at every moment of a phase.

@@ -1,52 +1,36 @@
 //! Rows of clients.
-ghost use Rattle.std.specs.Prelude.{◌≡◌, ◌≤◌, ◌++◌, List, length, IfOk, OnOk};
+ghost use Rattle.std.specs.Prelude.{◌≡◌, ◌≤◌, length, IfOk};
 ghost use Rattle.ev_sets.specs.Numbers.{sum_over};
 ghost use Rattle.ev_model.specs.Sound.{publishes};
-ghost use Rattle.ev_flood.specs.Held.{Script};
-ghost use Rattle.ev_flood.specs.Tables.{AllFor, IsFor};
-ghost use Rattle.ev_flood.specs.Publications.{with_row, rows_of, accepted_of, all_rows_of, all_refusals_of};
+ghost use Rattle.ev_flood.specs.Publications.{rows_of, accepted_of, all_rows_of, all_refusals_of};
 
 use crate::owed::OwedRow;
-use crate::publication::{Publication, push_accepted, refusals};
-use crate::tables::{Met, all_met};
+use crate::phase;
+use crate::publication::{Publication, is_met, push_accepted, refusals};
 use ev_memory::NoMemory;
 use ev_model::{Client, Command, Semantics};
 use ev_wire::Lists;
 use std::alloc::Global;
 
-// Puts the row of a publication for a client at the end, where it is allowed to it.
-fn push_row(
-    rows: &mut Vec<OwedRow>,
-    number: u32,
-    publication: &Publication,
-    met: &Met,
-) -> Result<(), NoMemory>
-    ensures { (script : Script) (rest : List OwedRow) → IsFor number script publication.now met.now
-        → OnOk result (rows.new.items ++ rest ≡ rows.old.items ++ with_row script publication.now rest) }
-{
-    if met.some.ifaces().contains(&number) {
-        let every = met.every.ifaces().contains(&number);
-        rows.push(OwedRow {
-            id: publication.id,
-            must: publication.advertised && every,
-        })?;
-    }
-    Ok(())
-}
-
-// A client's rows, by its number and by whom the publications of all clients meet.
+// A client's rows, by the publications of all clients.
 fn rows(
     alloc: Global,
-    number: u32,
+    script: &[(u32, Command)],
     publications: &[Publication],
-    mets: &[Met],
 ) -> Result<Vec<OwedRow>, NoMemory>
-    requires { length mets.now ≡ length publications.now }
-    ensures { (script : Script) → AllFor number script publications.now mets.now → IfOk result (λ rows. rows.items ≡ rows_of script publications.now) }
+    ensures { IfOk result (λ rows. rows.items ≡ rows_of script.now publications.now) }
 {
     let mut rows = Vec::new(alloc);
-    for (k, publication) in publications.iter().enumerate() {
-        push_row(&mut rows, number, publication, &mets[k])?;
+    let mut lists = phase::filters(alloc, script, 0)?;
+    for publication in publications {
+        lists = phase::renewed_filters(alloc, lists, script, publication.phase)?;
+        if is_met(&lists.some, &publication.notice) {
+            let must = publication.advertised && is_met(&lists.every, &publication.notice);
+            rows.push(OwedRow {
+                id: publication.id,
+                must,
+            })?;
+        }
     }
     Ok(rows)
 }
@@ -80,13 +64,11 @@ pub(crate) fn all_rows(
     clients: &[Client],
     publications: &[Publication],
 ) -> Result<Vec<Lists<OwedRow>>, NoMemory>
-    requires { length clients.now ≤ 1024 }
     ensures { IfOk result (λ rows. rows.items ≡ all_rows_of clients.now publications.now) }
 {
-    let mets = all_met(alloc, clients, publications)?;
     let mut all = Vec::with_capacity(alloc, clients.len())?;
-    for i in 0..clients.len() {
-        all.push(Lists::of(rows(alloc, i as u32 + 1, publications, &mets)?))?;
+    for client in clients {
+        all.push(Lists::of(rows(alloc, &client.script, publications)?))?;
     }
     Ok(all)
 }
