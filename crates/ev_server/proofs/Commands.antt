@@ -220,6 +220,7 @@ committed net server clock client ledger sessions state stands = record {
     advs_apart = stands.control.advs_apart;
   };
   published = stands.published;
+  published_apart = stands.published_apart;
   staged = stands.staged;
   clients = stands.clients ∙ sym (numbers-stepped client sessions);
   scripts = λ s m. scripts s (took-one client sessions s m);
@@ -367,6 +368,7 @@ module _ (server clock stamp client : ℕ) (old new : LedgerParts) (clients mid 
         among = stands.among;
         control = stands.control;
         published = stands.published;
+        published_apart = stands.published_apart;
         staged = stands.staged;
         clients = stands.clients;
         scripts = stands.scripts;

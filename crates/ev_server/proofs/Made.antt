@@ -46,6 +46,7 @@ module _ (server clock stamp : ℕ) (old new : LedgerParts) (clients : List Sess
       advs_apart = λ i n. ap (λ z. advs z i) control-same ∙ stands.control.advs_apart i n;
     };
     published = λ i m. stands.control.subs_held i m ∙ ap (λ z. held_from real.before i z) (sym all-published);
+    published_apart = λ i n. ap (λ z. held_from real.before i z) all-published ∙ stands.control.subs_apart i n;
     staged = ap is_some_there (sym none-staged);
     clients = stands.clients;
     scripts = stands.scripts;

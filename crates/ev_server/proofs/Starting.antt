@@ -273,6 +273,7 @@ module _ (net : NetParts) (sound : IsSound net) (server : ℕ) (links : List ℕ
       advs_apart = λ i h. refl;
     };
     published = λ i h. refl;
+    published_apart = λ i h. refl;
     staged = refl;
     clients = clients-are net server ∙ ap numbers_of (sym (bare-same net.semantics server 1 net.clients));
     scripts = λ s h. scripts s (its s h);

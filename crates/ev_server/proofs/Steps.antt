@@ -135,6 +135,7 @@ module _ (net : Net real) (server clock clock_after from : ℕ) (old new : Ledge
           among = stands.among;
           control = stands-after;
           published = λ i m. stands.published i m ∙ ap (λ z. held_from real.before i z) (sym set.published);
+          published_apart = λ i n. ap (λ z. held_from real.before i z) set.published ∙ stands.published_apart i n;
           staged = ap (λ b. b || not (same_list real.before (state.subs from) sets)) stands.staged
               ∙ ap (λ z. is_some_there old.staged || not (same_list real.before z sets)) (stands.control.subs_held from reached)
               ∙ ap (λ z. is_some_there old.staged || not (same_list real.before (subs old.control from) z)) (sym set.held)
@@ -178,6 +179,7 @@ module _ (net : Net real) (server clock clock_after from : ℕ) (old new : Ledge
         among = stands.among;
         control = stands-offered;
         published = λ i m. stands.published i m ∙ ap (λ z. held_from real.before i z) (sym set.published);
+        published_apart = λ i n. ap (λ z. held_from real.before i z) set.published ∙ stands.published_apart i n;
         staged = stands.staged ∙ ap is_some_there (sym set.staged);
         clients = stands.clients ∙ ap numbers_of (sym same);
         scripts = λ s m. stands.scripts s (subst (Has s) same m);
@@ -389,6 +391,7 @@ module _ (net : Net real) (server clock clock_after from : ℕ) (old new : Ledge
           advs_apart = stands.control.advs_apart;
         };
         published = stands.published;
+        published_apart = stands.published_apart;
         staged = stands.staged;
         clients = stands.clients ∙ sym (ap numbers_of spread.inboxes ∙ numbers-same clients);
         scripts = λ s m. scripts-then s (was-one s m);

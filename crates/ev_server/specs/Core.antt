@@ -1,5 +1,5 @@
 -- What contracts see of a server's core, and the server's state that it stands for in a net.
-use Rattle.std.specs.Prelude.{◌≡◌, ℕ, true, List, map}
+use Rattle.std.specs.Prelude.{◌≡◌, ℕ, true, List, [], map}
 use Rattle.ev_constraint.specs.Constraint.{ConstraintParts}
 use Rattle.ev_sets.specs.Sets.{Has}
 use Rattle.ev_routing.specs.Net.{Net}
@@ -39,12 +39,13 @@ core_parts server ledger clients clock = record {
 abbrev pub published_from : CoreParts → ℕ → List (List ConstraintParts)
 published_from core interface = held_from real.before interface core.published
 
--- THE SERVER'S STATE that a core stands for in a net: it is a server of the net, holds and published what the state says, and has the net's
--- clients of this server, with their scripts, with as many commands taken and with the texts of what was delivered
+-- THE SERVER'S STATE that a core stands for in a net: it is a server of the net, holds and published what the state says (of what is no interface it
+-- published nothing), and has the net's clients of this server, with their scripts, with as many commands taken and with the texts of what was delivered
 pub record IsServerState (net : Net real) (core : CoreParts) (state : ServerState real) : Type 0 where
   pub among : is_among core.server net.servers ≡ true
   pub control : StandsFor net core.server core.control state
   pub published : (i : ℕ) → Has i (interfaces real net core.server) → state.published i ≡ published_from core i
+  pub published_apart : (i : ℕ) → (Has i (interfaces real net core.server) → ⊥) → published_from core i ≡ []
   pub staged : state.staged ≡ is_some_there core.staged
   pub clients : net.clients core.server ≡ numbers_of core.clients
   pub scripts : (s : SessionParts) → Has s core.clients → net.script s.client ≡ map phased_command s.script
