@@ -1,4 +1,5 @@
 //! Routes: the interfaces that a notice goes to.
+use std::alloc::Global;
 use std::marker::Model;
 
 /// The rising list of the interfaces that a notice goes to.
@@ -16,9 +17,18 @@ impl Model for Route {
 }
 
 impl Route {
-    ghost use Rattle.std.specs.Prelude.{◌≡◌, ◌↔◌, ℕ};
+    ghost use Rattle.std.specs.Prelude.{◌≡◌, ◌↔◌, ℕ, []};
     ghost use Rattle.std.specs.List.{Contains};
     ghost use Rattle.std.specs.List.Sorted.{IsStrictlyIncreasing};
+
+    /// The route to no interface, as that of a step without a notice. It takes no memory.
+    pub fn nowhere(alloc: Global) -> Route
+        ensures { result ≡ [] }
+    {
+        Route {
+            ifaces: Vec::new(alloc),
+        }
+    }
 
     /// The interfaces, rising.
     pub fn ifaces(&self) -> &[u32]
