@@ -204,6 +204,7 @@ impl Core {
         requires { Has client (numbers_of self.now.clients) }
         ensures session { Has (bare result.now) self.now.clients }
         ensures client { result.now.client ≡ client }
+        ensures semantics { result.now.semantics ≡ self.now.control.semantics }
     {
         let Some(session) = self.clients.session(client) else {
             unreachable!()

@@ -1,4 +1,4 @@
-use Rattle.std.proofs.Common.{sym, subst}
+use Rattle.std.proofs.Common.{◌≡◌, sym, subst}
 use Rattle.ev_sets.specs.Sets.{Has}
 use Rattle.ev_server.specs.Clients.{bare, numbers_of}
 use Rattle.ev_server.proofs.Commands.{numbers-bare}
@@ -11,3 +11,8 @@ unreachable-requires c =
 
 pub returns-clause-session : goal.returns-clause-session
 returns-clause-session c = subst (λ z. Has (bare c.in-Some.session.now) z.clients) c.self.view_is (map-has bare c.self.inside.clients c.in-Some.session.now c.in-Some.ensures.session.0)
+
+pub returns-clause-semantics : goal.returns-clause-semantics
+returns-clause-semantics c =
+    subst (λ z. c.in-Some.session.now.semantics ≡ z.control.semantics) c.self.view_is
+    (c.self.invariant.one_semantics (bare c.in-Some.session.now) (map-has bare c.self.inside.clients c.in-Some.session.now c.in-Some.ensures.session.0))

@@ -1,0 +1,120 @@
+-- Rounds of takings and versions: their turns server by server, and that there are more rounds than a run has entries.
+use Rattle.std.proofs.Common.{◌≡◌, ℕ, ◌+◌, ◌-◌, ◌<◌, ◌≤◌, nat_le, Bool, true, false, cond, List, [], ◌∷◌, ◌++◌, inl, inr, length, drop, refl, sym, ap, subst, ◌∙◌, arith}
+use Rattle.std.proofs.lemmas.List.{length-map}
+use Rattle.ev_sets.specs.Sets.{Has}
+use Rattle.ev_tree.specs.Tree.{Topology, links_of}
+use Rattle.ev_run.specs.Machine.{Did}
+use Rattle.ev_run.specs.Walk.{repeated}
+use Rattle.ev_routing.specs.Step.{Version}
+use Rattle.ev_routing.specs.Walk.{round_at, enough_rounds}
+use Rattle.ev_phases.specs.Trees.{Tree, tree_after, net_at, tree_at, machine_at}
+use Rattle.ev_phases.specs.Runs.{PhasedRun}
+use Rattle.ev_phases.specs.Bounds.{KeepsBounds}
+use Rattle.ev_phases.proofs.Counted.{bounded}
+use Rattle.ev_theory.specs.Real.{real, real_laws}
+use Rattle.ev_model.specs.declared.turn.Turn.TheVariants as turns
+use Rattle.ev_model.specs.Parts.{NetParts, EntryParts}
+use Rattle.ev_model.specs.Meaning.{entry_of, journal_of}
+use Rattle.ev_model.specs.Nets.{phased_net, first_tree, later_trees, servers_in, topology_at}
+use Rattle.ev_model.specs.Sound.{HasTrees, IsSound}
+use Rattle.ev_model.proofs.SoundNets.{net-laws, tree-map}
+use Rattle.ev_net.specs.Network.{NetworkParts, moment_by, IsLegal, IsLater}
+use Rattle.ev_net.specs.Turns.{IsTurn}
+use Rattle.ev_net.specs.Trying.{takings, round_turns, rounds_turns, Tries}
+use Rattle.ev_net.proofs.Ranges.{servers-next, servers-past}
+use Rattle.ev_net.proofs.Later.{later-net}
+use Rattle.ev_net.proofs.Tries.{Going, going-starts, going-on, going-repeats, going-rests, turn-tries}
+
+-- all trees have the servers of the first
+count-after : (count : ℕ) (tree : Topology) (later : List (ℕ × Topology)) → tree.count ≡ count → ((next : ℕ × Topology) → Has next later → next.1.count ≡ count) → (phase : ℕ) → (tree_after tree later phase).count ≡ count
+count-after count tree [] e same phase = e
+count-after count tree (next ∷ later) e same phase = go (nat_le next.0 phase) (count-after count next.1 later (same next (inl refl)) (λ n h. same n (inr h)) phase)
+  where
+    go : (b : Bool) → (tree_after next.1 later phase).count ≡ count → (cond b (tree_after next.1 later phase) tree).count ≡ count
+    go true x = x
+    go false x = e
+
+count-first : (trees : List (ℕ × Topology)) → HasTrees trees → (phase : ℕ) → (tree_after (first_tree trees) (later_trees trees) phase).count ≡ (first_tree trees).count
+count-first [] h phase = absurd h
+count-first (tree ∷ later) h phase = count-after tree.1.count tree.1 later refl h.same phase
+
+pub count-same : (net : NetParts) → IsSound net → (phase : ℕ) → (topology_at net phase).count ≡ (first_tree net.trees).count
+count-same net sound phase = count-first net.trees sound.trees phase
+
+-- the turns of a round from a server on
+pub round-left : (net : NetParts) → IsSound net → (phase : ℕ) (tree : Topology) (server : ℕ) → tree ≡ topology_at net phase → 1 ≤ server → server ≤ tree.count
+    → round_at real (net_at real (phased_net net) phase) (drop (server - 1) (servers_in net))
+    ≡ takings server (links_of tree server) ++ ((server, Did Version) ∷ round_at real (net_at real (phased_net net) phase) (drop (server + 1 - 1) (servers_in net)))
+round-left net sound phase tree server e some most =
+    let count : tree.count ≡ (first_tree net.trees).count = ap (λ (z : Topology). z.count) e ∙ count-same net sound phase in
+    let links : (tree_at real (phased_net net) phase).links server ≡ links_of tree server = sym (ap (λ (z : Topology). links_of z server) e ∙ ap (λ (z : Tree). z.links server) (tree-map (first_tree net.trees) (later_trees net.trees) phase)) in
+    ap (round_at real (net_at real (phased_net net) phase)) (servers-next (first_tree net.trees).count server some (omega (arith, most, count)))
+    ∙ ap (λ z. takings server z ++ ((server, Did Version) ∷ round_at real (net_at real (phased_net net) phase) (drop (server + 1 - 1) (servers_in net)))) links
+
+-- a server's part of a round
+pub round-goes : (phase : ℕ) (tree : Topology) (server : ℕ) (neighbours : List ℕ) (some : Bool) (old first middle new : NetworkParts) → IsSound old.net → tree ≡ topology_at old.net phase → 1 ≤ server → server ≤ tree.count
+    → neighbours ≡ links_of tree server
+    → Going phase (round_turns old.net phase) (round_at real (net_at real (phased_net old.net) phase) (drop (server - 1) (servers_in old.net))) old first
+    → Tries phase (takings server neighbours) first middle → IsTurn some (turns.Version server) middle new
+    → Going phase (round_turns old.net phase) (round_at real (net_at real (phased_net old.net) phase) (drop (server + 1 - 1) (servers_in old.net))) old new
+round-goes phase tree server neighbours some old first middle new sound e least most near way taken turn =
+    let more = round_at real (net_at real (phased_net old.net) phase) (drop (server + 1 - 1) (servers_in old.net)) in
+    going-on phase (round_turns old.net phase) ((server, Did Version) ∷ more) ((server, Did Version) ∷ []) more old middle new refl
+    (going-on phase (round_turns old.net phase) (round_at real (net_at real (phased_net old.net) phase) (drop (server - 1) (servers_in old.net))) (takings server neighbours) ((server, Did Version) ∷ more) old first middle
+    (round-left old.net sound phase tree server e least most ∙ ap (λ z. takings server z ++ ((server, Did Version) ∷ more)) (sym near)) way taken)
+    (turn-tries some (turns.Version server) middle new turn phase refl)
+
+-- a legal run has fewer entries than there may be rounds
+pub fewer-entries : (net : NetParts) (journal : List EntryParts) → IsSound net → IsLegal net journal → (phase : ℕ) → length journal < enough_rounds real (net_at real (phased_net net) phase)
+fewer-entries net journal sound legal phase = omega (arith, bounds.within, length-map journal entry_of)
+  where
+    run : PhasedRun real
+    run = record {
+      net = phased_net net;
+      laws = net-laws net sound;
+      journal = journal_of journal;
+      end = (moment_by net journal).state;
+      last = (moment_by net journal).phase;
+      legal = legal;
+    }
+
+    bounds : KeepsBounds real (record { net = phased_net net; laws = net-laws net sound; journal = journal_of journal; end = (moment_by net journal).state; last = (moment_by net journal).phase; legal = legal })
+    bounds = bounded real real_laws run
+
+-- behind the last server nothing is left of a round
+pub round-past : (net : NetParts) → IsSound net → (phase : ℕ) (tree : Topology) (server : ℕ) → tree ≡ topology_at net phase → tree.count ≤ server
+    → round_at real (net_at real (phased_net net) phase) (drop server (servers_in net)) ≡ []
+round-past net sound phase tree server e past =
+    ap (round_at real (net_at real (phased_net net) phase)) (servers-past (first_tree net.trees).count server (omega (arith, past, ap (λ (z : Topology). z.count) e, count-same net sound phase)))
+
+-- some rounds were made, and no more than there are entries
+pub record Settling (phase : ℕ) (old new : NetworkParts) : Type 0 where
+  pub left : ℕ
+  pub few : enough_rounds real (net_at real (phased_net old.net) phase) ≤ left + length new.journal
+  pub way : Going phase (rounds_turns old.net phase) (repeated (machine_at real (phased_net old.net) phase) left (round_turns old.net phase)) old new
+
+pub settling-starts : (phase : ℕ) (network : NetworkParts) → Settling phase network network
+settling-starts phase network = record {
+  left = enough_rounds real (net_at real (phased_net network.net) phase);
+  few = omega arith;
+  way = going-starts phase (rounds_turns network.net phase) network;
+}
+
+-- a further round that makes something
+pub settling-on : (phase : ℕ) (old middle new : NetworkParts) → IsLater old middle → Settling phase old middle → length middle.journal < enough_rounds real (net_at real (phased_net middle.net) phase)
+    → Tries phase (round_turns middle.net phase) middle new → length middle.journal < length new.journal → Settling phase old new
+settling-on phase old middle new later so fewer tries more = record {
+  left = so.left - 1;
+  few = omega (arith, so.few, more);
+  way = going-repeats phase phase so.left (so.left - 1) (rounds_turns old.net phase) (round_turns old.net phase) old middle new
+      (omega (arith, so.few, fewer, ap (λ n. enough_rounds real (net_at real (phased_net n) phase)) (later-net old middle later))) so.way
+      (subst (λ n. Tries phase (round_turns n phase) middle new) (later-net old middle later) tries);
+}
+
+-- and one that makes nothing
+pub settling-ends : (phase : ℕ) (old middle new : NetworkParts) → IsLater old middle → Settling phase old middle → length middle.journal < enough_rounds real (net_at real (phased_net middle.net) phase)
+    → Tries phase (round_turns middle.net phase) middle new → new ≡ middle → Tries phase (rounds_turns old.net phase) old new
+settling-ends phase old middle new later so fewer tries same =
+    going-rests phase phase so.left (so.left - 1) (rounds_turns old.net phase) (round_turns old.net phase) old middle new
+    (omega (arith, so.few, fewer, ap (λ n. enough_rounds real (net_at real (phased_net n) phase)) (later-net old middle later))) so.way
+    (subst (λ n. Tries phase (round_turns n phase) middle new) (later-net old middle later) tries) same

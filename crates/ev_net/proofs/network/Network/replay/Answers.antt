@@ -1,0 +1,12 @@
+use Rattle.ev_model.specs.declared.turn.Turn.TheVariants as turns
+use Rattle.ev_net.proofs.Replayed.{replayed-none, replayed-more, stops}
+use Rattle.ev_net.proofs.network.Network.replay.Goals as goal
+
+pub loop-line-init : goal.loop-line-init
+loop-line-init c = replayed-none c.args.turns.now c.args.self.now
+
+pub loop-line-preserved : goal.loop-line-preserved
+loop-line-preserved c = replayed-more c.args.turns.now c.args.self.now c.loop-line.self c.turn.new.self c.loop-line.line-index (0, turns.Command 0) c.in-Ok-true.field-0 c.loop-line-test.true c.loop-line.invariant c.in-Ok-true.field-0-test c.in-Ok-true.ensures.turn
+
+pub returns-in-Ok-false-clause-bad : goal.returns-in-Ok-false-clause-bad
+returns-in-Ok-false-clause-bad c line e = stops c.args.turns.now c.args.self.now c.loop-line.self c.turn.new.self c.loop-line.line-index line (0, turns.Command 0) c.in-Ok-false.field-0 c.loop-line-test.true c.loop-line.invariant c.in-Ok-false.field-0-test c.in-Ok-false.ensures.turn cc

@@ -1,0 +1,53 @@
+-- What a step of one server makes of the cores, the links and the journal.
+use Rattle.std.specs.Prelude.{◌≡◌, ℕ, ◌==◌, ◌&&◌, cond, List, [], ◌∷◌, ◌++◌, map, drop, slice_get, slice_set, Some}
+use Rattle.ev_run.specs.Machine.{Input, Does, Takes, Act, Did, Took, Stamped}
+use Rattle.ev_routing.specs.Server.{Message}
+use Rattle.ev_routing.specs.Step.{Task}
+use Rattle.ev_theory.specs.Real.{real}
+use Rattle.ev_wire.specs.declared.sent.Sent.{Sent}
+use Rattle.ev_frame.specs.Frame.{FrameParts}
+use Rattle.ev_model.specs.declared.turn.Act.{Act as EntryAct}
+use Rattle.ev_model.specs.Parts.{EntryParts, entry_parts}
+use Rattle.ev_server.specs.Core.{CoreParts}
+use Rattle.ev_server.specs.Step.{MakesStep}
+use Rattle.ev_net.specs.Links.{frames_to}
+
+-- the cores of the servers, what is on each link, and the journal
+pub record Servers : Type 0 where
+  pub cores : List CoreParts
+  pub frames : ℕ → ℕ → List FrameParts
+  pub journal : List EntryParts
+
+-- an input whose message has its stamp
+abbrev pub StampedInput : Type 0
+StampedInput = Input Task (Stamped (Message real))
+
+-- the input without the stamp, the stamp that it takes, and how a journal tells it
+abbrev pub input_of : StampedInput → Input Task (Message real)
+input_of (Does task) = Does task
+input_of (Takes from m) = Takes from m.message
+
+abbrev pub stamp_of : StampedInput → ℕ
+stamp_of (Does task) = 0
+stamp_of (Takes from m) = m.stamp
+
+abbrev pub told_as : StampedInput → Act Task
+told_as (Does task) = Did task
+told_as (Takes from m) = Took from
+
+-- what an input of a server leaves on the links: a taking takes the first message of its link
+abbrev pub frames_left : StampedInput → ℕ → (ℕ → ℕ → List FrameParts) → ℕ → ℕ → List FrameParts
+frames_left (Does task) server frames a b = frames a b
+frames_left (Takes from m) server frames a b = cond ((a == from) && (b == server)) (drop 1 (frames a b)) (frames a b)
+
+-- the server at a place made a step: its core went on, what it sends is on its links, and the step joined the journal
+pub record IsActed (place : ℕ) (input : StampedInput) (act : EntryAct) (old new : Servers) : Type 0 where
+  pub core : CoreParts
+  pub next : CoreParts
+  pub stamp : ℕ
+  pub sent : List Sent
+  pub here : slice_get old.cores place ≡ Some core
+  pub step : MakesStep (input_of input) (stamp_of input) core next stamp sent
+  pub cores : new.cores ≡ slice_set old.cores place next
+  pub journal : new.journal ≡ old.journal ++ entry_parts stamp core.server act (map (λ s. s.to) sent) ∷ []
+  pub frames : (a b : ℕ) → new.frames a b ≡ frames_left input core.server old.frames a b ++ cond (a == core.server) (frames_to stamp sent b) []

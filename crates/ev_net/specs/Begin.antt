@@ -1,0 +1,104 @@
+-- The beginning of a later phase at each server, and how it is taken back.
+use Rattle.std.specs.Prelude.{◌≡◌, ℕ, suc, ◌<◌, ◌^◌, max, List, [], ◌∷◌, length, slice_get, Option, Some, None}
+use Rattle.ev_phases.specs.Trees.{State, net_at, IsAtRestOn}
+use Rattle.ev_phases.specs.Moments.{begun}
+use Rattle.ev_theory.specs.Real.{real}
+use Rattle.ev_model.specs.Parts.{NetParts}
+use Rattle.ev_model.specs.Nets.{phased_net}
+use Rattle.ev_control.specs.declared.control.HeldLink.{HeldLink}
+use Rattle.ev_control.specs.Control.{Controlled, subs}
+use Rattle.ev_server.specs.Core.{CoreParts, IsServerState, published_from}
+use Rattle.ev_server.specs.Linked.{SuitsCore, IsLinked, IsOnLinks}
+use Rattle.ev_net.specs.Kept.{AreServers}
+use Rattle.ev_net.specs.declared.relinking.Standing.{Standing}
+
+-- the greatest clock of these cores
+abbrev pub greatest_clock : List CoreParts → ℕ
+greatest_clock [] = 0
+greatest_clock (core ∷ cores) = max core.clock (greatest_clock cores)
+
+-- a control fits a core of which all is published
+pub record Fits (core : CoreParts) (control : Controlled) : Type 0 where
+  pub suits : SuitsCore core control
+  pub staged : core.staged ≡ []
+  pub published : (i : ℕ) → published_from core i ≡ subs core.control i
+
+-- the same where one is given
+abbrev pub FitsWhere : CoreParts → Option Controlled → Type 0
+FitsWhere core None = Unit {0}
+FitsWhere core (Some control) = Fits core control
+
+-- a standing that a core can take on
+pub record CanTake (standing : Standing) (core : CoreParts) : Type 0 where
+  pub low : standing.clock < 2 ^ 62
+  pub fits : FitsWhere core standing.links
+
+-- a core that was given a control, where one is given
+abbrev pub IsOn : Option Controlled → CoreParts → CoreParts → Type 0
+IsOn None old new = new ≡ old
+IsOn (Some control) old new = IsOnLinks control old new
+
+-- the same but for its clock
+abbrev pub IsGiven : Option Controlled → CoreParts → CoreParts → Type 0
+IsGiven links old new = IsOn links old (record new { clock = old.clock })
+
+-- what comes back: what the core had
+abbrev pub given_back : Option Controlled → Controlled → Option Controlled
+given_back None control = None
+given_back (Some given) control = Some control
+
+-- a core took a standing on, and that is now what the core had
+pub record IsExchanged (standing : Standing) (old : CoreParts) (left : Standing) (new : CoreParts) : Type 0 where
+  pub given : IsGiven standing.links old new
+  pub clock : new.clock ≡ standing.clock
+  pub clock_back : left.clock ≡ old.clock
+  pub back : left.links ≡ given_back standing.links old.control
+  pub can : CanTake left new
+
+-- standings that cores can take on, one by one
+pub record CanAllTake (standings : List Standing) (cores : List CoreParts) : Type 0 where
+  pub long : length standings ≡ length cores
+  pub each : (place : ℕ) (standing : Standing) (core : CoreParts) → slice_get standings place ≡ Some standing → slice_get cores place ≡ Some core
+      → CanTake standing core
+
+-- each core took its standing on
+pub record AreExchanged (standings : List Standing) (old : List CoreParts) (back : List Standing) (new : List CoreParts) : Type 0 where
+  pub long : length new ≡ length old
+  pub long_back : length back ≡ length standings
+  pub each : (place : ℕ) (standing : Standing) (core : CoreParts) → slice_get standings place ≡ Some standing → slice_get old place ≡ Some core
+      → (left : Standing) × (after : CoreParts) × (slice_get back place ≡ Some left) × (slice_get new place ≡ Some after) × IsExchanged standing core left after
+
+-- the standings of a later phase, for all servers: clocks are raised to the greatest, and where its tree is another one each server is on it
+pub record Begins (net : NetParts) (last phase : ℕ) (cores : List CoreParts) (standings : List Standing) : Type 0 where
+  pub can : CanAllTake standings cores
+  pub clock : (place : ℕ) (standing : Standing) → slice_get standings place ≡ Some standing → standing.clock ≡ greatest_clock cores
+  pub stands : (state : State real) → AreServers net last state cores → IsAtRestOn real (phased_net net) last state
+      → (place : ℕ) (standing : Standing) (core new : CoreParts) → slice_get standings place ≡ Some standing → slice_get cores place ≡ Some core
+      → IsGiven standing.links core new
+      → IsServerState (net_at real (phased_net net) phase) new ((begun real (phased_net net) last phase state).state (suc place))
+
+-- a core has these things of an old one, and will have the rest once it takes up what comes back
+abbrev pub IsKept : Option Controlled → CoreParts → CoreParts → Type 0
+IsKept None old new = record new { clock = old.clock } ≡ old
+IsKept (Some control) old new = (control ≡ old.control) × (old.staged ≡ []) × ((i : ℕ) → published_from old i ≡ subs old.control i)
+    × (new.server ≡ old.server) × (new.clients ≡ old.clients)
+
+-- a standing that was replaced at a core takes the core back
+pub record IsUndone (before : Standing) (old new : CoreParts) : Type 0 where
+  pub can : CanTake before new
+  pub clock : before.clock ≡ old.clock
+  pub kept : IsKept before.links old new
+
+-- WHAT THE BEGINNING OF A PHASE REPLACED: it takes these cores back to the old ones
+pub record IsUndoneBy (before : List Standing) (old new : List CoreParts) : Type 0 where
+  pub long : length new ≡ length old
+  pub long_before : length before ≡ length new
+  pub each : (place : ℕ) (standing : Standing) (core now : CoreParts) → slice_get before place ≡ Some standing → slice_get old place ≡ Some core
+      → slice_get new place ≡ Some now → IsUndone standing core now
+
+-- a standing on other links, where this is held from them
+pub record IsMoved (held : List HeldLink) (core : CoreParts) (standing : Standing) : Type 0 where
+  pub control : Controlled
+  pub given : standing.links ≡ Some control
+  pub linked : IsLinked held core.control control
+  pub suits : SuitsCore core control

@@ -1,0 +1,12 @@
+pub mod Network
+pub mod Turns
+pub mod Walked
+pub mod Kept
+pub mod Links
+pub mod Acted
+pub mod Seen
+pub mod Putting
+pub mod Sessions
+pub mod Owned
+pub mod Begin
+pub mod Trying

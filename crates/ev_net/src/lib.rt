@@ -1,0 +1,19 @@
+//! A network on one thread: the cores of its servers with their tables, and the links between them. Whatever turns it
+//! is asked for, its journal is a legal run of its net.
+#![tactic(auto)]
+
+mod begin;
+mod links;
+mod making;
+mod network;
+mod owning;
+mod place;
+mod queue;
+mod relinking;
+mod replaying;
+mod servers;
+mod trying;
+mod walking;
+
+pub use network::Network;
+pub use replaying::ReplayFault;

@@ -1,0 +1,37 @@
+//! Schedules.
+ghost use Rattle.std.specs.Prelude.{ℕ, OnOk, IsErrOf};
+ghost use Rattle.ev_net.specs.declared.replaying.ReplayFault.TheVariants as faults;
+
+use crate::network::Network;
+use ev_model::Turn;
+
+/// Why a schedule was not made to its end.
+#[derive(Clone, Copy, Debug, PartialEq, Eq)]
+pub enum ReplayFault {
+    /// The turn of this line is not permitted when it comes.
+    BadTurn(u32),
+    /// Memory ran out.
+    NoMemory,
+}
+
+impl<'a> Network<'a> {
+    ghost use Rattle.ev_net.specs.Network.{IsLater};
+    ghost use Rattle.ev_net.specs.Turns.{AreReplayed, StopsAt};
+
+    /// Makes turns, each with its line, in their order, up to the first that is not permitted. The turns before it, and
+    /// those before want of memory, stand.
+    pub fn replay(&mut self, turns: &[(u32, Turn)]) -> Result<(), ReplayFault>
+        ensures made { OnOk result (AreReplayed turns.now self.old self.new) }
+        ensures bad { (line : ℕ) → IsErrOf result (faults.BadTurn line) → StopsAt line turns.now self.old self.new }
+        ensures later { IsLater self.old self.new }
+    {
+        for (line, turn) in turns {
+            match self.turn(*turn) {
+                Ok(true) => {}
+                Ok(false) => return Err(ReplayFault::BadTurn(*line)),
+                Err(_) => return Err(ReplayFault::NoMemory),
+            }
+        }
+        Ok(())
+    }
+}
