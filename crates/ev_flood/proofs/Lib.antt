@@ -7,4 +7,8 @@ pub mod PhaseOfAdverts
 pub mod Passing
 pub mod Publishing
 pub mod RowsOf
+pub mod Pruning
+pub mod Showing
+pub mod Finding
+pub mod Gathering
 pub mod Flooded

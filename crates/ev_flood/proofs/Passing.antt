@@ -5,7 +5,7 @@ use Rattle.ev_routing.specs.Clients.{some_pass}
 use Rattle.ev_routing.proofs.Listing.{pass-by, by-pass, has-either}
 use Rattle.ev_flood.proofs.Moments.{Same}
 
-same_test : (a b : Bool) → (a ≡ true → b ≡ true) → (b ≡ true → a ≡ true) → a ≡ b
+pub same_test : (a b : Bool) → (a ≡ true → b ≡ true) → (b ≡ true → a ≡ true) → a ≡ b
 same_test true b f g = sym (f refl)
 same_test false true f g = g refl
 same_test false false f g = refl

@@ -92,6 +92,10 @@ some_filters phase script = held [] (before phase script) ++ subscribed (within 
 unfoldable pub every_filters : ℕ → Script → Owned
 every_filters phase script = filter (λ f. not (withdrawn f (within phase script))) (held [] (before phase script))
 
+-- those that come or go within it
+unfoldable pub passing_filters : ℕ → Script → Owned
+passing_filters phase script = filter (λ f. withdrawn f (within phase script)) (held [] (before phase script)) ++ subscribed (within phase script)
+
 -- its advertisements at each moment of a phase
 unfoldable pub every_adverts : ℕ → Script → Owned
 every_adverts phase script = filter (λ a. not (unadvertised a (within phase script))) (held_adverts [] (before phase script))

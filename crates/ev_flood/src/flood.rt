@@ -10,7 +10,7 @@ use ev_memory::NoMemory;
 use ev_model::Net;
 use std::alloc::Global;
 
-// The same, as it is listed.
+// The rows and the refusals, as lists.
 fn listed(alloc: Global, net: &Net) -> Result<Owed, NoMemory>
     requires { IsSound net.now }
     ensures rows { IfOk result (λ owed. owed.rows.items ≡ all_rows_of net.now.clients (accepted_of net.now.semantics 1 net.now.clients)) }

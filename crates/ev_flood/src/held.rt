@@ -98,3 +98,20 @@ pub(crate) fn lasting(
     }
     Ok(kept)
 }
+
+/// Those of the filters that some command takes away.
+pub(crate) fn leaving(
+    alloc: Global,
+    filters: &[Filter],
+    script: &[(u32, Command)],
+) -> Result<Vec<Filter>, NoMemory>
+    ensures { IfOk result (λ gone. gone.items ≡ filter (λ f. withdrawn f script.now) filters.now) }
+{
+    let mut gone = Vec::new(alloc);
+    for filter in filters {
+        if is_withdrawn(filter, script) {
+            gone.push(filter.copy(alloc)?)?;
+        }
+    }
+    Ok(gone)
+}

@@ -6,8 +6,11 @@ mod flood;
 mod held;
 mod owed;
 mod phase;
+mod pruned;
 mod publication;
 mod rows;
+mod shown;
+mod tables;
 
 pub use flood::must_may;
 pub use owed::{Owed, OwedRow};

@@ -1,20 +1,24 @@
 //! A client's lists within a phase.
-ghost use Rattle.std.specs.Prelude.{◌≡◌, ◌≤◌, length, IfOk};
-ghost use Rattle.ev_flood.specs.Held.{below, before, within, some_filters, every_filters, every_adverts};
-ghost use Rattle.ev_flood.specs.Lasting.{AreFilters, AreAdverts};
+ghost use Rattle.std.specs.Prelude.{◌≡◌, ◌≤◌, List, length, IfOk};
+ghost use Rattle.ev_notice.specs.Notice.{Attribute};
+ghost use Rattle.ev_flood.specs.Held.{below, before, within, every_filters, passing_filters, every_adverts};
+ghost use Rattle.ev_flood.specs.Lasting.{AreAdverts};
+ghost use Rattle.ev_flood.specs.Publications.{is_met};
 
+use crate::pruned::pruned;
 use crate::{adverts, held};
 use ev_memory::NoMemory;
 use ev_notice::{Advert, Filter};
 use ev_wire::Command;
 use std::alloc::Global;
 
-/// A client's filters at some moment of a phase and at every one.
+/// A client's filters within a phase, without those that are not needed beside the others to tell whether one matches.
 #[derive(Drop)]
 pub(crate) struct PhaseFilters {
-    pub phase: u32,
-    pub some: Vec<Filter>,
+    /// Those that are there at every moment of it.
     pub every: Vec<Filter>,
+    /// Those that come or go within it.
+    pub passing: Vec<Filter>,
 }
 
 /// A client's advertisements at every moment of a phase.
@@ -56,38 +60,24 @@ fn within(script: &[(u32, Command)], phase: u32) -> &[(u32, Command)]
 }
 
 /// The filters of a client within a phase.
-#[tactic(auto, unfolding(crate::specs::Held::some_filters, crate::specs::Held::every_filters))]
+#[tactic(auto, unfolding(crate::specs::Held::every_filters, crate::specs::Held::passing_filters))]
 pub(crate) fn filters(
     alloc: Global,
     script: &[(u32, Command)],
     phase: u32,
 ) -> Result<PhaseFilters, NoMemory>
-    ensures phase { IfOk result (λ lists. lists.phase ≡ phase) }
-    ensures some { IfOk result (λ lists. lists.some.items ≡ some_filters phase script.now) }
-    ensures every { IfOk result (λ lists. lists.every.items ≡ every_filters phase script.now) }
+    ensures every { IfOk result (λ lists. (n : List Attribute) → is_met lists.every.items n ≡ is_met (every_filters phase script.now) n) }
+    ensures passing { IfOk result (λ lists. (n : List Attribute) → is_met lists.passing.items n ≡ is_met (passing_filters phase script.now) n) }
 {
     let within = within(script, phase);
-    let mut some = held::held(alloc, before(script, phase))?;
-    let every = held::lasting(alloc, &some, within)?;
-    held::push_subscribed(alloc, &mut some, within)?;
-    Ok(PhaseFilters { phase, some, every })
-}
-
-/// The same where those of another phase are at hand.
-pub(crate) fn renewed_filters(
-    alloc: Global,
-    lists: PhaseFilters,
-    script: &[(u32, Command)],
-    phase: u32,
-) -> Result<PhaseFilters, NoMemory>
-    requires { AreFilters script.now lists }
-    ensures phase { IfOk result (λ lists. lists.phase ≡ phase) }
-    ensures lists { IfOk result (AreFilters script.now) }
-{
-    if lists.phase == phase {
-        return Ok(lists);
-    }
-    filters(alloc, script, phase)
+    let held = held::held(alloc, before(script, phase))?;
+    let every = held::lasting(alloc, &held, within)?;
+    let mut passing = held::leaving(alloc, &held, within)?;
+    held::push_subscribed(alloc, &mut passing, within)?;
+    Ok(PhaseFilters {
+        every: pruned(alloc, &every)?,
+        passing: pruned(alloc, &passing)?,
+    })
 }
 
 /// The advertisements of a client at every moment of a phase.
@@ -105,7 +95,7 @@ pub(crate) fn adverts(
     Ok(PhaseAdverts { phase, every })
 }
 
-/// The same where those of another phase are at hand.
+/// The same where those of some phase are at hand.
 pub(crate) fn renewed_adverts(
     alloc: Global,
     lists: PhaseAdverts,

@@ -4,13 +4,13 @@ ghost use Rattle.ev_routing.specs.Clients.{some_pass};
 ghost use Rattle.ev_theory.specs.Real.{real};
 ghost use Rattle.ev_flood.specs.Held.{Script};
 ghost use Rattle.ev_flood.specs.Lasting.{AreAdverts};
-ghost use Rattle.ev_flood.specs.Publications.{is_free, is_met, publication_of, accepted_from, refusals_from, publishes_in};
+ghost use Rattle.ev_flood.specs.Publications.{is_free, publication_of, accepted_from, refusals_from, publishes_in};
 
 use crate::phase::PhaseAdverts;
 use crate::{adverts, phase};
 use ev_memory::NoMemory;
 use ev_model::{Command, Semantics};
-use ev_notice::{Advert, Filter, Notice, allows, matches};
+use ev_notice::{Advert, Notice, allows};
 use ev_wire::Id;
 use std::alloc::Global;
 
@@ -52,26 +52,6 @@ fn is_free(semantics: Semantics, adverts: &[Advert], notice: &Notice) -> bool
         Semantics::Subscription => true,
         Semantics::Advertisement => is_allowed(adverts, notice),
     }
-}
-
-// Whether the filter matches the notice.
-fn is_matched_by(notice: &Notice, filter: &Filter) -> bool
-    ensures { result ≡ real.matches notice.now filter.now }
-{
-    let _ = notice.attributes();
-    matches(filter, notice)
-}
-
-/// Whether one of the filters matches the notice.
-pub(crate) fn is_met(filters: &[Filter], notice: &Notice) -> bool
-    ensures { result ≡ is_met filters.now notice.now }
-{
-    for filter in filters {
-        if is_matched_by(notice, filter) {
-            return true;
-        }
-    }
-    false
 }
 
 // A publication of a client, whose advertisements of the phase are at hand.

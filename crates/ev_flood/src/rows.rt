@@ -1,38 +1,95 @@
 //! Rows of clients.
-ghost use Rattle.std.specs.Prelude.{◌≡◌, ◌≤◌, length, IfOk};
+ghost use Rattle.std.specs.Prelude.{◌≡◌, ◌≤◌, ◌<◌, ◌++◌, ℕ, [], nat_eq, length, map, IfOk, OnOk};
+ghost use Rattle.std.specs.List.Sorted.{IsStrictlyIncreasing};
 ghost use Rattle.ev_sets.specs.Numbers.{sum_over};
 ghost use Rattle.ev_model.specs.Sound.{publishes};
-ghost use Rattle.ev_flood.specs.Publications.{rows_of, accepted_of, all_rows_of, all_refusals_of};
+ghost use Rattle.ev_flood.specs.Publications.{accepted_of, all_rows_of, all_refusals_of};
+ghost use Rattle.ev_flood.specs.Tables.{is_found, AreRising, AllMeet};
+ghost use Rattle.ev_flood.specs.Rows.{rows_at, once, rows_by};
 
 use crate::owed::OwedRow;
-use crate::phase;
-use crate::publication::{Publication, is_met, push_accepted, refusals};
+use crate::publication::{Publication, push_accepted, refusals};
+use crate::tables::{Met, all_met};
 use ev_memory::NoMemory;
 use ev_model::{Client, Command, Semantics};
 use ev_wire::Lists;
 use std::alloc::Global;
 
-// A client's rows, by the publications of all clients.
-fn rows(
-    alloc: Global,
-    script: &[(u32, Command)],
-    publications: &[Publication],
-) -> Result<Vec<OwedRow>, NoMemory>
-    ensures { IfOk result (λ rows. rows.items ≡ rows_of script.now publications.now) }
+// Puts a row at the end of those of the client at a place, where there is one.
+fn push_at(all: &mut Vec<Vec<OwedRow>>, place: usize, row: OwedRow) -> Result<(), NoMemory>
+    ensures count { OnOk result (length all.new.items ≡ length all.old.items) }
+    ensures rows { OnOk result ((i : ℕ) → i < length all.old.items
+        → rows_at all.new.items i ≡ rows_at all.old.items i ++ once (nat_eq place i) row) }
 {
-    let mut rows = Vec::new(alloc);
-    let mut lists = phase::filters(alloc, script, 0)?;
-    for publication in publications {
-        lists = phase::renewed_filters(alloc, lists, script, publication.phase)?;
-        if is_met(&lists.some, &publication.notice) {
-            let must = publication.advertised && is_met(&lists.every, &publication.notice);
-            rows.push(OwedRow {
-                id: publication.id,
-                must,
-            })?;
-        }
+    if place < all.len() {
+        all[place].push(row)?;
     }
-    Ok(rows)
+    Ok(())
+}
+
+// Puts a row at the end of those of the clients at these places.
+fn push_row(all: &mut Vec<Vec<OwedRow>>, places: &[u32], row: OwedRow) -> Result<(), NoMemory>
+    requires { IsStrictlyIncreasing places.now }
+    ensures count { OnOk result (length all.new.items ≡ length all.old.items) }
+    ensures rows { OnOk result ((i : ℕ) → i < length all.old.items
+        → rows_at all.new.items i ≡ rows_at all.old.items i ++ once (is_found i places.now) row) }
+{
+    for place in places {
+        push_at(all, *place as usize, row)?;
+    }
+    Ok(())
+}
+
+// Puts the row of a publication at the end of those of the clients that it meets.
+fn push_rows(
+    all: &mut Vec<Vec<OwedRow>>,
+    publication: &Publication,
+    met: &Met,
+) -> Result<(), NoMemory>
+    requires { AreRising met.now }
+    ensures count { OnOk result (length all.new.items ≡ length all.old.items) }
+    ensures rows { OnOk result ((i : ℕ) → i < length all.old.items
+        → rows_at all.new.items i ≡ rows_at all.old.items i ++ rows_by i publication.now met.now) }
+{
+    let owed = OwedRow {
+        id: publication.id,
+        must: publication.advertised,
+    };
+    push_row(all, met.every.ifaces(), owed)?;
+    let allowed = OwedRow {
+        id: publication.id,
+        must: false,
+    };
+    push_row(all, &met.others, allowed)
+}
+
+// No rows of so many clients.
+fn no_rows(alloc: Global, count: usize) -> Result<Vec<Vec<OwedRow>>, NoMemory>
+    ensures count { IfOk result (λ all. length all.items ≡ count) }
+    ensures none { IfOk result (λ all. (i : ℕ) → rows_at all.items i ≡ []) }
+{
+    let mut all = Vec::with_capacity(alloc, count)?;
+    for _ in 0..count {
+        all.push(Vec::new(alloc))?;
+    }
+    Ok(all)
+}
+
+// The rows of each client, by whom the publications meet.
+fn rows_of_each(
+    alloc: Global,
+    clients: &[Client],
+    publications: &[Publication],
+    mets: &[Met],
+) -> Result<Vec<Vec<OwedRow>>, NoMemory>
+    requires { AllMeet clients.now publications.now mets.now }
+    ensures { IfOk result (λ all. map (λ rows. rows.items) all.items ≡ all_rows_of clients.now publications.now) }
+{
+    let mut all = no_rows(alloc, clients.len())?;
+    for (k, publication) in publications.iter().enumerate() {
+        push_rows(&mut all, publication, &mets[k])?;
+    }
+    Ok(all)
 }
 
 /// The accepted publications of all clients, by publisher and ordinal.
@@ -58,19 +115,29 @@ pub(crate) fn accepted(
     Ok(accepted)
 }
 
+// The rows of each client as lists.
+fn lists_of(alloc: Global, all: Vec<Vec<OwedRow>>) -> Result<Vec<Lists<OwedRow>>, NoMemory>
+    ensures { IfOk result (λ lists. lists.items ≡ map (λ rows. rows.items) all.items) }
+{
+    let mut lists = Vec::with_capacity(alloc, all.len())?;
+    for rows in all {
+        lists.push(Lists::of(rows))?;
+    }
+    Ok(lists)
+}
+
 /// The rows of all clients.
 pub(crate) fn all_rows(
     alloc: Global,
     clients: &[Client],
     publications: &[Publication],
 ) -> Result<Vec<Lists<OwedRow>>, NoMemory>
+    requires { length clients.now ≤ 1024 }
     ensures { IfOk result (λ rows. rows.items ≡ all_rows_of clients.now publications.now) }
 {
-    let mut all = Vec::with_capacity(alloc, clients.len())?;
-    for client in clients {
-        all.push(Lists::of(rows(alloc, &client.script, publications)?))?;
-    }
-    Ok(all)
+    let mets = all_met(alloc, clients, publications)?;
+    let all = rows_of_each(alloc, clients, publications, &mets)?;
+    lists_of(alloc, all)
 }
 
 /// The refused ordinals of all clients.

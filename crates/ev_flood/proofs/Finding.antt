@@ -1,0 +1,340 @@
+-- What is found by tables of clients' filters.
+use Rattle.std.proofs.Common.{◌≡◌, ℕ, zero, suc, ◌+◌, ◌<◌, ◌≤◌, Bool, true, false, not, ◌&&◌, ◌||◌, nat_eq, ◌⊎◌, inl, inr, List, [], ◌∷◌, ◌++◌, filter, length, take, slice_get, slice_set, get_or, Some, Result, Ok, Err, is_ok, MatchResult, refl, sym, ap, subst, ◌∙◌, arith}
+use Rattle.std.specs.List.{Contains, list_any}
+use Rattle.std.specs.List.Sorted.{IsStrictlyIncreasing, IsBinarySearchResult, IsPermutation}
+use Rattle.std.proofs.lemmas.List.Sorted.{searched, Contains-permutation, IsPermutation-sym}
+use Rattle.std.specs.Ordering.{nat_cmp}
+use Rattle.std.proofs.lemmas.Bool.{cases_order}
+use Rattle.std.proofs.lemmas.List.{get_or_default}
+use Rattle.std.proofs.lemmas.Option.{slice_get-get_or}
+use Rattle.std.proofs.lemmas.Bool.Decides.{nat_tests}
+use Rattle.std.proofs.lemmas.Map.Views.{any-filter_same}
+use Rattle.std.proofs.lemmas.List.Kept.{AllPairs-from_increasing, IsStrictlyIncreasing-filter}
+use Rattle.ev_constraint.specs.Constraint.{ConstraintParts}
+use Rattle.ev_notice.specs.Notice.{Attribute, AreValues}
+use Rattle.ev_notice.specs.Cover.{matches}
+use Rattle.ev_sets.specs.Sets.{Has}
+use Rattle.ev_routing.specs.Clients.{some_pass}
+use Rattle.ev_routing.proofs.Listing.{pass-by, by-pass, get-has, take-one, has-either}
+use Rattle.ev_theory.specs.Real.{real}
+use Rattle.ev_theory.proofs.Meaning.{matches_plain}
+use Rattle.ev_counting.specs.Table.{Held, IsRouteOf}
+use Rattle.ev_model.specs.Parts.{ClientParts}
+use Rattle.ev_flood.specs.declared.phase.PhaseFilters.{PhaseFilters}
+use Rattle.ev_flood.specs.declared.publication.Publication.{Publication}
+use Rattle.ev_flood.specs.declared.tables.Tables.{Tables}
+use Rattle.ev_flood.specs.declared.tables.Met.{Met}
+use Rattle.ev_flood.specs.Held.{Owned}
+use Rattle.ev_flood.specs.Publications.{is_met}
+use Rattle.ev_flood.specs.Shown.{Shows, IsBrought}
+use Rattle.ev_flood.specs.Tables.{AreShown, AreOf, AreAll, AllUpTo, AreTables, is_found, Meets, MeetsAt, AllMeet, ordered_from}
+use Rattle.ev_flood.proofs.Passing.{same_test}
+
+-- members and places
+first : {X : Type 0} (x : X) (xs : List X) → Contains (x ∷ xs) x
+first x xs = (zero, omega arith, refl)
+
+later : {X : Type 0} (y x : X) (xs : List X) → Contains xs x → Contains (y ∷ xs) x
+later y x xs h = (suc h.0, omega (arith, h.1), h.2)
+
+parts : {X : Type 0} (y x : X) (xs : List X) → Contains (y ∷ xs) x → (y ≡ x) ⊎ Contains xs x
+parts y x xs (zero, l, e) = inl e
+parts y x xs (suc k, l, e) = inr (k, omega (arith, l), e)
+
+pub has-contains : {X : Type 0} (x : X) (xs : List X) → Has x xs → Contains xs x
+has-contains x [] h = absurd h
+has-contains {X = X} x (y ∷ ys) (inl e) = subst (λ (z : X). Contains (y ∷ ys) z) (sym e) (first y ys)
+has-contains x (y ∷ ys) (inr h) = later y x ys (has-contains x ys h)
+
+pub contains-has : {X : Type 0} (x : X) (xs : List X) → Contains xs x → Has x xs
+contains-has x [] h = absurd (omega (arith, h.1))
+contains-has x (y ∷ ys) h = elim (parts y x ys h) [ inl e ↦ inl (sym e) | inr m ↦ inr (contains-has x ys m) ]
+
+pub some_is : {X : Type 0} {a b : X} → Some a ≡ Some b → a ≡ b
+some_is e = cc
+
+pub set_same : {X : Type 0} (xs : List X) (k : ℕ) (v w : X) → slice_get (slice_set xs k v) k ≡ Some w → w ≡ v
+set_same [] k v w e = absurd cc
+set_same (x ∷ xs) zero v w e = sym (some_is e)
+set_same (x ∷ xs) (suc k) v w e = set_same xs k v w e
+
+pub set_other : {X : Type 0} (xs : List X) (j k : ℕ) (v : X) → (j ≡ k → ⊥) → slice_get (slice_set xs k v) j ≡ slice_get xs j
+set_other [] j k v n = refl
+set_other (x ∷ xs) zero zero v n = absurd (n refl)
+set_other (x ∷ xs) zero (suc k) v n = refl
+set_other (x ∷ xs) (suc j) zero v n = refl
+set_other (x ∷ xs) (suc j) (suc k) v n = set_other xs j k v (λ e. n (ap suc e))
+
+pub same_or : (j k : ℕ) → (j ≡ k) ⊎ (j ≡ k → ⊥)
+same_or zero zero = inl refl
+same_or zero (suc k) = inr (λ e. absurd (omega (arith, e)))
+same_or (suc j) zero = inr (λ e. absurd (omega (arith, e)))
+same_or (suc j) (suc k) = elim (same_or j k) [ inl e ↦ inl (ap suc e) | inr n ↦ inr (λ e. n (omega (arith, e))) ]
+
+strict : (i j : ℕ) → i ≤ j → (i ≡ j → ⊥) → i < j
+strict i j le n = elim (cases_order i j) [
+  | inl e ↦ absurd (n e)
+  | inr r ↦ elim r [ inl l ↦ l | inr g ↦ absurd (omega (arith, le, g)) ]
+]
+
+pub length_more : {X : Type 0} (xs : List X) (x : X) → length (xs ++ x ∷ []) ≡ length xs + 1
+length_more [] x = omega arith
+length_more (y ∷ ys) x = let i = length_more ys x in omega (arith, i)
+
+pub length_set : {X : Type 0} (xs : List X) (k : ℕ) (v : X) → length (slice_set xs k v) ≡ length xs
+length_set [] k v = refl
+length_set (x ∷ xs) zero v = refl
+length_set (x ∷ xs) (suc k) v = ap suc (length_set xs k v)
+
+-- tables of nothing
+nothing : {X : Type 0} (x : X) → Contains [] x → ⊥
+nothing x h = omega (arith, h.1)
+
+pub shows_none : (place : ℕ) (filters : Owned) → filters ≡ [] → Shows [] place filters
+shows_none place filters e = record {
+  sound = λ f h. absurd (nothing (place, f) h);
+  whole = λ f h. absurd (subst (λ (z : Owned). Has f z) e h);
+}
+
+pub shown_none : AreShown [] [] []
+shown_none = record { at_every = λ place list e. absurd cc; at_some = λ place list e. absurd cc }
+
+last : {X : Type 0} (xs : List X) (x : X) (k : ℕ) (m : X) → slice_get (xs ++ x ∷ []) k ≡ Some m → (slice_get xs k ≡ Some m) ⊎ (m ≡ x)
+last [] x zero m b = inr (sym (some_is b))
+last [] x (suc k) m b = absurd cc
+last (y ∷ ys) x zero m b = inl b
+last (y ∷ ys) x (suc k) m b = last ys x k m b
+
+pub shown_more : (lists more : List PhaseFilters) (list : PhaseFilters) → list.every.items ≡ [] → list.passing.items ≡ [] → more ≡ lists ++ list ∷ []
+    → AreShown [] [] lists → AreShown [] [] more
+shown_more lists more list e p push s = subst (λ (z : List PhaseFilters). AreShown [] [] z) (sym push) (record {
+  at_every = λ place l at. elim (last lists list place l at) [
+    | inl a ↦ s.at_every place l a
+    | inr q ↦ shows_none place l.every.items (ap (λ (z : PhaseFilters). z.every.items) q ∙ e)
+  ];
+  at_some = λ place l at. elim (last lists list place l at) [
+    | inl a ↦ s.at_some place l a
+    | inr q ↦ shows_none place l.passing.items (ap (λ (z : PhaseFilters). z.passing.items) q ∙ p)
+  ];
+})
+
+-- a client's lists are others
+elsewhere : (place q : ℕ) (filters : Owned) (t u : List Held) (list : Owned) → (q ≡ place → ⊥) → IsBrought place filters t u → Shows t q list → Shows u q list
+elsewhere place q filters t u list n b s = record {
+  sound = λ f h. s.sound f ((b.others (q, f) n).0 h);
+  whole = λ f h. (b.others (q, f) n).1 (s.whole f h);
+}
+
+brought_at : (lists : List PhaseFilters) (place : ℕ) (list : PhaseFilters) (of : PhaseFilters → Owned) (t u : List Held) → IsBrought place (of list) t u
+    → ((q : ℕ) (l : PhaseFilters) → slice_get lists q ≡ Some l → Shows t q (of l))
+    → (q : ℕ) (l : PhaseFilters) → slice_get (slice_set lists place list) q ≡ Some l → Shows u q (of l)
+brought_at lists place list of t u b s q l at = elim (same_or q place) [
+  | inl e ↦ subst (λ z. Shows u z (of l)) (sym e)
+      (subst (λ (z : PhaseFilters). Shows u place (of z)) (sym (set_same lists place list l (subst (λ z. slice_get (slice_set lists place list) z ≡ Some l) e at))) b.shows)
+  | inr n ↦ elsewhere place q (of list) t u (of l) n b (s q l (sym (set_other lists q place list n) ∙ at))
+]
+
+pub shown_set : (lists : List PhaseFilters) (place : ℕ) (list : PhaseFilters) (t u v w : List Held) → IsBrought place list.every.items t u → IsBrought place list.passing.items v w
+    → AreShown t v lists → AreShown u w (slice_set lists place list)
+shown_set lists place list t u v w a b s = record {
+  at_every = brought_at lists place list (λ l. l.every.items) t u a s.at_every;
+  at_some = brought_at lists place list (λ l. l.passing.items) v w b s.at_some;
+}
+
+-- one more client has the lists of the phase
+pub upto_next : (place phase : ℕ) (clients : List ClientParts) (lists : List PhaseFilters) (client : ClientParts) (list : PhaseFilters) → slice_get clients place ≡ Some client
+    → AreOf phase client.script list → AllUpTo place phase clients lists → AllUpTo (place + 1) phase clients (slice_set lists place list)
+upto_next place phase clients lists client list at of s q c l below has set = elim (same_or q place) [
+  | inl e ↦
+      let mine : slice_get clients place ≡ Some c = subst (λ z. slice_get clients z ≡ Some c) e has in
+      let it : l ≡ list = set_same lists place list l (subst (λ z. slice_get (slice_set lists place list) z ≡ Some l) e set) in
+      subst (λ (z : PhaseFilters). AreOf phase c.script z) (sym it) (subst (λ (z : ClientParts). AreOf phase z.script list) (some_is (sym at ∙ mine)) of)
+  | inr n ↦ s q c l (strict q place (omega (arith, below)) n) has (sym (set_other lists q place list n) ∙ set)
+]
+
+within : {X : Type 0} (xs : List X) (k : ℕ) (x : X) → slice_get xs k ≡ Some x → k < length xs
+within [] k x e = absurd cc
+within (y ∷ ys) zero x e = omega arith
+within (y ∷ ys) (suc k) x e = let i = within ys k x e in omega (arith, i)
+
+pub upto_all : (phase : ℕ) (clients : List ClientParts) (lists : List PhaseFilters) → AllUpTo (length clients) phase clients lists → AreAll phase clients lists
+upto_all phase clients lists s place client list at of = s place client list (within clients place client at) at of
+
+-- tests of places
+any_passes : {X : Type 0} (test : X → Bool) (xs : List X) → list_any test xs ≡ some_pass test xs
+any_passes test [] = refl
+any_passes test (x ∷ xs) = ap (λ b. test x || b) (any_passes test xs)
+
+eq_is : (y q : ℕ) → nat_eq y q ≡ true → y ≡ q
+eq_is y q e = grind (arith, nat_tests, e)
+
+is_eq : (q : ℕ) → nat_eq q q ≡ true
+is_eq q = grind (arith, nat_tests)
+
+pub found_has : (q : ℕ) (xs : List ℕ) → is_found q xs ≡ true → Has q xs
+found_has q xs e = let r = by-pass (λ y. nat_eq y q) xs (sym (any_passes (λ y. nat_eq y q) xs) ∙ e) in subst (λ z. Has z xs) (eq_is r.0 q r.2) r.1
+
+pub has_found : (q : ℕ) (xs : List ℕ) → Has q xs → is_found q xs ≡ true
+has_found q xs h = any_passes (λ y. nat_eq y q) xs ∙ pass-by (λ y. nat_eq y q) q xs h (is_eq q)
+
+rise : (xs : List ℕ) → IsStrictlyIncreasing xs → (i j : ℕ) → i ≤ j → j < length xs → get_or xs i 0 ≤ get_or xs j 0
+rise xs up i j le l = elim (same_or i j) [
+  | inl e ↦ (let same : get_or xs i 0 ≡ get_or xs j 0 = ap (λ k. get_or xs k 0) e in omega (arith, same))
+  | inr n ↦ (let less : get_or xs i 0 < get_or xs j 0 = AllPairs-from_increasing xs up i j 0 (strict i j le n) l in omega (arith, less))
+]
+
+sides : (a b : ℕ) → (a < b) ⊎ (b ≤ a)
+sides a b = elim (cases_order a b) [
+  | inl e ↦ inr (omega (arith, e))
+  | inr r ↦ elim r [ inl l ↦ inl l | inr g ↦ inr (omega (arith, g)) ]
+]
+
+not_there : (xs : List ℕ) (x i : ℕ) → ((k : ℕ) → k < i → get_or xs k 0 < x) → ((k : ℕ) → i ≤ k → k < length xs → x < get_or xs k 0) → Contains xs x → ⊥
+not_there xs x i below above s =
+    let same : get_or xs s.0 0 ≡ x = get_or_default xs s.0 0 x s.1 ∙ s.2 in
+    elim (sides s.0 i) [
+      | inl l ↦ (let less = below s.0 l in omega (arith, less, same))
+      | inr g ↦ (let more = above s.0 g s.1 in omega (arith, more, same))
+    ]
+
+found_by : (xs : List ℕ) (x : ℕ) (r : Result ℕ ℕ) → MatchResult r (λ i. (i < length xs) × (get_or xs i 0 ≡ x))
+    (λ i. (i ≤ length xs) × ((k : ℕ) → k < i → get_or xs k 0 < x) × ((k : ℕ) → i ≤ k → k < length xs → x < get_or xs k 0)) → is_ok r ≡ is_found x xs
+found_by xs x (Ok i) m = sym (has_found x xs (get-has xs i x (slice_get-get_or xs i 0 m.0 ∙ ap Some m.1)))
+found_by xs x (Err i) m = lost (is_found x xs) refl
+  where
+    lost : (b : Bool) → is_found x xs ≡ b → false ≡ is_found x xs
+    lost false e = sym e
+    lost true e = absurd (not_there xs x i m.1 m.2 (has-contains x xs (found_has x xs e)))
+
+-- what a binary search tells
+pub searched_found : (xs : List ℕ) (x : ℕ) (r : Result ℕ ℕ) → IsBinarySearchResult (λ y. nat_cmp y x) xs r → IsStrictlyIncreasing xs → is_ok r ≡ is_found x xs
+searched_found xs x r h up = found_by xs x r (searched xs x r h (rise xs up))
+
+plain : (n : List Attribute) (f : List ConstraintParts) → AreValues n → real.matches n f ≡ matches n f
+plain n f v = ap (λ m. m f) (matches_plain n v)
+
+-- a place is on a route exactly where one of its filters matches
+found_at : (n : List Attribute) (table : List Held) (route : List ℕ) (place : ℕ) (list : Owned) → AreValues n → Shows table place list → IsRouteOf n table route
+    → is_found place route ≡ is_met list n
+found_at n table route place list v s r = same_test (is_found place route) (is_met list n) to back
+  where
+    to : is_found place route ≡ true → is_met list n ≡ true
+    to h =
+        let m = (r.exact place).0 (has-contains place route (found_has place route h)) in
+        pass-by (λ f. real.matches n f) m.0 list (s.sound m.0 m.1) (plain n m.0 v ∙ m.2)
+
+    back : is_met list n ≡ true → is_found place route ≡ true
+    back h =
+        let w = by-pass (λ f. real.matches n f) list h in
+        has_found place route (contains-has place route ((r.exact place).1 (w.0, s.whole w.0 w.1, sym (plain n w.0 v) ∙ w.2)))
+
+apart : (i : ℕ) (every passing : List ℕ) → is_found i (filter (λ x. not (is_found x every)) passing) ≡ not (is_found i every) && is_found i passing
+apart i every passing =
+    any-filter_same (λ y. nat_eq y i) (λ x. not (is_found x every)) (not (is_found i every)) (λ k e. ap (λ z. not (is_found z every)) (eq_is k i e)) passing
+
+pub apart_by : (left a b c d : List ℕ) → left ≡ filter (λ x. not (is_found x b)) a → a ≡ c → b ≡ d → left ≡ filter (λ x. not (is_found x d)) c
+apart_by left a b c d e p q = e ∙ ap (λ z. filter (λ x. not (is_found x z)) a) q ∙ ap (filter (λ x. not (is_found x d))) p
+
+list_at : {X : Type 0} (xs : List X) (k : ℕ) → k < length xs → (x : X) × (slice_get xs k ≡ Some x)
+list_at [] k l = absurd (omega (arith, l))
+list_at (x ∷ xs) zero l = (x, refl)
+list_at (x ∷ xs) (suc k) l = list_at xs k (omega (arith, l))
+
+pub meets : (clients : List ClientParts) (tables : Tables) (p : Publication) (passing : List ℕ) (met : Met) → AreValues p.notice → AreTables clients tables
+    → tables.phase ≡ Some p.phase → IsRouteOf p.notice tables.every met.every → IsRouteOf p.notice tables.passing passing
+    → met.others.items ≡ filter (λ x. not (is_found x met.every)) passing → Meets clients p met
+meets clients tables p passing met v t same a b e = record {
+  rising = record {
+    every = a.rising;
+    others = subst IsStrictlyIncreasing (sym e) (IsStrictlyIncreasing-filter (λ x. not (is_found x met.every)) passing b.rising);
+  };
+  every = λ place client at. let l = mine place client at in
+      found_at p.notice tables.every met.every place l.0.every.items v (t.shown.at_every place l.0 l.1) a
+      ∙ (t.current p.phase same place client l.0 at l.1).every p.notice;
+  others = λ place client at. let l = mine place client at in
+      ap (is_found place) e
+      ∙ apart place met.every passing
+      ∙ ap (λ z. not (is_found place met.every) && z)
+      (found_at p.notice tables.passing passing place l.0.passing.items v (t.shown.at_some place l.0 l.1) b
+      ∙ (t.current p.phase same place client l.0 at l.1).passing p.notice);
+}
+  where
+    mine : (place : ℕ) (client : ClientParts) → slice_get clients place ≡ Some client → (l : PhaseFilters) × (slice_get tables.lists.items place ≡ Some l)
+    mine place client at = list_at tables.lists.items place (subst (λ z. place < z) (sym t.count) (within clients place client at))
+
+-- publications by phase
+pub ordered_has : (m : ℕ) (ps : List Publication) (k : ℕ) (p : Publication) → slice_get ps k ≡ Some p → Has (p.phase, m + k) (ordered_from m ps)
+ordered_has m [] k p e = absurd cc
+ordered_has m (q ∷ ps) zero p e = inl (ap (λ (z : Publication). (z.phase, m + 0)) (sym (some_is e)) ∙ ap (λ z. (q.phase, z)) (zeroth m))
+  where
+    zeroth : (m : ℕ) → m + 0 ≡ m
+    zeroth m = omega arith
+ordered_has m (q ∷ ps) (suc k) p e = inr (subst (λ z. Has (p.phase, z) (ordered_from (m + 1) ps)) (next m k) (ordered_has (m + 1) ps k p e))
+  where
+    next : (m k : ℕ) → (m + 1) + k ≡ m + suc k
+    next m k = omega arith
+
+pub ordered_within : (m : ℕ) (ps : List Publication) (x : ℕ × ℕ) → Has x (ordered_from m ps) → x.1 < m + length ps
+ordered_within m [] x h = absurd h
+ordered_within m (q ∷ ps) x (inl e) = let s : x.1 ≡ m = ap (λ (z : ℕ × ℕ). z.1) e in omega (arith, s)
+ordered_within m (q ∷ ps) x (inr h) = let i = ordered_within (m + 1) ps x h in omega (arith, i)
+
+pub met_next : (clients : List ClientParts) (publications : List Publication) (mets : List Met) (order : List (ℕ × ℕ)) (j : ℕ) (at : ℕ × ℕ) (p : Publication) (met : Met)
+    → slice_get order j ≡ Some at → slice_get publications at.1 ≡ Some p → Meets clients p met
+    → ((x : ℕ × ℕ) → Has x (take j order) → MeetsAt clients publications mets x.1)
+    → (x : ℕ × ℕ) → Has x (take (j + 1) order) → MeetsAt clients publications (slice_set mets at.1 met) x.1
+met_next clients publications mets order j at p met e has meet before x h q m mine set = elim (same_or x.1 at.1) [
+  | inl s ↦
+      let it : m ≡ met = set_same mets at.1 met m (subst (λ z. slice_get (slice_set mets at.1 met) z ≡ Some m) s set) in
+      let of : q ≡ p = some_is (sym mine ∙ ap (slice_get publications) s ∙ has) in
+      subst (λ (z : Met). Meets clients q z) (sym it) (subst (λ (z : Publication). Meets clients z met) (sym of) meet)
+  | inr n ↦ elim (earlier x h) [
+    | inl b ↦ before x b q m mine (sym (set_other mets x.1 at.1 met n) ∙ set)
+    | inr s ↦ absurd (n (ap (λ (z : ℕ × ℕ). z.1) s))
+  ]
+]
+  where
+    next : (k : ℕ) → k + 1 ≡ suc k
+    next k = omega arith
+
+    earlier : (x : ℕ × ℕ) → Has x (take (j + 1) order) → Has x (take j order) ⊎ (x ≡ at)
+    earlier x h = elim (has-either x (take j order) (at ∷ []) (subst (λ (z : List (ℕ × ℕ)). Has x z) (ap (λ z. take z order) (next j) ∙ take-one order j at e) h)) [
+      | inl b ↦ inl b
+      | inr c ↦ elim c [ inl s ↦ inr s | inr z ↦ absurd z ]
+    ]
+
+take_all : {X : Type 0} (xs : List X) → take (length xs) xs ≡ xs
+take_all [] = refl
+take_all (x ∷ xs) = ap (λ z. x ∷ z) (take_all xs)
+
+none_before : {X : Type 0} (x : X) (xs : List X) → Has x (take 0 xs) → ⊥
+none_before x [] h = h
+none_before x (y ∷ ys) h = h
+
+pub met_first : (clients : List ClientParts) (publications : List Publication) (mets : List Met) (order : List (ℕ × ℕ))
+    → (x : ℕ × ℕ) → Has x (take 0 order) → MeetsAt clients publications mets x.1
+met_first clients publications mets order x h = absurd (none_before x order h)
+
+pub all_meet : (clients : List ClientParts) (publications : List Publication) (mets : List Met) (order : List (ℕ × ℕ)) → length mets ≡ length publications
+    → IsPermutation (ordered_from 0 publications) order
+    → ((x : ℕ × ℕ) → Has x (take (length order) order) → MeetsAt clients publications mets x.1) → AllMeet clients publications mets
+all_meet clients publications mets order count same met = record { count = count; each = each }
+  where
+    zeroth : (k : ℕ) → 0 + k ≡ k
+    zeroth k = omega arith
+
+    there : (k : ℕ) (p : Publication) → slice_get publications k ≡ Some p → Has (p.phase, 0 + k) (take (length order) order)
+    there k p at = subst (λ (z : List (ℕ × ℕ)). Has (p.phase, 0 + k) z) (sym (take_all order))
+        (contains-has (p.phase, 0 + k) order (Contains-permutation (ordered_from 0 publications) order (p.phase, 0 + k) same
+        (has-contains (p.phase, 0 + k) (ordered_from 0 publications) (ordered_has 0 publications k p at))))
+
+    each : (k : ℕ) → MeetsAt clients publications mets k
+    each k p m at of = subst (λ z. MeetsAt clients publications mets z) (zeroth k) (met (p.phase, 0 + k) (there k p at)) p m at of
+
+-- each place is of a publication
+pub place_within : (publications : List Publication) (order : List (ℕ × ℕ)) (j : ℕ) (x : ℕ × ℕ) → IsPermutation (ordered_from 0 publications) order → slice_get order j ≡ Some x
+    → x.1 < length publications
+place_within publications order j x same at =
+    let c = Contains-permutation order (ordered_from 0 publications) x (IsPermutation-sym (ordered_from 0 publications) order same) (has-contains x order (get-has order j x at)) in
+    let w = ordered_within 0 publications x (contains-has x (ordered_from 0 publications) c) in
+    omega (arith, w)
