@@ -33,3 +33,7 @@ pub mod Tries
 pub mod Turns
 pub mod Walks
 pub mod Starting
+pub mod Within
+pub mod Last
+pub mod Told
+pub mod Again

@@ -10,3 +10,6 @@ pub mod Sessions
 pub mod Owned
 pub mod Begin
 pub mod Trying
+pub mod Told
+pub mod Retold
+pub mod Last

@@ -11,9 +11,12 @@ mod place;
 mod queue;
 mod relinking;
 mod replaying;
+mod retelling;
 mod servers;
+mod telling;
 mod trying;
 mod walking;
 
 pub use network::Network;
 pub use replaying::ReplayFault;
+pub use retelling::retell;

@@ -1,11 +1,13 @@
 //! The links between servers.
-ghost use Rattle.std.specs.Prelude.{◌≡◌, ℕ, ◌≤◌, ◌<◌, drop, true, [], ◌∷◌, ◌++◌, Some, slice_get, length, IfOk, OnOk, IfSome, IfNone, IsTrue, ◌↔◌};
+ghost use Rattle.std.specs.Prelude.{◌≡◌, ℕ, ◌≤◌, ◌<◌, drop, true, List, [], ◌∷◌, ◌++◌, Some, slice_get, length, IfOk, OnOk, IfSome, IfNone, IsSomeAnd, IsTrue, ◌↔◌};
 ghost use Rattle.ev_sets.specs.Sets.{Has};
+ghost use Rattle.ev_frame.specs.Frame.{FrameParts};
 ghost use Rattle.ev_net.specs.Links.{link_place, frames_at, has_room, AreSame};
 
 use crate::queue::Queue;
 use ev_frame::Frame;
 use ev_memory::NoMemory;
+use ev_wire::{Bytes, Sent};
 use std::alloc::Global;
 use std::marker::Model;
 
@@ -60,6 +62,31 @@ impl Links {
         ensures none { IfNone result (frames_at self.now from to ≡ []) }
     {
         self.queues[place(from, to)].first()
+    }
+
+    /// The last message on a link.
+    fn last(&self, from: u32, to: u32) -> Option<&Frame>
+        requires { (from ≤ 64) × (to ≤ 64) }
+        ensures { (before : List FrameParts) (frame : FrameParts) → frames_at self.now from to ≡ before ++ frame ∷ []
+            → IsSomeAnd result (λ f. f.now ≡ frame) }
+    {
+        self.queues[place(from, to)].last()
+    }
+
+    /// The text that was last sent on a link; empty where nothing lies on it.
+    pub(crate) fn last_sent(&self, alloc: Global, from: u32, to: u32) -> Result<Sent, NoMemory>
+        requires { (from ≤ 64) × (to ≤ 64) }
+        ensures { (before : List FrameParts) (frame : FrameParts) → frames_at self.now from to ≡ before ++ frame ∷ []
+            → IfOk result (λ sent. sent ≡ record { to = to; bytes = frame.bytes }) }
+    {
+        let mut bytes = Vec::new(alloc);
+        if let Some(frame) = self.last(from, to) {
+            bytes.extend_from_slice(frame.bytes())?;
+        }
+        Ok(Sent {
+            to,
+            bytes: Bytes::of(bytes),
+        })
     }
 
     /// Makes room for one more message on a link.

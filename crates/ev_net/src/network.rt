@@ -1,20 +1,24 @@
 //! Networks.
-ghost use Rattle.std.specs.Prelude.{◌≡◌, ◌≤◌, ◌==◌, ◌++◌, ◌∷◌, cond, [], length, IfOk, OnOk, OnErr};
+ghost use Rattle.std.specs.Prelude.{◌≡◌, ◌≤◌, ◌==◌, ◌++◌, ◌∷◌, cond, List, [], length, IfOk, OnOk, OnErr};
 ghost use Rattle.ev_sets.specs.Sets.{Has};
-ghost use Rattle.ev_phases.specs.Moments.{opening_moment};
+ghost use Rattle.ev_phases.specs.Moments.{opening_moment, found_of};
 ghost use Rattle.ev_theory.specs.Real.{real};
+ghost use Rattle.ev_model.specs.Meaning.{journal_of};
+ghost use Rattle.ev_model.specs.Parts.{EntryParts};
 ghost use Rattle.ev_model.specs.Nets.{phased_net, first_tree, servers_in, clients_of};
 ghost use Rattle.ev_model.specs.Sound.{IsSound};
 ghost use Rattle.ev_net.specs.Kept.{AreServers};
 ghost use Rattle.ev_net.specs.Seen.{AreClients};
+ghost use Rattle.ev_net.specs.Told.{told_of};
 
 use crate::links::Links;
 use crate::making::{command, home, next_phase, received, refused, take, version};
 use crate::place::Place;
 use crate::servers::Servers;
+use crate::telling::last_told;
 use ev_counting::Scratch;
 use ev_memory::NoMemory;
-use ev_model::{Delivery, Entry, Net, Turn};
+use ev_model::{Delivery, Entry, Net, Sent, Turn};
 use ev_wire::Lists;
 use std::alloc::Global;
 use std::marker::Model;
@@ -172,6 +176,14 @@ impl<'a> Network<'a> {
         ensures { result.now ≡ refused_by self.now.net self.now.journal client }
     {
         refused(self.net, &self.servers, client)
+    }
+
+    /// The texts of the messages of the last turn, by rising neighbour.
+    pub(crate) fn last_told(&self) -> Result<Lists<Sent>, NoMemory>
+        ensures { IfOk result (λ told. (before : List EntryParts) (entry : EntryParts) → self.now.journal ≡ before ++ entry ∷ []
+            → told ≡ told_of self.now.net (found_of real (phased_net self.now.net) (journal_of self.now.journal) (length before)) entry) }
+    {
+        last_told(&self.servers)
     }
 
     /// Makes a turn where it is permitted, and answers whether it is. Where it is not, and after want of memory, the

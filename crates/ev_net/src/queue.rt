@@ -1,5 +1,6 @@
 //! The queue of a link.
-ghost use Rattle.std.specs.Prelude.{◌≡◌, true, false, drop, ◌∷◌, ◌++◌, [], IfSome, IfNone, OnOk, OnErr, slice_get, Some};
+ghost use Rattle.std.specs.Prelude.{◌≡◌, true, false, drop, List, ◌∷◌, ◌++◌, [], IfSome, IfNone, IsSomeAnd, OnOk, OnErr, slice_get, Some};
+ghost use Rattle.ev_frame.specs.Frame.{FrameParts};
 
 use ev_frame::Frame;
 use ev_memory::NoMemory;
@@ -64,6 +65,13 @@ impl Queue {
         ensures none { IfNone result (self.now.frames ≡ []) }
     {
         self.frames.front()
+    }
+
+    /// The last message.
+    pub(crate) fn last(&self) -> Option<&Frame>
+        ensures { (before : List FrameParts) (frame : FrameParts) → self.now.frames ≡ before ++ frame ∷ [] → IsSomeAnd result (λ f. f.now ≡ frame) }
+    {
+        self.frames.back()
     }
 
     /// Gives up the next message.
