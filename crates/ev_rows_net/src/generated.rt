@@ -1,0 +1,43 @@
+//! A generated document and its walk.
+use crate::failure::Failure;
+use crate::rows::Schedule;
+use crate::run::{run, summary};
+use crate::shown;
+use ev_generate::generate;
+use md5::{Digest, Md5};
+use std::alloc::Global;
+
+/// The number of lines that end in these bytes.
+fn lines(text: &[u8]) -> usize {
+    let mut lines = 0;
+    for byte in text {
+        if *byte == b'\n' {
+            lines += 1;
+        }
+    }
+    lines
+}
+
+/// Prints how many lines and bytes a text has, and its MD5 digest.
+fn print_size(rt: &impl Print, name: &str, text: &[u8]) -> Result<(), Failure> {
+    print!(rt;
+        "{name}: {} lines, {} bytes, digest ",
+        lines(text),
+        text.len()
+    )?;
+    for byte in Md5::digest(text) {
+        print!(rt; "{byte:02x}")?;
+    }
+    println!(rt)?;
+    Ok(())
+}
+
+/// Prints of the document that a seed makes the summary of its walk, and the sizes of its deliveries by publication, which are
+/// the flood text.
+pub fn print_generated(rt: &impl Print, alloc: Global, seed: u64) -> Result<(), Failure> {
+    println!(rt; "The document of seed {seed}")?;
+    let document = generate(alloc, seed)?;
+    print!(rt; "{}", shown(&summary(alloc, &document)?))?;
+    let walked = run(alloc, &document, Schedule::Walk, true)?;
+    print_size(rt, "walk", &walked)
+}
