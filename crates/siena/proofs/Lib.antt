@@ -1,9 +1,0 @@
-mod Cuts
-mod Ints
-mod Lines
-mod Phases
-mod Promise
-mod Publications
-mod Scripts
-mod Seats
-mod Steps

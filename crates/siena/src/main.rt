@@ -1,48 +1,44 @@
-//! The program: it reads a script of clients, walks it on one server, and prints what each client was delivered.
+//! The program: it reads a document of servers, clients and what these do, and prints what each client receives, what
+//! flooding owes it, or how much the document has.
 #![tactic(auto)]
 
-mod cut;
-mod document;
-mod entry;
-mod integer;
-mod law;
-mod line;
-mod net;
-mod reading;
-mod refusal;
-mod report;
-mod seat;
-mod server;
-mod status;
-#[cfg(test)]
-mod tests;
-mod top;
-mod walk;
-mod writing;
-
 use ev_outside::{StdSink, StdSource, Word};
-use status::{Status, fault_text};
+use ev_quiet::{Status, fault_text, quiet};
+use std::alloc::Global;
+use std::env::Args;
+use std::io::ErrorKind;
 use std::process::ExitCode;
 use std::rt::Env;
-use top::quiet;
 
-/// The words after the program's name.
-fn words(rt: &(impl Env + AllocGlobal)) -> Option<Vec<Word>> {
-    let mut words = Vec::new(rt.alloc());
-    for word in std::env::args(rt).ok()?.skip(1) {
-        words
-            .push(Word::make(rt.alloc(), word.as_str()).ok()?)
-            .ok()?;
+/// The words of these arguments, but the first, which is the program's name.
+fn words_of(alloc: Global, arguments: Args) -> Option<Vec<Word>> {
+    let mut words = Vec::new(alloc);
+    for argument in arguments.skip(1) {
+        words.push(Word::make(alloc, argument.as_str()).ok()?).ok()?;
     }
     Some(words)
+}
+
+/// The words after the program's name; those that aren't text are outside of all words.
+fn words(rt: &(impl Env + AllocGlobal)) -> Result<Vec<Word>, Status> {
+    match std::env::args(rt) {
+        Ok(arguments) => match words_of(rt.alloc(), arguments) {
+            Some(words) => Ok(words),
+            None => Err(Status::NoMemory),
+        },
+        Err(error) => match error.kind() {
+            ErrorKind::InvalidData => Err(Status::Usage),
+            _ => Err(Status::NoMemory),
+        },
+    }
 }
 
 fn main(rt: HostRuntime) -> ExitCode {
     let mut source = StdSource::make(rt.stdin());
     let mut sink = StdSink::make(rt.stdout());
     let status = match words(&rt) {
-        Some(words) => quiet(rt.alloc(), &words, &mut source, &mut sink).status,
-        None => Status::NoMemory,
+        Ok(words) => quiet(rt.alloc(), &words, &mut source, &mut sink).status,
+        Err(status) => status,
     };
     if let Ok(text) = fault_text(rt.alloc(), &status) {
         let _ = rt.stderr().write_all(&text);

@@ -1,0 +1,81 @@
+-- Two nets of one document have the same clients, so its flood text is that of each.
+use Rattle.std.proofs.Common.{◌≡◌, ℕ, zero, suc, ◌+◌, ◌≤◌, true, List, [], ◌∷◌, ◌++◌, map, length, slice_get, Some, Result, Ok, refl, sym, ap, ◌∙◌, subst, arith}
+use Rattle.std.specs.List.{range_with_len}
+use Rattle.ev_wire.specs.declared.delivery.Delivery.{Delivery}
+use Rattle.ev_model.specs.Parts.{ClientParts, NetParts, EntryParts}
+use Rattle.ev_model.specs.Nets.{home_of}
+use Rattle.ev_model.specs.Lists.{refused_ordinals}
+use Rattle.ev_net.specs.Network.{IsDrainedBy, refused_by, received_by}
+use Rattle.ev_input.specs.declared.fault.Fault.{Fault}
+use Rattle.ev_input.specs.declared.state.State.{State}
+use Rattle.ev_input.specs.Net.{IsNetOf, client_of}
+use Rattle.ev_flood.specs.declared.owed.OwedRow.{OwedRow}
+use Rattle.ev_flood.specs.Flooding.{IsFlooding}
+use Rattle.ev_report.specs.Deliveries.{deliveries_text}
+use Rattle.ev_report.specs.Drained.{inboxes}
+use Rattle.ev_report.specs.Flood.{flood_sections, flood_text}
+use Rattle.ev_report.specs.Published.{texts_in}
+use Rattle.ev_quiet.specs.Runs.{refused_in, received_in}
+use Rattle.ev_quiet.specs.Printed.{IsFloodOf, run_text}
+use Rattle.ev_quiet.specs.Promise.{sorted, IsWholeRun}
+use Rattle.ev_quiet.proofs.Inboxes.{client-lives, listed}
+use Rattle.ev_quiet.proofs.SameNets.{same-flooding}
+
+same-state : (s t : State) → ◌≡◌ {A = Result State (ℕ × Fault)} (Ok s) (Ok t) → s ≡ t
+same-state s t e = cc
+
+pub same-clients : (input : List ℕ) (one other : NetParts) → IsNetOf input one → IsNetOf input other → one.clients ≡ other.clients
+same-clients input one other a b =
+    a.holds.clients ∙ ap (λ (s : State). map client_of s.clients) (same-state a.state b.state (sym a.read ∙ b.read)) ∙ sym b.holds.clients
+
+pub same-semantics : (input : List ℕ) (one other : NetParts) → IsNetOf input one → IsNetOf input other → one.semantics ≡ other.semantics
+same-semantics input one other a b =
+    a.holds.semantics ∙ ap (λ (s : State). s.semantics) (same-state a.state b.state (sym a.read ∙ b.read)) ∙ sym b.holds.semantics
+
+-- what flooding's text is made of
+abbrev sections : List ClientParts → List (List ℕ) → List (List OwedRow) → List ℕ
+sections clients refused rows = flood_sections clients (texts_in clients) clients refused rows
+
+-- numbered lists
+numbered-inboxes : (f : ℕ → List Delivery) (n : ℕ) (clients : List ClientParts) → inboxes f n clients ≡ map f (range_with_len n (length clients))
+numbered-inboxes f n [] = refl
+numbered-inboxes f n (c ∷ cs) = ap (λ l. f n ∷ l) (numbered-inboxes f (suc n) cs ∙ ap (λ m. map f (range_with_len m (length cs))) (omega arith))
+
+place-below : {T : Type 0} (xs : List T) (i : ℕ) (x : T) → slice_get xs i ≡ Some x → suc i ≤ length xs
+place-below [] i x e = absurd cc
+place-below (y ∷ xs) zero x e = omega arith
+place-below (y ∷ xs) (suc i) x e = omega (arith, place-below xs i x e)
+
+one-more : (i : ℕ) → suc i ≡ 1 + i
+one-more i = omega arith
+
+-- the refused ordinals of a run that took all commands are all of them
+all-refused : (net : NetParts) (journal : List EntryParts) (rows : List (List OwedRow)) (refused : List (List ℕ)) → IsDrainedBy net journal → IsFlooding net rows refused
+    → refused ≡ refused_in net journal
+all-refused net journal rows refused drained flooding =
+    listed (refused_by net journal) 1 refused at ∙ ap (λ n. map (refused_by net journal) (range_with_len 1 n)) flooding.all_ordinals
+  where
+    at : (i : ℕ) (x : List ℕ) → slice_get refused i ≡ Some x → x ≡ refused_by net journal (1 + i)
+    at i x e =
+        let below : suc i ≤ length net.clients = subst (λ n. suc i ≤ n) flooding.all_ordinals (place-below refused i x e) in
+        flooding.ordinals i x e
+        ∙ ap (refused_ordinals net (suc i)) (sym (drained.taken (home_of net (suc i)) (suc i) (client-lives net (suc i) (omega arith, below))))
+        ∙ ap (refused_by net journal) (one-more i)
+
+append-none : (xs : List ℕ) → xs ++ [] ≡ xs
+append-none [] = refl
+append-none (x ∷ xs) = ap (λ l. x ∷ l) (append-none xs)
+
+pub flood-printed : (input : List ℕ) (net : NetParts) (journal : List EntryParts) (text : List ℕ) → IsNetOf input net → IsWholeRun net journal → (flood : IsFloodOf input text)
+    → (IsFlooding net flood.rows flood.refused
+    → flood_text net flood.refused flood.rows ≡ deliveries_text net flood.refused (inboxes (received_by net journal) 1 net.clients) true)
+    → run_text sorted net journal ≡ text
+flood-printed input net journal text of whole flood printed =
+    let clients = same-clients input flood.net net flood.well_formed of in
+    let flooding = same-flooding flood.net net flood.rows flood.refused (same-semantics input flood.net net flood.well_formed of) clients flood.flooding in
+    append-none (deliveries_text net (refused_in net journal) (received_in net journal) true)
+    ∙ ap (λ l. deliveries_text net l (received_in net journal) true) (sym (all-refused net journal flood.rows flood.refused whole.drained flooding))
+    ∙ ap (λ l. deliveries_text net flood.refused l true) (sym (numbered-inboxes (received_by net journal) 1 net.clients))
+    ∙ sym (printed flooding)
+    ∙ sym (ap (λ l. sections l flood.refused flood.rows) clients)
+    ∙ sym flood.printed

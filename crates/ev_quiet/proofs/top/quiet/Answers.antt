@@ -1,0 +1,75 @@
+use Rattle.std.proofs.Common.{◌≡◌, true, false, Option, Some, None, sym, ap, ◌∙◌, subst}
+use Rattle.ev_quiet.specs.declared.words.Wanted.{Wanted}
+use Rattle.ev_quiet.specs.Answers.{Prints, PrintsPart, reads, HasFault, TellsRefused, CanAnswer}
+use Rattle.ev_quiet.proofs.top.quiet.Goals as goal
+
+none-some : (w : Wanted) → ◌≡◌ {A = Option Wanted} (Some w) None → ⊥
+none-some w e = absurd cc
+
+pub returns-in-Some-clause-printed : goal.returns-in-Some-clause-printed
+returns-in-Some-clause-printed g c = λ d.
+    subst (λ (w : Option Wanted). Prints w (g.S.Source.left c.args.source.now) c.carry_out.result.journal.items (g.K.Sink.written c.args.sink.now) (g.K.Sink.written c.carry_out.new.sink))
+    (sym (sym c.read_words.ensures ∙ c.in-Some.is)) (c.carry_out.ensures.printed d)
+
+pub returns-in-Some-clause-read : goal.returns-in-Some-clause-read
+returns-in-Some-clause-read g c = λ d e. c.carry_out.ensures.read d (sym (ap reads (sym c.read_words.ensures ∙ c.in-Some.is)) ∙ e)
+
+pub returns-in-Some-clause-unread : goal.returns-in-Some-clause-unread
+returns-in-Some-clause-unread g c = λ e. c.carry_out.ensures.unread (sym (ap reads (sym c.read_words.ensures ∙ c.in-Some.is)) ∙ e)
+
+pub returns-in-Some-clause-at_most : goal.returns-in-Some-clause-at_most
+returns-in-Some-clause-at_most g c = λ e. c.carry_out.ensures.at_most (sym (ap reads (sym c.read_words.ensures ∙ c.in-Some.is)) ∙ e)
+
+pub returns-in-Some-clause-usage : goal.returns-in-Some-clause-usage
+returns-in-Some-clause-usage g c = ((λ u. absurd (c.carry_out.ensures.usage u)), (λ n. absurd (none-some c.in-Some.wanted (sym (sym c.read_words.ensures ∙ c.in-Some.is) ∙ n))))
+
+pub returns-in-Some-clause-bad_input : goal.returns-in-Some-clause-bad_input
+returns-in-Some-clause-bad_input g c = λ line kind e.
+    subst (λ (w : Option Wanted). HasFault w (g.S.Source.left c.args.source.now) line kind) (sym (sym c.read_words.ensures ∙ c.in-Some.is))
+    (c.carry_out.ensures.bad_input line kind e)
+
+pub returns-in-Some-clause-part : goal.returns-in-Some-clause-part
+returns-in-Some-clause-part g c = λ d.
+    subst (λ (w : Option Wanted). PrintsPart w (g.S.Source.left c.args.source.now) (g.K.Sink.written c.args.sink.now) (g.K.Sink.written c.carry_out.new.sink))
+    (sym (sym c.read_words.ensures ∙ c.in-Some.is)) (c.carry_out.ensures.part d)
+
+pub returns-in-Some-clause-refused : goal.returns-in-Some-clause-refused
+returns-in-Some-clause-refused g c = λ line kind t n.
+    c.carry_out.ensures.refused line kind
+    (subst (λ (w : Option Wanted). TellsRefused w (g.S.Source.left c.args.source.now) line kind) (sym c.read_words.ensures ∙ c.in-Some.is) t) n
+
+pub returns-in-Some-clause-complete : goal.returns-in-Some-clause-complete
+returns-in-Some-clause-complete g c = λ a n m.
+    c.carry_out.ensures.complete (subst (λ (w : Option Wanted). CanAnswer w (g.S.Source.left c.args.source.now)) (sym c.read_words.ensures ∙ c.in-Some.is) a) n m
+
+pub returns-in-None-clause-at_most : goal.returns-in-None-clause-at_most
+returns-in-None-clause-at_most g c = λ e. (let h : false ≡ true = sym (ap reads (sym c.read_words.ensures ∙ c.in-None.is)) ∙ e in absurd cc)
+
+pub returns-in-None-clause-usage : goal.returns-in-None-clause-usage
+returns-in-None-clause-usage g c = ((λ u. sym c.read_words.ensures ∙ c.in-None.is), (λ n. c.ended.ensures.status))
+
+pub returns-in-None-clause-refused : goal.returns-in-None-clause-refused
+returns-in-None-clause-refused g c = λ line kind t n.
+    absurd (subst (λ (w : Option Wanted). TellsRefused w (g.S.Source.left c.args.source.now) line kind) (sym c.read_words.ensures ∙ c.in-None.is) t)
+
+pub returns-in-None-clause-complete : goal.returns-in-None-clause-complete
+returns-in-None-clause-complete g c = λ a n m.
+    absurd (subst (λ (w : Option Wanted). CanAnswer w (g.S.Source.left c.args.source.now)) (sym c.read_words.ensures ∙ c.in-None.is) a)
+
+pub returns-in-None-clause-printed : goal.returns-in-None-clause-printed
+returns-in-None-clause-printed g c = λ d. (let h = sym c.ended.ensures.status ∙ d in absurd cc)
+
+pub returns-in-None-clause-read : goal.returns-in-None-clause-read
+returns-in-None-clause-read g c = λ d. (let h = sym c.ended.ensures.status ∙ d in absurd cc)
+
+pub returns-in-None-clause-bad_input : goal.returns-in-None-clause-bad_input
+returns-in-None-clause-bad_input g c = λ line kind d. (let h = sym c.ended.ensures.status ∙ d in absurd cc)
+
+pub returns-in-None-clause-read_fault : goal.returns-in-None-clause-read_fault
+returns-in-None-clause-read_fault g c = λ d. (let h = sym c.ended.ensures.status ∙ d in absurd cc)
+
+pub returns-in-None-clause-write_fault : goal.returns-in-None-clause-write_fault
+returns-in-None-clause-write_fault g c = λ d. (let h = sym c.ended.ensures.status ∙ d in absurd cc)
+
+pub returns-in-None-clause-part : goal.returns-in-None-clause-part
+returns-in-None-clause-part g c = λ d. (let h = sym c.ended.ensures.status ∙ d in absurd cc)

@@ -1,0 +1,52 @@
+-- When a document is at fault, and when all that is wanted of it can be done.
+use Rattle.std.specs.Prelude.{◌≡◌, ℕ, List, [], ◌∷◌, ◌++◌, ◌⊎◌}
+use Rattle.ev_model.specs.declared.turn.Turn.{Turn}
+use Rattle.ev_model.specs.Parts.{NetParts, EntryParts}
+use Rattle.ev_net.specs.Turns.{AreMade, IsEntryOf, IsBarred}
+use Rattle.ev_input.specs.declared.fault.Fault.{Fault}
+use Rattle.ev_input.specs.declared.fault.Fault.TheVariants.{BadTurn}
+use Rattle.ev_input.specs.Net.{IsNetOf, IsBadAt}
+use Rattle.ev_quiet.specs.declared.words.Schedule.{Schedule}
+use Rattle.ev_quiet.specs.declared.words.Query.{Query}
+use Rattle.ev_quiet.specs.declared.words.Query.TheVariants.{Run, Flood, Check}
+use Rattle.ev_quiet.specs.Runs.{turns_first}
+
+-- after a journal, the first of these turns that is not permitted when it comes is that of this line, and each before it is made
+abbrev pub StopsAtLine : NetParts → List EntryParts → List (ℕ × Turn) → ℕ → Type 0
+StopsAtLine net journal [] line = ⊥
+StopsAtLine net journal (turn ∷ turns) line =
+    ((turn.0 ≡ line) × IsBarred net journal turn.1)
+    ⊎ ((entry : EntryParts) × IsEntryOf net journal turn.1 entry × StopsAtLine net (journal ++ entry ∷ []) turns line)
+
+-- each of these turns is permitted when it comes
+abbrev pub ArePermitted : NetParts → List (ℕ × Turn) → Type 0
+ArePermitted net turns = (after : List EntryParts) × AreMade net [] turns after
+
+-- a document has a net
+abbrev pub HasNet : List ℕ → Type 0
+HasNet input = (net : NetParts) × IsNetOf input net
+
+-- a document's schedule stops at a line
+abbrev pub IsStopped : Schedule → List ℕ → ℕ → Type 0
+IsStopped schedule input line = (net : NetParts) × IsNetOf input net × StopsAtLine net [] (turns_first schedule net) line
+
+-- A DOCUMENT IS AT FAULT for what is wanted of it: its first line at fault, or the first turn that is not permitted
+abbrev pub IsAtFault : Query → List ℕ → ℕ → Fault → Type 0
+IsAtFault (Run schedule shown) input line kind = IsBadAt input line kind ⊎ ((kind ≡ BadTurn) × IsStopped schedule input line)
+IsAtFault Flood input line kind = IsBadAt input line kind
+IsAtFault Check input line kind = IsBadAt input line kind
+
+-- it is so by each of its nets, which differ in nothing but the tables of their trees
+abbrev pub MustStop : Schedule → List ℕ → ℕ → Type 0
+MustStop schedule input line = HasNet input × ((net : NetParts) → IsNetOf input net → StopsAtLine net [] (turns_first schedule net) line)
+
+abbrev pub MustBeRefused : Query → List ℕ → ℕ → Fault → Type 0
+MustBeRefused (Run schedule shown) input line kind = IsBadAt input line kind ⊎ ((kind ≡ BadTurn) × MustStop schedule input line)
+MustBeRefused Flood input line kind = IsBadAt input line kind
+MustBeRefused Check input line kind = IsBadAt input line kind
+
+-- ALL THAT IS WANTED CAN BE DONE: there is a net, and by each the turns of a schedule are permitted
+abbrev pub CanBeDone : Query → List ℕ → Type 0
+CanBeDone (Run schedule shown) input = HasNet input × ((net : NetParts) → IsNetOf input net → ArePermitted net (turns_first schedule net))
+CanBeDone Flood input = HasNet input
+CanBeDone Check input = HasNet input

@@ -1,0 +1,10 @@
+pub mod Words
+pub mod Status
+pub mod Runs
+pub mod Printed
+pub mod Promise
+pub mod Headline
+pub mod Faults
+pub mod Ran
+pub mod Answers
+pub mod Refusals

@@ -1,0 +1,37 @@
+-- How the code makes a run; no promise to a caller speaks of it.
+use Rattle.std.specs.Prelude.{◌≡◌, ℕ, List}
+use Rattle.ev_model.specs.Parts.{NetParts, EntryParts}
+use Rattle.ev_net.specs.Network.{NetworkParts, IsLegal, IsDrainedBy}
+use Rattle.ev_quiet.specs.declared.ran.Ran.{Ran}
+use Rattle.ev_quiet.specs.declared.words.Schedule.{Schedule}
+use Rattle.ev_quiet.specs.declared.words.Shown.{Shown}
+use Rattle.ev_quiet.specs.Printed.{run_text}
+use Rattle.ev_quiet.specs.Runs.{turns_first, GoesBy, refused_in, received_in}
+use Rattle.ev_quiet.specs.Faults.{ArePermitted}
+
+-- a network of the net went by the schedule, whose turns were permitted, and is drained
+pub record IsThrough (schedule : Schedule) (net : NetParts) (network : NetworkParts) : Type 0 where
+  pub same : network.net ≡ net
+  pub permitted : ArePermitted net (turns_first schedule net)
+  pub goes_by : GoesBy schedule net network.journal
+  pub drained : IsDrainedBy net network.journal
+
+-- what a legal run leaves
+pub record IsCollected (net : NetParts) (ran : Ran) : Type 0 where
+  pub legal : IsLegal net ran.journal.items
+  pub refused : ran.refused.items ≡ refused_in net ran.journal.items
+  pub received : ran.received.items ≡ received_in net ran.journal.items
+
+-- what such a run left
+pub record IsRan (schedule : Schedule) (net : NetParts) (ran : Ran) : Type 0 where
+  pub permitted : ArePermitted net (turns_first schedule net)
+  pub goes_by : GoesBy schedule net ran.journal.items
+  pub drained : IsDrainedBy net ran.journal.items
+  pub collected : IsCollected net ran
+
+-- the text and the journal of a run by a schedule
+pub record IsShown (schedule : Schedule) (shown : Shown) (net : NetParts) (text : List ℕ) (journal : List EntryParts) : Type 0 where
+  pub goes_by : GoesBy schedule net journal
+  pub legal : IsLegal net journal
+  pub drained : IsDrainedBy net journal
+  pub printed : text ≡ run_text shown net journal

@@ -1,0 +1,46 @@
+-- The run that is wanted of a document: its turns, and what the clients have by its end.
+use Rattle.std.specs.Prelude.{◌≡◌, ℕ, ◌≤◌, List, [], ◌++◌, length, map}
+use Rattle.std.specs.List.{range_with_len}
+use Rattle.ev_wire.specs.declared.delivery.Delivery.{Delivery}
+use Rattle.ev_model.specs.declared.turn.Turn.{Turn}
+use Rattle.ev_model.specs.Parts.{NetParts, EntryParts}
+use Rattle.ev_model.specs.Meaning.{journal_of}
+use Rattle.ev_net.specs.Network.{refused_by, received_by}
+use Rattle.ev_net.specs.Turns.{AreMade}
+use Rattle.ev_net.specs.Walked.{walk_after}
+use Rattle.ev_quiet.specs.declared.words.Schedule.{Schedule}
+use Rattle.ev_quiet.specs.declared.words.Schedule.TheVariants.{Walk, Replay}
+
+-- the turns that are made before the walk: for `replay` those of the document's schedule
+abbrev pub turns_first : Schedule → NetParts → List (ℕ × Turn)
+turns_first Walk net = []
+turns_first Replay net = net.schedule
+
+-- turns one after the other, and then the walk to its end
+pub record GoesOn (first : List (ℕ × Turn)) (net : NetParts) (journal : List EntryParts) : Type 0 where
+  pub turned : List EntryParts
+  pub walked : List EntryParts
+  pub whole : journal ≡ turned ++ walked
+  pub made : AreMade net [] first turned
+  pub walk : journal_of walked ≡ walk_after net turned
+
+-- THE JOURNAL GOES BY THE SCHEDULE: for `walk` it is the walk, for `replay` the document's turns and then the walk
+abbrev pub GoesBy : Schedule → NetParts → List EntryParts → Type 0
+GoesBy Walk net journal = journal_of journal ≡ walk_after net []
+GoesBy Replay net journal = GoesOn net.schedule net journal
+
+-- a client of the net
+abbrev pub IsClient : NetParts → ℕ → Type 0
+IsClient net client = (1 ≤ client) × (client ≤ length net.clients)
+
+-- something of each client of a net, in the order of the net
+abbrev pub of_clients : {A : Type 0} → NetParts → (ℕ → A) → List A
+of_clients net f = map f (range_with_len 1 (length net.clients))
+
+-- of each client the ordinals of its publishes that were refused in a run
+abbrev pub refused_in : NetParts → List EntryParts → List (List ℕ)
+refused_in net journal = of_clients net (refused_by net journal)
+
+-- and what was delivered to it, in order
+abbrev pub received_in : NetParts → List EntryParts → List (List Delivery)
+received_in net journal = of_clients net (received_by net journal)

@@ -1,0 +1,47 @@
+-- The texts of the faults.
+use Rattle.std.specs.Prelude.{ℕ, List, [], ◌∷◌, ◌++◌, codes}
+use Rattle.std.specs.Fmt.{decimal}
+use Rattle.ev_input.specs.declared.fault.Fault.{Fault}
+use Rattle.ev_input.specs.declared.fault.Fault.TheVariants as faults
+use Rattle.ev_quiet.specs.declared.status.Status.{Status}
+use Rattle.ev_quiet.specs.declared.status.Status.TheVariants as statuses
+
+abbrev pub kind_text : Fault → List ℕ
+kind_text faults.TooLong = codes "toolong"
+kind_text faults.Ended = codes "ended"
+kind_text faults.Header = codes "header"
+kind_text faults.Order = codes "order"
+kind_text faults.Words = codes "words"
+kind_text faults.Range = codes "range"
+kind_text faults.Apart = codes "apart"
+kind_text faults.Twice = codes "twice"
+kind_text faults.Loop = codes "loop"
+kind_text faults.Name = codes "name"
+kind_text faults.Count = codes "count"
+kind_text faults.Syntax = codes "syntax"
+kind_text faults.Value = codes "value"
+kind_text faults.Operand = codes "operand"
+kind_text faults.Repeat = codes "repeat"
+kind_text faults.Commands = codes "commands"
+kind_text faults.Publications = codes "publications"
+kind_text faults.MuchControl = codes "muchcontrol"
+kind_text faults.MuchNotice = codes "muchnotice"
+kind_text faults.BadTurn = codes "badturn"
+
+-- what goes to standard error
+unfoldable pub status_text : Status → List ℕ
+status_text statuses.Done = []
+status_text statuses.Usage = codes "siena: usage: walk, run or replay [--sorted] [--trace]; flood; check; gen --seed N [--summary]" ++ 10 ∷ []
+status_text (statuses.BadInput line kind) = codes "siena: line " ++ decimal line ++ codes ": " ++ kind_text kind ++ 10 ∷ []
+status_text statuses.ReadFault = codes "siena: the input could not be read" ++ 10 ∷ []
+status_text statuses.WriteFault = codes "siena: the output could not be written" ++ 10 ∷ []
+status_text statuses.NoMemory = codes "siena: out of memory" ++ 10 ∷ []
+
+-- the number with which the program ends
+abbrev pub status_number : Status → ℕ
+status_number statuses.Done = 0
+status_number statuses.Usage = 2
+status_number (statuses.BadInput line kind) = 3
+status_number statuses.ReadFault = 4
+status_number statuses.WriteFault = 5
+status_number statuses.NoMemory = 6

@@ -1,0 +1,86 @@
+-- What the words of the command line ask for.
+use Rattle.std.specs.Prelude.{ℕ, ◌^◌, Bool, true, false, not, ◌&&◌, nat_lt, nat_le, if◌then◌else◌, Option, Some, None}
+use Rattle.std.specs.Prelude.{List, [], ◌∷◌, length, take, drop, codes}
+use Rattle.std.specs.Option.{option_map, option_and_then}
+use Rattle.std.specs.Str.{bytes_eq}
+use Rattle.ev_input.specs.Words.{number_from}
+use Rattle.ev_quiet.specs.declared.words.Schedule.{Schedule}
+use Rattle.ev_quiet.specs.declared.words.Schedule.TheVariants.{Walk, Replay}
+use Rattle.ev_quiet.specs.declared.words.Shown.{Shown}
+use Rattle.ev_quiet.specs.declared.words.Query.{Query}
+use Rattle.ev_quiet.specs.declared.words.Query.TheVariants.{Run, Flood, Check}
+use Rattle.ev_quiet.specs.declared.words.Wanted.{Wanted}
+use Rattle.ev_quiet.specs.declared.words.Wanted.TheVariants.{Document, Generate}
+
+-- a run without an option
+abbrev pub plain : Shown
+plain = record { sorted = false; trace = false }
+
+-- with one option more: each may be given once
+abbrev pub with_option : List ℕ → Shown → Option Shown
+with_option word shown =
+    if bytes_eq word (codes "--sorted") && not shown.sorted then Some (record { sorted = true; trace = shown.trace })
+    else if bytes_eq word (codes "--trace") && not shown.trace then Some (record { sorted = shown.sorted; trace = true })
+    else None
+
+-- the options, in any order
+abbrev pub options : Shown → List (List ℕ) → Option Shown
+options shown [] = Some shown
+options shown (word ∷ words) = option_and_then (λ more. options more words) (with_option word shown)
+
+-- a run by a schedule, with the options behind its word
+abbrev pub run_by : Schedule → List (List ℕ) → Option Wanted
+run_by schedule words = option_map (λ shown. Document (Run schedule shown)) (options plain words)
+
+-- what takes no further words
+abbrev pub alone : Query → List (List ℕ) → Option Wanted
+alone query [] = Some (Document query)
+alone query (word ∷ words) = None
+
+-- a number that fits into 64 bits
+abbrev pub in_64_bits : ℕ → Option ℕ
+in_64_bits n = if nat_lt n (2 ^ 64) then Some n else None
+
+-- a seed: 1 to 20 decimal digits of a value below 2^64
+unfoldable pub seed_number : List ℕ → Option ℕ
+seed_number word = if nat_lt 0 (length word) && nat_le (length word) 20 then option_and_then in_64_bits (number_from 0 word) else None
+
+-- the seed of the one word `--seed=N`
+abbrev pub joined_seed : List ℕ → Option ℕ
+joined_seed word = if bytes_eq (take 7 word) (codes "--seed=") then seed_number (drop 7 word) else None
+
+-- the seed of the two words `--seed` and N
+abbrev pub parted_seed : List ℕ → List ℕ → Option ℕ
+parted_seed label number = if bytes_eq label (codes "--seed") then seed_number number else None
+
+abbrev pub is_summary : List ℕ → Bool
+is_summary word = bytes_eq word (codes "--summary")
+
+-- a document by its seed, where there is one
+abbrev pub asked : Bool → Option ℕ → Option Wanted
+asked summary seed = option_map (λ number. Generate number summary) seed
+
+-- by the words behind `gen`: a seed, with at most one `--summary` before or after it
+abbrev pub generate_by : List (List ℕ) → Option Wanted
+generate_by [] = None
+generate_by (one ∷ []) = asked false (joined_seed one)
+generate_by (one ∷ two ∷ []) =
+    if is_summary one then asked true (joined_seed two)
+    else if is_summary two then asked true (joined_seed one)
+    else asked false (parted_seed one two)
+generate_by (one ∷ two ∷ three ∷ []) =
+    if is_summary one then asked true (parted_seed two three)
+    else if is_summary three then asked true (parted_seed one two)
+    else None
+generate_by (one ∷ two ∷ three ∷ four ∷ words) = None
+
+-- WHAT THE WORDS ASK FOR, where they ask for something
+abbrev pub wanted_by : List (List ℕ) → Option Wanted
+wanted_by [] = None
+wanted_by (word ∷ words) =
+    if bytes_eq word (codes "walk") then run_by Walk words
+    else if bytes_eq word (codes "replay") then run_by Replay words
+    else if bytes_eq word (codes "flood") then alone Flood words
+    else if bytes_eq word (codes "check") then alone Check words
+    else if bytes_eq word (codes "gen") then generate_by words
+    else None

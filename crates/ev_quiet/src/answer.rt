@@ -1,0 +1,55 @@
+//! What is answered over a source.
+ghost use Rattle.std.specs.Prelude.{◌≡◌, ◌≤◌, ◌⊎◌, ℕ, true, false, length, IfOk, OnOk, IsOk, IsErrOf};
+ghost use Rattle.std.specs.Io.KnownBytes.{IsAtEnd};
+ghost use Rattle.ev_outside.specs.Cause.{Rose};
+ghost use Rattle.ev_outside.specs.Whole.{Gave};
+ghost use Rattle.ev_quiet.specs.Answers.{IsPrintedBy, reads_document, HasFaultFor, TellsRefusedFor, CanAnswerFor};
+
+use crate::generated::of_seed;
+use crate::printed::{Printed, of_document};
+use crate::reading::document;
+use crate::refusal::Refusal;
+use crate::words::{Query, Wanted};
+use ev_input::Fault;
+use ev_outside::Source;
+use std::alloc::Global;
+
+// What is wanted of the document that the source gives.
+fn of_source<S: Source>(alloc: Global, query: Query, source: &mut S) -> Result<Printed, Refusal>
+    ensures printed { IfOk result (λ p. IsPrintedBy (Wanted.Document query) (S.left source.old) p.text.items p.journal.items) }
+    ensures end { OnOk result (IsAtEnd (S.left source.new)) }
+    ensures bad { (line : ℕ) (kind : Fault) → IsErrOf result (Refusal.BadInput line kind)
+        → HasFaultFor (Wanted.Document query) (S.left source.old) line kind }
+    ensures failed { IsErrOf result Refusal.ReadFault → Rose (S.faults source.old) (S.faults source.new) }
+    ensures refused { (line : ℕ) (kind : Fault) → TellsRefusedFor (Wanted.Document query) (S.left source.old) line kind
+        → (Rose (S.faults source.old) (S.faults source.new) → ⊥)
+        → IsErrOf result (Refusal.BadInput line kind) ⊎ IsErrOf result Refusal.NoMemory }
+    ensures done { CanAnswerFor (Wanted.Document query) (S.left source.old)
+        → (Rose (S.faults source.old) (S.faults source.new) → ⊥)
+        → IsOk result ⊎ IsErrOf result Refusal.NoMemory }
+    ensures at_most { Gave (S.left source.old) (S.left source.new) (λ given. length given ≤ 4194305) }
+{
+    let bytes = document(alloc, source)?;
+    of_document(alloc, query, &bytes)
+}
+
+/// What is wanted, or why nothing is written.
+pub fn answer<S: Source>(alloc: Global, wanted: Wanted, source: &mut S) -> Result<Printed, Refusal>
+    ensures printed { IfOk result (λ p. IsPrintedBy wanted (S.left source.old) p.text.items p.journal.items) }
+    ensures end { OnOk result (reads_document wanted ≡ true → IsAtEnd (S.left source.new)) }
+    ensures unread { reads_document wanted ≡ false → source.new ≡ source.old }
+    ensures bad { (line : ℕ) (kind : Fault) → IsErrOf result (Refusal.BadInput line kind) → HasFaultFor wanted (S.left source.old) line kind }
+    ensures failed { IsErrOf result Refusal.ReadFault → Rose (S.faults source.old) (S.faults source.new) }
+    ensures refused { (line : ℕ) (kind : Fault) → TellsRefusedFor wanted (S.left source.old) line kind
+        → (Rose (S.faults source.old) (S.faults source.new) → ⊥)
+        → IsErrOf result (Refusal.BadInput line kind) ⊎ IsErrOf result Refusal.NoMemory }
+    ensures done { CanAnswerFor wanted (S.left source.old)
+        → (Rose (S.faults source.old) (S.faults source.new) → ⊥)
+        → IsOk result ⊎ IsErrOf result Refusal.NoMemory }
+    ensures at_most { reads_document wanted ≡ true → Gave (S.left source.old) (S.left source.new) (λ given. length given ≤ 4194305) }
+{
+    match wanted {
+        Wanted::Document(query) => of_source(alloc, query, source),
+        Wanted::Generate { seed, summary } => Ok(of_seed(alloc, seed, summary)?),
+    }
+}

@@ -1,0 +1,43 @@
+//! What is printed of a seed.
+ghost use Rattle.std.specs.Prelude.{IfOk};
+ghost use Rattle.ev_quiet.specs.Printed.{IsSummaryOf};
+ghost use Rattle.ev_quiet.specs.Answers.{IsGenerated};
+
+use crate::printed::Printed;
+use crate::ran::make_run;
+use crate::reading::net;
+use crate::summary::run_summary;
+use crate::words::Schedule;
+use ev_generate::generate;
+use ev_memory::NoMemory;
+use std::alloc::Global;
+
+// The summary of the walk of a document that has a net. One that has none, as no generated document is, would be told as
+// want of memory, which is the one answer that needs no cause.
+fn summary(alloc: Global, bytes: &[u8]) -> Result<Printed, NoMemory>
+    ensures { IfOk result (λ p. IsSummaryOf bytes.now p.text.items p.journal.items) }
+{
+    let Ok(net) = net(alloc, bytes) else {
+        return Err(NoMemory);
+    };
+    let Ok(ran) = make_run(alloc, &net, Schedule::Walk) else {
+        return Err(NoMemory);
+    };
+    let text = run_summary(alloc, &net, &ran)?;
+    Ok(Printed {
+        text,
+        journal: ran.journal,
+    })
+}
+
+/// The document that a seed makes, or the summary of its walk.
+pub fn of_seed(alloc: Global, seed: u64, summarized: bool) -> Result<Printed, NoMemory>
+    ensures { IfOk result (λ p. IsGenerated seed summarized p.text.items p.journal.items) }
+{
+    let document = generate(alloc, seed)?;
+    if summarized {
+        summary(alloc, &document)
+    } else {
+        Ok(Printed::alone(alloc, document))
+    }
+}

@@ -1,0 +1,131 @@
+//! Runs of a network, and what they leave.
+ghost use Rattle.std.specs.Prelude.{◌≡◌, ◌≤◌, ℕ, [], length, IfOk, IsErrOf};
+ghost use Rattle.ev_model.specs.Sound.{IsSound};
+ghost use Rattle.ev_net.specs.Network.{IsLegal, refused_by, received_by};
+ghost use Rattle.ev_quiet.specs.Runs.{turns_first, of_clients};
+ghost use Rattle.ev_quiet.specs.Ran.{IsRan, IsThrough};
+ghost use Rattle.ev_quiet.specs.Faults.{StopsAtLine};
+
+use crate::refusal::Refusal;
+use crate::words::Schedule;
+use ev_input::Fault;
+use ev_memory::NoMemory;
+use ev_model::{Delivery, Entry, Net, Turn};
+use ev_net::Network;
+use ev_wire::Lists;
+use std::alloc::Global;
+
+/// What a run leaves.
+#[derive(Drop)]
+pub struct Ran {
+    /// What the servers did.
+    pub journal: Vec<Entry>,
+    /// Of each client the ordinals of its refused publishes.
+    pub refused: Vec<Lists<u32>>,
+    /// And what was delivered to it.
+    pub received: Vec<Lists<Delivery>>,
+}
+
+// The turns that come before the walk.
+fn turns_first(net: &Net, schedule: Schedule) -> &[(u32, Turn)]
+    ensures { result.now ≡ turns_first schedule net.now }
+{
+    match schedule {
+        Schedule::Walk => &[],
+        Schedule::Replay => &net.schedule,
+    }
+}
+
+// The network after the turns of a schedule and the walk.
+fn through<'a>(alloc: Global, net: &'a Net, schedule: Schedule) -> Result<Network<'a>, Refusal>
+    requires { IsSound net.now }
+    ensures through { IfOk result (λ network. IsThrough schedule net.now network) }
+    ensures bad { (line : ℕ) (kind : Fault) → IsErrOf result (Refusal.BadInput line kind)
+        → (kind ≡ Fault.BadTurn) × StopsAtLine net.now [] (turns_first schedule net.now) line }
+    ensures unread { IsErrOf result Refusal.ReadFault → ⊥ }
+{
+    let mut network = Network::start(alloc, net)?;
+    network.replay(turns_first(net, schedule))?;
+    network.walk()?;
+    Ok(network)
+}
+
+// An equal journal.
+fn copied(alloc: Global, journal: &[Entry]) -> Result<Vec<Entry>, NoMemory>
+    ensures { IfOk result (λ copy. copy.items ≡ journal.now) }
+{
+    let mut copy = Vec::with_capacity(alloc, journal.len())?;
+    for entry in journal {
+        copy.push(entry.copy(alloc)?)?;
+    }
+    Ok(copy)
+}
+
+// Equal deliveries.
+fn copied_deliveries(alloc: Global, deliveries: &[Delivery]) -> Result<Vec<Delivery>, NoMemory>
+    ensures { IfOk result (λ copy. copy.items ≡ deliveries.now) }
+{
+    let mut copy = Vec::with_capacity(alloc, deliveries.len())?;
+    for delivery in deliveries {
+        copy.push(delivery.copy(alloc)?)?;
+    }
+    Ok(copy)
+}
+
+// Of each client the ordinals of its refused publishes.
+fn refused(alloc: Global, network: &Network<'_>, clients: u32) -> Result<Vec<Lists<u32>>, NoMemory>
+    requires { length network.now.net.clients ≡ clients }
+    ensures { IfOk result (λ lists. lists.items ≡ of_clients network.now.net (refused_by network.now.net network.now.journal)) }
+{
+    let mut lists = Vec::new(alloc);
+    for place in 0..clients {
+        let ordinals = network.refused(place + 1).to_vec(alloc)?;
+        lists.push(Lists::of(ordinals))?;
+    }
+    Ok(lists)
+}
+
+// What was delivered to each client.
+fn received(
+    alloc: Global,
+    network: &Network<'_>,
+    clients: u32,
+) -> Result<Vec<Lists<Delivery>>, NoMemory>
+    requires { length network.now.net.clients ≡ clients }
+    ensures { IfOk result (λ lists. lists.items ≡ of_clients network.now.net (received_by network.now.net network.now.journal)) }
+{
+    let mut lists = Vec::new(alloc);
+    for place in 0..clients {
+        let deliveries = copied_deliveries(alloc, network.received(place + 1))?;
+        lists.push(Lists::of(deliveries))?;
+    }
+    Ok(lists)
+}
+
+// How many clients a net has.
+fn clients(net: &Net) -> u32
+    requires { IsSound net.now }
+    ensures { result ≡ length net.now.clients }
+{
+    net.clients.len() as u32
+}
+
+/// The run of a net by the turns of a schedule and the walk.
+pub fn make_run(alloc: Global, net: &Net, schedule: Schedule) -> Result<Ran, Refusal>
+    requires { IsSound net.now }
+    ensures ran { IfOk result (λ ran. IsRan schedule net.now ran) }
+    ensures bad { (line : ℕ) (kind : Fault) → IsErrOf result (Refusal.BadInput line kind)
+        → (kind ≡ Fault.BadTurn) × StopsAtLine net.now [] (turns_first schedule net.now) line }
+    ensures unread { IsErrOf result Refusal.ReadFault → ⊥ }
+{
+    let network = through(alloc, net, schedule)?;
+    let count = clients(net);
+    let journal = copied(alloc, network.journal())?;
+    let refused = refused(alloc, &network, count)?;
+    let received = received(alloc, &network, count)?;
+    Ok(Ran {
+        journal,
+        refused,
+        received,
+    })
+}

@@ -1,0 +1,58 @@
+//! Documents from sources.
+ghost use Rattle.std.specs.Prelude.{◌≡◌, ◌≤◌, ◌⊎◌, ℕ, length, IfOk, IsOk, IsErrOf};
+ghost use Rattle.ev_outside.specs.Cause.{Rose};
+ghost use Rattle.ev_outside.specs.Whole.{Gave, GaveAll};
+ghost use Rattle.ev_model.specs.Parts.{NetParts};
+ghost use Rattle.ev_model.specs.Sound.{IsSound};
+ghost use Rattle.ev_input.specs.Net.{IsNetOf, IsBadAt};
+ghost use Rattle.ev_quiet.specs.Promise.{AreOfNotices};
+
+use crate::notices::settle;
+use crate::refusal::Refusal;
+use ev_input::law::net_is_sound;
+use ev_input::{Fault, read_net};
+use ev_model::Net;
+use ev_outside::{ReadAll, Source, read_all};
+use std::alloc::Global;
+
+const MOST_BYTES: usize = 4_194_304;
+
+/// All bytes of a source, of which there are at most 4,194,304.
+pub fn document<S: Source>(alloc: Global, source: &mut S) -> Result<Vec<u8>, Refusal>
+    ensures all { IfOk result (λ bytes. GaveAll (S.left source.old) (S.left source.new) bytes.items) }
+    ensures long { (line : ℕ) (kind : Fault) → IsErrOf result (Refusal.BadInput line kind)
+        → (line ≡ 0) × (kind ≡ Fault.TooLong) × Gave (S.left source.old) (S.left source.new) (λ given. length given ≡ 4194305) }
+    ensures failed { IsErrOf result Refusal.ReadFault → Rose (S.faults source.old) (S.faults source.new) }
+    ensures at_most { Gave (S.left source.old) (S.left source.new) (λ given. length given ≤ 4194305) }
+{
+    match read_all(alloc, source, MOST_BYTES) {
+        Ok(bytes) => Ok(bytes),
+        Err(ReadAll::TooLong) => Err(Refusal::BadInput {
+            line: 0,
+            kind: Fault::TooLong,
+        }),
+        Err(ReadAll::Failed) => Err(Refusal::ReadFault),
+        Err(ReadAll::NoMemory) => Err(Refusal::NoMemory),
+    }
+}
+
+/// The net of a document.
+pub fn net(alloc: Global, bytes: &[u8]) -> Result<Net, Refusal>
+    ensures net { IfOk result (λ net. IsNetOf bytes.now net) }
+    ensures sound { IfOk result IsSound }
+    ensures notices { IfOk result (λ net. AreOfNotices net.clients) }
+    ensures given { (net : NetParts) → IsNetOf bytes.now net → IsOk result ⊎ IsErrOf result Refusal.NoMemory }
+    ensures bad { (line : ℕ) (kind : Fault) → IsErrOf result (Refusal.BadInput line kind) → IsBadAt bytes.now line kind }
+    ensures refused { (line : ℕ) (kind : Fault) → IsBadAt bytes.now line kind
+        → IsErrOf result (Refusal.BadInput line kind) ⊎ IsErrOf result Refusal.NoMemory }
+    ensures unread { IsErrOf result Refusal.ReadFault → ⊥ }
+{
+    net_is_sound();
+    match read_net(alloc, bytes) {
+        Ok(net) => {
+            settle(&net);
+            Ok(net)
+        }
+        Err(fault) => Err(Refusal::from(fault)),
+    }
+}

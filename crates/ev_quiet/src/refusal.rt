@@ -1,0 +1,88 @@
+//! Why nothing is written.
+ghost use Rattle.std.specs.Prelude.{◌≡◌};
+ghost use Rattle.ev_quiet.specs.Refusals.{status_of, refusal_of_fault, refusal_of_turn};
+ghost use Rattle.ev_quiet.specs.declared.refusal.Refusal.TheVariants as refusals;
+
+use crate::status::Status;
+use ev_input::{Fault, InputFault};
+use ev_memory::NoMemory;
+use ev_net::ReplayFault;
+use std::alloc::{AllocError, AllocFailed};
+
+/// Why nothing is written.
+#[derive(Clone, Copy, Debug, PartialEq, Eq)]
+pub enum Refusal {
+    /// The document is refused, or a turn of its schedule isn't permitted.
+    BadInput {
+        /// The line.
+        line: u32,
+        /// Its fault.
+        kind: Fault,
+    },
+    /// The input could not be read.
+    ReadFault,
+    /// Memory ran out.
+    NoMemory,
+}
+
+impl Refusal {
+    /// The status that tells it.
+    pub fn status(self) -> Status
+        ensures { result ≡ status_of self }
+    {
+        match self {
+            Refusal::BadInput { line, kind } => Status::BadInput { line, kind },
+            Refusal::ReadFault => Status::ReadFault,
+            Refusal::NoMemory => Status::NoMemory,
+        }
+    }
+}
+
+impl From<InputFault> for Refusal {
+    ghost from_gives = { λ fault e. e ≡ refusal_of_fault fault };
+
+    fn from(fault: InputFault) -> Self {
+        match fault {
+            InputFault::Bad { line, kind } => Refusal::BadInput { line, kind },
+            InputFault::NoMemory => Refusal::NoMemory,
+        }
+    }
+}
+
+impl From<ReplayFault> for Refusal {
+    ghost from_gives = { λ fault e. e ≡ refusal_of_turn fault };
+
+    fn from(fault: ReplayFault) -> Self {
+        match fault {
+            ReplayFault::BadTurn(line) => Refusal::BadInput {
+                line,
+                kind: Fault::BadTurn,
+            },
+            ReplayFault::NoMemory => Refusal::NoMemory,
+        }
+    }
+}
+
+impl From<NoMemory> for Refusal {
+    ghost from_gives = { λ _ e. e ≡ refusals.NoMemory };
+
+    fn from(_: NoMemory) -> Self {
+        Refusal::NoMemory
+    }
+}
+
+impl From<AllocError> for Refusal {
+    ghost from_gives = { λ _ e. e ≡ refusals.NoMemory };
+
+    fn from(_: AllocError) -> Self {
+        Refusal::NoMemory
+    }
+}
+
+impl<T: Drop> From<AllocFailed<T>> for Refusal {
+    ghost from_gives = { λ _ e. e ≡ refusals.NoMemory };
+
+    fn from(_: AllocFailed<T>) -> Self {
+        Refusal::NoMemory
+    }
+}

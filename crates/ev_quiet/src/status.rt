@@ -1,0 +1,107 @@
+//! How a run ends, and what it says of a fault.
+ghost use Rattle.std.specs.Prelude.{◌≡◌, ◌++◌, ◌∷◌, [], IfOk, OnOk, codes};
+ghost use Rattle.std.specs.Fmt.{decimal};
+ghost use Rattle.ev_quiet.specs.Status.{kind_text, status_number, status_text};
+
+use ev_input::Fault;
+use ev_memory::NoMemory;
+use itoa::Buffer;
+use std::alloc::Global;
+
+/// How a run ended. A bad input is told with the number of its line: the end counts as the line behind the last, and 0
+/// stands for the whole.
+#[derive(Clone, Copy, Debug, PartialEq, Eq)]
+pub enum Status {
+    /// All was read and written.
+    Done,
+    /// The words are outside.
+    Usage,
+    /// The document is refused, or a turn of its schedule isn't permitted.
+    BadInput {
+        /// The line.
+        line: u32,
+        /// Its fault.
+        kind: Fault,
+    },
+    /// The input could not be read.
+    ReadFault,
+    /// The output could not be written.
+    WriteFault,
+    /// Memory ran out.
+    NoMemory,
+}
+
+impl Status {
+    /// The number with which the program ends.
+    pub fn number(self) -> u8
+        ensures { result ≡ status_number self }
+    {
+        match self {
+            Status::Done => 0,
+            Status::Usage => 2,
+            Status::BadInput { line: _, kind: _ } => 3,
+            Status::ReadFault => 4,
+            Status::WriteFault => 5,
+            Status::NoMemory => 6,
+        }
+    }
+}
+
+fn kind_text(kind: Fault) -> &'static [u8]
+    ensures { result.now ≡ kind_text kind }
+{
+    match kind {
+        Fault::TooLong => b"toolong",
+        Fault::Ended => b"ended",
+        Fault::Header => b"header",
+        Fault::Order => b"order",
+        Fault::Words => b"words",
+        Fault::Range => b"range",
+        Fault::Apart => b"apart",
+        Fault::Twice => b"twice",
+        Fault::Loop => b"loop",
+        Fault::Name => b"name",
+        Fault::Count => b"count",
+        Fault::Syntax => b"syntax",
+        Fault::Value => b"value",
+        Fault::Operand => b"operand",
+        Fault::Repeat => b"repeat",
+        Fault::Commands => b"commands",
+        Fault::Publications => b"publications",
+        Fault::MuchControl => b"muchcontrol",
+        Fault::MuchNotice => b"muchnotice",
+        Fault::BadTurn => b"badturn",
+    }
+}
+
+fn push_bad_input(out: &mut Vec<u8>, line: u32, kind: Fault) -> Result<(), NoMemory>
+    ensures { OnOk result (out.new.items ≡ out.old.items ++ codes "siena: line " ++ decimal line ++ codes ": " ++ kind_text kind ++ 10 ∷ []) }
+{
+    let mut buffer = Buffer::new();
+    out.extend_from_slice(b"siena: line ")?;
+    out.extend_from_slice(buffer.format(line).as_bytes())?;
+    out.extend_from_slice(b": ")?;
+    out.extend_from_slice(kind_text(kind))?;
+    out.extend_from_slice(b"\n")?;
+    Ok(())
+}
+
+const USAGE: &[u8] =
+    b"siena: usage: walk, run or replay [--sorted] [--trace]; flood; check; gen --seed N [--summary]\n";
+
+/// What goes to standard error: one line, or nothing where the run is done.
+#[tactic(auto, unfolding(crate::specs::Status::status_text))]
+pub fn fault_text(alloc: Global, status: &Status) -> Result<Vec<u8>, NoMemory>
+    ensures { IfOk result (λ text. text.items ≡ status_text status.now) }
+{
+    let mut out = Vec::new(alloc);
+    match status {
+        Status::Done => {}
+        Status::Usage => out.extend_from_slice(USAGE)?,
+        Status::BadInput { line, kind } => push_bad_input(&mut out, *line, *kind)?,
+        Status::ReadFault => out.extend_from_slice(b"siena: the input could not be read\n")?,
+        Status::WriteFault => out.extend_from_slice(b"siena: the output could not be written\n")?,
+        Status::NoMemory => out.extend_from_slice(b"siena: out of memory\n")?,
+    }
+    Ok(out)
+}

@@ -1,0 +1,126 @@
+//! The top call.
+ghost use Rattle.std.specs.Prelude.{◌≡◌, ◌≢◌, ◌≤◌, ◌⊎◌, ◌↔◌, ℕ, [], true, false, None, Some, length};
+ghost use Rattle.std.specs.Io.KnownBytes.{IsAtEnd, Appends};
+ghost use Rattle.ev_outside.specs.Cause.{Rose};
+ghost use Rattle.ev_outside.specs.Whole.{Gave, AppendsPart};
+ghost use Rattle.ev_quiet.specs.Words.{wanted_by};
+ghost use Rattle.ev_quiet.specs.Answers.{Prints, PrintsPart, reads, HasFault, TellsRefused, CanAnswer};
+
+use crate::answer::answer;
+use crate::printed::Printed;
+use crate::status::Status;
+use crate::words::{Wanted, read_words};
+use ev_input::Fault;
+use ev_model::Entry;
+use ev_outside::{Sink, Source, Word, write_all};
+use std::alloc::Global;
+
+/// How a run ended, and its journal in the order of the turns: that of the run for `walk`, `replay` and a summary, and
+/// empty for all else and where it is not done.
+#[derive(Drop)]
+pub struct Outcome {
+    /// How it ended.
+    pub status: Status,
+    /// The journal.
+    pub journal: Vec<Entry>,
+}
+
+fn ended(alloc: Global, status: Status) -> Outcome
+    ensures status { result.status ≡ status }
+    ensures journal { result.journal.items ≡ [] }
+{
+    Outcome {
+        status,
+        journal: Vec::new(alloc),
+    }
+}
+
+// Writes a text.
+fn written<K: Sink>(alloc: Global, printed: Printed, sink: &mut K) -> Outcome
+    ensures done { result.status ≡ Status.Done → Appends (K.written sink.old) (K.written sink.new) printed.text.items }
+    ensures journal { result.status ≡ Status.Done → result.journal.items ≡ printed.journal.items }
+    ensures part { result.status ≡ Status.WriteFault → AppendsPart (K.written sink.old) (K.written sink.new) printed.text.items }
+    ensures write_fault { result.status ≡ Status.WriteFault → Rose (K.faults sink.old) (K.faults sink.new) }
+    ensures empty { result.status ≢ Status.Done → result.journal.items ≡ [] }
+    ensures ends { (result.status ≡ Status.Done) ⊎ (result.status ≡ Status.WriteFault) }
+{
+    match write_all(sink, &printed.text) {
+        Ok(()) => Outcome {
+            status: Status::Done,
+            journal: printed.journal,
+        },
+        Err(_) => ended(alloc, Status::WriteFault),
+    }
+}
+
+// Does what is wanted.
+fn carry_out<S: Source, K: Sink>(
+    alloc: Global,
+    wanted: Wanted,
+    source: &mut S,
+    sink: &mut K,
+) -> Outcome
+    ensures printed { result.status ≡ Status.Done
+        → Prints (Some wanted) (S.left source.old) result.journal.items (K.written sink.old) (K.written sink.new) }
+    ensures read { result.status ≡ Status.Done → reads (Some wanted) ≡ true → IsAtEnd (S.left source.new) }
+    ensures unread { reads (Some wanted) ≡ false → source.new ≡ source.old }
+    ensures at_most { reads (Some wanted) ≡ true → Gave (S.left source.old) (S.left source.new) (λ given. length given ≤ 4194305) }
+    ensures unwritten { result.status ≢ Status.Done → result.status ≢ Status.WriteFault → sink.new ≡ sink.old }
+    ensures journal { result.status ≢ Status.Done → result.journal.items ≡ [] }
+    ensures usage { result.status ≢ Status.Usage }
+    ensures bad_input { (line : ℕ) (kind : Fault) → result.status ≡ Status.BadInput line kind
+        → HasFault (Some wanted) (S.left source.old) line kind }
+    ensures read_fault { result.status ≡ Status.ReadFault → Rose (S.faults source.old) (S.faults source.new) }
+    ensures write_fault { result.status ≡ Status.WriteFault → Rose (K.faults sink.old) (K.faults sink.new) }
+    ensures part { result.status ≡ Status.WriteFault
+        → PrintsPart (Some wanted) (S.left source.old) (K.written sink.old) (K.written sink.new) }
+    ensures refused { (line : ℕ) (kind : Fault) → TellsRefused (Some wanted) (S.left source.old) line kind
+        → (Rose (S.faults source.old) (S.faults source.new) → ⊥)
+        → (result.status ≡ Status.BadInput line kind) ⊎ (result.status ≡ Status.NoMemory) }
+    ensures complete { CanAnswer (Some wanted) (S.left source.old)
+        → (Rose (S.faults source.old) (S.faults source.new) → ⊥) → (Rose (K.faults sink.old) (K.faults sink.new) → ⊥)
+        → (result.status ≡ Status.Done) ⊎ (result.status ≡ Status.NoMemory) }
+{
+    match answer(alloc, wanted, source) {
+        Ok(printed) => written(alloc, printed, sink),
+        Err(refusal) => ended(alloc, refusal.status()),
+    }
+}
+
+/// Does what the words say, and waits for nobody. The words are read first, then the source, whose document is refused at
+/// its first fault; then the run is made, and then the text is written. All memory is taken before the first write.
+///
+/// `walk` and `replay` print what each client receives in a run of the network, `flood` what flooding owes and allows it,
+/// `check` how much the document has, and `gen` the document of a seed, or the summary of its walk.
+pub fn quiet<S: Source, K: Sink>(
+    alloc: Global,
+    words: &[Word],
+    source: &mut S,
+    sink: &mut K,
+) -> Outcome
+    ensures printed { result.status ≡ Status.Done
+        → Prints (wanted_by words.now) (S.left source.old) result.journal.items (K.written sink.old) (K.written sink.new) }
+    ensures read { result.status ≡ Status.Done → reads (wanted_by words.now) ≡ true → IsAtEnd (S.left source.new) }
+    ensures unread { reads (wanted_by words.now) ≡ false → source.new ≡ source.old }
+    ensures at_most { reads (wanted_by words.now) ≡ true → Gave (S.left source.old) (S.left source.new) (λ given. length given ≤ 4194305) }
+    ensures unwritten { result.status ≢ Status.Done → result.status ≢ Status.WriteFault → sink.new ≡ sink.old }
+    ensures journal { result.status ≢ Status.Done → result.journal.items ≡ [] }
+    ensures usage { result.status ≡ Status.Usage ↔ (wanted_by words.now ≡ None) }
+    ensures bad_input { (line : ℕ) (kind : Fault) → result.status ≡ Status.BadInput line kind
+        → HasFault (wanted_by words.now) (S.left source.old) line kind }
+    ensures read_fault { result.status ≡ Status.ReadFault → Rose (S.faults source.old) (S.faults source.new) }
+    ensures write_fault { result.status ≡ Status.WriteFault → Rose (K.faults sink.old) (K.faults sink.new) }
+    ensures part { result.status ≡ Status.WriteFault
+        → PrintsPart (wanted_by words.now) (S.left source.old) (K.written sink.old) (K.written sink.new) }
+    ensures refused { (line : ℕ) (kind : Fault) → TellsRefused (wanted_by words.now) (S.left source.old) line kind
+        → (Rose (S.faults source.old) (S.faults source.new) → ⊥)
+        → (result.status ≡ Status.BadInput line kind) ⊎ (result.status ≡ Status.NoMemory) }
+    ensures complete { CanAnswer (wanted_by words.now) (S.left source.old)
+        → (Rose (S.faults source.old) (S.faults source.new) → ⊥) → (Rose (K.faults sink.old) (K.faults sink.new) → ⊥)
+        → (result.status ≡ Status.Done) ⊎ (result.status ≡ Status.NoMemory) }
+{
+    match read_words(words) {
+        Some(wanted) => carry_out(alloc, wanted, source, sink),
+        None => ended(alloc, Status::Usage),
+    }
+}

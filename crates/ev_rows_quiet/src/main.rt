@@ -1,0 +1,28 @@
+//! Runs rows of words and documents through the program over devices in memory, and prints of each whether what it told
+//! and wrote is as wanted.
+#![tactic(auto)]
+
+mod devices;
+mod failure;
+mod faults;
+mod generated;
+mod large;
+mod replays;
+mod row;
+mod runs;
+mod tried;
+mod usage;
+
+use failure::Failure;
+
+fn main(rt: HostRuntime) -> Result<(), Failure> {
+    let alloc = rt.alloc();
+    tried::print_rows(&rt, alloc, &runs::RUNS)?;
+    tried::print_rows(&rt, alloc, &replays::REPLAYS)?;
+    tried::print_rows(&rt, alloc, &replays::FLOODS)?;
+    tried::print_rows(&rt, alloc, &faults::FAULTS)?;
+    tried::print_rows(&rt, alloc, &usage::USAGE)?;
+    devices::print_devices(&rt, alloc)?;
+    large::print_large(&rt, alloc)?;
+    generated::print_generated(&rt, alloc)
+}
