@@ -48,6 +48,8 @@ pub fn read_all<S: Source>(alloc: Global, source: &mut S, limit: usize) -> Resul
     ensures failed_within { IsErrOf result ReadAll.Failed → Gave (S.left source.old) (S.left source.new) (λ given. length given ≤ limit) }
     ensures at_most { Gave (S.left source.old) (S.left source.new) (λ given. length given ≤ limit + 1) }
     ensures later { S.faults source.old ≤ S.faults source.new }
+    ensures kept { OnOk result (S.faults source.new ≡ S.faults source.old) }
+    ensures kept_at_the_limit { IsErrOf result ReadAll.TooLong → S.faults source.new ≡ S.faults source.old }
     ensures failed { IsErrOf result ReadAll.Failed → Rose (S.faults source.old) (S.faults source.new) }
 {
     let mut bytes = Vec::new(alloc);
