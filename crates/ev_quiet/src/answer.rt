@@ -18,6 +18,7 @@ use std::alloc::Global;
 fn of_source<S: Source>(alloc: Global, query: Query, source: &mut S) -> Result<Printed, Refusal>
     ensures printed { IfOk result (λ p. IsPrintedBy (Wanted.Document query) (S.left source.old) p.text.items p.journal.items) }
     ensures end { OnOk result (IsAtEnd (S.left source.new)) }
+    ensures sure { OnOk result (S.faults source.new ≡ S.faults source.old) }
     ensures bad { (line : ℕ) (kind : Fault) → IsErrOf result (Refusal.BadInput line kind)
         → HasFaultFor (Wanted.Document query) (S.left source.old) line kind }
     ensures failed { IsErrOf result Refusal.ReadFault → Rose (S.faults source.old) (S.faults source.new) }
@@ -37,6 +38,7 @@ fn of_source<S: Source>(alloc: Global, query: Query, source: &mut S) -> Result<P
 pub fn answer<S: Source>(alloc: Global, wanted: Wanted, source: &mut S) -> Result<Printed, Refusal>
     ensures printed { IfOk result (λ p. IsPrintedBy wanted (S.left source.old) p.text.items p.journal.items) }
     ensures end { OnOk result (reads_document wanted ≡ true → IsAtEnd (S.left source.new)) }
+    ensures sure { OnOk result (S.faults source.new ≡ S.faults source.old) }
     ensures unread { reads_document wanted ≡ false → source.new ≡ source.old }
     ensures bad { (line : ℕ) (kind : Fault) → IsErrOf result (Refusal.BadInput line kind) → HasFaultFor wanted (S.left source.old) line kind }
     ensures failed { IsErrOf result Refusal.ReadFault → Rose (S.faults source.old) (S.faults source.new) }

@@ -1,5 +1,5 @@
 //! Documents from sources.
-ghost use Rattle.std.specs.Prelude.{◌≡◌, ◌≤◌, ◌⊎◌, ℕ, length, IfOk, IsOk, IsErrOf};
+ghost use Rattle.std.specs.Prelude.{◌≡◌, ◌≤◌, ◌⊎◌, ℕ, length, IfOk, OnOk, IsOk, IsErrOf};
 ghost use Rattle.ev_outside.specs.Cause.{Rose};
 ghost use Rattle.ev_outside.specs.Whole.{Gave, GaveAll};
 ghost use Rattle.ev_model.specs.Parts.{NetParts};
@@ -20,6 +20,7 @@ const MOST_BYTES: usize = 4_194_304;
 /// All bytes of a source, of which there are at most 4,194,304.
 pub fn document<S: Source>(alloc: Global, source: &mut S) -> Result<Vec<u8>, Refusal>
     ensures all { IfOk result (λ bytes. GaveAll (S.left source.old) (S.left source.new) bytes.items) }
+    ensures sure { OnOk result (S.faults source.new ≡ S.faults source.old) }
     ensures long { (line : ℕ) (kind : Fault) → IsErrOf result (Refusal.BadInput line kind)
         → (line ≡ 0) × (kind ≡ Fault.TooLong) × Gave (S.left source.old) (S.left source.new) (λ given. length given ≡ 4194305) }
     ensures failed { IsErrOf result Refusal.ReadFault → Rose (S.faults source.old) (S.faults source.new) }

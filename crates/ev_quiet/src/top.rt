@@ -38,6 +38,7 @@ fn ended(alloc: Global, status: Status) -> Outcome
 // Writes a text.
 fn written<K: Sink>(alloc: Global, printed: Printed, sink: &mut K) -> Outcome
     ensures done { result.status ≡ Status.Done → Appends (K.written sink.old) (K.written sink.new) printed.text.items }
+    ensures sure { result.status ≡ Status.Done → K.faults sink.new ≡ K.faults sink.old }
     ensures journal { result.status ≡ Status.Done → result.journal.items ≡ printed.journal.items }
     ensures part { result.status ≡ Status.WriteFault → AppendsPart (K.written sink.old) (K.written sink.new) printed.text.items }
     ensures write_fault { result.status ≡ Status.WriteFault → Rose (K.faults sink.old) (K.faults sink.new) }
@@ -63,6 +64,7 @@ fn carry_out<S: Source, K: Sink>(
     ensures printed { result.status ≡ Status.Done
         → Prints (Some wanted) (S.left source.old) result.journal.items (K.written sink.old) (K.written sink.new) }
     ensures read { result.status ≡ Status.Done → reads (Some wanted) ≡ true → IsAtEnd (S.left source.new) }
+    ensures sure { result.status ≡ Status.Done → (S.faults source.new ≡ S.faults source.old) × (K.faults sink.new ≡ K.faults sink.old) }
     ensures unread { reads (Some wanted) ≡ false → source.new ≡ source.old }
     ensures at_most { reads (Some wanted) ≡ true → Gave (S.left source.old) (S.left source.new) (λ given. length given ≤ 4194305) }
     ensures unwritten { result.status ≢ Status.Done → result.status ≢ Status.WriteFault → sink.new ≡ sink.old }
@@ -101,6 +103,7 @@ pub fn quiet<S: Source, K: Sink>(
     ensures printed { result.status ≡ Status.Done
         → Prints (wanted_by words.now) (S.left source.old) result.journal.items (K.written sink.old) (K.written sink.new) }
     ensures read { result.status ≡ Status.Done → reads (wanted_by words.now) ≡ true → IsAtEnd (S.left source.new) }
+    ensures sure { result.status ≡ Status.Done → (S.faults source.new ≡ S.faults source.old) × (K.faults sink.new ≡ K.faults sink.old) }
     ensures unread { reads (wanted_by words.now) ≡ false → source.new ≡ source.old }
     ensures at_most { reads (wanted_by words.now) ≡ true → Gave (S.left source.old) (S.left source.new) (λ given. length given ≤ 4194305) }
     ensures unwritten { result.status ≢ Status.Done → result.status ≢ Status.WriteFault → sink.new ≡ sink.old }

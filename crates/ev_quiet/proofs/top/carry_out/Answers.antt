@@ -65,3 +65,9 @@ returns-in-Err-clause-refused g c = λ line kind t n.
 
 pub returns-in-Err-clause-complete : goal.returns-in-Err-clause-complete
 returns-in-Err-clause-complete g c = λ a n m. ended-status c.in-Err.refusal c.ended.result.status (c.ended.ensures.status ∙ c.status.ensures) (c.in-Err.ensures.done a n)
+
+pub returns-in-Ok-clause-sure : goal.returns-in-Ok-clause-sure
+returns-in-Ok-clause-sure g c = λ d. (c.in-Ok.ensures.sure, c.written.ensures.sure d)
+
+pub returns-in-Err-clause-sure : goal.returns-in-Err-clause-sure
+returns-in-Err-clause-sure g c = λ d. absurd (not-done c.in-Err.refusal (sym (c.ended.ensures.status ∙ c.status.ensures) ∙ d))

@@ -73,3 +73,6 @@ returns-in-None-clause-write_fault g c = λ d. (let h = sym c.ended.ensures.stat
 
 pub returns-in-None-clause-part : goal.returns-in-None-clause-part
 returns-in-None-clause-part g c = λ d. (let h = sym c.ended.ensures.status ∙ d in absurd cc)
+
+pub returns-in-None-clause-sure : goal.returns-in-None-clause-sure
+returns-in-None-clause-sure g c = λ d. (let h = sym c.ended.ensures.status ∙ d in absurd cc)
