@@ -13,7 +13,6 @@ use ev_memory::NoMemory;
 use ev_notice::Notice;
 use std::alloc::Global;
 use std::marker::Model;
-use std::sync::Arc;
 
 /// A notice with the id of its publication and with its text, which stand once in memory for all who own them.
 ///
@@ -21,21 +20,20 @@ use std::sync::Arc;
 #[derive(Drop)]
 pub struct SharedNotice {
     id: Id,
-    notice: Arc<Notice>,
+    notice: Notice,
     text: SharedText,
 }
 
 impl Model for SharedNotice {
-    ghost use Rattle.std.specs.Arc.{arc_value};
     ghost use Rattle.ev_wire.specs.NoticeText.{IsNoticeText};
     ghost use Rattle.ev_wire.specs.MessageText.{IsId};
     ghost use Rattle.ev_wire.specs.Shared.{Publication, publication};
 
     ghost Value = { Publication };
 
-    ghost view = { λ shared. publication shared.id (arc_value shared.notice) };
+    ghost view = { λ shared. publication shared.id shared.notice };
 
-    ghost invariant = { λ shared. IsId shared.id × IsNoticeText shared.text (arc_value shared.notice) };
+    ghost invariant = { λ shared. IsId shared.id × IsNoticeText shared.text shared.notice };
 }
 
 impl SharedNotice {
@@ -47,7 +45,6 @@ impl SharedNotice {
     {
         let text = write_notice(alloc, &notice)?;
         let text = SharedText::of(alloc, text)?;
-        let notice = Arc::new(alloc, notice)?;
         Ok(SharedNotice { id, notice, text })
     }
 
@@ -74,10 +71,10 @@ impl SharedNotice {
     }
 
     /// The same publication for one more owner, which takes no memory.
-    pub fn share(&self) -> Result<SharedNotice, NoMemory>
+    pub fn share(&self, alloc: Global) -> Result<SharedNotice, NoMemory>
         ensures { IfOk result (λ shared. shared ≡ self.now) }
     {
-        let notice = self.notice.clone()?;
+        let notice = self.notice.copy(alloc)?;
         let text = self.text.share()?;
         Ok(SharedNotice {
             id: self.id,
