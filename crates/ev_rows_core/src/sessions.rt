@@ -3,7 +3,8 @@ use ev_notice::{Advert, Filter};
 use ev_script::script_command;
 use ev_session::{Planned, Session, read};
 use ev_wire::{
-    Bytes, Command, Delivery, Id, Semantics, read_notice, write_advert, write_filter, write_notice,
+    Command, Delivery, Id, Semantics, SharedText, read_notice, write_advert, write_filter,
+    write_notice,
 };
 use std::alloc::Global;
 use std::rt::HostRuntime;
@@ -151,7 +152,7 @@ fn without_advertisement_semantics_no_publish_is_refused(rt: HostRuntime) -> Res
 // Delivers the notice of the text, and says whether it reads back.
 fn deliver(alloc: Global, session: &mut Session, ordinal: u32, text: &[u8]) -> Result<bool, Fail> {
     let notice = read_notice(alloc, text)?;
-    let bytes = Bytes::of(write_notice(alloc, &notice)?);
+    let bytes = SharedText::of(alloc, write_notice(alloc, &notice)?)?;
     let id = Id {
         publisher: 2,
         ordinal,

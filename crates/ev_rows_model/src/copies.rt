@@ -1,6 +1,6 @@
 //! Copies of an entry and of a delivery.
 use ev_model::{Act, Delivery, Entry, Id};
-use ev_wire::{Bytes, read_notice, write_notice};
+use ev_wire::{SharedText, read_notice, write_notice};
 use std::rt::HostRuntime;
 use std::test::Fail;
 
@@ -31,7 +31,7 @@ fn delivery_copied(rt: HostRuntime) -> Result<(), Fail> {
     };
     let delivery = Delivery {
         id,
-        bytes: Bytes::of(write_notice(alloc, &notice)?),
+        bytes: SharedText::of(alloc, write_notice(alloc, &notice)?)?,
     };
     let copy = delivery.copy(alloc)?;
     assert_eq!(rt; copy.id, id);

@@ -4,7 +4,7 @@ ghost use Rattle.std.specs.Prelude.{◌≡◌, length, IfOk};
 use crate::nets::{net, publish, subscribe};
 use ev_model::{Act, Delivery, Entry, Id, Net, Semantics, Sent};
 use ev_report::{check_text, deliveries_text, trace_text};
-use ev_wire::{Bytes, Lists};
+use ev_wire::{Bytes, Lists, SharedText};
 use std::alloc::Global;
 use std::rt::HostRuntime;
 use std::test::Fail;
@@ -12,7 +12,7 @@ use std::test::Fail;
 fn delivery(alloc: Global, publisher: u32, ordinal: u32, text: &[u8]) -> Result<Delivery, Fail> {
     Ok(Delivery {
         id: Id { publisher, ordinal },
-        bytes: Bytes::of(Vec::from_slice(alloc, text)?),
+        bytes: SharedText::of(alloc, Vec::from_slice(alloc, text)?)?,
     })
 }
 

@@ -2,8 +2,8 @@
 use crate::long::{marks, members};
 use ev_rows::{RowFault, first_word, number, spelled, truth};
 use ev_wire::{
-    Bytes, Command, Delivery, Id, Sent, WireFault, read_advert, read_filter, read_message,
-    read_notice, write_advert, write_filter, write_message, write_notice,
+    Bytes, Command, Delivery, Id, Sent, SharedText, WireFault, read_advert, read_filter,
+    read_message, read_notice, write_advert, write_filter, write_message, write_notice,
 };
 use std::alloc::Global;
 
@@ -98,11 +98,11 @@ fn carried(alloc: Global, bytes: Vec<u8>) -> Result<Bytes, RowFault> {
         publisher: 7,
         ordinal: 12,
     };
-    let bytes = Bytes::of(bytes);
+    let bytes = SharedText::of(alloc, bytes)?;
     let delivery = Delivery { id, bytes }.copy(alloc)?;
     let sent = Sent {
         to: delivery.id.publisher,
-        bytes: delivery.bytes,
+        bytes: Bytes::of(delivery.bytes.as_slice().to_vec(alloc)?),
     };
     Ok(sent.copy(alloc)?.bytes)
 }

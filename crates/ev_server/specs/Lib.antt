@@ -3,6 +3,7 @@ pub mod Step
 pub mod Staged
 pub mod Ledger
 pub mod Acting
+pub mod Outgoing
 pub mod Routed
 pub mod Linked
 pub mod Clients

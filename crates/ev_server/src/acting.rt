@@ -1,23 +1,21 @@
 //! What a message, or a client's planned change, does at a server: the one body of its step.
-ghost use Rattle.std.specs.Prelude.{◌≡◌, ◌≤◌, ℕ, ◌==◌, ◌&&◌, not, nat_le, codes, [], ◌∷◌, ◌++◌, map, List, IfOk, IfSome, OnOk, OnErr};
+ghost use Rattle.std.specs.Prelude.{◌≡◌, ◌≤◌, ℕ, ◌==◌, ◌&&◌, not, nat_le, [], ◌∷◌, ◌++◌, map, List, IfOk, IfSome, OnOk, OnErr};
 ghost use Rattle.ev_routing.specs.Server.{is_among};
 ghost use Rattle.std.specs.List.Sorted.{IsStrictlyIncreasing};
 ghost use Rattle.ev_sets.specs.Sets.{Has};
 ghost use Rattle.ev_session.specs.Inbox.{IsDelivery};
-ghost use Rattle.std.specs.Fmt.{decimal};
-ghost use Rattle.ev_wire.specs.MessageText.{IsId};
 ghost use Rattle.ev_wire.specs.declared.delivery.Delivery.{Delivery as DeliveryParts};
 ghost use Rattle.ev_server.specs.declared.acting.Ready.{Ready as ReadyParts};
 ghost use Rattle.ev_server.specs.Clients.{bare, HaveRoom, StayPlanned};
-ghost use Rattle.ev_server.specs.Acting.{IsClear, IsRouted, HasActed, HasDone, IsSpread, links_on, clients_on, sent_on, delivered, ready_for};
+ghost use Rattle.ev_server.specs.Acting.{IsClear, IsRouted, HasActed, HasDone, IsSpread, planned_message, links_on, clients_on, delivered, ready_for};
 
 use crate::clients::Clients;
+use crate::due::Due;
 use crate::ledger::Ledger;
 use ev_counting::Route;
 use ev_memory::NoMemory;
-use ev_notice::Notice;
-use ev_wire::{Bytes, Delivery, Id, Message, Sent, write_notice};
-use itoa::Buffer;
+use ev_session::Planned;
+use ev_wire::{Delivery, Id, Lists, Message, Semantics, Sent, SharedNotice, SharedText};
 use std::alloc::Global;
 
 /// The last number that a link may have; those above are clients.
@@ -37,107 +35,103 @@ pub(crate) fn act(
     ledger: &mut Ledger,
     clients: &mut Clients,
     from: u32,
-    message: &Message,
+    message: Message,
     route: &Route,
-) -> Result<Vec<Sent>, NoMemory>
-    requires clear { IsClear message.now }
-    requires routed { IsRouted message.now route.now }
-    ensures acted { IfOk result (λ sent. HasActed from message.now route.now ledger.old ledger.new clients.old clients.new sent.items) }
+) -> Result<Lists<Sent>, NoMemory>
+    requires clear { IsClear message }
+    requires routed { IsRouted message route.now }
+    ensures acted { IfOk result (λ sent. HasActed from message route.now ledger.old ledger.new clients.old clients.new sent) }
     ensures planned { StayPlanned clients.old clients.new }
     ensures ledger { OnErr result (ledger.new ≡ ledger.old) }
     ensures clients { OnErr result (map bare clients.new ≡ map bare clients.old) }
 {
     match message {
-        Message::Subs { out, add } => ledger.set_filters(from, out.as_slice(), add.as_slice()),
-        Message::Advs { out, add } => ledger.set_adverts(from, out.as_slice(), add.as_slice()),
+        Message::Subs { out, add } => {
+            let sent = ledger.set_filters(from, out.as_slice(), add.as_slice())?;
+            Ok(Lists::of(sent))
+        }
+        Message::Advs { out, add } => {
+            let sent = ledger.set_adverts(from, out.as_slice(), add.as_slice())?;
+            Ok(Lists::of(sent))
+        }
         Message::Notice { id, notice } => {
             let links = ledger.control().links();
-            spread(alloc, links, clients, from, *id, notice, route.ifaces())
+            let notice = SharedNotice::of(alloc, id, notice)?;
+            spread(alloc, links, clients, from, &notice, route.ifaces())
         }
     }
 }
 
-/// What a plan does, if it is as a message.
-pub(crate) fn act_on(
+/// What a plan does, if it is as a message from the client's interface; what becomes due comes in the form that is asked
+/// for.
+pub(crate) fn act_on<D: Due>(
     alloc: Global,
     ledger: &mut Ledger,
     clients: &mut Clients,
     from: u32,
-    message: Option<Message>,
+    plan: &Planned,
     route: &Route,
-) -> Result<Vec<Sent>, NoMemory>
-    requires clear { IfSome message IsClear }
-    requires routed { IfSome message (λ m. IsRouted m route.now) }
-    ensures done { IfOk result (λ sent. HasDone from message route.now ledger.old ledger.new clients.old clients.new sent.items) }
+) -> Result<D, NoMemory>
+    requires clear { IfSome (planned_message ledger.old.control.semantics plan.now) IsClear }
+    requires routed { IfSome (planned_message ledger.old.control.semantics plan.now) (λ m. IsRouted m route.now) }
+    ensures done { IfOk result (λ due. HasDone from (planned_message ledger.old.control.semantics plan.now) route.now
+        ledger.old ledger.new clients.old clients.new (D.sent due)) }
     ensures planned { StayPlanned clients.old clients.new }
     ensures ledger { OnErr result (ledger.new ≡ ledger.old) }
     ensures clients { OnErr result (map bare clients.new ≡ map bare clients.old) }
 {
-    match message {
-        Some(message) => act(alloc, ledger, clients, from, &message, route),
-        None => Ok(Vec::new(alloc)),
+    match (plan, ledger.control().semantics()) {
+        (Planned::Subs { out, add }, _) => {
+            let sent = ledger.set_filters(from, out.as_slice(), add.as_slice())?;
+            Ok(D::texts(sent))
+        }
+        (Planned::Advs { out, add }, Semantics::Advertisement) => {
+            let sent = ledger.set_adverts(from, out.as_slice(), add.as_slice())?;
+            Ok(D::texts(sent))
+        }
+        (Planned::Publish { id, notice }, _) => {
+            let links = ledger.control().links();
+            let notice = SharedNotice::of(alloc, *id, notice.copy(alloc)?)?;
+            spread(alloc, links, clients, from, &notice, route.ifaces())
+        }
+        _ => Ok(D::texts(Vec::new(alloc))),
     }
 }
 
-/// Sends a notice on and delivers it, by its route. Its text is written once.
-fn spread(
+/// Sends a notice on and delivers it, by its route.
+pub(crate) fn spread<D: Due>(
     alloc: Global,
     links: &[u32],
     clients: &mut Clients,
     from: u32,
-    id: Id,
-    notice: &Notice,
+    notice: &SharedNotice,
     route: &[u32],
-) -> Result<Vec<Sent>, NoMemory>
-    requires id { IsId id }
-    requires rising { IsStrictlyIncreasing route.now }
-    ensures spread { IfOk result (λ sent. IsSpread from id notice.now route.now links.now clients.old clients.new sent.items) }
+) -> Result<D, NoMemory>
+    requires { IsStrictlyIncreasing route.now }
+    ensures spread { IfOk result (λ due. IsSpread from notice.now.id notice.now.notice route.now links.now clients.old clients.new (D.sent due)) }
     ensures planned { StayPlanned clients.old clients.new }
     ensures err { OnErr result (map bare clients.new ≡ map bare clients.old) }
 {
-    let text = write_notice(alloc, notice)?;
-    let message = notice_message(alloc, id, &text)?;
-    let sent = texts_on(alloc, links, from, &message, route)?;
-    let ready = make_ready(alloc, clients, id, &text, route)?;
+    notice.laws();
+    let to = links_of(alloc, links, from, route)?;
+    let due = D::notices(alloc, notice, &to)?;
+    let text = notice.text();
+    let ready = make_ready(alloc, clients, notice.id(), text, route)?;
     deliver(clients, ready);
-    Ok(sent)
+    Ok(due)
 }
 
-/// The text of the message of a notice, by the notice's text.
-fn notice_message(alloc: Global, id: Id, text: &[u8]) -> Result<Vec<u8>, NoMemory>
-    ensures { IfOk result (λ message. message.items ≡ codes "notice " ++ decimal id.publisher ++ 32 ∷ decimal id.ordinal ++ 32 ∷ text.now) }
+/// The links of a route but one.
+fn links_of(alloc: Global, links: &[u32], from: u32, route: &[u32]) -> Result<Vec<u32>, NoMemory>
+    ensures { IfOk result (λ to. to.items ≡ links_on links.now from route.now) }
 {
-    let mut message = Vec::with_capacity(alloc, text.len().saturating_add(24))?;
-    let mut buffer = Buffer::new();
-    message.extend_from_slice(b"notice ")?;
-    message.extend_from_slice(buffer.format(id.publisher).as_bytes())?;
-    message.push(b' ')?;
-    message.extend_from_slice(buffer.format(id.ordinal).as_bytes())?;
-    message.push(b' ')?;
-    message.extend_from_slice(text)?;
-    Ok(message)
-}
-
-/// A copy of a text for each link of a route but one.
-fn texts_on(
-    alloc: Global,
-    links: &[u32],
-    from: u32,
-    message: &[u8],
-    route: &[u32],
-) -> Result<Vec<Sent>, NoMemory>
-    ensures { IfOk result (λ sent. sent.items ≡ sent_on message.now (links_on links.now from route.now)) }
-{
-    let mut sent = Vec::new(alloc);
+    let mut to = Vec::new(alloc);
     for link in route {
         if goes_on(links, from, *link) {
-            sent.push(Sent {
-                to: *link,
-                bytes: Bytes::of(message.to_vec(alloc)?),
-            })?;
+            to.push(*link)?;
         }
     }
-    Ok(sent)
+    Ok(to)
 }
 
 /// Whether a message goes on to an interface: it is one of the links, and not the one that the message came from.
@@ -152,7 +146,7 @@ fn make_ready(
     alloc: Global,
     clients: &mut Clients,
     id: Id,
-    text: &[u8],
+    text: &SharedText,
     route: &[u32],
 ) -> Result<Vec<Ready>, NoMemory>
     ensures ready { IfOk result (λ ready. ready.items ≡ ready_for (record { id = id; bytes = text.now }) (clients_on route.now)) }
@@ -167,7 +161,7 @@ fn make_ready(
         }
         let client = *interface - LAST_LINK;
         clients.make_room(client)?;
-        let bytes = Bytes::of(text.to_vec(alloc)?);
+        let bytes = text.share()?;
         let delivery = Delivery { id, bytes };
         ready.push(Ready { client, delivery })?;
     }

@@ -3,13 +3,16 @@
 
 mod acting;
 mod clients;
+mod due;
 mod ledger;
 mod linking;
+mod outgoing;
 mod server;
 mod staged;
 mod start;
 mod stepped;
 
 pub use linking::Relinked;
+pub use outgoing::{Messages, Outgoing, Passed};
 pub use server::Core;
-pub use stepped::{StepFault, Stepped};
+pub use stepped::{Posted, StepFault, Stepped};

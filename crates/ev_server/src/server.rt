@@ -5,6 +5,7 @@ ghost use Rattle.ev_notice.specs.Notice.{Attribute};
 ghost use Rattle.ev_run.specs.Machine.{Does, Takes};
 ghost use Rattle.ev_routing.specs.Step.{NextCommand, Version};
 ghost use Rattle.ev_wire.specs.declared.id.Id.{Id};
+ghost use Rattle.ev_wire.specs.declared.message.Message.TheVariants as messages;
 ghost use Rattle.ev_wire.specs.MessageText.{IsSendable};
 ghost use Rattle.ev_control.specs.Control.{subs};
 ghost use Rattle.ev_model.specs.Meaning.{message_of};
@@ -14,7 +15,6 @@ ghost use Rattle.ev_session.specs.Session.{SessionParts, net_under};
 ghost use Rattle.ev_routing.specs.Clients.{accepts, some_pass};
 ghost use Rattle.ev_wire.specs.declared.command.Command.TheVariants as commands;
 ghost use Rattle.ev_theory.specs.Real.{real};
-ghost use Rattle.ev_server.specs.Acting.{planned_message};
 ghost use Rattle.ev_server.specs.Clients.{bare, numbers_of};
 ghost use Rattle.ev_server.specs.Core.{CoreParts, core_parts, published_from};
 ghost use Rattle.ev_server.specs.Kept.{IsCore};
@@ -23,17 +23,19 @@ ghost use Rattle.ev_server.specs.Staged.{IsStaged};
 ghost use Rattle.ev_server.specs.Routed.{RoutesNext, RoutesMessage};
 ghost use Rattle.ev_server.specs.Linked.{AreHeldLinks, SuitsCore, IsLinked, IsOnLinks};
 
-use crate::acting::{LAST_LINK, act, act_on};
+use crate::acting::{LAST_LINK, act, act_on, spread};
 use crate::clients::Clients;
+use crate::due::Due;
 use crate::ledger::Ledger;
 use crate::linking::Relinked;
-use crate::stepped::{StepFault, Stepped};
+use crate::outgoing::Outgoing;
+use crate::stepped::{Posted, StepFault, Stepped};
 use ev_control::HeldLink;
 use ev_counting::{Change, Route};
 use ev_memory::NoMemory;
 use ev_notice::{Advert, Notice, allows};
-use ev_session::{Planned, Session};
-use ev_wire::{Command, Message, Semantics};
+use ev_session::Session;
+use ev_wire::{Command, Lists, Message, Semantics, Sent, SharedNotice};
 use std::alloc::Global;
 use std::marker::Model;
 
@@ -91,23 +93,54 @@ impl Core {
         ensures worn { (s : ℕ) → IsErrOf result (StepFault.Worn s) ↔ ((self.old.clock ≡ last_stamp) × (s ≡ last_stamp)) }
         ensures err { OnErr result (self.new ≡ self.old) }
     {
+        let (stamp, sent) = match self.step_command::<Lists<Sent>>(client, route) {
+            Ok(step) => step,
+            Err(fault) => return Err(fault),
+        };
+        let sent = sent.into_vec();
+        Ok(Stepped { stamp, sent })
+    }
+
+    /// The same, where a publication that is sent on is not written out as a text.
+    pub fn post_command(&mut self, client: u32, route: &Route) -> Result<Posted, StepFault>
+        requires lives { Has client (numbers_of self.old.clients) }
+        requires left { (s : SessionParts) → Has s self.old.clients → s.client ≡ client → s.taken < length s.script }
+        requires route { RoutesNext self.old client route.now }
+        ensures step { IfOk result (λ s. MakesStep (Does (NextCommand client)) 0 self.old self.new s.stamp s.sent) }
+        ensures worn { (s : ℕ) → IsErrOf result (StepFault.Worn s) ↔ ((self.old.clock ≡ last_stamp) × (s ≡ last_stamp)) }
+        ensures err { OnErr result (self.new ≡ self.old) }
+    {
+        match self.step_command::<Outgoing>(client, route) {
+            Ok((stamp, sent)) => Ok(Posted { stamp, sent }),
+            Err(fault) => Err(fault),
+        }
+    }
+
+    /// Takes the next command of a client; what is sent comes in the form that is asked for.
+    fn step_command<D: Due>(&mut self, client: u32, route: &Route) -> Result<(u64, D), StepFault>
+        requires lives { Has client (numbers_of self.old.clients) }
+        requires left { (s : SessionParts) → Has s self.old.clients → s.client ≡ client → s.taken < length s.script }
+        requires route { RoutesNext self.old client route.now }
+        ensures step { IfOk result (λ s. MakesStep (Does (NextCommand client)) 0 self.old self.new s.0 (D.sent s.1)) }
+        ensures worn { (s : ℕ) → IsErrOf result (StepFault.Worn s) ↔ ((self.old.clock ≡ last_stamp) × (s ≡ last_stamp)) }
+        ensures err { OnErr result (self.new ≡ self.old) }
+    {
         let stamp = match self.next_stamp(0) {
             Ok(stamp) => stamp,
             Err(fault) => return Err(fault),
         };
         let plan = self.clients.plan(client)?;
-        let message = as_message(self.alloc, self.ledger.control().semantics(), &plan)?;
         let sent = act_on(
             self.alloc,
             &mut self.ledger,
             &mut self.clients,
             LAST_LINK + client,
-            message,
+            &plan,
             route,
         )?;
         self.clients.commit(client, plan);
         self.clock = stamp;
-        Ok(Stepped { stamp, sent })
+        Ok((stamp, sent))
     }
 
     /// Takes a message that a neighbour sent with its stamp. Where it is a notice, the route is that of the notice by
@@ -136,11 +169,47 @@ impl Core {
             &mut self.ledger,
             &mut self.clients,
             from,
-            &message,
+            message,
             route,
         )?;
+        let sent = sent.into_vec();
         self.clock = stamp;
         Ok(Stepped { stamp, sent })
+    }
+
+    /// Takes a publication that a neighbour sent with its stamp, as a message that is not written out; the route is that
+    /// of its notice by the published table.
+    pub fn take_notice(
+        &mut self,
+        from: u32,
+        stamp: u64,
+        notice: &SharedNotice,
+        route: &Route,
+    ) -> Result<Posted, StepFault>
+        requires from { Has from self.old.control.links }
+        requires stamp { stamp < 2 ^ 62 }
+        requires route { RoutesMessage self.old (messages.Notice notice.now.id notice.now.notice) route.now }
+        ensures step { IfOk result (λ s. MakesStep (Takes from (message_of (messages.Notice notice.now.id notice.now.notice))) stamp
+            self.old self.new s.stamp s.sent) }
+        ensures worn { (s : ℕ) → IsErrOf result (StepFault.Worn s) ↔ ((max self.old.clock stamp ≡ last_stamp) × (s ≡ last_stamp)) }
+        ensures err { OnErr result (self.new ≡ self.old) }
+    {
+        let stamp = match self.next_stamp(stamp) {
+            Ok(stamp) => stamp,
+            Err(fault) => return Err(fault),
+        };
+        notice.laws();
+        let links = self.ledger.control().links();
+        let sent = spread(
+            self.alloc,
+            links,
+            &mut self.clients,
+            from,
+            notice,
+            route.ifaces(),
+        )?;
+        self.clock = stamp;
+        Ok(Posted { stamp, sent })
     }
 
     /// The stamp of a step that takes a message with this stamp, or 0.
@@ -250,32 +319,6 @@ impl Core {
         let control = self.ledger.relink(r.control);
         Relinked { control }
     }
-}
-
-/// What a plan is as a message from the client's interface; a refused publish is none, and under subscription semantics
-/// neither is a change of advertisements.
-fn as_message(
-    alloc: Global,
-    semantics: Semantics,
-    plan: &Planned,
-) -> Result<Option<Message>, NoMemory>
-    ensures { IfOk result (λ message. message ≡ planned_message semantics plan.now) }
-{
-    Ok(match (plan, semantics) {
-        (Planned::Subs { out, add }, _) => Some(Message::Subs {
-            out: out.copy(alloc)?,
-            add: add.copy(alloc)?,
-        }),
-        (Planned::Advs { out, add }, Semantics::Advertisement) => Some(Message::Advs {
-            out: out.copy(alloc)?,
-            add: add.copy(alloc)?,
-        }),
-        (Planned::Publish { id, notice }, _) => Some(Message::Notice {
-            id: *id,
-            notice: notice.copy(alloc)?,
-        }),
-        _ => None,
-    })
 }
 
 /// The notice of the next command of a session, where it is a publish that will be accepted.

@@ -2,6 +2,7 @@
 ghost use Rattle.std.specs.Prelude.{◌≡◌};
 ghost use Rattle.ev_server.specs.declared.stepped.StepFault.TheVariants as faults;
 
+use crate::outgoing::Outgoing;
 use ev_memory::NoMemory;
 use ev_wire::Sent;
 
@@ -12,6 +13,15 @@ pub struct Stepped {
     pub stamp: u64,
     /// The texts of the messages, by rising neighbour.
     pub sent: Vec<Sent>,
+}
+
+/// A step that was made, where a publication that is sent on is not written out as a text. Contracts see the texts.
+#[derive(Drop)]
+pub struct Posted {
+    /// The stamp, below 2^62.
+    pub stamp: u64,
+    /// The messages, by rising neighbour.
+    pub sent: Outgoing,
 }
 
 /// Why a step was not made. The core is as before.

@@ -11,3 +11,4 @@ pub mod Notices
 pub mod Filters
 pub mod Changes
 pub mod Messages
+pub mod Shared

@@ -1,8 +1,8 @@
 //! Notices as clients receive them.
 ghost use Rattle.std.specs.Prelude.{◌≡◌, IfOk};
 
-use crate::bytes::Bytes;
 use crate::id::Id;
+use crate::shared_text::SharedText;
 use ev_memory::NoMemory;
 use std::alloc::Global;
 
@@ -12,15 +12,15 @@ pub struct Delivery {
     /// The publication.
     pub id: Id,
     /// The text of its notice.
-    pub bytes: Bytes,
+    pub bytes: SharedText,
 }
 
 impl Delivery {
     /// An equal delivery.
-    pub fn copy(&self, alloc: Global) -> Result<Delivery, NoMemory>
+    pub fn copy(&self, _: Global) -> Result<Delivery, NoMemory>
         ensures { IfOk result (λ d. d ≡ self.now) }
     {
-        let bytes = self.bytes.copy(alloc)?;
+        let bytes = self.bytes.share()?;
         Ok(Delivery { id: self.id, bytes })
     }
 }

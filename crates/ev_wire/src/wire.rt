@@ -1,8 +1,11 @@
 //! The text of a message.
-ghost use Rattle.std.specs.Prelude.{◌≡◌, ◌++◌, IfOk, OnOk, IsErrOf};
+ghost use Rattle.std.specs.Prelude.{◌≡◌, ◌++◌, List, IfOk, OnOk, IsErrOf};
+ghost use Rattle.ev_notice.specs.Notice.{Attribute};
 ghost use Rattle.ev_wire.specs.declared.message.Message.{Message};
+ghost use Rattle.ev_wire.specs.declared.message.Message.TheVariants as messages;
 ghost use Rattle.ev_wire.specs.Reading.{Gives, Reads};
-ghost use Rattle.ev_wire.specs.MessageText.{id_text, message_text, IsMessageText, IsSendable, IsSound};
+ghost use Rattle.ev_wire.specs.NoticeText.{IsNoticeText};
+ghost use Rattle.ev_wire.specs.MessageText.{id_text, message_text, IsId, IsMessageText, IsSendable, IsSound};
 ghost use Rattle.ev_wire.specs.Changes.{closed_at, marked_at};
 ghost use Rattle.ev_wire.specs.Messages.{id_at, message_of, notice_message_of};
 
@@ -99,6 +102,9 @@ pub fn read_message(alloc: Global, bytes: &[u8]) -> Result<Message, WireFault>
     Reader::new(bytes).message(alloc)
 }
 
+/// Room for what stands before the text of a notice: the word, the id and the spaces.
+const ID_ROOM: usize = 24;
+
 #[tactic(auto, unfolding(crate::specs::MessageText::id_text))]
 fn push_id(out: &mut Vec<u8>, id: Id) -> Result<(), NoMemory>
     ensures { OnOk result (out.new.items ≡ out.old.items ++ id_text id) }
@@ -131,6 +137,23 @@ fn push_message(text: &mut Vec<u8>, message: &Message) -> Result<(), NoMemory>
             push_change(text, out.as_slice(), add.as_slice())
         }
     }
+}
+
+/// The text of the message of a notice, by the notice's text.
+#[tactic(auto, unfolding(crate::specs::MessageText::message_text))]
+pub(crate) fn write_notice_message(
+    alloc: Global,
+    id: Id,
+    notice: &[u8],
+) -> Result<Vec<u8>, NoMemory>
+    ensures { (n : List Attribute) → IsId id → IsNoticeText notice.now n → IfOk result (λ v. IsMessageText v.items (messages.Notice id n)) }
+{
+    let mut text = Vec::with_capacity(alloc, notice.len().saturating_add(ID_ROOM))?;
+    text.extend_from_slice(b"notice ")?;
+    push_id(&mut text, id)?;
+    text.push(b' ')?;
+    text.extend_from_slice(notice)?;
+    Ok(text)
 }
 
 /// The text of a message. The caller has the id in range: the publisher from 1 to 1,024, the ordinal from 1 to 100,000;

@@ -15,7 +15,7 @@ set_adverts-requires c =
     let clear : IsClear (Advs c.in-Advs.out c.in-Advs.add) = subst IsClear c.in-Advs.is c.requires.clear in
     λ f m n. clear f (subst (λ z. Has f z) c.as_slice-in-Advs.ensures m) (subst (λ z. Has f z) c.as_slice-in-Advs-2.ensures n)
 
-pub spread-requires-clause-rising : goal.spread-requires-clause-rising
-spread-requires-clause-rising c =
+pub spread-requires : goal.spread-requires
+spread-requires c =
     let routed : IsStrictlyIncreasing c.args.route.now = subst (λ z. IsRouted z c.args.route.now) c.in-Notice.is c.requires.routed in
     subst IsStrictlyIncreasing (sym c.ifaces.ensures) routed

@@ -1,4 +1,4 @@
-use Rattle.std.proofs.Common.{◌≡◌, get_or, rules}
+use Rattle.std.proofs.Common.{◌≡◌, get_or}
 use Rattle.ev_control.proofs.Taken.{take-all}
 use Rattle.ev_server.proofs.Going.{got-number, made-skip, made-more, from-more}
 use Rattle.ev_server.proofs.acting.make_ready.Goals as goal
@@ -9,15 +9,15 @@ loop-interface-preserved-then-interface-le-LAST_LINK c = made-skip (record { id 
 pub returns-in_err-make_room-clause-planned : goal.returns-in_err-make_room-clause-planned
 returns-in_err-make_room-clause-planned c = from-more c.args.clients.now c.loop-interface.clients c.make_room.new.self c.loop-interface.invariant.from c.make_room.ensures.more
 
-pub returns-in_err-to_vec-clause-planned : goal.returns-in_err-to_vec-clause-planned
-returns-in_err-to_vec-clause-planned c = from-more c.args.clients.now c.loop-interface.clients c.make_room.new.self c.loop-interface.invariant.from c.make_room.ensures.more
+pub returns-in_err-bytes-clause-planned : goal.returns-in_err-bytes-clause-planned
+returns-in_err-bytes-clause-planned c = from-more c.args.clients.now c.loop-interface.clients c.make_room.new.self c.loop-interface.invariant.from c.make_room.ensures.more
 
 pub returns-in_err-push-clause-planned : goal.returns-in_err-push-clause-planned
 returns-in_err-push-clause-planned c = from-more c.args.clients.now c.loop-interface.clients c.make_room.new.self c.loop-interface.invariant.from c.make_room.ensures.more
 
 pub loop-interface-preserved : goal.loop-interface-preserved
 loop-interface-preserved c =
-    let bytes : c.of-bytes.result ≡ c.args.text.now = search rules in
+    let bytes : c.in_ok-bytes.bytes ≡ c.args.text.now = c.in_ok-bytes.ensures in
     let next = made-more (record { id = c.args.id; bytes = c.args.text.now }) c.args.route.now c.loop-interface.interface-index (get_or c.args.route.now c.loop-interface.interface-index 0) c.loop-interface.ready.items c.args.clients.now c.loop-interface.clients c.make_room.new.self (got-number c.args.route.now c.loop-interface.interface-index c.loop-interface-test.true) c.if-interface-le-LAST_LINK.false c.loop-interface.invariant c.in_ok-make_room.ensures.room c.make_room.ensures.more c.make_room.ensures.bare in
     rw (c.in_ok-push.ensures.items, bytes) next
 

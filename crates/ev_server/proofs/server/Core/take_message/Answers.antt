@@ -21,7 +21,7 @@ act-requires-clause-routed c = routed-message c.args.self.now c.args.message c.a
 
 pub invariant_of-self-2 : goal.invariant_of-self-2
 invariant_of-self-2 c =
-    message-kept c.self.inside.server c.self.inside.clock c.in-Ok.stamp c.args.from c.self.inside.ledger c.act.new.ledger c.self.inside.clients c.act.new.clients c.args.route.now c.in_ok-sent.sent.items
+    message-kept c.self.inside.server c.self.inside.clock c.in-Ok.stamp c.args.from c.self.inside.ledger c.act.new.ledger c.self.inside.clients c.act.new.clients c.args.route.now c.in_ok-sent.sent
     c.self.invariant c.args.message c.in_ok-sent.ensures.acted (c.self.invariant.links_small c.args.from (subst (λ z. Has c.args.from z.control.links) (sym c.self.view_is) c.requires.from)) c.in-Ok.ensures.ok.1
 
 pub returns-clause-step : goal.returns-clause-step
@@ -29,6 +29,7 @@ returns-clause-step c =
     let from = subst (λ z. Has c.args.from z.control.links) (sym c.self.view_is) c.requires.from in
     let route = subst (λ z. RoutesMessage z c.args.message c.args.route.now) (sym c.self.view_is) c.requires.route in
     let stamp : c.in-Ok.stamp ≡ suc (max c.self.inside.clock c.args.stamp) = next-is c.in-Ok.stamp (max c.self.inside.clock c.args.stamp) (subst (λ z. c.in-Ok.stamp ≡ 1 + max z.clock c.args.stamp) (sym c.self.view_is) c.in-Ok.ensures.ok.0) in
-    subst (λ z. MakesStep (Takes c.args.from (message_of c.args.message)) c.args.stamp z (core_parts c.self.inside.server c.act.new.ledger (map bare c.act.new.clients) c.in-Ok.stamp) c.in-Ok.stamp c.in_ok-sent.sent.items) c.self.view_is
-    (message-made c.self.inside.server c.self.inside.clock c.in-Ok.stamp c.args.from c.self.inside.ledger c.act.new.ledger c.self.inside.clients c.act.new.clients c.args.route.now c.in_ok-sent.sent.items
-    c.self.invariant c.args.message c.args.stamp c.in_ok-sent.ensures.acted c.requires.text from route stamp)
+    subst (λ z. MakesStep (Takes c.args.from (message_of c.args.message)) c.args.stamp c.args.self.now (core_parts c.self.inside.server c.act.new.ledger (map bare c.act.new.clients) c.in-Ok.stamp) c.in-Ok.stamp z) (sym c.into_vec-sent.ensures)
+    (subst (λ z. MakesStep (Takes c.args.from (message_of c.args.message)) c.args.stamp z (core_parts c.self.inside.server c.act.new.ledger (map bare c.act.new.clients) c.in-Ok.stamp) c.in-Ok.stamp c.in_ok-sent.sent) c.self.view_is
+    (message-made c.self.inside.server c.self.inside.clock c.in-Ok.stamp c.args.from c.self.inside.ledger c.act.new.ledger c.self.inside.clients c.act.new.clients c.args.route.now c.in_ok-sent.sent
+    c.self.invariant c.args.message c.args.stamp c.in_ok-sent.ensures.acted c.requires.text from route stamp))

@@ -1,0 +1,18 @@
+-- Publications as those see them who share them, and the texts of their messages.
+use Rattle.std.specs.Prelude.{ℕ, List}
+use Rattle.ev_notice.specs.Notice.{Attribute}
+use Rattle.ev_wire.specs.declared.id.Id.{Id}
+use Rattle.ev_wire.specs.declared.message.Message.TheVariants as messages
+use Rattle.ev_wire.specs.MessageText.{message_text}
+
+-- a notice with the id of its publication
+pub record Publication : Type 0 where
+  pub id : Id
+  pub notice : List Attribute
+
+abbrev pub publication : Id → List Attribute → Publication
+publication id notice = record { id = id; notice = notice }
+
+-- the text of its message
+abbrev pub publication_text : Publication → List ℕ
+publication_text publication = message_text (messages.Notice publication.id publication.notice)
