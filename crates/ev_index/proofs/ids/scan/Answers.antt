@@ -1,7 +1,7 @@
 use Rattle.std.proofs.Common.{◌==◌, arith}
 use Rattle.std.proofs.lemmas.Bool.Decides.{nat_tests}
 use Rattle.ev_index.proofs.Tallies.{tally-more}
-use Rattle.ev_numindex.proofs.groups.place_of.Goals as goal
+use Rattle.ev_index.proofs.ids.scan.Goals as goal
 
 pub loop-i-preserved : goal.loop-i-preserved
 loop-i-preserved c =
