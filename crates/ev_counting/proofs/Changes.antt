@@ -1,10 +1,10 @@
 -- What a list of changes makes of a set of pairs.
-use Rattle.std.proofs.Common.{◌≡◌, ◌⊎◌, inl, inr, ◌∙◌, refl, sym, arith, zero, List, [], ◌∷◌}
+use Rattle.std.proofs.Common.{◌≡◌, ◌⊎◌, inl, inr, refl, sym, arith, zero, List, [], ◌∷◌}
 use Rattle.std.specs.List.{Contains}
 use Rattle.ev_counting.specs.declared.change.Change.{Change}
 use Rattle.ev_counting.specs.declared.change.Change.TheVariants.{Add, Remove}
 use Rattle.ev_counting.specs.Table.{Held, IsApplied, AreApplied}
-use Rattle.ev_counting.specs.Changes.{without, Adds, Takes, IsOf, IsEntered, IsChanged, IsWithdrawn}
+use Rattle.ev_counting.specs.Changes.{without, IsOf, IsEntered, IsChanged, IsWithdrawn}
 use Rattle.ev_counting.proofs.Without.{first, later, parts, one-or-other, left-in, stays-in}
 
 -- one change, and one after the other

@@ -3,7 +3,7 @@ pub mod Rounds
 pub mod Without
 pub mod Changes
 pub mod Steps
-pub mod Places
+pub mod Standing
 pub mod Same
 pub mod Apart
 pub mod Shelves
@@ -11,6 +11,9 @@ pub mod Idle
 pub mod Satisfied
 pub mod Uses
 pub mod Sound
+pub mod Order
+pub mod Kept
+pub mod Gathered
 pub mod Counted
 pub mod Routed
 pub mod Unique

@@ -14,7 +14,7 @@ use Rattle.ev_counting.specs.Slots.{Slot, held, slot_at, constraints_in, numbere
 use Rattle.ev_counting.specs.Counting.{AreGoals, AreFull}
 use Rattle.ev_counting.proofs.Satisfied.{tally-satisfied}
 use Rattle.ev_counting.proofs.Rounds.{same-round}
-use Rattle.ev_counting.proofs.Places.{held-at, held-from, within}
+use Rattle.ev_counting.proofs.Standing.{held-at, held-from, within}
 
 -- the uses of a filter that are satisfied and have this number
 abbrev met : List Attribute → ℕ → Use → Bool

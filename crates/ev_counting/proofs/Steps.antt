@@ -1,12 +1,11 @@
 -- The steps of a list of changes that is made all or none.
-use Rattle.std.proofs.Common.{◌≡◌, ◌⊎◌, ◌↔◌, inl, inr, ◌∙◌, refl, sym, ap, subst, ℕ, Bool, List, [], ◌∷◌}
-use Rattle.std.specs.Prelude.{IsTrue}
+use Rattle.std.proofs.Common.{◌≡◌, ◌⊎◌, ◌↔◌, inl, inr, ◌∙◌, refl, sym, subst, ℕ, List, [], ◌∷◌}
 use Rattle.std.specs.List.{Contains}
 use Rattle.ev_constraint.specs.Constraint.{ConstraintParts}
 use Rattle.ev_counting.specs.declared.change.Change.{Change}
 use Rattle.ev_counting.specs.declared.change.Change.TheVariants.{Add, Remove}
-use Rattle.ev_counting.specs.Table.{Held, IsAdded, IsTaken}
-use Rattle.ev_counting.specs.Changes.{Adds, Takes, IsOf, IsEntered, IsChanged, IsWithdrawn}
+use Rattle.ev_counting.specs.Table.{Held, IsAdded}
+use Rattle.ev_counting.specs.Changes.{Adds, IsEntered}
 
 -- a pair that is there, or was added
 pub there-entered : (xs : List Held) (p : Held) → Contains xs p → (x : Held) → Contains xs x ↔ (Contains xs x ⊎ (p ≡ x))
@@ -46,53 +45,6 @@ enters-pass c now old rest all n h x = (
 pub enters-end : (now old : List Held) (all : List Change) → Enters now [] old all → (x : Held) → Contains now x ↔ (Contains old x ⊎ IsEntered all x)
 enters-end now old all h x = (λ m. (h x).0 (inl m), λ t. elim ((h x).1 t) [ inl m ↦ m | inr m ↦ absurd m ])
 
--- what is held and not to be withdrawn
-abbrev pub Keeps : List Held → List Change → List Held → List Change → Type 0
-Keeps now rest old all = (x : Held) → (Contains now x × (IsWithdrawn rest x → ⊥)) ↔ (Contains old x × (IsWithdrawn all x → ⊥))
-
-pub keeps-taken : (c : Change) (p : Held) (now next old : List Held) (rest all : List Change) → c ≡ Remove p.0 p.1 → (IsChanged rest p → ⊥)
-    → IsTaken now next p → Keeps now (c ∷ rest) old all → Keeps next rest old all
-keeps-taken (Add iface filter) p now next old rest all is last t h x = cc
-keeps-taken (Remove iface filter) p now next old rest all is last t h x =
-    let same : (iface, filter) ≡ p = (let a : iface ≡ p.0 = cc in let b : filter ≡ p.1 = cc in λ i. (a i, b i)) in (
-      λ m. (h x).0 (
-        t.only x m.0,
-        λ w. elim w [ inl k ↦ m.1 k | inr k ↦ t.gone (subst (Contains next) (sym k.0 ∙ same) m.0) ],
-      ),
-      λ m. (let r = (h x).1 m in (
-        elim (t.kept x r.0) [
-          | inl e ↦ absurd (r.1 (inr (same ∙ sym e, λ k. last (subst (IsChanged rest) e k))))
-          | inr k ↦ k
-        ],
-        λ w. r.1 (inl w),
-      )),
-    )
-
-pub keeps-pass : (c : Change) (now old : List Held) (rest all : List Change) → ((x : Held) → Takes c x → IsChanged rest x) → Keeps now (c ∷ rest) old all → Keeps now rest old all
-keeps-pass c now old rest all n h x = (
-  λ m. (h x).0 (m.0, λ w. elim w [ inl k ↦ m.1 k | inr k ↦ k.1 (n x k.0) ]),
-  λ m. (let r = (h x).1 m in (r.0, λ w. r.1 (inl w))),
-)
-
-pub keeps-end : (now old : List Held) (all : List Change) → Keeps now [] old all → (x : Held) → Contains now x ↔ (Contains old x × (IsWithdrawn all x → ⊥))
-keeps-end now old all h x = (λ m. (h x).0 (m, λ w. w), λ m. ((h x).1 m).0)
-
-pub changed-pass : (c : Change) (rest all : List Change) (p : Held) → (IsOf c p → ⊥) → IsChanged (c ∷ rest) p ↔ IsChanged all p → IsChanged rest p ↔ IsChanged all p
-changed-pass c rest all p n h = (λ m. h.0 (inr m), λ m. elim (h.1 m) [ inl k ↦ absurd (n k) | inr k ↦ k ])
-
-pub pair-of : (other iface : ℕ) (that filter : List ConstraintParts) (b : Bool) → other ≡ iface → (IsTrue b ↔ (that ≡ filter)) → IsTrue b ↔ ◌≡◌ {A = Held} (other, that) (iface, filter)
-pair-of other iface that filter b e h = (λ t. (let f = h.0 t in λ i. (e i, f i)), λ g. h.1 (ap (λ (x : Held). x.1) g))
-
 pub adds-not : (c : Change) → ((iface : ℕ) (filter : List ConstraintParts) → c ≡ Add iface filter → ⊥) → (x : Held) → Adds c x → ⊥
 adds-not (Add iface filter) n x h = n iface filter refl
 adds-not (Remove iface filter) n x h = h
-
-pub takes-not : (c : Change) (rest : List Change) → ((iface : ℕ) (filter : List ConstraintParts) → c ≡ Remove iface filter → ⊥) → (x : Held) → Takes c x → IsChanged rest x
-takes-not (Add iface filter) rest n x h = absurd h
-takes-not (Remove iface filter) rest n x h = absurd (n iface filter refl)
-
-pub takes-changed : (c : Change) (p : Held) (rest : List Change) → c ≡ Remove p.0 p.1 → IsChanged rest p → (x : Held) → Takes c x → IsChanged rest x
-takes-changed (Add iface filter) p rest is h x t = absurd t
-takes-changed (Remove iface filter) p rest is h x t =
-    let same : (iface, filter) ≡ p = (let a : iface ≡ p.0 = cc in let b : filter ≡ p.1 = cc in λ i. (a i, b i)) in
-    subst (IsChanged rest) (sym same ∙ t) h

@@ -111,3 +111,15 @@ stays-in x (y ∷ ys) z m n = go (same_held x y) refl (parts y z ys m) (λ t. st
 pub undone-push : (xs : List Held) (x : Held) (held : List Held) → undone (xs ++ x ∷ []) held ≡ undone xs (without x held)
 undone-push [] x held = refl
 undone-push (y ∷ ys) x held = ap (without y) (undone-push ys x held)
+
+-- what is left of a list without some pairs
+pub undone-in : (xs held : List Held) (z : Held) → Contains (undone xs held) z → Contains held z × (Contains xs z → ⊥)
+undone-in [] held z m = (m, λ h. absurd (omega (arith, h.1)))
+undone-in (x ∷ xs) held z m =
+    let l = left-in x (undone xs held) z m in
+    let r = undone-in xs held z l.0 in
+    (r.0, λ h. elim (parts x z xs h) [ inl e ↦ l.1 e | inr t ↦ r.1 t ])
+
+pub in-undone : (xs held : List Held) (z : Held) → Contains held z → (Contains xs z → ⊥) → Contains (undone xs held) z
+in-undone [] held z m n = m
+in-undone (x ∷ xs) held z m n = stays-in x (undone xs held) z (in-undone xs held z m (λ h. n (later x z xs h))) (λ e. n (zero, omega arith, e))

@@ -1,5 +1,5 @@
 -- A list of changes: which of them say what becomes of a pair.
-use Rattle.std.specs.Prelude.{◌≡◌, ◌⊎◌, ◌==◌, ◌&&◌, ◌↔◌, Bool, List, [], ◌∷◌, if◌then◌else◌}
+use Rattle.std.specs.Prelude.{◌≡◌, ◌⊎◌, ◌==◌, ◌&&◌, Bool, List, [], ◌∷◌, if◌then◌else◌}
 use Rattle.std.specs.List.{Contains}
 use Rattle.std.specs.Ordering.{eq_by_cmp}
 use Rattle.ev_constraint.specs.Order.{list_cmp}
@@ -47,3 +47,13 @@ IsChanged (c ∷ cs) x = IsOf c x ⊎ IsChanged cs x
 abbrev pub IsWithdrawn : List Change → Held → Type 0
 IsWithdrawn [] x = ⊥
 IsWithdrawn (c ∷ cs) x = IsWithdrawn cs x ⊎ (Takes c x × (IsChanged cs x → ⊥))
+
+-- the change asks for what is so already
+abbrev pub IsIdle : Change → List Held → Type 0
+IsIdle (Add iface filter) held = Contains held (iface, filter)
+IsIdle (Remove iface filter) held = Contains held (iface, filter) → ⊥
+
+-- no pair stands twice
+abbrev pub IsOnce : List Held → Type 0
+IsOnce [] = Unit {0}
+IsOnce (x ∷ xs) = (Contains xs x → ⊥) × IsOnce xs

@@ -69,12 +69,10 @@ pub record IsPlaced (ifaces : List ℕ) (e : Entry) : Type 0 where
 abbrev pub ArePlaced : List ℕ → List Slot → Type 0
 ArePlaced ifaces slots = (k : ℕ) → (e : Entry) → slot_at slots k ≡ Some e → IsPlaced ifaces e
 
--- what every table keeps: the index has exactly the constraints of its filters, and each filter has its goal
-pub record IsSound (index : List Use) (slots : List Slot) (goals : List Goal) (ifaces : List ℕ) : Type 0 where
+-- what every table keeps: the index has exactly the constraints of its filters, whose interfaces stand at their places
+pub record IsSound (index : List Use) (slots : List Slot) (ifaces : List ℕ) : Type 0 where
   pub indexed : Same index (uses_from 0 slots)
-  pub aimed : AreAimed slots goals
   pub placed : ArePlaced ifaces slots
-  pub few : length slots ≤ 2 ^ 32
 
 -- the same entries at the same places, with a free place more at most
 pub record KeepsPlaces (old new : List Slot) : Type 0 where

@@ -1,90 +1,104 @@
-//! The places of a table.
-ghost use Rattle.std.specs.Prelude.{◌≡◌, ◌↔◌, ◌⊎◌, ◌<◌, ◌≤◌, ◌^◌, ◌++◌, ◌∷◌, [], ℕ, IfOk, OnOk, OnErr, IfSome, IfNone, IsTrue, true, false, length, slice_index_or, Some, None};
-ghost use Rattle.std.specs.List.{Contains};
-ghost use Rattle.ev_counting.specs.declared.entry.Entry.{Entry};
-ghost use Rattle.ev_counting.specs.Slots.{pair_of, slot_at, held, KeepsPlaces, HasPair, AreAimed};
+//! The places of a table, in the order of their pairs.
+ghost use Rattle.std.specs.Prelude.{◌≡◌, ◌<◌, ◌≤◌, ◌+◌, ◌^◌, ℕ, IfOk, IfErr, OnOk, true, false, length, vec_len, vec_capacity, None};
+ghost use Rattle.ev_counting.specs.Slots.{slot_at, KeepsPlaces, AreAimed};
+ghost use Rattle.ev_counting.specs.Order.{slot_before, slot_behind, nth, IsOrdered, IsGap, IsHere, AreFree, IsNone};
 
 use crate::entry::Entry;
 use crate::goal::{FREE, Goal};
 use ev_memory::NoMemory;
 use ev_notice::Filter;
 
-/// Whether an entry is this pair.
-fn is_pair(entry: &Entry, iface: u32, filter: &Filter) -> bool
-    ensures { IsTrue result ↔ (pair_of entry.now ≡ (iface, filter.now)) }
-{
-    entry.iface == iface && entry.filter == *filter
-}
-
-/// Whether this pair stands at a place.
-pub(crate) fn has_pair(slot: &Option<Entry>, iface: u32, filter: &Filter) -> bool
-    ensures { IsTrue result ↔ HasPair slot.now (iface, filter.now) }
+/// Whether the pair at a place stands before this one.
+#[tactic(auto, unfolding(crate::specs::Order::pair_before, ev_notice::specs::Before::list_before))]
+fn is_before(slot: &Option<Entry>, iface: u32, filter: &Filter) -> bool
+    ensures { result ≡ slot_before slot.now (iface, filter.now) }
 {
     match slot {
-        Some(entry) => is_pair(entry, iface, filter),
+        Some(entry) => entry.iface < iface || entry.iface == iface && entry.filter < *filter,
         None => false,
     }
 }
 
-/// Whether the pair stands at some place.
-pub(crate) fn holds(slots: &[Option<Entry>], iface: u32, filter: &Filter) -> bool
-    ensures { IsTrue result ↔ Contains (held slots.now) (iface, filter.now) }
+/// Whether this pair stands before the one at a place.
+#[tactic(auto, unfolding(crate::specs::Order::pair_before, ev_notice::specs::Before::list_before))]
+fn is_behind(slot: &Option<Entry>, iface: u32, filter: &Filter) -> bool
+    ensures { result ≡ slot_behind slot.now (iface, filter.now) }
 {
-    for slot in slots {
-        if has_pair(slot, iface, filter) {
-            return true;
-        }
+    match slot {
+        Some(entry) => iface < entry.iface || iface == entry.iface && *filter < entry.filter,
+        None => false,
     }
-    false
 }
 
-/// A free place.
-fn free_place(slots: &[Option<Entry>]) -> Option<usize>
-    ensures { IfSome result (λ i. (i < length slots.now) × (slot_at slots.now i ≡ None)) }
+/// How many places of the sorted ones have a pair that stands before this one.
+fn rank(slots: &[Option<Entry>], sorted: &[u32], iface: u32, filter: &Filter) -> usize
+    requires { IsOrdered slots.now sorted.now }
+    ensures within { result ≤ length sorted.now }
+    ensures below { (k : ℕ) → k < result → slot_before (slot_at slots.now (nth sorted.now k)) (iface, filter.now) ≡ true }
+    ensures at { result < length sorted.now → slot_before (slot_at slots.now (nth sorted.now result)) (iface, filter.now) ≡ false }
 {
-    for (i, slot) in slots.iter().enumerate() {
-        if slot.is_none() {
-            return Some(i);
+    let mut low = 0;
+    let mut high = sorted.len();
+    while low < high {
+        let middle = low + (high - low) / 2;
+        if is_before(&slots[sorted[middle] as usize], iface, filter) {
+            low = middle + 1;
+        } else {
+            high = middle;
         }
     }
-    None
+    low
 }
 
-/// A free place, made where there is none; its number.
-pub(crate) fn vacate(slots: &mut Vec<Option<Entry>>, goals: &mut Vec<Goal>) -> Result<u32, NoMemory>
+/// Where the place of the pair stands among the sorted places, or where it would stand.
+pub(crate) fn seek(
+    slots: &[Option<Entry>],
+    sorted: &[u32],
+    iface: u32,
+    filter: &Filter,
+) -> Result<usize, usize>
+    requires { IsOrdered slots.now sorted.now }
+    ensures ok { IfOk result (λ i. IsHere slots.now sorted.now (iface, filter.now) i) }
+    ensures err { IfErr result (λ i. IsGap slots.now sorted.now (iface, filter.now) i) }
+{
+    let at = rank(slots, sorted, iface, filter);
+    if at < sorted.len() && !is_behind(&slots[sorted[at] as usize], iface, filter) {
+        Ok(at)
+    } else {
+        Err(at)
+    }
+}
+
+/// A place that was free, made where there is none. Of the places that have a filter there are so many.
+pub(crate) fn vacate(
+    slots: &mut Vec<Option<Entry>>,
+    goals: &mut Vec<Goal>,
+    free: &mut Vec<u32>,
+    live: usize,
+) -> Result<u32, NoMemory>
     requires few { length slots.old.items ≤ 2 ^ 32 }
     requires aimed { AreAimed slots.old.items goals.old.items }
-    ensures free { IfOk result (λ id. (id < length slots.new.items) × (slot_at slots.new.items id ≡ None)) }
+    requires free { AreFree slots.old.items free.old.items }
+    requires room { vec_len free.old + live ≤ vec_capacity free.old }
+    requires bounded { live < 2 ^ 63 }
+    ensures vacant { IfOk result (λ id. (id < length slots.new.items) × (slot_at slots.new.items id ≡ None)) }
+    ensures apart { IfOk result (λ id. IsNone id free.new.items) }
     ensures kept { KeepsPlaces slots.old.items slots.new.items }
     ensures aimed { AreAimed slots.new.items goals.new.items }
+    ensures free { AreFree slots.new.items free.new.items }
+    ensures room { vec_len free.new + live ≤ vec_capacity free.new }
+    ensures more { OnOk result (vec_len free.new + live + 1 ≤ vec_capacity free.new) }
 {
-    if let Some(i) = free_place(slots) {
-        return Ok(i as u32);
+    if let Some(id) = free.pop() {
+        return Ok(id);
     }
     let Ok(id) = u32::try_from(slots.len()) else {
         return Err(NoMemory);
     };
+    free.reserve(live + 1)?;
     goals.push(FREE)?;
     slots.push(None)?;
     Ok(id)
-}
-
-/// The place of an interface, appended where it has none.
-pub(crate) fn interface_place(interfaces: &mut Vec<u32>, iface: u32) -> Result<u32, NoMemory>
-    ensures there { IfOk result (λ place. (place < length interfaces.new.items) × (slice_index_or interfaces.new.items place 0 ≡ iface)) }
-    ensures kept { (k : ℕ) → k < length interfaces.old.items → (k < length interfaces.new.items) × (slice_index_or interfaces.new.items k 0 ≡ slice_index_or interfaces.old.items k 0) }
-{
-    let place = match interfaces.iter().position(|x| *x == iface) {
-        Some(i) => i,
-        None => interfaces.len(),
-    };
-    let Ok(number) = u32::try_from(place) else {
-        return Err(NoMemory);
-    };
-    if place == interfaces.len() {
-        interfaces.push(iface)?;
-    }
-    Ok(number)
 }
 
 /// The goal of a filter whose interface has this place.

@@ -1,38 +1,64 @@
 //! A list of changes, made all or none.
-ghost use Rattle.std.specs.Prelude.{◌↔◌, IsTrue};
-ghost use Rattle.ev_counting.specs.Changes.{IsOf, IsChanged};
+ghost use Rattle.std.specs.Prelude.{◌≡◌, ◌↔◌, ◌⊎◌, true, false, IfOk, OnOk};
+ghost use Rattle.std.specs.List.{Contains};
+ghost use Rattle.ev_counting.specs.declared.change.Change.{Change};
+ghost use Rattle.ev_counting.specs.Table.{Held};
+ghost use Rattle.ev_counting.specs.Changes.{IsOf, Takes, IsWithdrawn};
 
 use crate::change::Change;
 use crate::table::Table;
 use ev_memory::NoMemory;
 use ev_notice::Filter;
+use std::alloc::Global;
+use std::collections::BTreeSet;
 
-/// Whether a change is of a pair.
-fn is_of(change: &Change, iface: u32, filter: &Filter) -> bool
-    ensures { IsTrue result ↔ IsOf change.now (iface, filter.now) }
+/// An interface with a filter.
+type Pair = (u32, Filter);
+
+/// The pair of a change.
+fn pair_of(alloc: Global, change: &Change) -> Result<Pair, NoMemory>
+    ensures { IfOk result (λ pair. (x : Held) → IsOf change.now x ↔ (pair ≡ x)) }
 {
     match change {
-        Change::Add {
-            iface: other,
-            filter: that,
-        } => *other == iface && *that == *filter,
-        Change::Remove {
-            iface: other,
-            filter: that,
-        } => *other == iface && *that == *filter,
+        Change::Add { iface, filter } => Ok((*iface, filter.copy(alloc)?)),
+        Change::Remove { iface, filter } => Ok((*iface, filter.copy(alloc)?)),
     }
 }
 
-/// Whether some change is of a pair.
-fn is_changed(changes: &[Change], iface: u32, filter: &Filter) -> bool
-    ensures { IsTrue result ↔ IsChanged changes.now (iface, filter.now) }
+/// Lists the pair that a change takes, where it takes one and is the last change of its pair.
+fn note_taken(
+    alloc: Global,
+    change: &Change,
+    last: bool,
+    taken: &mut Vec<Pair>,
+) -> Result<(), NoMemory>
+    ensures last { OnOk result (last ≡ true → (x : Held) → Contains taken.new.items x ↔ (Contains taken.old.items x ⊎ Takes change.now x)) }
+    ensures again { OnOk result (last ≡ false → taken.new.items ≡ taken.old.items) }
 {
-    for change in changes {
-        if is_of(change, iface, filter) {
-            return true;
-        }
+    if !last {
+        return Ok(());
     }
-    false
+    if let Change::Remove { iface, filter } = change {
+        let copy = filter.copy(alloc)?;
+        taken.push((*iface, copy))?;
+    }
+    Ok(())
+}
+
+/// The pairs whose last change takes them. The changes are gone through from the last one on.
+fn withdrawn(alloc: Global, changes: &[Change]) -> Result<Vec<Pair>, NoMemory>
+    ensures { IfOk result (λ pairs. (x : Held) → Contains pairs.items x ↔ IsWithdrawn changes.now x) }
+{
+    let mut taken = Vec::new(alloc);
+    let mut changed = BTreeSet::new(alloc);
+    let mut left = changes;
+    while let Some((change, earlier)) = left.split_last() {
+        let pair = pair_of(alloc, change)?;
+        let last = changed.insert(pair)?;
+        note_taken(alloc, change, last, &mut taken)?;
+        left = earlier;
+    }
+    Ok(taken)
 }
 
 impl Table {
@@ -43,8 +69,8 @@ impl Table {
 
     /// Makes a list of changes in their order: all of them, or none where it wants memory.
     ///
-    /// What is added is entered first, and what the last change of its pair takes away, which needs no memory, goes at the
-    /// end.
+    /// What is added is entered first, and what the last change of its pair takes away, which is listed before and then
+    /// needs no memory, goes at the end.
     pub fn apply_all(&mut self, changes: &[Change]) -> Result<(), NoMemory>
         ensures applied { OnOk result (AreApplied changes.now self.old self.new) }
         ensures err { OnErr result (self.new ≡ self.old) }
@@ -52,21 +78,18 @@ impl Table {
         if changes.is_empty() {
             return Ok(());
         }
+        let withdrawn = withdrawn(self.alloc, changes)?;
         let mut fresh = Vec::new(self.alloc);
         if let Err(fault) = self.enter_all(changes, &mut fresh) {
             self.take_back(fresh);
             return Err(fault);
         }
-        self.withdraw_all(changes);
+        self.take_back(withdrawn);
         Ok(())
     }
 
     /// Enters each pair that some change adds, and lists those that were not there.
-    fn enter_all(
-        &mut self,
-        changes: &[Change],
-        fresh: &mut Vec<(u32, Filter)>,
-    ) -> Result<(), NoMemory>
+    fn enter_all(&mut self, changes: &[Change], fresh: &mut Vec<Pair>) -> Result<(), NoMemory>
         requires { fresh.old.items ≡ [] }
         ensures entered { OnOk result ((x : Held) → Contains self.new x ↔ (Contains self.old x ⊎ IsEntered changes.now x)) }
         ensures back { undone fresh.new.items self.new ≡ self.old }
@@ -84,7 +107,7 @@ impl Table {
         &mut self,
         iface: u32,
         filter: &Filter,
-        fresh: &mut Vec<(u32, Filter)>,
+        fresh: &mut Vec<Pair>,
     ) -> Result<(), NoMemory>
         ensures entered { OnOk result ((x : Held) → Contains self.new x ↔ (Contains self.old x ⊎ ((iface, filter.now) ≡ x))) }
         ensures back { undone fresh.new.items self.new ≡ undone fresh.old.items self.old }
@@ -100,24 +123,11 @@ impl Table {
     }
 
     /// Takes pairs away, the last of them first.
-    fn take_back(&mut self, mut fresh: Vec<(u32, Filter)>)
+    fn take_back(&mut self, mut fresh: Vec<Pair>)
         ensures { self.new ≡ undone fresh.items self.old }
     {
         while let Some((iface, filter)) = fresh.pop() {
             self.take(iface, &filter);
-        }
-    }
-
-    /// Takes each pair away whose last change takes it.
-    fn withdraw_all(&mut self, changes: &[Change])
-        ensures { (x : Held) → Contains self.new x ↔ (Contains self.old x × (IsWithdrawn changes.now x → ⊥)) }
-    {
-        for (i, change) in changes.iter().enumerate() {
-            if let Change::Remove { iface, filter } = change {
-                if !is_changed(&changes[i + 1..], *iface, filter) {
-                    self.take(*iface, filter);
-                }
-            }
         }
     }
 }

@@ -5,7 +5,7 @@ use Rattle.std.specs.declared.alloc.Global.{Global}
 use Rattle.std.specs.List.{remove, IsDistinct, AllByRecursion}
 use Rattle.std.specs.Map.{lookup, set_value, remove_entry, keys_of}
 use Rattle.std.specs.BTreeMap.{insert_entry, is_at}
-use Rattle.ev_index.specs.Pairs.{tally}
+use Rattle.ev_index.specs.Pairs.{tally, Same}
 use Rattle.ev_index.specs.Groups.{under, keyed}
 use Rattle.ev_index.proofs.Tallies.{tally-append, tally-remove, tally-none, tally-map}
 use Rattle.ev_index.proofs.Groups.{tally-under, spread-insert, spread-set, spread-remove, spread-absent}
@@ -42,8 +42,8 @@ module _ {K N : Type 0} (said : K → N) (p : N × ℕ → Bool) where
     keyed-set old new es fs h f = omega (arith, ap {B = ℕ} (λ xs. tally p (keyed said xs)) f, spread-set part p t (λ ids. met n ids.items) old new es (λ q ids e. of-part q n ids (one q e)) h)
 
     -- an id more under a key
-    pub keyed-push : (old new : Vec ℕ Global) (id : ℕ) (es fs : List (K × Vec ℕ Global)) → lookup t es ≡ Some old → new.items ≡ old.items ++ id ∷ [] → fs ≡ set_value t es new → tally p (keyed said fs) ≡ cond (p (n, id)) 1 0 + tally p (keyed said es)
-    keyed-push old new id es fs h e f = omega (arith, keyed-set old new es fs h f, ap (met n) e, tally-append (λ i. p (n, i)) old.items (id ∷ []))
+    pub keyed-push : (old new : Vec ℕ Global) (id : ℕ) (es fs : List (K × Vec ℕ Global)) → lookup t es ≡ Some old → Same new.items (id ∷ old.items) → fs ≡ set_value t es new → tally p (keyed said fs) ≡ cond (p (n, id)) 1 0 + tally p (keyed said es)
+    keyed-push old new id es fs h e f = omega (arith, keyed-set old new es fs h f, e (λ i. p (n, i)))
 
     -- an id less under a key
     pub keyed-pull : (old new : Vec ℕ Global) (id i d : ℕ) (es fs : List (K × Vec ℕ Global)) → lookup t es ≡ Some old → i < length old.items → get_or old.items i d ≡ id → new.items ≡ remove old.items i → fs ≡ set_value t es new → tally p (keyed said es) ≡ cond (p (n, id)) 1 0 + tally p (keyed said fs)

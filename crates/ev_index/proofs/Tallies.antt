@@ -1,6 +1,6 @@
 -- Counting in lists.
 use Rattle.std.proofs.Common.{◌≡◌, ◌+◌, ◌≤◌, ◌<◌, ℕ, Bool, true, false, cond, refl, ap, ◌∙◌, arith, List, [], ◌∷◌, ◌++◌, length, map, append_assoc}
-use Rattle.std.specs.List.{remove}
+use Rattle.std.specs.List.{insert, remove}
 use Rattle.std.proofs.Common.{take, get_or, zero, suc, add-one}
 use Rattle.ev_index.specs.Pairs.{tally, Appends}
 
@@ -54,3 +54,9 @@ Appends-append old between new a b h g = record {
 -- what stands at a place counts
 pub tally-at : {X : Type 0} (p : X → Bool) (xs : List X) (i : ℕ) (d : X) → i < length xs → p (get_or xs i d) ≡ true → 1 ≤ tally p xs
 tally-at p xs i d h e = omega (arith, tally-remove p xs i d h, ap {B = ℕ} (λ b. cond b 1 0) e)
+
+pub tally-insert : {X : Type 0} (p : X → Bool) (xs : List X) (i : ℕ) (x : X) → i ≤ length xs → tally p (insert xs i x) ≡ cond (p x) 1 0 + tally p xs
+tally-insert p [] zero x l = refl
+tally-insert p [] (suc i) x l = absurd (omega (arith, l))
+tally-insert p (y ∷ ys) zero x l = refl
+tally-insert p (y ∷ ys) (suc i) x l = omega (arith, tally-insert p ys i x (omega (arith, l)))

@@ -2,6 +2,8 @@
 #![tactic(auto)]
 
 mod append;
+mod ids;
 mod law;
 
 pub use append::append_ids;
+pub use ids::{place_of, put_id};

@@ -1,5 +1,5 @@
 -- Which keys of a row have a test that a value passes.
-use Rattle.std.proofs.Common.{◌≡◌, ◌+ℤ◌, ◌^◌, ◌∙◌, ap, ℕ, ℤ, Bool, true, false, not, refl, arith, pos, negsuc}
+use Rattle.std.proofs.Common.{◌≡◌, ◌+ℤ◌, ◌^◌, ◌∙◌, ℕ, ℤ, Bool, true, false, not, refl, arith, pos, negsuc}
 use Rattle.std.proofs.lemmas.Int.{ints}
 use Rattle.std.specs.Ordering.{int_eq}
 use Rattle.ev_values.specs.declared.value.Kind.{Kind}

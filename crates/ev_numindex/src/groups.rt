@@ -8,7 +8,7 @@ ghost use Rattle.std.specs.BTreeMap.Range.{IsLeBy, IsLtBy, entries_between};
 ghost use Rattle.std.specs.Range.Bound.{IsForward};
 ghost use Rattle.std.specs.Ordering.{int_cmp};
 
-use ev_index::append_ids;
+use ev_index::{append_ids, place_of, put_id};
 use ev_memory::NoMemory;
 use std::alloc::Global;
 use std::collections::BTreeMap;
@@ -28,26 +28,13 @@ pub(crate) fn put(
     ensures err { OnErr result (keyed (λ k. k) groups.new.entries ≡ keyed (λ k. k) groups.old.entries) }
 {
     if let Some(ids) = groups.get_mut(key) {
-        ids.push(id)?;
+        put_id(ids, id)?;
         return Ok(());
     }
     let mut ids = Vec::new(alloc);
     ids.push(id)?;
     groups.insert(*key, ids)?;
     Ok(())
-}
-
-/// The place of an id.
-fn place_of(ids: &[u32], id: u32) -> Option<usize>
-    ensures some { IfSome result (λ i. (i < length ids.now) × (slice_index ids.now i ≡ id)) }
-    ensures none { IfNone result (tally (λ x. x == id) ids.now ≡ 0) }
-{
-    for (i, x) in ids.iter().enumerate() {
-        if *x == id {
-            return Some(i);
-        }
-    }
-    None
 }
 
 /// Whether an id is under a key.

@@ -4,6 +4,7 @@ ghost use Rattle.ev_index.specs.Pairs.{tally, Same};
 ghost use Rattle.ev_index.specs.Groups.{keyed};
 ghost use Rattle.ev_textindex.specs.Keys.{same_bytes, bytes_of};
 
+use ev_index::{place_of, put_id};
 use ev_memory::NoMemory;
 use std::alloc::Global;
 use std::collections::BTreeMap;
@@ -22,7 +23,7 @@ pub(crate) fn put(
     ensures err { OnErr result (keyed bytes_of groups.new.entries ≡ keyed bytes_of groups.old.entries) }
 {
     if let Some(ids) = groups.get_mut(key) {
-        ids.push(id)?;
+        put_id(ids, id)?;
         return Ok(());
     }
     let name = Vec::from_slice(alloc, key)?;
@@ -30,19 +31,6 @@ pub(crate) fn put(
     ids.push(id)?;
     groups.insert(name, ids)?;
     Ok(())
-}
-
-/// The place of an id.
-fn place_of(ids: &[u32], id: u32) -> Option<usize>
-    ensures some { IfSome result (λ i. (i < length ids.now) × (slice_index ids.now i ≡ id)) }
-    ensures none { IfNone result (tally (λ x. x == id) ids.now ≡ 0) }
-{
-    for (i, x) in ids.iter().enumerate() {
-        if *x == id {
-            return Some(i);
-        }
-    }
-    None
 }
 
 /// Whether an id is under a key.

@@ -1,6 +1,6 @@
 use Rattle.std.proofs.Common.{◌<◌, ◌^◌, arith, sym, subst, List, length}
 use Rattle.ev_counting.specs.Slots.{Slot, KeepsPlaces}
-use Rattle.ev_counting.proofs.Places.{keeps-push}
+use Rattle.ev_counting.proofs.Standing.{keeps-push}
 use Rattle.ev_counting.proofs.slots.vacate.Goals as goal
 
 pub returns-clause-kept : goal.returns-clause-kept

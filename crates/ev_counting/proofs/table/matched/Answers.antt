@@ -1,7 +1,7 @@
 use Rattle.std.proofs.Common.{◌+◌, ◌∙◌, sym, subst, take, None}
 use Rattle.ev_counting.specs.Table.{AreMatched}
 use Rattle.ev_counting.specs.Slots.{held}
-use Rattle.ev_counting.proofs.Places.{stands-here}
+use Rattle.ev_counting.proofs.Standing.{stands-here}
 use Rattle.ev_counting.proofs.Sound.{next-yes, next-no, next-none}
 use Rattle.ev_counting.proofs.table.matched.Goals.{in-Some+then-matches+in_ok-push, in-Some+else-matches, in_default}
 use Rattle.ev_counting.proofs.table.matched.Goals as goal

@@ -1,9 +1,20 @@
-use Rattle.std.proofs.Common.{ap, arith, length}
+use Rattle.std.proofs.Common.{ap, arith, length, subst, sym, List}
 use Rattle.std.proofs.lemmas.Bool.Decides.{nat_tests}
+use Rattle.std.specs.List.{Contains}
+use Rattle.ev_counting.specs.Table.{Held}
+use Rattle.ev_counting.proofs.Without.{undone-in, in-undone}
 use Rattle.ev_counting.proofs.Changes.{all-applied}
 use Rattle.ev_counting.proofs.table.Table.apply_all.Goals as goal
 
 pub returns-clause-applied : goal.returns-clause-applied
 returns-clause-applied c =
-    all-applied c.args.changes.now c.args.self.now c.enter_all.new.self c.withdraw_all.new.self
-    (λ e. let n = ap length e in let some = c.if-is_empty.ensures in let no = c.if-is_empty.false in grind (arith, nat_tests, n, some, no)) c.in_default.ensures.entered c.withdraw_all.ensures
+    let pairs = c.in_ok-withdrawn.withdrawn.items in
+    let middle = c.enter_all.new.self in
+    let new = c.take_back-2.new.self in
+    let is = c.take_back-2.ensures in
+    all-applied c.args.changes.now c.args.self.now middle new
+    (λ e. let n = ap length e in let some = c.if-is_empty.ensures in let no = c.if-is_empty.false in grind (arith, nat_tests, n, some, no)) c.in_default.ensures.entered
+    (λ x. (
+      (λ h. (let r = undone-in pairs middle x (subst (λ (xs : List Held). Contains xs x) is h) in (r.0, λ w. r.1 ((c.in_ok-withdrawn.ensures x).1 w)))),
+      λ h. subst (λ (xs : List Held). Contains xs x) (sym is) (in-undone pairs middle x h.0 (λ m. h.1 ((c.in_ok-withdrawn.ensures x).0 m))),
+    ))

@@ -1,4 +1,4 @@
-use Rattle.std.proofs.Common.{◌+◌, ◌∙◌, ◌∷◌, [], ap, sym, subst, List, drop}
+use Rattle.std.proofs.Common.{◌+◌, ◌∙◌, ◌∷◌, ap, sym, subst, List, drop}
 use Rattle.std.proofs.lemmas.List.{drop_more, drop_all}
 use Rattle.ev_counting.specs.declared.change.Change.{Change}
 use Rattle.ev_counting.specs.Table.{Held}

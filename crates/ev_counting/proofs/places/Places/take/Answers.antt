@@ -1,0 +1,23 @@
+use Rattle.std.proofs.Common.{◌≡◌, ℕ, subst, arith, List}
+use Rattle.ev_counting.specs.Slots.{Slot}
+use Rattle.ev_counting.specs.Table.{Held}
+use Rattle.ev_counting.specs.Order.{nth, IsHere}
+use Rattle.ev_counting.proofs.Standing.{stands-here}
+use Rattle.ev_counting.proofs.Kept.{kept-taken, taken-gone}
+use Rattle.ev_counting.proofs.places.Places.take.Goals as goal
+
+here : (c : goal.After-push_reserved) → IsHere c.self.inside.slots.items c.self.inside.sorted.items (c.args.iface, c.args.filter.now) c.in-Ok.i
+here c =
+    let pair : Held = (c.args.iface, c.args.filter.now) in
+    subst (λ (xs : List Slot). IsHere xs c.self.inside.sorted.items pair c.in-Ok.i) c.deref.ensures.value (subst (λ (ks : List ℕ). IsHere c.deref.result.now ks pair c.in-Ok.i) c.deref-2.ensures.value c.in-Ok.ensures.ok)
+
+is : (c : goal.After-push_reserved) → nth c.self.inside.sorted.items c.in-Ok.i ≡ c.remove-id.result
+is c = stands-here c.self.inside.sorted.items c.in-Ok.i c.remove-id.result 0 (here c).within c.remove-id.ensures.value
+
+pub invariant_of-self : goal.invariant_of-self
+invariant_of-self c =
+    let a = kept-taken c.self.inside.slots.items c.self.inside.goals.items c.self.inside.sorted.items c.self.inside.free.items (c.args.iface, c.args.filter.now) c.in-Ok.i c.remove-id.result c.self.invariant.0 (here c) (is c) in
+    (rw (c.remove-id.ensures.items, c.push_reserved.ensures.items) a, omega (arith, c.self.invariant.1, c.push_reserved.ensures.len, c.push_reserved.ensures.capacity, c.remove-id.ensures.len))
+
+pub returns-clause-gone : goal.returns-clause-gone
+returns-clause-gone c = taken-gone c.self.inside.slots.items c.self.inside.sorted.items (c.args.iface, c.args.filter.now) c.in-Ok.i c.remove-id.result c.self.invariant.0.ordered (here c) (is c)
