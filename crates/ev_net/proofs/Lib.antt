@@ -37,3 +37,4 @@ pub mod Within
 pub mod Last
 pub mod Told
 pub mod Again
+pub mod Passing

@@ -128,3 +128,8 @@ first_left old mid new server from m same here others a b = go (compare a from) 
 
 pub nothing_put : (frames : List FrameParts) → frames ≡ frames ++ []
 nothing_put frames = sym (append-nothing frames)
+
+-- what has no message has no first one
+pub nothing_first : (frames : List FrameParts) (frame : FrameParts) → frames ≡ [] → slice_get frames 0 ≡ Some frame → ⊥
+nothing_first [] frame none first = cc
+nothing_first (x ∷ frames) frame none first = cc

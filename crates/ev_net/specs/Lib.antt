@@ -3,6 +3,7 @@ pub mod Turns
 pub mod Walked
 pub mod Kept
 pub mod Links
+pub mod Waiting
 pub mod Acted
 pub mod Seen
 pub mod Putting

@@ -15,6 +15,7 @@ mod retelling;
 mod servers;
 mod telling;
 mod trying;
+mod waiting;
 mod walking;
 
 pub use network::Network;

@@ -5,7 +5,7 @@ ghost use Rattle.ev_frame.specs.Frame.{FrameParts};
 ghost use Rattle.ev_net.specs.Links.{link_place, frames_at, has_room, AreSame};
 
 use crate::queue::Queue;
-use ev_frame::Frame;
+use crate::waiting::Waiting;
 use ev_memory::NoMemory;
 use ev_wire::{Bytes, Sent};
 use std::alloc::Global;
@@ -56,7 +56,7 @@ impl Links {
     }
 
     /// The next message on a link.
-    pub(crate) fn first(&self, from: u32, to: u32) -> Option<&Frame>
+    pub(crate) fn first(&self, from: u32, to: u32) -> Option<&Waiting>
         requires { (from ≤ 64) × (to ≤ 64) }
         ensures some { IfSome result (λ frame. slice_get (frames_at self.now from to) 0 ≡ Some frame.now) }
         ensures none { IfNone result (frames_at self.now from to ≡ []) }
@@ -64,8 +64,16 @@ impl Links {
         self.queues[place(from, to)].first()
     }
 
+    /// Whether a link has no message.
+    pub(crate) fn is_empty(&self, from: u32, to: u32) -> bool
+        requires { (from ≤ 64) × (to ≤ 64) }
+        ensures { IsTrue result → frames_at self.now from to ≡ [] }
+    {
+        self.first(from, to).is_none()
+    }
+
     /// The last message on a link.
-    fn last(&self, from: u32, to: u32) -> Option<&Frame>
+    fn last(&self, from: u32, to: u32) -> Option<&Waiting>
         requires { (from ≤ 64) × (to ≤ 64) }
         ensures { (before : List FrameParts) (frame : FrameParts) → frames_at self.now from to ≡ before ++ frame ∷ []
             → IsSomeAnd result (λ f. f.now ≡ frame) }
@@ -79,10 +87,10 @@ impl Links {
         ensures { (before : List FrameParts) (frame : FrameParts) → frames_at self.now from to ≡ before ++ frame ∷ []
             → IfOk result (λ sent. sent ≡ record { to = to; bytes = frame.bytes }) }
     {
-        let mut bytes = Vec::new(alloc);
-        if let Some(frame) = self.last(from, to) {
-            bytes.extend_from_slice(frame.bytes())?;
-        }
+        let bytes = match self.last(from, to) {
+            Some(frame) => frame.bytes(alloc)?,
+            None => Vec::new(alloc),
+        };
         Ok(Sent {
             to,
             bytes: Bytes::of(bytes),
@@ -113,7 +121,7 @@ impl Links {
     }
 
     /// Puts a message on a link, where there is room for it. It takes no memory.
-    pub(crate) fn put(&mut self, from: u32, to: u32, frame: Frame)
+    pub(crate) fn put(&mut self, from: u32, to: u32, frame: Waiting)
         requires small { (from ≤ 64) × (to ≤ 64) }
         requires room { has_room self.old from to ≡ true }
         ensures here { frames_at self.new from to ≡ frames_at self.old from to ++ frame ∷ [] }

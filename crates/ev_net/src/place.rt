@@ -12,6 +12,7 @@ ghost use Rattle.ev_counting.specs.Table.{IsRouteOf};
 ghost use Rattle.ev_wire.specs.declared.id.Id.{Id};
 ghost use Rattle.ev_wire.specs.declared.message.Message.TheVariants as messages;
 ghost use Rattle.ev_wire.specs.MessageText.{IsMessageText};
+ghost use Rattle.ev_wire.specs.Shared.{publication_text};
 ghost use Rattle.ev_control.specs.Control.{wired};
 ghost use Rattle.ev_model.specs.Nets.{phased_net, servers_in};
 ghost use Rattle.ev_model.specs.Sound.{IsSound};
@@ -21,12 +22,14 @@ ghost use Rattle.ev_server.specs.Core.{IsServerState};
 ghost use Rattle.ev_server.specs.Step.{MakesStep, last_stamp};
 ghost use Rattle.ev_net.specs.Kept.{IsSomeServer};
 
+use crate::waiting::{Load, Waiting};
 use ev_counting::{Route, Scratch, Table};
 use ev_frame::Frame;
 use ev_memory::NoMemory;
 use ev_model::{Message, Net};
 use ev_notice::Notice;
-use ev_server::{Core, StepFault, Stepped};
+use ev_server::{Core, Messages, Outgoing, Posted, StepFault, Stepped};
+use ev_wire::{Lists, SharedNotice};
 use std::alloc::Global;
 use std::marker::Model;
 
@@ -105,16 +108,16 @@ impl Place {
         alloc: Global,
         client: u32,
         scratch: &mut Scratch,
-    ) -> Result<Stepped, NoMemory>
+    ) -> Result<Posted, NoMemory>
         requires lives { Has client (numbers_of self.old.clients) }
         requires left { (s : SessionParts) → Has s self.old.clients → s.client ≡ client → s.taken < length s.script }
         requires stands { IsSomeServer self.old }
         requires low { self.old.clock < last_stamp }
-        ensures step { IfOk result (λ s. MakesStep (Does (NextCommand client)) 0 self.old self.new s.stamp s.sent.items) }
+        ensures step { IfOk result (λ s. MakesStep (Does (NextCommand client)) 0 self.old self.new s.stamp s.sent) }
         ensures err { OnErr result (self.new ≡ self.old) }
     {
         let route = route(alloc, &self.table, self.core.next_publish(client), scratch)?;
-        unworn(self.core.take_command(client, &route))
+        unworn(self.core.post_command(client, &route))
     }
 
     /// Takes a message that a neighbour sent.
@@ -122,19 +125,64 @@ impl Place {
         &mut self,
         alloc: Global,
         from: u32,
+        waiting: &Waiting,
+        scratch: &mut Scratch,
+    ) -> Result<Posted, NoMemory>
+        requires from { Has from self.old.control.links }
+        requires stands { IsSomeServer self.old }
+        requires low { (self.old.clock < last_stamp) × (waiting.now.stamp < last_stamp) }
+        ensures step { (m : Carried real) → IsMessageText waiting.now.bytes (wired m)
+            → IfOk result (λ s. MakesStep (Takes from m) waiting.now.stamp self.old self.new s.stamp s.sent) }
+        ensures err { OnErr result (self.new ≡ self.old) }
+    {
+        match waiting.load() {
+            Load::Text(frame) => self.take_text(alloc, from, frame, scratch),
+            Load::Notice { stamp, notice } => {
+                self.take_notice(alloc, from, *stamp, notice, scratch)
+            }
+        }
+    }
+
+    /// Takes a message that is written out.
+    fn take_text(
+        &mut self,
+        alloc: Global,
+        from: u32,
         frame: &Frame,
         scratch: &mut Scratch,
-    ) -> Result<Stepped, NoMemory>
+    ) -> Result<Posted, NoMemory>
         requires from { Has from self.old.control.links }
         requires stands { IsSomeServer self.old }
         requires low { (self.old.clock < last_stamp) × (frame.now.stamp < last_stamp) }
         ensures step { (m : Carried real) → IsMessageText frame.now.bytes (wired m)
-            → IfOk result (λ s. MakesStep (Takes from m) frame.now.stamp self.old self.new s.stamp s.sent.items) }
+            → IfOk result (λ s. MakesStep (Takes from m) frame.now.stamp self.old self.new s.stamp s.sent) }
         ensures err { OnErr result (self.new ≡ self.old) }
     {
         let message = frame.message(alloc)?;
         let route = route(alloc, &self.table, notice_in(&message), scratch)?;
-        unworn(self.core.take_message(from, frame.stamp(), message, &route))
+        let stepped = unworn(self.core.take_message(from, frame.stamp(), message, &route))?;
+        Ok(posted(stepped))
+    }
+
+    /// Takes a publication.
+    fn take_notice(
+        &mut self,
+        alloc: Global,
+        from: u32,
+        stamp: u64,
+        notice: &SharedNotice,
+        scratch: &mut Scratch,
+    ) -> Result<Posted, NoMemory>
+        requires from { Has from self.old.control.links }
+        requires stands { IsSomeServer self.old }
+        requires low { (self.old.clock < last_stamp) × (stamp < last_stamp) }
+        ensures step { (m : Carried real) → IsMessageText (publication_text notice.now) (wired m)
+            → IfOk result (λ s. MakesStep (Takes from m) stamp self.old self.new s.stamp s.sent) }
+        ensures err { OnErr result (self.new ≡ self.old) }
+    {
+        notice.laws();
+        let route = route(alloc, &self.table, Some(notice.notice()), scratch)?;
+        unworn(self.core.take_notice(from, stamp, notice, &route))
     }
 
     /// Publishes what is staged; the answer is the stamp.
@@ -161,6 +209,17 @@ fn notice_in(message: &Message) -> Option<&Notice>
     match message {
         Message::Notice { notice, .. } => Some(notice),
         _ => None,
+    }
+}
+
+/// A step all whose messages are written out.
+fn posted(stepped: Stepped) -> Posted
+    ensures stamp { result.stamp ≡ stepped.stamp }
+    ensures sent { result.sent ≡ stepped.sent.items }
+{
+    Posted {
+        stamp: stepped.stamp,
+        sent: Outgoing::of(Messages::Texts(Lists::of(stepped.sent))),
     }
 }
 

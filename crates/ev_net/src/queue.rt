@@ -2,7 +2,7 @@
 ghost use Rattle.std.specs.Prelude.{◌≡◌, true, false, drop, List, ◌∷◌, ◌++◌, [], IfSome, IfNone, IsSomeAnd, OnOk, OnErr, slice_get, Some};
 ghost use Rattle.ev_frame.specs.Frame.{FrameParts};
 
-use ev_frame::Frame;
+use crate::waiting::Waiting;
 use ev_memory::NoMemory;
 use std::alloc::Global;
 use std::collections::VecDeque;
@@ -11,7 +11,7 @@ use std::marker::Model;
 /// The messages on a link that are not taken yet, in the order in which they were put; there may be room for one more.
 #[derive(Drop)]
 pub(crate) struct Queue {
-    frames: VecDeque<Frame>,
+    frames: VecDeque<Waiting>,
     has_room: bool,
 }
 
@@ -51,7 +51,7 @@ impl Queue {
     }
 
     /// Puts a message at the end, for which there is room. It takes no memory.
-    pub(crate) fn put(&mut self, frame: Frame)
+    pub(crate) fn put(&mut self, frame: Waiting)
         requires { self.old.room ≡ true }
         ensures { self.new ≡ queue_parts (self.old.frames ++ frame ∷ []) false }
     {
@@ -60,7 +60,7 @@ impl Queue {
     }
 
     /// The next message.
-    pub(crate) fn first(&self) -> Option<&Frame>
+    pub(crate) fn first(&self) -> Option<&Waiting>
         ensures some { IfSome result (λ frame. slice_get self.now.frames 0 ≡ Some frame.now) }
         ensures none { IfNone result (self.now.frames ≡ []) }
     {
@@ -68,7 +68,7 @@ impl Queue {
     }
 
     /// The last message.
-    pub(crate) fn last(&self) -> Option<&Frame>
+    pub(crate) fn last(&self) -> Option<&Waiting>
         ensures { (before : List FrameParts) (frame : FrameParts) → self.now.frames ≡ before ++ frame ∷ [] → IsSomeAnd result (λ f. f.now ≡ frame) }
     {
         self.frames.back()

@@ -22,11 +22,13 @@ ghost use Rattle.ev_net.specs.Links.{frames_at, frames_to, framed, has_room, Are
 
 use crate::links::Links;
 use crate::place::Place;
+use crate::waiting::Waiting;
 use ev_counting::Scratch;
 use ev_frame::Frame;
 use ev_memory::NoMemory;
 use ev_model::{Act, Entry};
-use ev_server::Stepped;
+use ev_server::{Messages, Passed, Posted};
+use ev_wire::Sent;
 use std::alloc::Global;
 
 /// The servers by rising number, what is on the links between them, and what they did.
@@ -39,6 +41,52 @@ pub(crate) struct Servers {
     pub(crate) scratch: Scratch,
 }
 
+/// Texts that a step sends go on the links of its server, and their receivers into a list. There is room for both, so it
+/// takes no memory.
+fn put_texts(links: &mut Links, server: u32, stamp: u64, texts: Vec<Sent>, outs: &mut Vec<u32>)
+    requires server { server ≤ 64 }
+    requires small { (s : SentParts) → Has s texts.items → s.to ≤ 64 }
+    requires room { (s : SentParts) → Has s texts.items → has_room links.old server s.to ≡ true }
+    requires apart { IsDistinct (map (λ s. s.to) texts.items) }
+    requires texts { (s : SentParts) → Has s texts.items → HasMessage s.bytes }
+    requires stamp { stamp < 2 ^ 62 }
+    requires outs { (outs.old.items ≡ []) × (length texts.items ≤ vec_capacity outs.old) }
+    ensures here { (b : ℕ) → frames_at links.new server b ≡ frames_at links.old server b ++ frames_to stamp texts.items b }
+    ensures others { (a b : ℕ) → (a ≡ server → ⊥) → frames_at links.new a b ≡ frames_at links.old a b }
+    ensures outs { outs.new.items ≡ map (λ s. s.to) texts.items }
+{
+    for sent in texts {
+        outs.push(sent.to).unwrap();
+        let frame = Frame::make(stamp, sent.bytes.into_vec());
+        links.put(server, sent.to, Waiting::text(frame));
+    }
+}
+
+/// Publications that a step sends go on the links of its server, and their receivers into a list. There is room for both,
+/// so it takes no memory.
+fn put_notices(
+    links: &mut Links,
+    server: u32,
+    stamp: u64,
+    notices: Vec<Passed>,
+    outs: &mut Vec<u32>,
+)
+    requires server { server ≤ 64 }
+    requires small { (s : SentParts) → Has s notices.items → s.to ≤ 64 }
+    requires room { (s : SentParts) → Has s notices.items → has_room links.old server s.to ≡ true }
+    requires apart { IsDistinct (map (λ s. s.to) notices.items) }
+    requires outs { (outs.old.items ≡ []) × (length notices.items ≤ vec_capacity outs.old) }
+    ensures here { (b : ℕ) → frames_at links.new server b ≡ frames_at links.old server b ++ frames_to stamp notices.items b }
+    ensures others { (a b : ℕ) → (a ≡ server → ⊥) → frames_at links.new a b ≡ frames_at links.old a b }
+    ensures outs { outs.new.items ≡ map (λ s. s.to) notices.items }
+{
+    for passed in notices {
+        let to = passed.to();
+        outs.push(to).unwrap();
+        links.put(server, to, Waiting::notice(stamp, passed.into_notice()));
+    }
+}
+
 /// What a step sends goes on the links of its server, and the step joins the journal. There is room for both, so it takes
 /// no memory.
 fn put(
@@ -46,25 +94,27 @@ fn put(
     journal: &mut Vec<Entry>,
     server: u32,
     act: Act,
-    stepped: Stepped,
+    posted: Posted,
     mut outs: Vec<u32>,
 )
     requires server { server ≤ 64 }
-    requires small { (s : SentParts) → Has s stepped.sent.items → s.to ≤ 64 }
-    requires room { (s : SentParts) → Has s stepped.sent.items → has_room links.old server s.to ≡ true }
-    requires apart { IsDistinct (map (λ s. s.to) stepped.sent.items) }
-    requires texts { (s : SentParts) → Has s stepped.sent.items → HasMessage s.bytes }
-    requires stamp { stepped.stamp < 2 ^ 62 }
-    requires outs { (outs.items ≡ []) × (length stepped.sent.items ≤ vec_capacity outs) }
+    requires small { (s : SentParts) → Has s posted.sent → s.to ≤ 64 }
+    requires room { (s : SentParts) → Has s posted.sent → has_room links.old server s.to ≡ true }
+    requires apart { IsDistinct (map (λ s. s.to) posted.sent) }
+    requires texts { (s : SentParts) → Has s posted.sent → HasMessage s.bytes }
+    requires stamp { posted.stamp < 2 ^ 62 }
+    requires outs { (outs.items ≡ []) × (length posted.sent ≤ vec_capacity outs) }
     requires journal { vec_len journal.old < vec_capacity journal.old }
-    ensures here { (b : ℕ) → frames_at links.new server b ≡ frames_at links.old server b ++ frames_to stepped.stamp stepped.sent.items b }
+    ensures here { (b : ℕ) → frames_at links.new server b ≡ frames_at links.old server b ++ frames_to posted.stamp posted.sent b }
     ensures others { (a b : ℕ) → (a ≡ server → ⊥) → frames_at links.new a b ≡ frames_at links.old a b }
-    ensures entry { journal.new.items ≡ journal.old.items ++ entry_parts stepped.stamp server act (map (λ s. s.to) stepped.sent.items) ∷ [] }
+    ensures entry { journal.new.items ≡ journal.old.items ++ entry_parts posted.stamp server act (map (λ s. s.to) posted.sent) ∷ [] }
 {
-    let stamp = stepped.stamp;
-    for sent in stepped.sent {
-        outs.push(sent.to).unwrap();
-        links.put(server, sent.to, Frame::make(stamp, sent.bytes.into_vec()));
+    let stamp = posted.stamp;
+    match posted.sent.into_messages() {
+        Messages::Texts(texts) => put_texts(links, server, stamp, texts.into_vec(), &mut outs),
+        Messages::Notices(notices) => {
+            put_notices(links, server, stamp, notices.into_vec(), &mut outs)
+        }
     }
     journal
         .push(Entry {
@@ -138,6 +188,9 @@ impl Servers {
         ensures none { frames_at self.old.links from server ≡ [] → IfOk result (λ made. (made ≡ false) × IsUnchanged self.old self.new) }
         ensures err { OnErr result (IsUnchanged self.old self.new) }
     {
+        if self.links.is_empty(from, server) {
+            return Ok(false);
+        }
         let outs = self.make_room(server, neighbours)?;
         let Some(frame) = self.links.first(from, server) else {
             return Ok(false);

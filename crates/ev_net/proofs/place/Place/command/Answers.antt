@@ -6,14 +6,14 @@ use Rattle.ev_net.proofs.Tables.{not_worn}
 use Rattle.ev_net.proofs.Stays.{table_after_command}
 use Rattle.ev_net.proofs.place.Place.command.Goals as goal
 
-pub take_command-requires-clause-route : goal.take_command-requires-clause-route
-take_command-requires-clause-route c =
+pub post_command-requires-clause-route : goal.post_command-requires-clause-route
+post_command-requires-clause-route c =
     routes_next c.self.inside.core c.self.inside.table c.self.invariant (λ n. n.now) c.next_publish.result c.args.client c.in_ok-route.route (subst IsSomeServer (sym c.self.view_is) c.requires.stands)
     c.next_publish.ensures.publish c.next_publish.ensures.none c.in_ok-route.ensures
 
 pub unworn-requires : goal.unworn-requires
-unworn-requires c = not_worn c.take_command.result c.self.inside.core.clock (subst (λ z. z.clock < last_stamp) (sym c.self.view_is) c.requires.low) c.take_command.ensures.worn
+unworn-requires c = not_worn c.post_command.result c.self.inside.core.clock (subst (λ z. z.clock < last_stamp) (sym c.self.view_is) c.requires.low) c.post_command.ensures.worn
 
 pub invariant_of-self : goal.invariant_of-self
-invariant_of-self c = table_after_command c.self.inside.core c.take_command.new.self c.self.inside.table c.args.client (subst IsSomeServer (sym c.self.view_is) c.requires.stands) c.take_command.result (λ s. s.stamp) (λ s. s.sent.items)
-    c.take_command.ensures.step c.take_command.ensures.err c.self.invariant
+invariant_of-self c = table_after_command c.self.inside.core c.post_command.new.self c.self.inside.table c.args.client (subst IsSomeServer (sym c.self.view_is) c.requires.stands) c.post_command.result (λ s. s.stamp) (λ s. s.sent)
+    c.post_command.ensures.step c.post_command.ensures.err c.self.invariant

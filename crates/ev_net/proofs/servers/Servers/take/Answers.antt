@@ -14,11 +14,17 @@ use Rattle.ev_sets.specs.Sets.{Has}
 use Rattle.ev_wire.specs.MessageText.{IsMessageText}
 use Rattle.ev_control.specs.Control.{wired}
 use Rattle.ev_net.specs.Links.{framed}
-use Rattle.ev_net.proofs.Putting.{first_left}
+use Rattle.ev_net.proofs.Putting.{first_left, nothing_first}
 use Rattle.ev_net.proofs.servers.Servers.take.Goals as goal
 
 pub make_room-requires-clause-small : goal.make_room-requires-clause-small
 make_room-requires-clause-small c = neighbours_small c.args.server c.args.neighbours.now c.args.self.now.places.items c.requires.able
+
+pub is_empty-requires : goal.is_empty-requires
+is_empty-requires c = (neighbours_small c.args.server c.args.neighbours.now c.args.self.now.places.items c.requires.able c.args.from c.requires.from, c.requires.able.small)
+
+pub returns-then-is_empty-clause-acted : goal.returns-then-is_empty-clause-acted
+returns-then-is_empty-clause-acted c = λ m first text. absurd (nothing_first (frames_at c.args.self.now.links c.args.from c.args.server) (framed m) (c.is_empty.ensures c.if-is_empty.true) first)
 
 pub first-requires : goal.first-requires
 first-requires c = (neighbours_small c.args.server c.args.neighbours.now c.args.self.now.places.items c.requires.able c.args.from c.requires.from, c.requires.able.small)
@@ -49,8 +55,8 @@ put-requires-clause-small c =
     let there = get-has (frames_at c.args.self.now.links c.args.from c.args.server) 0 c.in-Some.frame.now at in
     let is = core_is c.args.server c.args.neighbours.now c.args.self.now.places.items c.requires.able c.index_mut-place.result.now (c.index_mut-place.ensures.value ∙ ap (λ z. slice_index_or z (c.args.server - 1) c.index_mut-place.result.now) c.make_room.ensures.same.cores) in
     let m = c.requires.readable c.in-Some.frame.now there in
-    let step = subst (λ z. MakesStep (Takes c.args.from m.0) c.in-Some.frame.now.stamp z c.take.new.self c.in_ok-stepped.stepped.stamp c.in_ok-stepped.stepped.sent.items) is (c.in_ok-stepped.ensures.step m.0 m.1) in
-    let on = goes_on c.args.server c.args.neighbours.now c.args.self.now.places.items c.requires.able (Takes c.args.from m.0) c.in-Some.frame.now.stamp c.take.new.self c.in_ok-stepped.stepped.stamp c.in_ok-stepped.stepped.sent.items step in
+    let step = subst (λ z. MakesStep (Takes c.args.from m.0) c.in-Some.frame.now.stamp z c.take.new.self c.in_ok-stepped.stepped.stamp c.in_ok-stepped.stepped.sent) is (c.in_ok-stepped.ensures.step m.0 m.1) in
+    let on = goes_on c.args.server c.args.neighbours.now c.args.self.now.places.items c.requires.able (Takes c.args.from m.0) c.in-Some.frame.now.stamp c.take.new.self c.in_ok-stepped.stepped.stamp c.in_ok-stepped.stepped.sent step in
     on.small
 
 pub put-requires-clause-apart : goal.put-requires-clause-apart
@@ -59,8 +65,8 @@ put-requires-clause-apart c =
     let there = get-has (frames_at c.args.self.now.links c.args.from c.args.server) 0 c.in-Some.frame.now at in
     let is = core_is c.args.server c.args.neighbours.now c.args.self.now.places.items c.requires.able c.index_mut-place.result.now (c.index_mut-place.ensures.value ∙ ap (λ z. slice_index_or z (c.args.server - 1) c.index_mut-place.result.now) c.make_room.ensures.same.cores) in
     let m = c.requires.readable c.in-Some.frame.now there in
-    let step = subst (λ z. MakesStep (Takes c.args.from m.0) c.in-Some.frame.now.stamp z c.take.new.self c.in_ok-stepped.stepped.stamp c.in_ok-stepped.stepped.sent.items) is (c.in_ok-stepped.ensures.step m.0 m.1) in
-    let on = goes_on c.args.server c.args.neighbours.now c.args.self.now.places.items c.requires.able (Takes c.args.from m.0) c.in-Some.frame.now.stamp c.take.new.self c.in_ok-stepped.stepped.stamp c.in_ok-stepped.stepped.sent.items step in
+    let step = subst (λ z. MakesStep (Takes c.args.from m.0) c.in-Some.frame.now.stamp z c.take.new.self c.in_ok-stepped.stepped.stamp c.in_ok-stepped.stepped.sent) is (c.in_ok-stepped.ensures.step m.0 m.1) in
+    let on = goes_on c.args.server c.args.neighbours.now c.args.self.now.places.items c.requires.able (Takes c.args.from m.0) c.in-Some.frame.now.stamp c.take.new.self c.in_ok-stepped.stepped.stamp c.in_ok-stepped.stepped.sent step in
     on.apart
 
 pub put-requires-clause-texts : goal.put-requires-clause-texts
@@ -69,8 +75,8 @@ put-requires-clause-texts c =
     let there = get-has (frames_at c.args.self.now.links c.args.from c.args.server) 0 c.in-Some.frame.now at in
     let is = core_is c.args.server c.args.neighbours.now c.args.self.now.places.items c.requires.able c.index_mut-place.result.now (c.index_mut-place.ensures.value ∙ ap (λ z. slice_index_or z (c.args.server - 1) c.index_mut-place.result.now) c.make_room.ensures.same.cores) in
     let m = c.requires.readable c.in-Some.frame.now there in
-    let step = subst (λ z. MakesStep (Takes c.args.from m.0) c.in-Some.frame.now.stamp z c.take.new.self c.in_ok-stepped.stepped.stamp c.in_ok-stepped.stepped.sent.items) is (c.in_ok-stepped.ensures.step m.0 m.1) in
-    let on = goes_on c.args.server c.args.neighbours.now c.args.self.now.places.items c.requires.able (Takes c.args.from m.0) c.in-Some.frame.now.stamp c.take.new.self c.in_ok-stepped.stepped.stamp c.in_ok-stepped.stepped.sent.items step in
+    let step = subst (λ z. MakesStep (Takes c.args.from m.0) c.in-Some.frame.now.stamp z c.take.new.self c.in_ok-stepped.stepped.stamp c.in_ok-stepped.stepped.sent) is (c.in_ok-stepped.ensures.step m.0 m.1) in
+    let on = goes_on c.args.server c.args.neighbours.now c.args.self.now.places.items c.requires.able (Takes c.args.from m.0) c.in-Some.frame.now.stamp c.take.new.self c.in_ok-stepped.stepped.stamp c.in_ok-stepped.stepped.sent step in
     on.texts
 
 pub put-requires-clause-room : goal.put-requires-clause-room
@@ -79,8 +85,8 @@ put-requires-clause-room c =
     let there = get-has (frames_at c.args.self.now.links c.args.from c.args.server) 0 c.in-Some.frame.now at in
     let is = core_is c.args.server c.args.neighbours.now c.args.self.now.places.items c.requires.able c.index_mut-place.result.now (c.index_mut-place.ensures.value ∙ ap (λ z. slice_index_or z (c.args.server - 1) c.index_mut-place.result.now) c.make_room.ensures.same.cores) in
     let m = c.requires.readable c.in-Some.frame.now there in
-    let step = subst (λ z. MakesStep (Takes c.args.from m.0) c.in-Some.frame.now.stamp z c.take.new.self c.in_ok-stepped.stepped.stamp c.in_ok-stepped.stepped.sent.items) is (c.in_ok-stepped.ensures.step m.0 m.1) in
-    let on = goes_on c.args.server c.args.neighbours.now c.args.self.now.places.items c.requires.able (Takes c.args.from m.0) c.in-Some.frame.now.stamp c.take.new.self c.in_ok-stepped.stepped.stamp c.in_ok-stepped.stepped.sent.items step in
+    let step = subst (λ z. MakesStep (Takes c.args.from m.0) c.in-Some.frame.now.stamp z c.take.new.self c.in_ok-stepped.stepped.stamp c.in_ok-stepped.stepped.sent) is (c.in_ok-stepped.ensures.step m.0 m.1) in
+    let on = goes_on c.args.server c.args.neighbours.now c.args.self.now.places.items c.requires.able (Takes c.args.from m.0) c.in-Some.frame.now.stamp c.take.new.self c.in_ok-stepped.stepped.stamp c.in_ok-stepped.stepped.sent step in
     λ s h. c.drop_first.ensures.rooms c.args.server s.to (c.in_ok-outs.ensures.room s.to (on.to s h))
 
 pub put-requires-clause-stamp : goal.put-requires-clause-stamp
@@ -89,8 +95,8 @@ put-requires-clause-stamp c =
     let there = get-has (frames_at c.args.self.now.links c.args.from c.args.server) 0 c.in-Some.frame.now at in
     let is = core_is c.args.server c.args.neighbours.now c.args.self.now.places.items c.requires.able c.index_mut-place.result.now (c.index_mut-place.ensures.value ∙ ap (λ z. slice_index_or z (c.args.server - 1) c.index_mut-place.result.now) c.make_room.ensures.same.cores) in
     let m = c.requires.readable c.in-Some.frame.now there in
-    let step = subst (λ z. MakesStep (Takes c.args.from m.0) c.in-Some.frame.now.stamp z c.take.new.self c.in_ok-stepped.stepped.stamp c.in_ok-stepped.stepped.sent.items) is (c.in_ok-stepped.ensures.step m.0 m.1) in
-    stamp_below c.args.server c.args.neighbours.now c.args.self.now.places.items c.requires.able (Takes c.args.from m.0) c.in-Some.frame.now.stamp c.take.new.self c.in_ok-stepped.stepped.stamp c.in_ok-stepped.stepped.sent.items (c.requires.low c.in-Some.frame.now there) step
+    let step = subst (λ z. MakesStep (Takes c.args.from m.0) c.in-Some.frame.now.stamp z c.take.new.self c.in_ok-stepped.stepped.stamp c.in_ok-stepped.stepped.sent) is (c.in_ok-stepped.ensures.step m.0 m.1) in
+    stamp_below c.args.server c.args.neighbours.now c.args.self.now.places.items c.requires.able (Takes c.args.from m.0) c.in-Some.frame.now.stamp c.take.new.self c.in_ok-stepped.stepped.stamp c.in_ok-stepped.stepped.sent (c.requires.low c.in-Some.frame.now there) step
 
 pub put-requires-clause-outs : goal.put-requires-clause-outs
 put-requires-clause-outs c =
@@ -98,8 +104,8 @@ put-requires-clause-outs c =
     let there = get-has (frames_at c.args.self.now.links c.args.from c.args.server) 0 c.in-Some.frame.now at in
     let is = core_is c.args.server c.args.neighbours.now c.args.self.now.places.items c.requires.able c.index_mut-place.result.now (c.index_mut-place.ensures.value ∙ ap (λ z. slice_index_or z (c.args.server - 1) c.index_mut-place.result.now) c.make_room.ensures.same.cores) in
     let m = c.requires.readable c.in-Some.frame.now there in
-    let step = subst (λ z. MakesStep (Takes c.args.from m.0) c.in-Some.frame.now.stamp z c.take.new.self c.in_ok-stepped.stepped.stamp c.in_ok-stepped.stepped.sent.items) is (c.in_ok-stepped.ensures.step m.0 m.1) in
-    let on = goes_on c.args.server c.args.neighbours.now c.args.self.now.places.items c.requires.able (Takes c.args.from m.0) c.in-Some.frame.now.stamp c.take.new.self c.in_ok-stepped.stepped.stamp c.in_ok-stepped.stepped.sent.items step in
+    let step = subst (λ z. MakesStep (Takes c.args.from m.0) c.in-Some.frame.now.stamp z c.take.new.self c.in_ok-stepped.stepped.stamp c.in_ok-stepped.stepped.sent) is (c.in_ok-stepped.ensures.step m.0 m.1) in
+    let on = goes_on c.args.server c.args.neighbours.now c.args.self.now.places.items c.requires.able (Takes c.args.from m.0) c.in-Some.frame.now.stamp c.take.new.self c.in_ok-stepped.stepped.stamp c.in_ok-stepped.stepped.sent step in
     let few = on.few in
     let room = c.in_ok-outs.ensures.outs.2 in
     (c.in_ok-outs.ensures.outs.0, omega (arith, few, room))
@@ -110,13 +116,13 @@ returns-clause-acted c = λ m first text.
     let there = get-has (frames_at c.args.self.now.links c.args.from c.args.server) 0 c.in-Some.frame.now at in
     let is = core_is c.args.server c.args.neighbours.now c.args.self.now.places.items c.requires.able c.index_mut-place.result.now (c.index_mut-place.ensures.value ∙ ap (λ z. slice_index_or z (c.args.server - 1) c.index_mut-place.result.now) c.make_room.ensures.same.cores) in
     let same : c.in-Some.frame.now ≡ framed m = unsome (sym at ∙ first) in
-    let step = subst (λ z. MakesStep (Takes c.args.from m.message) m.stamp z c.take.new.self c.in_ok-stepped.stepped.stamp c.in_ok-stepped.stepped.sent.items) is
-    (subst (λ z. MakesStep (Takes c.args.from m.message) z c.index_mut-place.result.now c.take.new.self c.in_ok-stepped.stepped.stamp c.in_ok-stepped.stepped.sent.items) (ap (λ z. z.stamp) same)
+    let step = subst (λ z. MakesStep (Takes c.args.from m.message) m.stamp z c.take.new.self c.in_ok-stepped.stepped.stamp c.in_ok-stepped.stepped.sent) is
+    (subst (λ z. MakesStep (Takes c.args.from m.message) z c.index_mut-place.result.now c.take.new.self c.in_ok-stepped.stepped.stamp c.in_ok-stepped.stepped.sent) (ap (λ z. z.stamp) same)
     (c.in_ok-stepped.ensures.step m.message (subst (λ z. IsMessageText z (wired m.message)) (sym (ap (λ z. z.bytes) same)) text))) in (
       refl,
       acted_by (c.args.server - 1) c.args.server (Takes c.args.from m) (acts.Take c.args.from) _ _ c.requires.able.core c.take.new.self c.in_ok-stepped.stepped.stamp
-          c.in_ok-stepped.stepped.sent.items c.requires.able.here c.requires.able.number step (search (rules, c.make_room.ensures.same.cores))
-          (c.put.ensures.entry ∙ ap (λ z. z ++ entry_parts c.in_ok-stepped.stepped.stamp c.args.server (acts.Take c.args.from) (map (λ (s : Sent). s.to) c.in_ok-stepped.stepped.sent.items) ∷ []) c.make_room.ensures.same.journal)
+          c.in_ok-stepped.stepped.sent c.requires.able.here c.requires.able.number step (search (rules, c.make_room.ensures.same.cores))
+          (c.put.ensures.entry ∙ ap (λ z. z ++ entry_parts c.in_ok-stepped.stepped.stamp c.args.server (acts.Take c.args.from) (map (λ (s : Sent). s.to) c.in_ok-stepped.stepped.sent) ∷ []) c.make_room.ensures.same.journal)
           (frames_at c.drop_first.new.self)
           (first_left c.args.self.now.links c.make_room.new.self.links c.drop_first.new.self c.args.server c.args.from m c.make_room.ensures.same.frames c.drop_first.ensures.here c.drop_first.ensures.others)
           c.put.ensures.here c.put.ensures.others,
