@@ -1,5 +1,5 @@
 -- What is staged after a change of an interface's filters.
-use Rattle.std.proofs.Common.{◌≡◌, ◌≢◌, ◌⊎◌, ◌↔◌, inl, inr, ℕ, ◌||◌, not, Bool, true, false, List, [], ◌∷◌, ◌++◌, map, filter, refl, sym, ap, subst, ◌∙◌}
+use Rattle.std.proofs.Common.{◌≡◌, ◌≢◌, ◌⊎◌, ◌↔◌, inl, inr, ℕ, ◌||◌, not, Bool, true, false, cond, List, [], ◌∷◌, ◌++◌, map, filter, refl, sym, ap, subst, ◌∙◌}
 use Rattle.std.proofs.lemmas.Bool.{cases_eq}
 use Rattle.ev_constraint.specs.Constraint.{ConstraintParts}
 use Rattle.ev_notice.specs.Before.{list_before}
@@ -12,8 +12,8 @@ use Rattle.ev_session.proofs.Settling.{has-append}
 use Rattle.ev_counting.specs.declared.change.Change.{Change}
 use Rattle.ev_counting.specs.declared.change.Change.TheVariants.{Add, Remove}
 use Rattle.ev_control.proofs.Holdings.{split}
-use Rattle.ev_server.specs.Staged.{pair_of, others, staged_with, Turns, is_some_there, is_of_one_pair}
-use Rattle.ev_server.proofs.Pairs.{one-or, has-end, end-has, before-end, not-one, one-not}
+use Rattle.ev_server.specs.Staged.{pair_of, is_earlier, with_one, staged_with, Turns, is_some_there}
+use Rattle.ev_server.proofs.Pairs.{one-or, has-one, rising-one}
 
 abbrev pub Filters : Type 0
 Filters = List (List ConstraintParts)
@@ -51,40 +51,40 @@ has-back x [] ys m = m
 has-back x (y ∷ xs) ys m = inr (has-back x xs ys m)
 
 -- what stands among the staged changes after some more
-with-has : (changes staged : List Change) → AgreesWithin changes → (c : Change) → Has c (staged_with changes staged) → Has c changes ⊎ (Has c staged × Untouched c changes)
-with-has [] staged a c m = inr (m, λ other n. absurd n)
-with-has (x ∷ changes) staged a c m = elim (with-has changes (others x staged ++ x ∷ []) (λ p q m n. a p q (inr m) (inr n)) c m) [
+with-has : (changes staged : List Change) → IsRising is_earlier staged → AgreesWithin changes → (c : Change) → Has c (staged_with changes staged) → Has c changes ⊎ (Has c staged × Untouched c changes)
+with-has [] staged r a c m = inr (m, λ other n. absurd n)
+with-has (x ∷ changes) staged r a c m = elim (with-has changes (with_one x staged) (rising-one x staged r) (λ p q m n. a p q (inr m) (inr n)) c m) [
   | inl k ↦ inl (inr k)
-  | inr k ↦ elim (has-end x c (others x staged) k.0) [
+  | inr k ↦ elim ((has-one x c staged r).0 k.0) [
     | inl e ↦ inl (inl e)
-    | inr h ↦ inr (there h k.1)
+    | inr h ↦ inr (h.0, both h.1 k.1)
   ]
 ]
   where
-    there : Has c (others x staged) → Untouched c changes → Has c staged × Untouched c (x ∷ changes)
-    there h u =
-        let p = filter-Has (λ other. not (is_of_one_pair other x)) c staged h in
-        (p.0, both (not-one c x p.1) u)
-      where
-        both : pair_of c ≢ pair_of x → Untouched c changes → Untouched c (x ∷ changes)
-        both n u other (inl e) = λ q. n (q ∙ ap pair_of e)
-        both n u other (inr m) = u other m
+    both : pair_of c ≢ pair_of x → Untouched c changes → Untouched c (x ∷ changes)
+    both n u other (inl e) = λ q. n (q ∙ ap pair_of e)
+    both n u other (inr m) = u other m
 
-has-with : (changes staged : List Change) → AgreesWithin changes → (c : Change) → Has c changes ⊎ (Has c staged × Untouched c changes) → Has c (staged_with changes staged)
-has-with [] staged a c (inl m) = absurd m
-has-with [] staged a c (inr m) = m.0
-has-with (x ∷ changes) staged a c (inl (inr m)) = has-with changes (others x staged ++ x ∷ []) (λ p q m n. a p q (inr m) (inr n)) c (inl m)
-has-with (x ∷ changes) staged a c (inl (inl e)) = elim (touched-or c changes) [
-  | inl t ↦ has-with changes (others x staged ++ x ∷ []) (λ p q m n. a p q (inr m) (inr n)) c (inl (subst (λ z. Has z changes) (sym (a c t.0 (inl e) (inr t.1) t.2)) t.1))
-  | inr u ↦ has-with changes (others x staged ++ x ∷ []) (λ p q m n. a p q (inr m) (inr n)) c (inr (subst (λ z. Has z (others x staged ++ x ∷ [])) (sym e) (end-has x (others x staged)), u))
+has-with : (changes staged : List Change) → IsRising is_earlier staged → AgreesWithin changes → (c : Change) → Has c changes ⊎ (Has c staged × Untouched c changes) → Has c (staged_with changes staged)
+has-with [] staged r a c (inl m) = absurd m
+has-with [] staged r a c (inr m) = m.0
+has-with (x ∷ changes) staged r a c (inl (inr m)) = has-with changes (with_one x staged) (rising-one x staged r) (λ p q m n. a p q (inr m) (inr n)) c (inl m)
+has-with (x ∷ changes) staged r a c (inl (inl e)) = elim (touched-or c changes) [
+  | inl t ↦ has-with changes (with_one x staged) (rising-one x staged r) (λ p q m n. a p q (inr m) (inr n)) c (inl (subst (λ z. Has z changes) (sym (a c t.0 (inl e) (inr t.1) t.2)) t.1))
+  | inr u ↦ has-with changes (with_one x staged) (rising-one x staged r) (λ p q m n. a p q (inr m) (inr n)) c (inr ((has-one x c staged r).1 (inl e), u))
 ]
-has-with (x ∷ changes) staged a c (inr (m, u)) =
-    has-with changes (others x staged ++ x ∷ []) (λ p q m n. a p q (inr m) (inr n)) c
-    (inr (before-end x c (others x staged) (Has-filter (λ other. not (is_of_one_pair other x)) c staged m (one-not c x (u x (inl refl)))), λ other k. u other (inr k)))
+has-with (x ∷ changes) staged r a c (inr (m, u)) =
+    has-with changes (with_one x staged) (rising-one x staged r) (λ p q m n. a p q (inr m) (inr n)) c
+    (inr ((has-one x c staged r).1 (inr (m, u x (inl refl))), λ other k. u other (inr k)))
 
-some-there : {T : Type 0} (x : T) (xs : List T) → Has x xs → is_some_there xs ≡ true
-some-there x [] m = absurd m
-some-there x (y ∷ xs) m = refl
+some-one : (x : Change) (staged : List Change) → is_some_there (with_one x staged) ≡ true
+some-one x [] = refl
+some-one x (c ∷ cs) = go (is_earlier c x) (is_earlier x c)
+  where
+    go : (a b : Bool) → is_some_there (cond a (c ∷ with_one x cs) (cond b (x ∷ c ∷ cs) (x ∷ cs))) ≡ true
+    go true b = refl
+    go false true = refl
+    go false false = refl
 
 module _ (interface : ℕ) (held out add : Filters) where
   -- the changes that make a difference
@@ -159,7 +159,7 @@ module _ (interface : ℕ) (held out add : Filters) where
             let same : g ≡ f = sym (ap (λ z. z.item) (q ∙ ap pair_of p)) ∙ e in
             n (subst (λ z. Has z held) (sym same) (there (subst (λ z. Has z add) same x)))
 
-    module _ (published holds then : ℕ → Filters) (staged : List Change) (here : holds interface ≡ held)
+    module _ (published holds then : ℕ → Filters) (staged : List Change) (rose : IsRising is_earlier staged) (here : holds interface ≡ held)
         (now : then interface ≡ union list_before add (minus list_before held out)) (else : (i : ℕ) → i ≢ interface → then i ≡ holds i) (turns : Turns published holds staged) where
       after-has : (f : List ConstraintParts) → Has f (then interface) → Has f add ⊎ (Has f held × (Has f out → ⊥))
       after-has f m = elim ((has-union sub_laws f add (minus list_before held out)).0 (subst (Has f) now m)) [ inl a ↦ inl a | inr k ↦ inr ((minus-iff sub_laws f held out).0 k) ]
@@ -174,14 +174,14 @@ module _ (interface : ℕ) (held out add : Filters) where
       -- a pair that is untouched stays as it was staged
       still : (i : ℕ) (f : List ConstraintParts) → Untouched (Add i f) made → Has f (holds i) → Answer i f
       still i f u h = elim ((turns i f).0 h) [
-        | inl a ↦ inl (has-with made staged agrees (Add i f) (inr (a, u)))
-        | inr k ↦ inr (k.0, λ r. elim (with-has made staged agrees (Remove i f) r) [ inl m ↦ u (Remove i f) m refl | inr s ↦ k.1 s.0 ])
+        | inl a ↦ inl (has-with made staged rose agrees (Add i f) (inr (a, u)))
+        | inr k ↦ inr (k.0, λ r. elim (with-has made staged rose agrees (Remove i f) r) [ inl m ↦ u (Remove i f) m refl | inr s ↦ k.1 s.0 ])
       ]
 
       -- and is held where it is as was staged
       was : (i : ℕ) (f : List ConstraintParts) → Untouched (Add i f) made → Answer i f → Has f (holds i)
-      was i f u (inl a) = elim (with-has made staged agrees (Add i f) a) [ inl m ↦ absurd (u (Add i f) m refl) | inr s ↦ (turns i f).1 (inl s.0) ]
-      was i f u (inr k) = (turns i f).1 (inr (k.0, λ r. k.1 (has-with made staged agrees (Remove i f) (inr (r, u)))))
+      was i f u (inl a) = elim (with-has made staged rose agrees (Add i f) a) [ inl m ↦ absurd (u (Add i f) m refl) | inr s ↦ (turns i f).1 (inl s.0) ]
+      was i f u (inr k) = (turns i f).1 (inr (k.0, λ r. k.1 (has-with made staged rose agrees (Remove i f) (inr (r, u)))))
 
       untouched-at : (f : List ConstraintParts) → (Has f out → Has f held → ⊥) → (Has f add → Has f held) → Untouched (Add interface f) made
       untouched-at f stays there = untouched-here (Add interface f) f refl stays there
@@ -197,7 +197,7 @@ module _ (interface : ℕ) (held out add : Filters) where
       to-here f m = elim (after-has f m) [
         | inl a ↦ elim (held-or f) [
           | inl h ↦ still interface f (untouched-at f (λ o k. apart f o a) (λ b. h)) (subst (Has f) (sym here) h)
-          | inr n ↦ inl (has-with made staged agrees (Add interface f) (inl (added f a n)))
+          | inr n ↦ inl (has-with made staged rose agrees (Add interface f) (inl (added f a n)))
         ]
         | inr k ↦ still interface f (untouched-at f (λ o h. k.1 o) (λ b. k.0)) (subst (Has f) (sym here) k.0)
       ]
@@ -218,8 +218,8 @@ module _ (interface : ℕ) (held out add : Filters) where
               gone-then there (subst (λ z. Has z out) same o) (subst (λ z. Has z held) same h) r
             where
               gone-then : Has (Remove interface f) made → Has f out → Has f held → Answer interface f → Has f (then interface)
-              gone-then there o h (inr k) = absurd (k.1 (has-with made staged agrees (Remove interface f) (inl there)))
-              gone-then there o h (inl a) = elim (with-has made staged agrees (Add interface f) a) [
+              gone-then there o h (inr k) = absurd (k.1 (has-with made staged rose agrees (Remove interface f) (inl there)))
+              gone-then there o h (inl a) = elim (with-has made staged rose agrees (Add interface f) a) [
                 | inl m ↦ absurd (both (made-is (Add interface f) m))
                 | inr s ↦ absurd (s.1 (Remove interface f) there refl)
               ]
@@ -239,11 +239,11 @@ module _ (interface : ℕ) (held out add : Filters) where
 
       with-some : (changes all : List Change) → is_some_there all ≡ true → is_some_there (staged_with changes all) ≡ true
       with-some [] all e = e
-      with-some (x ∷ changes) all e = with-some changes (others x all ++ x ∷ []) (some-there x (others x all ++ x ∷ []) (end-has x (others x all)))
+      with-some (x ∷ changes) all e = with-some changes (with_one x all) (some-one x all)
 
       first-some : (changes : List Change) (c : Change) → Has c changes → is_some_there (staged_with changes staged) ≡ true
       first-some [] c m = absurd m
-      first-some (x ∷ changes) c m = with-some changes (others x staged ++ x ∷ []) (some-there x (others x staged ++ x ∷ []) (end-has x (others x staged)))
+      first-some (x ∷ changes) c m = with-some changes (with_one x staged) (some-one x staged)
 
       differs : (c : Change) → Has c made → held ≢ then interface
       differs c m e = go (made-is c m)

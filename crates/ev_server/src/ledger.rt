@@ -37,9 +37,9 @@ impl Model for Ledger {
 
     ghost Value = { LedgerParts };
 
-    ghost view = { λ l. record { control = l.control; published = l.published.value.filters; staged = l.staged } };
+    ghost view = { λ l. record { control = l.control; published = l.published.value.filters; staged = l.staged.changes } };
 
-    ghost invariant = { λ l. Turns (λ i. held_from list_before i l.published.value.filters) (subs l.control) l.staged };
+    ghost invariant = { λ l. Turns (λ i. held_from list_before i l.published.value.filters) (subs l.control) l.staged.changes };
 }
 
 impl Ledger {
@@ -142,9 +142,9 @@ impl Ledger {
     {
         let mut changes = self.withdrawals(interface, out)?;
         self.additions(interface, add, &mut changes)?;
-        let staged = self.staged.with(self.alloc, &changes)?;
+        self.staged.reserve(changes.len())?;
         let sent = self.control.change_subs(interface, out, add)?;
-        self.staged = staged;
+        self.staged.put_all(changes);
         Ok(sent)
     }
 

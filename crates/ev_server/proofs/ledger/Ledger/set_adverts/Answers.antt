@@ -8,18 +8,18 @@ use Rattle.ev_server.specs.Ledger.{AdvertsSet}
 use Rattle.ev_server.proofs.ledger.Ledger.set_adverts.Goals as goal
 
 pub invariant_of-self : goal.invariant_of-self
-invariant_of-self c = subst (λ z. Turns (λ i. held_from list_before i c.self.inside.published.value.filters) (λ i. held_from list_before i z.filters) c.self.inside.staged) (sym c.in_err-sent.ensures.err) c.self.invariant
+invariant_of-self c = subst (λ z. Turns (λ i. held_from list_before i c.self.inside.published.value.filters) (λ i. held_from list_before i z.filters) c.self.inside.staged.changes) (sym c.in_err-sent.ensures.err) c.self.invariant
 
 pub invariant_of-self-2 : goal.invariant_of-self-2
-invariant_of-self-2 c = subst (λ z. Turns (λ i. held_from list_before i c.self.inside.published.value.filters) (λ i. held_from list_before i z) c.self.inside.staged) (sym (ap (λ z. z.filters) c.in_ok-sent.ensures.same)) c.self.invariant
+invariant_of-self-2 c = subst (λ z. Turns (λ i. held_from list_before i c.self.inside.published.value.filters) (λ i. held_from list_before i z) c.self.inside.staged.changes) (sym (ap (λ z. z.filters) c.in_ok-sent.ensures.same)) c.self.invariant
 
 pub invariant_of-self-then-not-steer : goal.invariant_of-self-then-not-steer
-invariant_of-self-then-not-steer c = subst (λ z. Turns (λ i. held_from list_before i c.self.inside.published.value.filters) (λ i. held_from list_before i z) c.self.inside.staged) (sym (ap (λ z. z.filters) c.in_ok-sent.ensures.same)) c.self.invariant
+invariant_of-self-then-not-steer c = subst (λ z. Turns (λ i. held_from list_before i c.self.inside.published.value.filters) (λ i. held_from list_before i z) c.self.inside.staged.changes) (sym (ap (λ z. z.filters) c.in_ok-sent.ensures.same)) c.self.invariant
 
 pub returns-then-not-steer-clause-set : goal.returns-then-not-steer-clause-set
 returns-then-not-steer-clause-set c =
     let meant : by_adverts c.self.inside.control.semantics ≡ false = ap by_adverts (sym (c.semantics.ensures ∙ ap (λ z. z.semantics) c.in_ok-sent.ensures.same)) ∙ sym c.steer.ensures ∙ c.if-not-steer.true in
-    subst (λ z. AdvertsSet c.args.interface c.args.out.now c.args.add.now z (record { control = c.change_advs.new.self; published = c.self.inside.published.value.filters; staged = c.self.inside.staged }) c.new.result.items) c.self.view_is
+    subst (λ z. AdvertsSet c.args.interface c.args.out.now c.args.add.now z (record { control = c.change_advs.new.self; published = c.self.inside.published.value.filters; staged = c.self.inside.staged.changes }) c.new.result.items) c.self.view_is
     (record {
       held = c.in_ok-sent.ensures.held;
       others = c.in_ok-sent.ensures.others;
@@ -36,7 +36,7 @@ returns-then-not-steer-clause-set c =
 pub returns-clause-set : goal.returns-clause-set
 returns-clause-set c =
     let meant : by_adverts c.self.inside.control.semantics ≡ true = ap by_adverts (sym (c.semantics.ensures ∙ ap (λ z. z.semantics) c.in_ok-sent.ensures.same)) ∙ sym c.steer.ensures ∙ c.if-not-steer.false in
-    subst (λ z. AdvertsSet c.args.interface c.args.out.now c.args.add.now z (record { control = c.change_advs.new.self; published = c.self.inside.published.value.filters; staged = c.self.inside.staged }) c.in_ok-sent.sent.items) c.self.view_is
+    subst (λ z. AdvertsSet c.args.interface c.args.out.now c.args.add.now z (record { control = c.change_advs.new.self; published = c.self.inside.published.value.filters; staged = c.self.inside.staged.changes }) c.in_ok-sent.sent.items) c.self.view_is
     (record {
       held = c.in_ok-sent.ensures.held;
       others = c.in_ok-sent.ensures.others;

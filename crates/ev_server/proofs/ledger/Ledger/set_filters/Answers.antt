@@ -12,7 +12,12 @@ use Rattle.ev_server.proofs.Turning.{made, turned, flag}
 use Rattle.ev_server.proofs.ledger.Ledger.set_filters.Goals as goal
 
 pub invariant_of-self : goal.invariant_of-self
-invariant_of-self c = subst (λ z. Turns (λ i. held_from list_before i c.self.inside.published.value.filters) (subs z) c.self.inside.staged) (sym c.in_err-sent.ensures.err) c.self.invariant
+invariant_of-self c = subst (λ z. Turns (λ i. held_from list_before i c.self.inside.published.value.filters) (subs c.self.inside.control) z) (sym c.in_err-reserve.ensures.changes) c.self.invariant
+
+pub invariant_of-self-in_err-sent : goal.invariant_of-self-in_err-sent
+invariant_of-self-in_err-sent c =
+    subst (λ z. Turns (λ i. held_from list_before i c.self.inside.published.value.filters) (subs z) c.reserve.new.self.changes) (sym c.in_err-sent.ensures.err)
+    (subst (λ z. Turns (λ i. held_from list_before i c.self.inside.published.value.filters) (subs c.self.inside.control) z) (sym c.in_ok-reserve.ensures.changes) c.self.invariant)
 
 pub invariant_of-self-2 : goal.invariant_of-self-2
 invariant_of-self-2 c =
@@ -25,10 +30,11 @@ invariant_of-self-2 c =
     subst (λ z. c.in_ok-changes.changes.items ≡ map (Remove i) (filter (λ f. member list_before f (subs z.control i)) out)) (sym c.self.view_is) c.in_ok-changes.ensures in
     let more : c.additions.new.changes.items ≡ c.in_ok-changes.changes.items ++ map (Add i) (filter (λ f. not (member list_before f held)) add) =
     subst (λ z. c.additions.new.changes.items ≡ c.in_ok-changes.changes.items ++ map (Add i) (filter (λ f. not (member list_before f (subs z.control i))) add)) (sym c.self.view_is) c.in_ok-additions.ensures in
-    let listed : c.deref.result.now ≡ made i held out add = c.deref.ensures.value ∙ more ∙ ap (λ z. z ++ map (Add i) (filter (λ f. not (member list_before f held)) add)) first in
-    let staged : c.in_ok-staged.staged ≡ staged_with (made i held out add) c.self.inside.staged = c.in_ok-staged.ensures ∙ ap (λ z. staged_with z c.self.inside.staged) listed in
+    let listed : c.additions.new.changes.items ≡ made i held out add = more ∙ ap (λ z. z ++ map (Add i) (filter (λ f. not (member list_before f held)) add)) first in
+    let staged : c.put_all.new.self.changes ≡ staged_with (made i held out add) c.self.inside.staged.changes =
+    c.put_all.ensures.changes ∙ ap (λ z. staged_with c.additions.new.changes.items z) c.in_ok-reserve.ensures.changes ∙ ap (λ z. staged_with z c.self.inside.staged.changes) listed in
     subst (λ z. Turns (λ i. held_from list_before i c.self.inside.published.value.filters) (subs c.change_subs.new.self) z) (sym staged)
-    (turned i held out add c.requires (λ i. held_from list_before i c.self.inside.published.value.filters) (subs old) (subs c.change_subs.new.self) c.self.inside.staged refl c.in_ok-sent.ensures.held c.in_ok-sent.ensures.others c.self.invariant)
+    (turned i held out add c.requires (λ i. held_from list_before i c.self.inside.published.value.filters) (subs old) (subs c.change_subs.new.self) c.self.inside.staged.changes c.in_ok-reserve.ensures.rising refl c.in_ok-sent.ensures.held c.in_ok-sent.ensures.others c.self.invariant)
 
 pub returns-clause-set : goal.returns-clause-set
 returns-clause-set c =
@@ -41,10 +47,11 @@ returns-clause-set c =
     subst (λ z. c.in_ok-changes.changes.items ≡ map (Remove i) (filter (λ f. member list_before f (subs z.control i)) out)) (sym c.self.view_is) c.in_ok-changes.ensures in
     let more : c.additions.new.changes.items ≡ c.in_ok-changes.changes.items ++ map (Add i) (filter (λ f. not (member list_before f held)) add) =
     subst (λ z. c.additions.new.changes.items ≡ c.in_ok-changes.changes.items ++ map (Add i) (filter (λ f. not (member list_before f (subs z.control i))) add)) (sym c.self.view_is) c.in_ok-additions.ensures in
-    let listed : c.deref.result.now ≡ made i held out add = c.deref.ensures.value ∙ more ∙ ap (λ z. z ++ map (Add i) (filter (λ f. not (member list_before f held)) add)) first in
-    let staged : c.in_ok-staged.staged ≡ staged_with (made i held out add) c.self.inside.staged = c.in_ok-staged.ensures ∙ ap (λ z. staged_with z c.self.inside.staged) listed in
-    let flagged = flag i held out add c.requires (λ i. held_from list_before i c.self.inside.published.value.filters) (subs old) (subs c.change_subs.new.self) c.self.inside.staged refl c.in_ok-sent.ensures.held c.in_ok-sent.ensures.others c.self.invariant (rising-where sub_laws (λ h. h.interface == i) old.filters) in
-    subst (λ z. FiltersSet i out add z (record { control = c.change_subs.new.self; published = c.self.inside.published.value.filters; staged = c.in_ok-staged.staged }) c.in_ok-sent.sent.items) c.self.view_is
+    let listed : c.additions.new.changes.items ≡ made i held out add = more ∙ ap (λ z. z ++ map (Add i) (filter (λ f. not (member list_before f held)) add)) first in
+    let staged : c.put_all.new.self.changes ≡ staged_with (made i held out add) c.self.inside.staged.changes =
+    c.put_all.ensures.changes ∙ ap (λ z. staged_with c.additions.new.changes.items z) c.in_ok-reserve.ensures.changes ∙ ap (λ z. staged_with z c.self.inside.staged.changes) listed in
+    let flagged = flag i held out add c.requires (λ i. held_from list_before i c.self.inside.published.value.filters) (subs old) (subs c.change_subs.new.self) c.self.inside.staged.changes c.in_ok-reserve.ensures.rising refl c.in_ok-sent.ensures.held c.in_ok-sent.ensures.others c.self.invariant (rising-where sub_laws (λ h. h.interface == i) old.filters) in
+    subst (λ z. FiltersSet i out add z (record { control = c.change_subs.new.self; published = c.self.inside.published.value.filters; staged = c.put_all.new.self.changes }) c.in_ok-sent.sent.items) c.self.view_is
     (record {
       held = c.in_ok-sent.ensures.held;
       others = c.in_ok-sent.ensures.others;
