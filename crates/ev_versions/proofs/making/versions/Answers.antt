@@ -1,10 +1,12 @@
-use Rattle.std.proofs.Common.{[], ap, sym, subst, ◌∙◌, refl, fold}
+use Rattle.std.proofs.Common.{◌≡◌, [], ◌++◌, ap, sym, subst, ◌∙◌, refl, fold, drop, false, Result, Ok, Err}
+use Rattle.std.specs.Prelude.{is_err, MatchResult}
 use Rattle.std.proofs.lemmas.List.{append-nil}
 use Rattle.ev_versions.specs.Pairs.{pair_set, pairs_after}
-use Rattle.ev_versions.specs.Chain.{IsFolded}
+use Rattle.ev_versions.specs.Chain.{IsFolded, changes_of, last_seen}
+use Rattle.ev_versions.specs.History.{head_of}
 use Rattle.ev_versions.specs.declared.version.Version.{Version}
 use Rattle.ev_versions.proofs.Pairs.{empty-set}
-use Rattle.ev_versions.proofs.Chains.{starts, shows_fold, told, applied}
+use Rattle.ev_versions.proofs.Chains.{starts, shows_fold, Told, told, applied}
 use Rattle.ev_versions.proofs.making.versions.Goals as goal
 
 pub new-requires-clause-rule : goal.new-requires-clause-rule
@@ -19,3 +21,27 @@ publish_as-writer-requires g c next is =
     let first = c.empty-first.ensures in
     let folded : IsFolded c.empty-first.result = ap pair_set first.0 ∙ empty-set ∙ sym (ap (λ s. pairs_after s.log) first.1 ∙ ap pairs_after c.open-front.ensures.0) in
     shows_fold _ _ now next [] (subst (λ (x : Version). IsFolded x) (sym e.0) folded) (sym (append-nil now.front.seen.log), refl) (is ∙ ap (λ l. fold applied (told now) l) e.1)
+
+-- what holds of a call that succeeds
+ok-side : {T E : Type 0} (X Y : Type 0) (r : Result T E) → is_err r ≡ false → MatchResult r (λ (_ : T). X) (λ (_ : E). Y) → X
+ok-side X Y (Ok x) h m = m
+ok-side X Y (Err e) h m = cc
+
+pub invariant_of-publisher : goal.invariant_of-publisher
+invariant_of-publisher g c =
+    let first = c.empty-first.ensures in
+    let e = c.in_ok-writer.ensures in
+    let now = c.in_ok-writer.writer.desk.shown.value in
+    let v = ok-side _ _ c.publish_as-writer.result.1 (sym c.is_err.ensures.value ∙ c.if-is_err.false) c.publish_as-writer.ensures.values in
+    let shown = ap (λ s. told s.value) c.seats.ensures.shown ∙ v.0 ∙ ap (λ l. fold applied (told now) l) e.1 ∙ ap told e.0 in
+    let seen = ap (λ (t : Told). t.1) shown ∙ first.1 in
+    let folded = ap (λ (t : Told). t.0) shown ∙ ap pair_set first.0 ∙ empty-set ∙ sym (ap (λ s. pairs_after s.log) seen ∙ ap pairs_after c.open-front.ensures.0) in
+    let none = ap (λ l. drop c.seats.new.writer.behind l.items) c.seats.ensures.log.0 ∙ ap (λ b. drop b c.publish_as-writer.result.0.log.items) c.seats.ensures.log.1 ∙ v.1 in
+    let again = c.again.ensures.1 in
+    let log = c.open-front.result.0.seen.log in
+    record {
+      word = (c.open-front.ensures.1 ∙ ap (λ s. head_of s.book) (sym again), ap (λ s. s.book) (sym again));
+      published = (seen, folded);
+      staged = ap (λ s. s.log) again ∙ sym (append-nil log) ∙ ap (λ zs. log ++ zs) (sym (ap (λ d. changes_of d ++ c.new-in-Ok.result.items) none ∙ c.new-in-Ok.ensures.items));
+      last = λ _. ap (last_seen c.open-front.result.0.seen) none ∙ sym again;
+    }
