@@ -1,5 +1,5 @@
 //! Turns one after the other, and what the last of them made.
-ghost use Rattle.std.specs.Prelude.{◌≡◌, ◌≤◌, length, IfOk};
+ghost use Rattle.std.specs.Prelude.{◌≡◌, ◌≤◌, length, IfOk, IfSome};
 ghost use Rattle.ev_model.specs.Sound.{IsSound};
 
 use crate::told::{deliveries, numbers, step};
@@ -7,7 +7,7 @@ use ev_input::law::net_is_sound;
 use ev_input::{InputFault, read_net};
 use ev_memory::NoMemory;
 use ev_model::{Net, Turn};
-use ev_net::{Network, retell};
+use ev_net::{Network, ReplayFault, retell};
 use ev_rows::{Answers, RowFault, first_word, number};
 use std::alloc::Global;
 
@@ -15,7 +15,7 @@ use std::alloc::Global;
 #[derive(Drop)]
 pub struct Steps {
     document: Vec<u8>,
-    turns: Vec<Turn>,
+    turns: Vec<(u32, Turn)>,
 }
 
 /// The document of a text whose lines are parted by strokes.
@@ -53,16 +53,21 @@ fn client_of(net: &Net, name: &str) -> Result<u32, RowFault>
     Err(RowFault::Form)
 }
 
-/// The network of a net after turns that are permitted.
-fn after<'a>(alloc: Global, net: &'a Net, turns: &[Turn]) -> Result<Network<'a>, RowFault>
+/// The network of a net after turns, where each of them is permitted.
+fn after<'a>(
+    alloc: Global,
+    net: &'a Net,
+    turns: &[(u32, Turn)],
+) -> Result<Option<Network<'a>>, RowFault>
     requires { IsSound net.now }
-    ensures { IfOk result (λ network. network.net ≡ net.now) }
+    ensures { IfOk result (λ after. IfSome after (λ network. network.net ≡ net.now)) }
 {
     let mut network = Network::start(alloc, net)?;
-    for turn in turns {
-        network.turn(*turn)?;
+    match network.replay(turns) {
+        Ok(()) => Ok(Some(network)),
+        Err(ReplayFault::BadTurn(_)) => Ok(None),
+        Err(ReplayFault::NoMemory) => Err(RowFault::NoMemory),
     }
-    Ok(network)
 }
 
 /// The turn that a row names.
@@ -95,16 +100,13 @@ impl Steps {
     /// The step of a further turn; `barred` where it isn't permitted.
     fn turn(&mut self, alloc: Global, verb: &str, rest: &str) -> Result<Vec<u8>, RowFault> {
         let net = net_of(alloc, &self.document)?;
-        let turn = turn_of(&net, verb, rest)?;
-        let mut network = after(alloc, &net, &self.turns)?;
-        if !network.turn(turn)? {
-            return Ok(Vec::from_slice(alloc, b"barred")?);
-        }
-        self.turns.push(turn)?;
-        let told = retell(alloc, &net, network.journal())?;
-        match (network.journal().last(), told.last()) {
-            (Some(entry), Some(sent)) => step(alloc, entry, sent.as_slice()),
-            _ => Err(RowFault::Form),
+        self.turns.push((0, turn_of(&net, verb, rest)?))?;
+        match after(alloc, &net, &self.turns)? {
+            Some(network) => last_step(alloc, &net, &network),
+            None => {
+                self.turns.pop();
+                Ok(Vec::from_slice(alloc, b"barred")?)
+            }
         }
     }
 
@@ -112,16 +114,31 @@ impl Steps {
     fn received(&self, alloc: Global, name: &str) -> Result<Vec<u8>, RowFault> {
         let net = net_of(alloc, &self.document)?;
         let client = client_of(&net, name)?;
-        let network = after(alloc, &net, &self.turns)?;
-        deliveries(alloc, &net, network.received(client))
+        match after(alloc, &net, &self.turns)? {
+            Some(network) => deliveries(alloc, &net, network.received(client)),
+            None => Err(RowFault::Form),
+        }
     }
 
     /// The ordinals of its publishes that were refused so far.
     fn refused(&self, alloc: Global, name: &str) -> Result<Vec<u8>, RowFault> {
         let net = net_of(alloc, &self.document)?;
         let client = client_of(&net, name)?;
-        let network = after(alloc, &net, &self.turns)?;
-        numbers(alloc, network.refused(client))
+        match after(alloc, &net, &self.turns)? {
+            Some(network) => numbers(alloc, network.refused(client)),
+            None => Err(RowFault::Form),
+        }
+    }
+}
+
+/// The last step of a network.
+fn last_step(alloc: Global, net: &Net, network: &Network<'_>) -> Result<Vec<u8>, RowFault>
+    requires { network.now.net ≡ net.now }
+{
+    let told = retell(alloc, net, network.journal())?;
+    match (network.journal().last(), told.last()) {
+        (Some(entry), Some(sent)) => step(alloc, entry, sent.as_slice()),
+        _ => Err(RowFault::Form),
     }
 }
 
