@@ -1,0 +1,4 @@
+pub mod Lists
+pub mod Joined
+pub mod Sorted
+pub mod Runs

@@ -1,0 +1,11 @@
+use Rattle.ev_phases.specs.Trees.{net_at}
+use Rattle.ev_theory.specs.Real.{real}
+use Rattle.ev_merge.proofs.Runs.{one-merge, are-journals}
+use Rattle.ev_merge.proofs.law.merge_in_runs.Goals as goal
+
+pub returns : goal.returns
+returns c = record {
+  may = λ net journals sofar merge. are-journals (net_at real net 0) journals sofar merge;
+  is = λ net journals merged merge. merge (net_at real net 0);
+  once = λ net journals merged sofar merge other. one-merge (net_at real net 0) journals merged sofar (merge (net_at real net 0)) other;
+}

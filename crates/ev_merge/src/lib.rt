@@ -1,0 +1,7 @@
+//! The journals of all servers as one.
+#![tactic(auto)]
+
+mod journals;
+pub mod law;
+
+pub use journals::merge;

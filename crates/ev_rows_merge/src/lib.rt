@@ -1,0 +1,5 @@
+//! Tests of the merge of journals.
+#![tactic(auto)]
+
+#[cfg(test)]
+mod merging;
