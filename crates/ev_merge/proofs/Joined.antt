@@ -1,5 +1,5 @@
 -- Journals one after the other: by server and then by stamp, and each server's entries are its journal.
-use Rattle.std.proofs.Common.{◌≡◌, ℕ, zero, suc, ◌+◌, ◌≤◌, ◌<◌, ◌==◌, Bool, true, false, List, [], ◌∷◌, ◌++◌, ◌⊎◌, inl, inr, map, filter, length, slice_index_or, refl, sym, ap, subst, ◌∙◌, arith, eq-eqb, ne_eqb, length-append}
+use Rattle.std.proofs.Common.{◌≡◌, ℕ, zero, suc, ◌+◌, ◌≤◌, ◌<◌, ◌==◌, Bool, List, [], ◌∷◌, ◌++◌, ◌⊎◌, inl, inr, map, filter, length, slice_index_or, refl, sym, ap, subst, ◌∙◌, arith, eq-eqb, ne_eqb, length-append}
 use Rattle.std.specs.List.{flat_map, sum_by}
 use Rattle.std.proofs.lemmas.List.Sums.{sum_by-cons}
 use Rattle.ev_sets.specs.Sets.{Has}

@@ -1,20 +1,19 @@
 -- What journals and their merge are in the laws of runs.
-use Rattle.std.proofs.Common.{◌≡◌, ℕ, ◌<◌, ◌==◌, Bool, true, false, cond, List, [], ◌∷◌, ◌⊎◌, ◌↔◌, inl, inr, map, filter, nat_cmp, refl, sym, ap, subst, ◌∙◌, arith}
+use Rattle.std.proofs.Common.{◌≡◌, ℕ, ◌<◌, ◌==◌, Bool, true, false, cond, List, [], ◌∷◌, inl, inr, map, filter, nat_cmp, refl, sym, ap, subst, ◌∙◌, arith}
 use Rattle.std.specs.List.Sorted.{IsStableByKey, IsNonDecreasingBy}
 use Rattle.ev_sets.specs.Sets.{Has}
 use Rattle.ev_links.proofs.Numbers.{Same, Is, Not, compare}
-use Rattle.ev_run.specs.Machine.{Machine, Entry}
+use Rattle.ev_run.specs.Machine.{Machine}
 use Rattle.ev_run.specs.Journals.{entries_of, IsEarlier, IsInOrder, IsMerge, IsJournal}
 use Rattle.ev_run.proofs.Merge.{of-has}
 use Rattle.ev_run.proofs.Order.{merge-once}
 use Rattle.ev_routing.specs.Net.{Net}
 use Rattle.ev_routing.specs.Routing.{routing_machine, NetEntry}
-use Rattle.ev_phases.specs.Trees.{JournalEntry, PhasedNet, entry_on, entry_off, entries_on, net_at, machine_at}
-use Rattle.ev_phases.specs.Cells.{MergesJournals}
+use Rattle.ev_phases.specs.Trees.{JournalEntry, entry_on, entry_off, entries_on}
 use Rattle.ev_theory.specs.Real.{real}
 use Rattle.ev_model.specs.Parts.{EntryParts}
 use Rattle.ev_model.specs.Meaning.{entry_of, journal_of}
-use Rattle.ev_merge.specs.Merging.{IsJournalOf, AreJournals, journal_at, entries_in, IsMergeOf}
+use Rattle.ev_merge.specs.Merging.{IsJournalOf, AreJournals, journal_at, entries_in}
 use Rattle.ev_merge.proofs.Lists.{Later}
 use Rattle.ev_merge.proofs.Joined.{joined, is_of}
 use Rattle.ev_merge.proofs.Sorted.{stamp_of, IsSooner, merged-order, merged-parts}

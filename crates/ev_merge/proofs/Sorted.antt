@@ -1,11 +1,11 @@
 -- A stable sort by stamp of what stands by server: by stamp and then by server, and each server's entries stay in their order.
-use Rattle.std.proofs.Common.{◌≡◌, ℕ, zero, suc, ◌≤◌, ◌<◌, ◌==◌, nat_lt, Bool, true, false, cond, not, ◌&&◌, List, [], ◌∷◌, ◌⊎◌, inl, inr, filter, length, slice_index_or, nat_cmp, is_lt, refl, sym, ap, subst, ◌∙◌, arith}
+use Rattle.std.proofs.Common.{◌≡◌, ℕ, suc, ◌≤◌, ◌<◌, Bool, true, false, cond, List, [], ◌∷◌, ◌⊎◌, inl, inr, filter, length, slice_index_or, nat_cmp, is_lt, refl, sym, ap, subst, ◌∙◌, arith}
 use Rattle.std.specs.List.Sorted.{ties, IsStableByKey, IsNonDecreasingBy}
 use Rattle.std.proofs.lemmas.Bool.Decides.{nat_tests}
 use Rattle.ev_sets.specs.Sets.{Has}
 use Rattle.ev_sets.proofs.Roots.{Has-filter, filter-Has}
 use Rattle.ev_model.specs.Parts.{EntryParts}
-use Rattle.ev_merge.proofs.Lists.{Later, Rises, later-filter, one-list}
+use Rattle.ev_merge.proofs.Lists.{Later, later-filter, one-list}
 use Rattle.ev_merge.specs.Merging.{AreJournals, journal_at}
 use Rattle.ev_merge.proofs.Joined.{joined, is_of, IsRanked, ranked, parts}
 
