@@ -27,8 +27,8 @@ pub fn merge(alloc: Global, journals: Vec<Vec<Entry>>) -> Result<Vec<Entry>, NoM
     ensures length { IfOk result (λ merged. length merged.items ≡ sum_by (λ journal. length journal.items) journals.items) }
 {
     let mut merged = joined(alloc, journals)?;
-    // The sort finds the journals as they rise and merges them. It keeps the order of what ties, so of equal stamps the
-    // lower server stands first.
+    // The sort finds what rises already, and merges it. It keeps the order of what ties, so of equal stamps the lower
+    // server stands first.
     merged.sort_by_key(|entry| entry.stamp)?;
     Ok(merged)
 }
