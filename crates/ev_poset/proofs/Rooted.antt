@@ -1,14 +1,11 @@
 -- The roots that are shown for a holder are those of the pairs.
-use Rattle.std.proofs.Common.{◌≡◌, ◌↔◌, inl, inr, not, ◌==◌, ◌&&◌, ◌||◌, ℕ, Bool, true, false, List, [], ◌∷◌, map, filter, length, refl, sym, ap, subst, ◌∙◌, arith}
-use Rattle.std.specs.List.{list_any}
-use Rattle.std.proofs.lemmas.Bool.Decides.{nat_tests}
+use Rattle.std.proofs.Common.{◌≡◌, ◌↔◌, inl, not, ◌==◌, ◌&&◌, ◌||◌, ℕ, Bool, true, List, [], ◌∷◌, refl, sym, ap, subst, ◌∙◌}
 use Rattle.ev_sets.specs.Laws.{CoverLaws}
 use Rattle.ev_sets.specs.Sets.{Has, roots}
-use Rattle.ev_pool.specs.Pool.{Pooled, IsAt}
-use Rattle.ev_poset.specs.Poset.{Held, Agrees, held_by_others}
-use Rattle.ev_poset.specs.Graph.{Stand, NodeAt, is_marked, over, is_held, counts, Shaded, IsTop, pairs_from}
-use Rattle.ev_poset.specs.Standing.{is_root_for, SkipsMarked, PassesMarked, AreOf}
-use Rattle.ev_poset.specs.declared.standing.Standing.{Standing}
+use Rattle.ev_pool.specs.Pool.{Pooled}
+use Rattle.ev_poset.specs.Poset.{Agrees, held_by_others}
+use Rattle.ev_poset.specs.Graph.{Stand, is_marked, over, is_held, counts, IsTop, pairs_from}
+use Rattle.ev_poset.specs.Standing.{SkipsMarked, PassesMarked, AreOf}
 use Rattle.ev_poset.proofs.Flat.{has-flat}
 use Rattle.ev_poset.proofs.Leaving.{beyond-flat, test_of}
 use Rattle.ev_poset.proofs.Marked.{no-mark}

@@ -3,7 +3,7 @@ use Rattle.std.proofs.Common.{◌≡◌, ◌≢◌, ◌⊎◌, ◌↔◌, inl, i
 use Rattle.std.specs.List.{list_any}
 use Rattle.std.proofs.lemmas.Bool.Decides.{nat_tests}
 use Rattle.ev_poset.specs.Graph.{Stand, NodeAt, is_marked, counts}
-use Rattle.ev_poset.specs.Standing.{reaches, is_root, is_root_for, marks_for, roots_for, SkipsMarked, differs}
+use Rattle.ev_poset.specs.Standing.{is_root, is_root_for, SkipsMarked, differs}
 use Rattle.ev_poset.specs.declared.standing.Standing.{Standing}
 use Rattle.ev_poset.specs.declared.standing.Difference.{Difference}
 use Rattle.std.proofs.lemmas.Bool.{cases_eq}

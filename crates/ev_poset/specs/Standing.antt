@@ -1,5 +1,5 @@
 -- Of what the others hold, which items are roots: for each holder at once.
-use Rattle.std.specs.Prelude.{◌≡◌, ◌↔◌, ℕ, ◌==◌, ◌&&◌, ◌||◌, not, cond, Bool, true, false, List, map}
+use Rattle.std.specs.Prelude.{◌≡◌, ℕ, ◌==◌, ◌&&◌, ◌||◌, not, cond, Bool, true, false, List, map}
 use Rattle.std.specs.List.{list_any}
 use Rattle.ev_sets.specs.Sets.{Has}
 use Rattle.ev_pool.specs.Pool.{Pooled, IsAt}

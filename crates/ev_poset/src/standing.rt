@@ -150,6 +150,26 @@ pub struct Difference {
     pub(crate) new: Standing,
 }
 
+impl Difference {
+    /// A difference for each holder.
+    pub fn for_all() -> Difference
+        ensures { (l : ℕ) → differs l result ≡ true }
+    {
+        let nobody = Standing {
+            own: Reach::Nobody,
+            shade: Reach::Nobody,
+        };
+        let root = Standing {
+            own: Reach::All,
+            shade: Reach::Nobody,
+        };
+        Difference {
+            old: nobody,
+            new: root,
+        }
+    }
+}
+
 /// The standing of a key; that of a key without a node is of what nobody holds.
 fn standing_at(standings: &[Standing], key: Key) -> Standing
     ensures { (l : ℕ) → is_root l result ≡ is_root_for standings.now l key }

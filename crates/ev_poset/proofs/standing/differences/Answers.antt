@@ -1,5 +1,5 @@
-use Rattle.std.proofs.Common.{rules, ◌≡◌, ◌∙◌, ℕ, sym, ap}
-use Rattle.ev_poset.specs.Standing.{is_root, is_root_for}
+use Rattle.std.proofs.Common.{rules, ◌≡◌, ◌∙◌, sym, ap}
+use Rattle.ev_poset.specs.Standing.{is_root}
 use Rattle.ev_poset.proofs.Standings.{more-same, more-found}
 use Rattle.ev_poset.proofs.standing.differences.Goals as goal
 use Rattle.ev_poset.proofs.standing.differences.Goals.{then-ne+in_ok-push, else-ne}

@@ -1,8 +1,7 @@
-use Rattle.std.proofs.Common.{◌≡◌, ◌≢◌, ◌<◌, ◌==◌, ◌&&◌, ◌||◌, not, ℕ, true, false, refl, sym, ◌∙◌, arith, length}
-use Rattle.std.specs.List.{list_any}
+use Rattle.std.proofs.Common.{◌≡◌, ◌<◌, ◌&&◌, ◌||◌, not, true, false, refl, ◌∙◌, arith, length}
 use Rattle.std.proofs.lemmas.Option.{slice_get_read}
 use Rattle.ev_pool.specs.Sorted.{place_of}
-use Rattle.ev_poset.specs.Graph.{over, counts, is_marked, Shaded}
+use Rattle.ev_poset.specs.Graph.{over, counts, Shaded}
 use Rattle.ev_poset.specs.Standing.{reaches, marks_for, roots_for}
 use Rattle.ev_poset.specs.declared.standing.Standing.{Standing}
 use Rattle.ev_poset.proofs.Strict.{over-transitive}
@@ -40,7 +39,7 @@ loop-i-preserved g c = λ l.
     let rooted : Standing → _ = λ s. reaches s.own l && not (reaches s.shade l) in
     let own = both-ways _ _ ((rw (c.is_marked.ensures, c.holders.ensures) at (c.own_reach.ensures l)) ∙ own-counts c.args.nodes.now c.args.skipped c.args.marks.now l (g.passes l) (c.requires.1.1 l) key n is) in
     let shaded : reaches c.shade_of.result l ≡ true → Shaded o c.args.nodes.now k n.item = λ e. let f = rw (c.above.ensures, c.deref.ensures.value) at (c.shade_of.ensures.yes l e) in
-        lead-shades o t c.args.nodes.now c.args.line.now line k held _ _ i u w n is f.0 f.1 f.2 in
+    lead-shades o t c.args.nodes.now c.args.line.now line k held _ _ i u w n is f.0 f.1 f.2 in
     let free : reaches c.shade_of.result l ≡ false → Shaded o c.args.nodes.now k n.item → ⊥ = λ e. no-lead o t c.args.nodes.now c.args.line.now line k held _ _ i u w n is (rw (c.above.ensures, c.deref.ensures.value) at (c.shade_of.ensures.no l e)) in
     let small : key < length (marks_for l old) = omega (arith, u.long, line.placed i w) in
     let low : key < length (roots_for l old) = omega (arith, u.tall, line.placed i w) in
