@@ -8,9 +8,7 @@ use Rattle.ev_cover.specs.Laws.{sub_laws, ad_laws}
 use Rattle.ev_constraint.specs.Constraint.{ConstraintParts}
 use Rattle.ev_pool.specs.Pool.{Pooled, Names}
 use Rattle.ev_poset.specs.Poset.{Held, held_by_others}
-use Rattle.ev_wire.specs.declared.message.Message as wire
 use Rattle.ev_wire.specs.declared.message.Message.TheVariants as wires
-use Rattle.ev_wire.specs.declared.sent.Sent.{Sent}
 use Rattle.ev_wire.specs.declared.semantics.Semantics.{Semantics}
 use Rattle.ev_wire.specs.declared.semantics.Semantics.TheVariants.{Subscription}
 use Rattle.ev_wire.specs.MessageText.{message_text, IsMessageText}
@@ -124,7 +122,7 @@ pub left-free : (interface link : ℕ) (offered out : List (List ConstraintParts
     → filters_left Subscription interface link offered out pairs ≡ roots real.covers real.before (held_by_others real.before link (stays real.before interface link out pairs) pairs)
 left-free interface link offered out pairs =
     let alike = filter-alike {X = Held real.Filter} (λ h. not (h.holder == link) && (stays real.before interface link out pairs h.item && is_wanted Subscription offered h.item)) (λ h. not (h.holder == link) && stays real.before interface link out pairs h.item)
-            (λ h. ap (λ z. not (h.holder == link) && z) (and-true (stays real.before interface link out pairs h.item))) pairs in
+    (λ h. ap (λ z. not (h.holder == link) && z) (and-true (stays real.before interface link out pairs h.item))) pairs in
     ap (λ z. roots real.covers real.before (set_of real.before (map {A = Held real.Filter} {B = real.Filter} (λ h. h.item) z))) alike
 
 pub none-long : {X : Type 0} (xs : List X) → length xs ≡ 0 → xs ≡ []

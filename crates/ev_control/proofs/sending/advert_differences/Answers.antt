@@ -1,4 +1,4 @@
-use Rattle.std.proofs.Common.{◌≡◌, [], false, refl, length, arith}
+use Rattle.std.proofs.Common.{◌≡◌, [], refl, length, arith}
 use Rattle.std.proofs.lemmas.Bool.Decides.{nat_tests}
 use Rattle.ev_poset.proofs.Marked.{ok-then}
 use Rattle.ev_control.specs.Control.{adverts_left}

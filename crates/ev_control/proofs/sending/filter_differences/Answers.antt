@@ -1,4 +1,4 @@
-use Rattle.std.proofs.Common.{◌≡◌, [], sym, ◌∙◌, false}
+use Rattle.std.proofs.Common.{[], sym, ◌∙◌}
 use Rattle.ev_notice.specs.Before.{list_before}
 use Rattle.ev_poset.proofs.Marked.{ok-then}
 use Rattle.ev_wire.specs.declared.semantics.Semantics.TheVariants.{Subscription}

@@ -1,4 +1,3 @@
-use Rattle.std.proofs.Common.{◌≡◌, false}
 use Rattle.ev_poset.proofs.Marked.{ok-then}
 use Rattle.ev_poset.specs.Standing.{is_root_for}
 use Rattle.ev_control.proofs.Quiet.{same-shown}
