@@ -9,3 +9,4 @@ pub mod Counts
 pub mod Routed
 pub mod Relinking
 pub mod Sought
+pub mod Quiet

@@ -1,17 +1,16 @@
 -- The text of a difference between two rows.
-use Rattle.std.proofs.Common.{◌≡◌, ◌≢◌, inl, inr, ℕ, ◌+◌, ◌==◌, ◌&&◌, not, Bool, true, false, List, [], ◌∷◌, ◌++◌, map, filter, take, slice_get, Option, Some, None, MatchOption, refl, sym, ap, subst, ◌∙◌, add-one, append_assoc, append-nil}
+use Rattle.std.proofs.Common.{◌≡◌, ◌≢◌, inl, inr, ℕ, ◌+◌, ◌==◌, ◌&&◌, not, Bool, true, false, List, [], ◌∷◌, ◌++◌, map, filter, take, slice_get, length, arith, Option, Some, None, MatchOption, refl, sym, ap, subst, ◌∙◌, add-one, append_assoc, append-nil}
 use Rattle.std.specs.List.{flat_map}
 use Rattle.std.specs.Option.{option_map}
-use Rattle.ev_sets.specs.Sets.{Has, IsRising, minus, same_list}
+use Rattle.ev_sets.specs.Sets.{Has, IsRising, minus, same_list, roots, set_of}
 use Rattle.ev_sets.proofs.Sets.{same_list-iff, rising-roots, rising-set_of}
 use Rattle.ev_cover.specs.Laws.{sub_laws, ad_laws}
 use Rattle.ev_constraint.specs.Constraint.{ConstraintParts}
 use Rattle.ev_pool.specs.Pool.{Pooled, Names}
 use Rattle.ev_poset.specs.Poset.{Held, held_by_others}
-use Rattle.ev_wire.specs.declared.message.Message as wire
 use Rattle.ev_wire.specs.declared.message.Message.TheVariants as wires
-use Rattle.ev_wire.specs.declared.sent.Sent.{Sent}
 use Rattle.ev_wire.specs.declared.semantics.Semantics.{Semantics}
+use Rattle.ev_wire.specs.declared.semantics.Semantics.TheVariants.{Subscription}
 use Rattle.ev_wire.specs.MessageText.{message_text, IsMessageText}
 use Rattle.ev_routing.specs.Server.{Message, Subs, Advs}
 use Rattle.ev_theory.specs.Real.{real}
@@ -98,3 +97,34 @@ next-has {P} xs n x at done now = rw (add-one, take-some xs n x at) (last (take 
     last [] d y (inr r) = absurd r
     last (z ∷ ys) d y (inl q) = d y (inl q)
     last (z ∷ ys) d y (inr r) = last ys (λ w m. d w (inr m)) y r
+
+-- sets that are the same ask for no message
+pub filters-quiet : (old new : List (List ConstraintParts)) → old ≡ new → filter_change old new ≡ []
+filters-quiet old new e =
+    let same : same_list real.before old new ≡ true = (same_list-iff sub_laws old new).1 e in
+    rw same refl
+
+pub adverts-quiet : (old new : List (List ConstraintParts)) → old ≡ new → advert_change old new ≡ []
+adverts-quiet old new e =
+    let same : same_list real.before_advert old new ≡ true = (same_list-iff ad_laws old new).1 e in
+    rw same refl
+
+and-true : (b : Bool) → (b && true) ≡ b
+and-true true = refl
+and-true false = refl
+
+filter-alike : {X : Type 0} (p q : X → Bool) → ((x : X) → p x ≡ q x) → (xs : List X) → filter p xs ≡ filter q xs
+filter-alike p q e [] = refl
+filter-alike p q e (x ∷ xs) = rw (e x, filter-alike p q e xs) refl
+
+-- under subscription semantics all that stays is wanted
+pub left-free : (interface link : ℕ) (offered out : List (List ConstraintParts)) (pairs : List (Held (List ConstraintParts)))
+    → filters_left Subscription interface link offered out pairs ≡ roots real.covers real.before (held_by_others real.before link (stays real.before interface link out pairs) pairs)
+left-free interface link offered out pairs =
+    let alike = filter-alike {X = Held real.Filter} (λ h. not (h.holder == link) && (stays real.before interface link out pairs h.item && is_wanted Subscription offered h.item)) (λ h. not (h.holder == link) && stays real.before interface link out pairs h.item)
+    (λ h. ap (λ z. not (h.holder == link) && z) (and-true (stays real.before interface link out pairs h.item))) pairs in
+    ap (λ z. roots real.covers real.before (set_of real.before (map {A = Held real.Filter} {B = real.Filter} (λ h. h.item) z))) alike
+
+pub none-long : {X : Type 0} (xs : List X) → length xs ≡ 0 → xs ≡ []
+none-long [] e = refl
+none-long (x ∷ xs) e = absurd (omega (arith, e))

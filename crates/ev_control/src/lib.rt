@@ -10,6 +10,7 @@
 mod control;
 mod item;
 mod law;
+mod marks;
 mod sending;
 mod stock;
 

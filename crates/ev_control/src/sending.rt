@@ -1,6 +1,6 @@
 //! The texts of a change, asked of what is held before and after it.
-ghost use Rattle.std.specs.Prelude.{◌≡◌, ◌&&◌, ◌==◌, cond, ℕ, ◌++◌, List, [], IfOk, OnOk, map};
-ghost use Rattle.std.specs.List.{flat_map};
+ghost use Rattle.std.specs.Prelude.{◌≡◌, ◌&&◌, ◌==◌, cond, false, ℕ, ◌++◌, List, [], IfOk, OnOk, map};
+ghost use Rattle.std.specs.List.{flat_map, list_any};
 ghost use Rattle.std.specs.Option.{option_map};
 ghost use Rattle.ev_sets.specs.Sets.{Has, roots};
 ghost use Rattle.ev_constraint.specs.Constraint.{ConstraintParts};
@@ -8,6 +8,7 @@ ghost use Rattle.ev_notice.specs.Before.{list_before};
 ghost use Rattle.ev_notice.specs.Cover.{filter_covers, advert_covers, overlaps};
 ghost use Rattle.ev_pool.specs.Pool.{Names};
 ghost use Rattle.ev_poset.specs.Poset.{held_by_others};
+ghost use Rattle.ev_poset.specs.Standing.{differs};
 ghost use Rattle.ev_wire.specs.declared.message.Message.{Message};
 ghost use Rattle.ev_wire.specs.declared.sent.Sent.{Sent};
 ghost use Rattle.ev_wire.specs.MessageText.{IsMessageText};
@@ -20,6 +21,7 @@ use ev_cover::{Ad, Sub};
 use ev_memory::NoMemory;
 use ev_overlap::overlaps;
 use ev_pool::Key;
+use ev_poset::{Difference, differ_for};
 use ev_wire::{Bytes, Semantics, Sent};
 use std::alloc::Global;
 
@@ -182,6 +184,47 @@ fn push_text(sent: &mut Vec<Sent>, link: u32, text: Option<Bytes>) -> Result<(),
     Ok(())
 }
 
+/// What differs, for all links at once, of the filters to be sent. Where advertisements steer them that is not known,
+/// and each link may differ.
+fn filter_differences(
+    alloc: Global,
+    semantics: Semantics,
+    filters: &Stock<Sub>,
+    adverts: &Stock<Ad>,
+    interface: u32,
+    out: &[Sub],
+    add: &[Sub],
+) -> Result<Vec<Difference>, NoMemory>
+    ensures { IfOk result (λ found. (link : ℕ) → list_any (differs link) found.items ≡ false
+        → filters_turn semantics interface link (held_without list_before link [] adverts.now.pairs) (held_without list_before link [] adverts.now.pairs) out.now add.now filters.now.pairs ≡ []) }
+{
+    let _ = adverts;
+    match semantics {
+        Semantics::Subscription => filters.differences(interface, add, out),
+        Semantics::Advertisement => {
+            let mut all = Vec::new(alloc);
+            all.push(Difference::for_all())?;
+            Ok(all)
+        }
+    }
+}
+
+/// What differs, for all links at once, of the advertisements to be sent.
+fn advert_differences(
+    alloc: Global,
+    adverts: &Stock<Ad>,
+    interface: u32,
+    out: &[Ad],
+    add: &[Ad],
+) -> Result<Vec<Difference>, NoMemory>
+    ensures { IfOk result (λ found. (link : ℕ) → list_any (differs link) found.items ≡ false → adverts_turn interface link out.now add.now adverts.now.pairs ≡ []) }
+{
+    if out.is_empty() && add.is_empty() {
+        return Ok(Vec::new(alloc));
+    }
+    adverts.differences(interface, add, out)
+}
+
 /// The texts of the messages of a change of the filters that an interface holds.
 ///
 /// What is added is held already, and what is withdrawn is held still: each set is asked for with
@@ -200,9 +243,13 @@ pub(crate) fn filter_texts(
     ensures texts { OnOk result ((link : ℕ) → Has link links.now
         → HaveTexts (filter_messages semantics interface out.now add.now filters.now.pairs adverts.now.pairs link)) }
 {
+    let differences = filter_differences(alloc, semantics, filters, adverts, interface, out, add)?;
     let mut sent = Vec::new(alloc);
     for link in links {
         if *link == interface {
+            continue;
+        }
+        if !differ_for(&differences, *link) {
             continue;
         }
         let text = filter_text(semantics, filters, adverts, interface, *link, out, add)?;
@@ -227,8 +274,12 @@ pub(crate) fn advert_texts(
     ensures texts { OnOk result ((link : ℕ) → Has link links.now
         → HaveTexts (advert_messages semantics interface out.now add.now filters.now.pairs adverts.now.pairs link)) }
 {
+    let differences = advert_differences(alloc, adverts, interface, out, add)?;
     let mut sent = Vec::new(alloc);
     for link in links {
+        if *link != interface && !differ_for(&differences, *link) {
+            continue;
+        }
         let text = one_advert_text(semantics, filters, adverts, interface, *link, out, add)?;
         push_text(&mut sent, *link, text)?;
     }

@@ -1,5 +1,5 @@
 //! The items that interfaces hold: a pool of them, and the pairs of a key and an interface.
-ghost use Rattle.std.specs.Prelude.{◌≡◌, ◌≢◌, ◌<◌, ◌^◌, ◌⊎◌, ◌↔◌, ℕ, ◌==◌, not, ◌||◌, ◌&&◌, Bool, true, cond, length, List, [], IfSome, IfNone, IfOk, OnOk, OnErr, MatchOption};
+ghost use Rattle.std.specs.Prelude.{◌≡◌, ◌≢◌, ◌<◌, ◌^◌, ◌⊎◌, ◌↔◌, ℕ, ◌==◌, not, ◌||◌, ◌&&◌, Bool, true, false, cond, length, List, [], IfSome, IfNone, IfOk, OnOk, OnErr, MatchOption};
 ghost use Rattle.std.specs.Fn.{FnReturnsAt};
 ghost use Rattle.std.specs.List.{list_any};
 ghost use Rattle.ev_sets.specs.Sets.{Has, IsRising, roots, minus, same};
@@ -7,13 +7,15 @@ ghost use Rattle.ev_wire.specs.MessageText.{IsMessageText};
 ghost use Rattle.ev_pool.specs.Pool.{KeepsItems, IsAt, IsLive, Names};
 ghost use Rattle.ev_pool.specs.Sorted.{IsRow};
 ghost use Rattle.ev_poset.specs.Poset.{held_by, held_by_others, items_where};
+ghost use Rattle.ev_poset.specs.Standing.{is_root_for, AreOf, differs};
 ghost use Rattle.ev_control.specs.Holdings.{held_at_all, held_from};
-ghost use Rattle.ev_control.specs.Stock.{IsHeld, AreLive, holdings_of, held_without, is_beyond, named, stays};
+ghost use Rattle.ev_control.specs.Stock.{IsHeld, AreLive, AreMarked, holdings_of, held_without, is_beyond, named, stays};
 
 use crate::item::Item;
+use crate::marks::mark;
 use ev_memory::NoMemory;
 use ev_pool::{Cover, Key, Pool};
-use ev_poset::Poset;
+use ev_poset::{Difference, Poset, Standing, differences};
 use std::alloc::Global;
 use std::marker::Model;
 
@@ -183,6 +185,51 @@ impl<T: Item> Stock<T> {
         ensures { IfOk result (λ row. Names self.now.pool row.items (roots T.covering T.order (held_by_others T.order link passes self.now.pairs))) }
     {
         self.poset.roots_without(&self.pool, link, test)
+    }
+
+    /// Marks at the keys of these items.
+    fn marks(&self, items: &[T]) -> Result<Vec<bool>, NoMemory>
+        ensures { IfOk result (λ marks. AreMarked self.now.pool items.now marks.items) }
+    {
+        self.pool.items_are_distinct();
+        let mut marks = Vec::new(self.alloc);
+        for item in items {
+            if let Some(key) = self.pool.find(item) {
+                mark(&mut marks, key)?;
+            }
+        }
+        Ok(marks)
+    }
+
+    /// For all links at once, which keys have roots of what other interfaces hold, once this one holds these items no
+    /// more.
+    fn standings(&self, interface: u32, out: &[T]) -> Result<Vec<Standing>, NoMemory>
+        ghost passes: { ℕ → T → Bool }
+        requires { (l : ℕ) (x : T) → passes l x ≡ stays T.order interface l out.now self.now.pairs x }
+        ensures { IfOk result (λ standings. (l : ℕ) → AreOf self.now.pool (is_root_for standings.items l) (roots T.covering T.order (held_by_others T.order l (passes l) self.now.pairs))) }
+    {
+        self.pool.items_are_distinct();
+        let marks = self.marks(out)?;
+        self.poset.standings(&self.pool, interface, &marks)
+    }
+
+    /// What differs, for all links at once, between the roots of what other interfaces hold once this one holds the
+    /// first items no more, and once it holds the second ones no more. For a link for which nothing does, they are the
+    /// same.
+    pub(crate) fn differences(
+        &self,
+        interface: u32,
+        first: &[T],
+        second: &[T],
+    ) -> Result<Vec<Difference>, NoMemory>
+        ghost passes: { ℕ → List T → T → Bool }
+        requires { (l : ℕ) (items : List T) (x : T) → passes l items x ≡ stays T.order interface l items self.now.pairs x }
+        ensures { IfOk result (λ found. (l : ℕ) → list_any (differs l) found.items ≡ false
+            → roots T.covering T.order (held_by_others T.order l (passes l first.now) self.now.pairs) ≡ roots T.covering T.order (held_by_others T.order l (passes l second.now) self.now.pairs)) }
+    {
+        let old = self.standings(interface, first)?;
+        let new = self.standings(interface, second)?;
+        differences(self.alloc, &old, &new)
     }
 
     /// Whether an interface other than the two holds the item.

@@ -1,6 +1,5 @@
 use Rattle.std.proofs.Common.{◌≡◌, ◌↔◌, true, subst}
 use Rattle.ev_sets.specs.Sets.{Has}
-use Rattle.ev_constraint.specs.Constraint.{ConstraintParts}
 use Rattle.ev_cover.specs.Laws.{sub_laws}
 use Rattle.ev_control.specs.Stock.{IsHeld}
 use Rattle.ev_control.specs.Control.{subs}
