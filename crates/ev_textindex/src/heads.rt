@@ -20,6 +20,8 @@ use std::marker::Model;
 pub(crate) struct Heads {
     alloc: Global,
     shelves: BTreeMap<u32, Shelf>,
+    /// How many patterns there are, or a few more where memory was wanting. It chooses a way, and no answer rests on it.
+    count: usize,
     /// Whether a pattern that asks what stands in a text was ever put here.
     parts: bool,
 }
@@ -41,6 +43,15 @@ fn either(a: bool, b: bool) -> bool
     ensures { result ≡ (a || b) }
 {
     a || b
+}
+
+/// One fewer where one was taken.
+fn less_one(count: usize, taken: bool) -> usize {
+    if taken {
+        count.saturating_sub(1)
+    } else {
+        count
+    }
 }
 
 /// The head of a constraint's operand.
@@ -148,6 +159,7 @@ impl Heads {
         Heads {
             alloc,
             shelves: BTreeMap::new(alloc),
+            count: 0,
             parts: false,
         }
     }
@@ -158,6 +170,7 @@ impl Heads {
         ensures added { OnOk result (Same self.new ((test_of constraint.now, id) ∷ self.old)) }
         ensures err { OnErr result (self.new ≡ self.old) }
     {
+        self.count = self.count.saturating_add(1);
         self.parts = either(self.parts, is_part(constraint.op()));
         put(self.alloc, &mut self.shelves, constraint, id)
     }
@@ -168,7 +181,14 @@ impl Heads {
         ensures there { result ≡ true → Same self.old ((test_of constraint.now, id) ∷ self.new) }
         ensures none { result ≡ false → (self.new ≡ self.old) × (IsIn (test_of constraint.now, id) self.old → ⊥) }
     {
-        take(&mut self.shelves, constraint, id)
+        let there = take(&mut self.shelves, constraint, id);
+        self.count = less_one(self.count, there);
+        there
+    }
+
+    /// About how many patterns there are.
+    pub(crate) fn count(&self) -> usize {
+        self.count
     }
 
     /// Whether a pattern may ask what stands in a text.

@@ -10,9 +10,6 @@ use crate::heads::Heads;
 use ev_constraint::Op;
 use ev_memory::NoMemory;
 
-/// In a longer text so many heads stand that each pattern is tested instead.
-const LONG: usize = 64;
-
 /// Whether a head is one of two.
 fn is_either(others: (u32, u32), head: u32) -> bool
     ensures { result ≡ (others.0 == head || others.1 == head) }
@@ -143,12 +140,16 @@ fn meet_inside(heads: &Heads, x: &[u8], found: &mut Vec<u32>) -> Result<(), NoMe
     meet_twos(heads, x, found)
 }
 
-/// Appends the ids of the patterns that a text matches.
+/// So many patterns are tested in the time in which the heads of one byte of a text are looked up.
+const TESTS: usize = 2;
+
+/// Appends the ids of the patterns that a text matches: by the heads of each of its bytes, or by a test of each pattern where
+/// that costs less.
 pub(crate) fn meet_patterns(heads: &Heads, x: &[u8], found: &mut Vec<u32>) -> Result<(), NoMemory>
     requires { AreAllPatterns heads.now }
     ensures { OnOk result (Appends found.old.items found.new.items (ids_met (Value.Str x.now) heads.now)) }
 {
-    if x.len() > LONG && heads.has_parts() {
+    if heads.count() / TESTS <= x.len() && heads.has_parts() {
         return heads.meet_all(x, found);
     }
     meet_begin(heads, x, found)?;
