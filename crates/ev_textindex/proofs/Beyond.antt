@@ -40,9 +40,6 @@ put-fits n m key id old new e h s =
     let l : nat_lt m (length key) ≡ false = grind (arith, nat_tests, e) in
     omega (arith, s (λ x. nat_lt m (length x.0)), wider n m (keyed bytes_of old) (omega (arith, e)) h, ap {B = ℕ} (λ b. cond b 1 0) l)
 
-pub same-fits : (n m : ℕ) (old new : Entries) → n ≤ m → ids_beyond n old ≡ 0 → keyed bytes_of new ≡ keyed bytes_of old → ids_beyond m new ≡ 0
-same-fits n m old new l h e = ap (tally (λ x. nat_lt m (length x.0))) e ∙ wider n m (keyed bytes_of old) l h
-
 -- an id less
 pub take-fits : (n : ℕ) (key : List ℕ) (id : ℕ) (old new : Entries) → ids_beyond n old ≡ 0 → Same (keyed bytes_of old) ((key, id) ∷ keyed bytes_of new) → ids_beyond n new ≡ 0
 take-fits n key id old new h s = omega (arith, s (λ x. nat_lt n (length x.0)), h)
@@ -50,6 +47,16 @@ take-fits n key id old new h s = omega (arith, s (λ x. nat_lt n (length x.0)), 
 no-ids : (n : ℕ) (k : List ℕ) (ids : List ℕ) → nat_lt n (length k) ≡ true → tally (λ x. nat_lt n (length x.0)) (under k ids) ≡ 0 → ids ≡ []
 no-ids n k [] e h = refl
 no-ids n k (id ∷ ids) e h = absurd (omega (arith, h, ap {B = ℕ} (λ b. cond b 1 0) e))
+
+under-within : (n : ℕ) (u ids : List ℕ) → length u ≤ n → tally (λ x. nat_lt n (length x.0)) (under u ids) ≡ 0
+under-within n u [] l = refl
+under-within n u (id ∷ ids) l =
+    let e : nat_lt n (length u) ≡ false = grind (arith, nat_tests, l) in
+    omega (arith, ap {B = ℕ} (λ b. cond b 1 0) e, under-within n u ids l)
+
+-- one more key within the bound
+pub more-within : (n : ℕ) (k ids : Vec ℕ Global) (es : Entries) → length k.items ≤ n → ids_beyond n es ≡ 0 → ids_beyond n ((k, ids) ∷ es) ≡ 0
+more-within n k ids es l h = omega (arith, tally-append (λ x. nat_lt n (length x.0)) (under k.items ids.items) (keyed bytes_of es), under-within n k.items ids.items l, h)
 
 -- of keys that pass a test, which none longer than `most` does, those that are no longer than any key with an id have all the ids
 pub within : (q : List ℕ → Bool) (most longest n : ℕ) (es : Entries) → ids_beyond longest es ≡ 0 → ((k : List ℕ) → q k ≡ true → length k ≤ most) → n ≡ min most longest + 1 → ids_at (λ k. q k.items && nat_lt (length k.items) n) es ≡ ids_at (λ k. q k.items) es

@@ -15,3 +15,4 @@ pub mod Probed
 pub mod Covered
 pub mod Apart
 pub mod Idle
+pub mod Sorts

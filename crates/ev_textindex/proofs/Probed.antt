@@ -118,6 +118,25 @@ never-inside x y e = go (is_inside x (head_of y)) refl
     go false w = refl
     go true w = let i = inside-form x (head_of y) w in let a = at-form y.0.op (key_of y.0.operand) in absurd (omega (arith, i.tells, a.tells, low-mark y.0.op e))
 
+high-mark : (op : Op) → not (is_part_op op) ≡ false → mark op ≡ 3
+high-mark ops.Contains e = refl
+high-mark op e = cc
+
+-- what asks for a part has no head of what a text begins or ends with
+pub never-begin : (x : List ℕ) (y : Pair) → not (is_part y) ≡ false → is_at_begin x (head_of y) ≡ false
+never-begin x y e = go (is_at_begin x (head_of y)) refl
+  where
+    go : (b : Bool) → is_at_begin x (head_of y) ≡ b → b ≡ false
+    go false w = refl
+    go true w = let i = begin-form x (head_of y) w in let a = at-form y.0.op (key_of y.0.operand) in absurd (omega (arith, i.tells, a.tells, high-mark y.0.op e))
+
+pub never-end : (x : List ℕ) (y : Pair) → not (is_part y) ≡ false → is_at_end x (head_of y) ≡ false
+never-end x y e = go (is_at_end x (head_of y)) refl
+  where
+    go : (b : Bool) → is_at_end x (head_of y) ≡ b → b ≡ false
+    go false w = refl
+    go true w = let i = end-form x (head_of y) w in let a = at-form y.0.op (key_of y.0.operand) in absurd (omega (arith, i.tells, a.tells, high-mark y.0.op e))
+
 -- a head of the text
 abbrev pub is_met : List ℕ → ℕ → Bool
 is_met x h = is_at_begin x h || (is_at_end x h || is_inside x h)

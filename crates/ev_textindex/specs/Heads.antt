@@ -88,20 +88,10 @@ is_part_op op = false
 abbrev pub is_part : Pair → Bool
 is_part x = is_part_op x.0.op
 
--- there are none such, unless there may be
-abbrev pub count_parts : Bool → List Pair → ℕ
-count_parts true pairs = 0
-count_parts false pairs = tally is_part pairs
-
 -- each pair is on the shelf of its head, and something on each shelf
 pub record AreShelves (es : List (ℕ × List Pair)) : Type 0 where
   pub filed : AreFiled es
   pub used : AreUsed es
-
--- such are the shelves, and it is told where nothing asks what stands in a text
-pub record AreTold (parts : Bool) (es : List (ℕ × List Pair)) : Type 0 where
-  pub shelves : AreShelves es
-  pub told : count_parts parts (shelved es) ≡ 0
 
 -- the ids of the pairs of some heads whose test the value passes
 abbrev pub ids_headed : (ℕ → Bool) → Value → List Pair → List ℕ
@@ -166,3 +156,8 @@ AreAllPatterns pairs = tally (λ x. not (is_pattern x)) pairs ≡ 0
 pub record AreApart (others patterns : List Pair) : Type 0 where
   pub others_only : tally (λ x. not (is_other x)) others ≡ 0
   pub patterns_only : AreAllPatterns patterns
+
+-- the first list has no test of what stands in a text, and the second no other
+pub record AreBySort (ends parts : List Pair) : Type 0 where
+  pub ends_only : tally is_part ends ≡ 0
+  pub parts_only : tally (λ x. not (is_part x)) parts ≡ 0

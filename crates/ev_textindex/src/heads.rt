@@ -1,12 +1,12 @@
 //! The patterns, found by their head.
-ghost use Rattle.std.specs.Prelude.{◌≡◌, ◌∷◌, ◌||◌, [], true, false, OnOk, OnErr, List, ℕ};
+ghost use Rattle.std.specs.Prelude.{◌≡◌, ◌∷◌, [], true, false, OnOk, OnErr, List, ℕ};
 ghost use Rattle.ev_constraint.specs.declared.op.Op.{Op};
 ghost use Rattle.ev_values.specs.declared.value.Kind.{Kind};
 ghost use Rattle.ev_values.specs.declared.value.Value.{Value};
 ghost use Rattle.ev_index.specs.Pairs.{Same, IsIn, Appends, test_of, ids_met};
 ghost use Rattle.ev_textindex.specs.Heads.{head_of, shelved, AreFiled, AreUsed, AreUsedBut};
 
-use crate::head::{head_at, is_part};
+use crate::head::head_at;
 use crate::row::key_of;
 use crate::shelf::Shelf;
 use ev_constraint::Constraint;
@@ -20,27 +20,29 @@ use std::marker::Model;
 pub(crate) struct Heads {
     alloc: Global,
     shelves: BTreeMap<u32, Shelf>,
-    /// Whether a pattern that asks what stands in a text was ever put here.
-    parts: bool,
+    /// How many pairs there are. It chooses a way, and no answer rests on it.
+    count: usize,
 }
 
 impl Model for Heads {
     ghost use Rattle.std.specs.Prelude.{List};
     ghost use Rattle.ev_index.specs.Pairs.{Pair};
-    ghost use Rattle.ev_textindex.specs.Heads.{shelved, AreTold};
+    ghost use Rattle.ev_textindex.specs.Heads.{shelved, AreShelves};
 
     ghost Value = { List Pair };
 
     ghost view = { λ heads. shelved heads.shelves.entries };
 
-    ghost invariant = { λ heads. AreTold heads.parts heads.shelves.entries };
+    ghost invariant = { λ heads. AreShelves heads.shelves.entries };
 }
 
-/// Whether one of two holds.
-fn either(a: bool, b: bool) -> bool
-    ensures { result ≡ (a || b) }
-{
-    a || b
+/// One fewer where one was taken.
+fn less_one(count: usize, taken: bool) -> usize {
+    if taken {
+        count.saturating_sub(1)
+    } else {
+        count
+    }
 }
 
 /// The head of a constraint's operand.
@@ -139,7 +141,7 @@ impl Heads {
     ghost use Rattle.ev_values.specs.declared.value.Kind.{Kind};
     ghost use Rattle.ev_values.specs.declared.value.Value.{Value};
     ghost use Rattle.ev_index.specs.Pairs.{Same, Appends, IsIn, tally, test_of};
-    ghost use Rattle.ev_textindex.specs.Heads.{ids_headed, is_part};
+    ghost use Rattle.ev_textindex.specs.Heads.{ids_headed};
 
     /// No patterns.
     pub(crate) fn new(alloc: Global) -> Heads
@@ -148,7 +150,7 @@ impl Heads {
         Heads {
             alloc,
             shelves: BTreeMap::new(alloc),
-            parts: false,
+            count: 0,
         }
     }
 
@@ -158,8 +160,9 @@ impl Heads {
         ensures added { OnOk result (Same self.new ((test_of constraint.now, id) ∷ self.old)) }
         ensures err { OnErr result (self.new ≡ self.old) }
     {
-        self.parts = either(self.parts, is_part(constraint.op()));
-        put(self.alloc, &mut self.shelves, constraint, id)
+        put(self.alloc, &mut self.shelves, constraint, id)?;
+        self.count = self.count.saturating_add(1);
+        Ok(())
     }
 
     /// Takes a pair away; whether it was there.
@@ -168,14 +171,14 @@ impl Heads {
         ensures there { result ≡ true → Same self.old ((test_of constraint.now, id) ∷ self.new) }
         ensures none { result ≡ false → (self.new ≡ self.old) × (IsIn (test_of constraint.now, id) self.old → ⊥) }
     {
-        take(&mut self.shelves, constraint, id)
+        let there = take(&mut self.shelves, constraint, id);
+        self.count = less_one(self.count, there);
+        there
     }
 
-    /// Whether a pattern may ask what stands in a text.
-    pub(crate) fn has_parts(&self) -> bool
-        ensures { result ≡ false → tally is_part self.now ≡ 0 }
-    {
-        self.parts
+    /// How many pairs there are.
+    pub(crate) fn count(&self) -> usize {
+        self.count
     }
 
     /// Appends the ids of the pairs of one head whose test the text passes.

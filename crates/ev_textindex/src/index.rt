@@ -1,7 +1,6 @@
 //! The index of str constraints.
+use crate::ends_parts::Patterns;
 use crate::head::is_pattern;
-use crate::heads::Heads;
-use crate::patterns::meet_patterns;
 use crate::plain::Rows;
 use ev_constraint::Constraint;
 use ev_memory::NoMemory;
@@ -13,7 +12,7 @@ use std::marker::Model;
 #[derive(Drop)]
 pub struct TextIndex {
     rows: Rows,
-    patterns: Heads,
+    patterns: Patterns,
 }
 
 impl Model for TextIndex {
@@ -39,7 +38,7 @@ impl TextIndex {
     {
         TextIndex {
             rows: Rows::new(alloc),
-            patterns: Heads::new(alloc),
+            patterns: Patterns::new(alloc),
         }
     }
 
@@ -76,7 +75,7 @@ impl TextIndex {
         match value {
             Value::Str(text) => {
                 self.rows.meet(text.bytes(), found)?;
-                meet_patterns(&self.patterns, text.bytes(), found)
+                self.patterns.meet(text.bytes(), found)
             }
             _ => Ok(()),
         }

@@ -3,10 +3,12 @@
 
 mod bytes;
 mod edge;
+mod ends_parts;
 mod groups;
 mod head;
 mod heads;
 mod index;
+mod longest;
 mod meet;
 mod patterns;
 mod plain;

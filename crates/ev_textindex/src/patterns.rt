@@ -2,16 +2,13 @@
 ghost use Rattle.std.specs.Prelude.{◌≡◌, ◌==◌, ◌&&◌, ◌||◌, not, OnOk};
 ghost use Rattle.ev_values.specs.declared.value.Value.{Value};
 ghost use Rattle.ev_constraint.specs.declared.op.Op.{Op};
-ghost use Rattle.ev_index.specs.Pairs.{Appends, ids_met};
-ghost use Rattle.ev_textindex.specs.Heads.{mark, one, two, head_first, last_bytes, is_among, is_at_begin, is_at_end, is_inside, has_one, has_two, ids_headed, AreAllPatterns};
+ghost use Rattle.ev_index.specs.Pairs.{Appends, tally, ids_met};
+ghost use Rattle.ev_textindex.specs.Heads.{mark, one, two, head_first, last_bytes, is_among, is_at_begin, is_at_end, is_inside, is_part, has_one, has_two, ids_headed, AreAllPatterns};
 
 use crate::head::{has_one, has_two, head_first, last_bytes, mark, one, two};
 use crate::heads::Heads;
 use ev_constraint::Op;
 use ev_memory::NoMemory;
-
-/// In a longer text so many heads stand that each pattern is tested instead.
-const LONG: usize = 64;
 
 /// Whether a head is one of two.
 fn is_either(others: (u32, u32), head: u32) -> bool
@@ -135,23 +132,33 @@ fn meet_twos(heads: &Heads, x: &[u8], found: &mut Vec<u32>) -> Result<(), NoMemo
 fn meet_inside(heads: &Heads, x: &[u8], found: &mut Vec<u32>) -> Result<(), NoMemory>
     ensures { OnOk result (Appends found.old.items found.new.items (ids_headed (is_inside x.now) (Value.Str x.now) heads.now)) }
 {
-    if !heads.has_parts() {
-        return Ok(());
-    }
     heads.meet(mark(Op::Contains), x, found)?;
     meet_ones(heads, x, found)?;
     meet_twos(heads, x, found)
 }
 
-/// Appends the ids of the patterns that a text matches.
-pub(crate) fn meet_patterns(heads: &Heads, x: &[u8], found: &mut Vec<u32>) -> Result<(), NoMemory>
-    requires { AreAllPatterns heads.now }
+/// Appends the ids of the patterns that a text matches, where none asks what stands in it.
+pub(crate) fn meet_ends(heads: &Heads, x: &[u8], found: &mut Vec<u32>) -> Result<(), NoMemory>
+    requires patterns { AreAllPatterns heads.now }
+    requires ends { tally is_part heads.now ≡ 0 }
     ensures { OnOk result (Appends found.old.items found.new.items (ids_met (Value.Str x.now) heads.now)) }
 {
-    if x.len() > LONG && heads.has_parts() {
+    meet_begin(heads, x, found)?;
+    meet_end(heads, x, found)
+}
+
+/// So many patterns are tested in the time in which the heads of one byte of a text are looked up.
+const TESTS: usize = 4;
+
+/// Appends the ids of the patterns that a text matches, where each asks what stands in it: by the heads of each of its
+/// bytes, or by a test of each pattern where that costs less.
+pub(crate) fn meet_parts(heads: &Heads, x: &[u8], found: &mut Vec<u32>) -> Result<(), NoMemory>
+    requires patterns { AreAllPatterns heads.now }
+    requires parts { tally (λ y. not (is_part y)) heads.now ≡ 0 }
+    ensures { OnOk result (Appends found.old.items found.new.items (ids_met (Value.Str x.now) heads.now)) }
+{
+    if heads.count() / TESTS <= x.len() {
         return heads.meet_all(x, found);
     }
-    meet_begin(heads, x, found)?;
-    meet_end(heads, x, found)?;
     meet_inside(heads, x, found)
 }

@@ -4,6 +4,7 @@ ghost use Rattle.std.specs.Option.{option_copied};
 ghost use Rattle.ev_textindex.specs.Keys.{key_of, ids_beyond};
 
 use crate::groups::{Key, has, put, take};
+use crate::longest::Longest;
 use crate::meet::meet;
 use ev_constraint::Op;
 use ev_memory::NoMemory;
@@ -16,9 +17,8 @@ use std::collections::BTreeMap;
 pub struct Row {
     pub(crate) op: Op,
     pub(crate) groups: BTreeMap<Key, Vec<u32>>,
-    /// No key with an id is longer. What is taken away leaves it as it is.
-    pub(crate) longest: usize,
-    ghost fits: { ids_beyond longest groups.entries ≡ 0 },
+    pub(crate) longest: Longest,
+    ghost fits: { ids_beyond longest.bytes groups.entries ≡ 0 },
 }
 
 /// The key of an operand.
@@ -48,7 +48,7 @@ impl Row {
         Ok(Row {
             op,
             groups,
-            longest: key.len(),
+            longest: Longest::none().with(key.len(), 1),
         })
     }
 
@@ -65,8 +65,13 @@ impl Row {
         ensures added { OnOk result (Same (row_pairs self.new) ((test_at self.old.op key.now, id) ∷ row_pairs self.old)) }
         ensures err { OnErr result (row_pairs self.new ≡ row_pairs self.old) }
     {
-        self.longest = self.longest.max(key.len());
-        put(alloc, &mut self.groups, key, id)
+        match put(alloc, &mut self.groups, key, id) {
+            Ok(()) => {
+                self.longest = self.longest.with(key.len(), 1);
+                Ok(())
+            }
+            Err(e) => Err(e),
+        }
     }
 
     /// Takes an id from under a key; whether it was there.
@@ -75,7 +80,11 @@ impl Row {
         ensures there { result ≡ true → Same (row_pairs self.old) ((test_at self.old.op key.now, id) ∷ row_pairs self.new) }
         ensures none { result ≡ false → tally (λ x. same_bytes key.now x.0 && (x.1 == id)) (keyed bytes_of self.old.groups.entries) ≡ 0 }
     {
-        take(&mut self.groups, key, id)
+        let there = take(&mut self.groups, key, id);
+        if there {
+            self.longest = self.longest.without(key.len(), &self.groups);
+        }
+        there
     }
 
     /// Whether it is the row of the operator.
@@ -89,6 +98,6 @@ impl Row {
     pub(crate) fn meet(&self, text: &[u8], found: &mut Vec<u32>) -> Result<(), NoMemory>
         ensures { OnOk result (Appends found.old.items found.new.items (ids_met (Value.Str text.now) (row_pairs self.now))) }
     {
-        meet(&self.groups, self.longest, self.op, text, found)
+        meet(&self.groups, self.longest.bytes, self.op, text, found)
     }
 }

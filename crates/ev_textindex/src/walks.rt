@@ -14,8 +14,13 @@ use ev_index::append_ids;
 use ev_memory::NoMemory;
 use std::collections::BTreeMap;
 
-/// So many keys are sooner tested one by one than a text's beginnings or endings are looked up.
-const FEW: usize = 16;
+/// So many keys are tested in the time in which one is looked up.
+const TESTS: usize = 8;
+
+/// Whether testing so many keys costs less than so many look-ups.
+fn is_sooner_tested(keys: usize, lookups: usize) -> bool {
+    keys / TESTS <= lookups
+}
 
 /// Appends the ids of one key.
 pub(crate) fn walk_one(
@@ -180,7 +185,7 @@ pub(crate) fn walk_prefixes(
     requires { ids_beyond longest groups.now.entries ≡ 0 }
     ensures { OnOk result (Appends found.old.items found.new.items (ids_of (filter (λ e. has_prefix x.now e.0.items) groups.now.entries))) }
 {
-    if groups.len() <= FEW {
+    if is_sooner_tested(groups.len(), x.len().min(longest)) {
         test_prefixes(groups, x, found)
     } else {
         probe_prefixes(groups, longest, x, found)
@@ -197,7 +202,7 @@ pub(crate) fn walk_suffixes(
     requires { ids_beyond longest groups.now.entries ≡ 0 }
     ensures { OnOk result (Appends found.old.items found.new.items (ids_of (filter (λ e. has_suffix x.now e.0.items) groups.now.entries))) }
 {
-    if groups.len() <= FEW {
+    if is_sooner_tested(groups.len(), x.len().min(longest)) {
         test_suffixes(groups, x, found)
     } else {
         probe_suffixes(groups, longest, x, found)

@@ -17,7 +17,7 @@ returns-in-Some c =
     let h = c.args.head in
     let pairs = c.in-Some.shelf.now in
     let es = c.self.inside.shelves.entries in
-    let same = subst (λ (view : List Pair). Same (ids_met v pairs) (ids_headed (λ k. h == k) v view)) c.self.view_is (meets-shelf h v pairs es c.self.invariant.shelves.filed (IsDistinct-from_sorted nat_cmp (keys_of es) c.len-size.ensures.ordered) (sym c.get.ensures.value ∙ ap option_copied c.in-Some.is)) in
+    let same = subst (λ (view : List Pair). Same (ids_met v pairs) (ids_headed (λ k. h == k) v view)) c.self.view_is (meets-shelf h v pairs es c.self.invariant.filed (IsDistinct-from_sorted nat_cmp (keys_of es) c.len-size.ensures.ordered) (sym c.get.ensures.value ∙ ap option_copied c.in-Some.is)) in
     on_ok_weaker c.meet.result (λ a. the-same-appended c.args.found.now.items c.meet.new.found.items (ids_met v pairs) (ids_headed (λ k. h == k) v c.args.self.now) a same) c.meet.ensures
 
 pub returns-in-None : goal.returns-in-None
@@ -25,5 +25,5 @@ returns-in-None c =
     let v = values.Str c.args.text.now in
     let h = c.args.head in
     let old = c.args.found.now.items in
-    let same = subst (λ (view : List Pair). Same [] (ids_headed (λ k. h == k) v view)) c.self.view_is (meets-none h v c.self.inside.shelves.entries c.self.invariant.shelves.filed (sym c.get.ensures.value ∙ ap option_copied c.in-None.is)) in
+    let same = subst (λ (view : List Pair). Same [] (ids_headed (λ k. h == k) v view)) c.self.view_is (meets-none h v c.self.inside.shelves.entries c.self.invariant.filed (sym c.get.ensures.value ∙ ap option_copied c.in-None.is)) in
     the-same-appended old old [] (ids_headed (λ k. h == k) v c.args.self.now) (nothing-appended old [] refl) same

@@ -14,7 +14,7 @@ returns-in_ok-meet-in-Str c =
     let v = c.args.value.now in
     let old = c.args.found.now.items in
     let between = c.meet.new.found.items in
-    let new = c.meet_patterns.new.found.items in
+    let new = c.meet-in-Str.new.found.items in
     let rows = c.self.inside.rows in
     let patterns = c.self.inside.patterns in
     let a = ids_met (values.Str c.bytes.result.now) rows in
@@ -22,7 +22,7 @@ returns-in_ok-meet-in-Str c =
     let s : values.Str c.bytes.result.now ≡ v = ap values.Str c.bytes.ensures.bytes ∙ sym c.in-Str.is in
     let t : values.Str c.bytes-in-Str.result.now ≡ v = ap values.Str c.bytes-in-Str.ensures.bytes ∙ sym c.in-Str.is in
     let e : a ++ b ≡ ids_met v c.args.self.now = ap {B = List ℕ} (λ (x : Value). ids_met x rows ++ b) s ∙ ap {B = List ℕ} (λ (x : Value). ids_met v rows ++ ids_met x patterns) t ∙ sym (met-append v rows patterns) ∙ ap (ids_met v) c.self.view_is in
-    on_ok_weaker c.meet_patterns.result (λ h. those-appended old new (a ++ b) (ids_met v c.args.self.now) (Appends-append old between new a b c.in_ok-meet-in-Str.ensures h) e) c.meet_patterns.ensures
+    on_ok_weaker c.meet-in-Str.result (λ h. those-appended old new (a ++ b) (ids_met v c.args.self.now) (Appends-append old between new a b c.in_ok-meet-in-Str.ensures h) e) c.meet-in-Str.ensures
 
 pub returns-in_default : goal.returns-in_default
 returns-in_default c =

@@ -1,24 +1,23 @@
 use Rattle.std.proofs.Common.{◌∙◌, ap, sym, arith, ℕ, List, map}
-use Rattle.std.proofs.lemmas.Result.{on_ok_weaker, on_err_weaker}
 use Rattle.ev_index.specs.Pairs.{Pair}
 use Rattle.ev_textindex.specs.Keys.{test_at}
-use Rattle.ev_textindex.proofs.Beyond.{on-either, put-fits, same-fits}
+use Rattle.ev_textindex.proofs.Beyond.{put-fits}
 use Rattle.ev_textindex.proofs.Said.{tally-tests, tests-of}
 use Rattle.ev_textindex.proofs.row.Row.put.Goals as goal
 
-pub returns-clause-added : goal.returns-clause-added
-returns-clause-added c =
+pub returns-in-Ok-clause-added : goal.returns-in-Ok-clause-added
+returns-in-Ok-clause-added c = λ p.
     let op = c.args.self.now.op in
-    on_ok_weaker c.put.result (λ h p. omega (arith, tally-tests op p c.put.new.groups.entries, tally-tests op p c.args.self.now.groups.entries, h (λ x. p (test_at op x.0, x.1)))) c.put.ensures.added
+    omega (arith, tally-tests op p c.put.new.groups.entries, tally-tests op p c.args.self.now.groups.entries, c.in-Ok.ensures.added (λ x. p (test_at op x.0, x.1)))
 
-pub returns-clause-err : goal.returns-clause-err
-returns-clause-err c =
+pub returns-in-Err-clause-err : goal.returns-in-Err-clause-err
+returns-in-Err-clause-err c =
     let op = c.args.self.now.op in
-    on_err_weaker c.put.result (λ h. tests-of op c.put.new.groups.entries ∙ ap (map {B = Pair} (λ (x : List ℕ × ℕ). (test_at op x.0, x.1))) h ∙ sym (tests-of op c.args.self.now.groups.entries)) c.put.ensures.err
+    tests-of op c.put.new.groups.entries ∙ ap (map {B = Pair} (λ (x : List ℕ × ℕ). (test_at op x.0, x.1))) c.in-Err.ensures.err ∙ sym (tests-of op c.args.self.now.groups.entries)
 
 pub invariant_of-self : goal.invariant_of-self
 invariant_of-self c =
     let old = c.args.self.now in
     record {
-      fits = on-either c.put.result c.put.ensures.added c.put.ensures.err (put-fits old.longest c.max-self.result c.args.key.now c.args.id old.groups.entries c.put.new.groups.entries c.max-self.ensures old.fits) (same-fits old.longest c.max-self.result old.groups.entries c.put.new.groups.entries (omega (arith, c.max-self.ensures)) old.fits);
+      fits = put-fits old.longest.bytes c.with-self.result.bytes c.args.key.now c.args.id old.groups.entries c.put.new.groups.entries c.with-self.ensures old.fits c.in-Ok.ensures.added;
     }
