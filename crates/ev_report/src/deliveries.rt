@@ -82,6 +82,41 @@ fn push_section(
     }
 }
 
+// The length of the longest name.
+fn longest(clients: &[Client]) -> usize {
+    let mut longest = 0;
+    for client in clients {
+        longest = longest.max(client.name.bytes().len());
+    }
+    longest
+}
+
+// More bytes than a delivery's line has beside the publisher's name and the notice.
+const LINE_ROOM: usize = 24;
+
+// Room for the lines of these deliveries, whose publishers have names up to a length.
+fn lines_room(received: &[Delivery], longest: usize) -> usize {
+    let mut room = 0usize;
+    for delivery in received {
+        room = room
+            .saturating_add(delivery.bytes.as_slice().len())
+            .saturating_add(longest)
+            .saturating_add(LINE_ROOM);
+    }
+    room
+}
+
+// Room for the whole text but for what is refused: a text that finds its room at once is never moved as it grows. No
+// answer rests on it.
+fn text_room(clients: &[Client], received: &[Lists<Delivery>]) -> usize {
+    let longest = longest(clients);
+    let mut room = clients.len().saturating_mul(LINE_ROOM + 64);
+    for list in received {
+        room = room.saturating_add(lines_room(list.as_slice(), longest));
+    }
+    room
+}
+
 /// What the clients received, client by client in the order of the net: its refused publishes, and a line for each
 /// delivery, in their order, or by publisher and ordinal where they are to be sorted.
 pub fn deliveries_text(
@@ -95,7 +130,7 @@ pub fn deliveries_text(
     requires received { length received.now ≡ length net.now.clients }
     ensures { IfOk result (λ text. text.items ≡ deliveries_text net.now refused.now received.now sorted) }
 {
-    let mut out = Vec::new(alloc);
+    let mut out = Vec::with_capacity(alloc, text_room(&net.clients, received))?;
     for (i, client) in net.clients.iter().enumerate() {
         push_section(
             alloc,
