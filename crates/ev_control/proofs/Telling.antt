@@ -1,5 +1,5 @@
 -- The text of a difference between two rows.
-use Rattle.std.proofs.Common.{◌≡◌, ◌≢◌, inl, inr, ℕ, ◌+◌, ◌==◌, ◌&&◌, not, Bool, true, false, List, [], ◌∷◌, ◌++◌, map, filter, take, slice_get, length, arith, Option, Some, None, MatchOption, refl, sym, ap, subst, ◌∙◌, add-one, append_assoc, append-nil}
+use Rattle.std.proofs.Common.{◌≡◌, ◌≢◌, inl, inr, ℕ, ◌+◌, ◌==◌, ◌&&◌, not, Bool, true, false, List, [], ◌∷◌, ◌++◌, map, filter, take, slice_get, Option, Some, None, MatchOption, refl, sym, ap, subst, ◌∙◌, add-one, append_assoc, append-nil}
 use Rattle.std.specs.List.{flat_map}
 use Rattle.std.specs.Option.{option_map}
 use Rattle.ev_sets.specs.Sets.{Has, IsRising, minus, same_list, roots, set_of}
@@ -124,7 +124,3 @@ left-free interface link offered out pairs =
     let alike = filter-alike {X = Held real.Filter} (λ h. not (h.holder == link) && (stays real.before interface link out pairs h.item && is_wanted Subscription offered h.item)) (λ h. not (h.holder == link) && stays real.before interface link out pairs h.item)
     (λ h. ap (λ z. not (h.holder == link) && z) (and-true (stays real.before interface link out pairs h.item))) pairs in
     ap (λ z. roots real.covers real.before (set_of real.before (map {A = Held real.Filter} {B = real.Filter} (λ h. h.item) z))) alike
-
-pub none-long : {X : Type 0} (xs : List X) → length xs ≡ 0 → xs ≡ []
-none-long [] e = refl
-none-long (x ∷ xs) e = absurd (omega (arith, e))

@@ -1,5 +1,5 @@
 //! The texts of a change, asked of what is held before and after it.
-ghost use Rattle.std.specs.Prelude.{◌≡◌, ◌&&◌, ◌==◌, cond, false, ℕ, ◌++◌, List, [], IfOk, OnOk, map};
+ghost use Rattle.std.specs.Prelude.{◌≡◌, ◌&&◌, ◌==◌, cond, true, false, ℕ, ◌++◌, List, [], IfOk, OnOk, map};
 ghost use Rattle.std.specs.List.{flat_map, list_any};
 ghost use Rattle.std.specs.Option.{option_map};
 ghost use Rattle.ev_sets.specs.Sets.{Has, roots};
@@ -184,11 +184,24 @@ fn push_text(sent: &mut Vec<Sent>, link: u32, text: Option<Bytes>) -> Result<(),
     Ok(())
 }
 
+/// So many links are asked one by one: what all of them have in common is no shorter way then.
+const FEW_LINKS: usize = 2;
+
+/// The answer that each link may differ, in place of an empty one.
+fn each_may_differ(mut found: Vec<Difference>) -> Result<Vec<Difference>, NoMemory>
+    requires { found.items ≡ [] }
+    ensures { IfOk result (λ all. (link : ℕ) → list_any (differs link) all.items ≡ true) }
+{
+    found.push(Difference::for_all())?;
+    Ok(found)
+}
+
 /// What differs, for all links at once, of the filters to be sent. Where advertisements steer them that is not known,
 /// and each link may differ.
 fn filter_differences(
     alloc: Global,
     semantics: Semantics,
+    links: &[u32],
     filters: &Stock<Sub>,
     adverts: &Stock<Ad>,
     interface: u32,
@@ -199,19 +212,19 @@ fn filter_differences(
         → filters_turn semantics interface link (held_without list_before link [] adverts.now.pairs) (held_without list_before link [] adverts.now.pairs) out.now add.now filters.now.pairs ≡ []) }
 {
     let _ = adverts;
+    if links.len() <= FEW_LINKS {
+        return each_may_differ(Vec::new(alloc));
+    }
     match semantics {
         Semantics::Subscription => filters.differences(interface, add, out),
-        Semantics::Advertisement => {
-            let mut all = Vec::new(alloc);
-            all.push(Difference::for_all())?;
-            Ok(all)
-        }
+        Semantics::Advertisement => each_may_differ(Vec::new(alloc)),
     }
 }
 
 /// What differs, for all links at once, of the advertisements to be sent.
 fn advert_differences(
     alloc: Global,
+    links: &[u32],
     adverts: &Stock<Ad>,
     interface: u32,
     out: &[Ad],
@@ -219,8 +232,8 @@ fn advert_differences(
 ) -> Result<Vec<Difference>, NoMemory>
     ensures { IfOk result (λ found. (link : ℕ) → list_any (differs link) found.items ≡ false → adverts_turn interface link out.now add.now adverts.now.pairs ≡ []) }
 {
-    if out.is_empty() && add.is_empty() {
-        return Ok(Vec::new(alloc));
+    if links.len() <= FEW_LINKS {
+        return each_may_differ(Vec::new(alloc));
     }
     adverts.differences(interface, add, out)
 }
@@ -243,7 +256,9 @@ pub(crate) fn filter_texts(
     ensures texts { OnOk result ((link : ℕ) → Has link links.now
         → HaveTexts (filter_messages semantics interface out.now add.now filters.now.pairs adverts.now.pairs link)) }
 {
-    let differences = filter_differences(alloc, semantics, filters, adverts, interface, out, add)?;
+    let differences = filter_differences(
+        alloc, semantics, links, filters, adverts, interface, out, add,
+    )?;
     let mut sent = Vec::new(alloc);
     for link in links {
         if *link == interface {
@@ -274,7 +289,7 @@ pub(crate) fn advert_texts(
     ensures texts { OnOk result ((link : ℕ) → Has link links.now
         → HaveTexts (advert_messages semantics interface out.now add.now filters.now.pairs adverts.now.pairs link)) }
 {
-    let differences = advert_differences(alloc, adverts, interface, out, add)?;
+    let differences = advert_differences(alloc, links, adverts, interface, out, add)?;
     let mut sent = Vec::new(alloc);
     for link in links {
         if *link != interface && !differ_for(&differences, *link) {
