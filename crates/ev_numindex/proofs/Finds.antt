@@ -6,13 +6,13 @@ use Rattle.ev_values.specs.declared.value.Kind.{Kind}
 use Rattle.ev_constraint.specs.declared.op.Op.{Op}
 use Rattle.ev_constraint.specs.Constraint.{ConstraintParts, IsConstraint}
 use Rattle.ev_index.specs.Pairs.{tally, IsIn, test_of, Test, Pair}
-use Rattle.ev_index.specs.Groups.{keyed}
 use Rattle.ev_index.proofs.Rows.{tally-in, flat-set}
-use Rattle.ev_index.proofs.Members.{in-flat, in-keyed}
+use Rattle.ev_index.proofs.Members.{in-flat}
 use Rattle.ev_numindex.specs.declared.row.Row.{Row}
 use Rattle.ev_numindex.specs.Keys.{same_key, key_of, test_at}
 use Rattle.ev_numindex.specs.Rows.{HasAt, IsNumeric, rows_pairs, row_pairs}
 use Rattle.ev_numindex.proofs.Keys.{same-self}
+use Rattle.ev_numindex.proofs.Lines.{in-told}
 use Rattle.ev_numindex.proofs.Codes.{decode, encode}
 
 itself : (k : ℤ) (id : ℕ) → (same_key k k && (id == id)) ≡ true
@@ -26,11 +26,11 @@ in-rows : (c : ConstraintParts) (kind : Kind) (op : Op) (key : ℤ) (id : ℕ) (
 in-rows c kind op key id rows n w a b e none d m =
     let r = in-flat row_pairs (test_of c, id) rows m in
     let row = get_or rows r.place d in
-    let g = in-keyed (test_at row.kind row.op) (test_of c, id) row.groups.entries (r.there d) in
+    let g = in-told (test_at row.kind row.op) (test_of c, id) row.line (r.there d) in
     let t = decode row.kind row.op g.key (test_of c) n w g.tells in
     let p = λ (x : ℤ × ℕ). same_key key x.0 && (x.1 == id) in
     let h : p (g.key, id) ≡ true = ap {B = Bool} (λ k. same_key key k && (id == id)) (t.key ∙ sym e) ∙ itself key id in
-    none r.place r.within d ((t.kinds_same ∙ sym a, t.ops_same ∙ sym b), tally-in p (g.key, id) (keyed (λ k. k) row.groups.entries) h g.there)
+    none r.place r.within d ((t.kinds_same ∙ sym a, t.ops_same ∙ sym b), tally-in p (g.key, id) row.line h g.there)
 
 pub the-test : (c : ConstraintParts) (kind : Kind) (op : Op) (k : ℤ) → IsNumeric c → IsConstraint c → kind ≡ c.kind → op ≡ c.op → k ≡ key_of c.operand → test_at kind op k ≡ test_of c
 the-test c kind op k n w a b e = ap {B = Test} (λ x. test_at x op k) a ∙ ap {B = Test} (λ x. test_at c.kind x k) b ∙ ap (test_at c.kind c.op) e ∙ encode c.kind c.op c.operand n w

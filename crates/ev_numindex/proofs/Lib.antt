@@ -2,3 +2,4 @@ pub mod Keys
 pub mod Codes
 pub mod Meets
 pub mod Finds
+pub mod Lines

@@ -9,10 +9,6 @@ use Rattle.ev_values.specs.declared.value.Value.TheVariants as values
 use Rattle.ev_constraint.specs.declared.op.Op.{Op}
 use Rattle.ev_constraint.specs.declared.op.Op.TheVariants as ops
 use Rattle.std.specs.Prelude.{Some, None, int_lt, if◌then◌else◌}
-use Rattle.std.specs.Prelude.{Vec, List, [], ◌∷◌}
-use Rattle.std.specs.List.{filter}
-use Rattle.std.specs.declared.alloc.Global.{Global}
-use Rattle.ev_index.specs.Groups.{ids_of}
 use Rattle.ev_index.specs.Pairs.{passes}
 use Rattle.ev_constraint.specs.Numbers.{number_satisfies}
 use Rattle.ev_numindex.specs.Keys.{same_key, truth_key, time_key, key_meets, test_at, time_test, below_test, no_test}
@@ -41,23 +37,6 @@ number-meets ops.Ge x k = number-said ops.Ge (λ e. cc) x k
 number-meets ops.Contains x k = number-said ops.Contains (λ e. cc) x k
 number-meets ops.Prefix x k = number-said ops.Prefix (λ e. cc) x k
 number-meets ops.Suffix x k = number-said ops.Suffix (λ e. cc) x k
-
-none : (es : List (ℤ × Vec ℕ Global)) → ids_of (filter (λ e. false) es) ≡ []
-none [] = refl
-none (e ∷ es) = none es
-
--- an operator that numbers do not have finds nothing
-pub none-found : (op : Op) (x : ℤ) (es : List (ℤ × Vec ℕ Global)) → (op ≡ ops.Any → ⊥) → (op ≡ ops.Eq → ⊥) → (op ≡ ops.Ne → ⊥) → (op ≡ ops.Lt → ⊥) → (op ≡ ops.Le → ⊥) → (op ≡ ops.Gt → ⊥) → (op ≡ ops.Ge → ⊥) → ids_of (filter (λ e. key_meets op x e.0) es) ≡ []
-none-found ops.Any x es a b c d e f g = absurd (a refl)
-none-found ops.Eq x es a b c d e f g = absurd (b refl)
-none-found ops.Ne x es a b c d e f g = absurd (c refl)
-none-found ops.Lt x es a b c d e f g = absurd (d refl)
-none-found ops.Le x es a b c d e f g = absurd (e refl)
-none-found ops.Gt x es a b c d e f g = absurd (f refl)
-none-found ops.Ge x es a b c d e f g = absurd (g refl)
-none-found ops.Contains x es a b c d e f g = none es
-none-found ops.Prefix x es a b c d e f g = none es
-none-found ops.Suffix x es a b c d e f g = none es
 
 -- what a key finds depends on the order alone
 alike : (op : Op) → (op ≡ ops.Any → ⊥) → (a b c d : ℤ) → int_lt a b ≡ int_lt c d → int_lt b a ≡ int_lt d c → key_meets op a b ≡ key_meets op c d

@@ -1,4 +1,4 @@
--- Keys of groups: the operand, a truth value as 0 or 1, a time less 2 ^ 63, and 0 where there is none.
+-- Keys: the operand, a truth value as 0 or 1, a time less 2 ^ 63, and 0 where there is none.
 use Rattle.std.specs.Prelude.{ℕ, ℤ, pos, negsuc, ◌+ℤ◌, ◌-ℤ◌, ◌^◌, Bool, true, false, not, Option, Some, None, if◌then◌else◌}
 use Rattle.std.specs.Ordering.{int_cmp, int_eq, is_eq}
 use Rattle.std.specs.BTreeMap.Range.{range_contains}
@@ -66,7 +66,7 @@ test_at kinds.Time ops.Any k = any_test kinds.Time k
 test_at kinds.Time op k = time_test op (k +ℤ pos (2 ^ 63))
 test_at kinds.Str op k = no_test k
 
--- the groups that a number finds by its key, in a row of an operator
+-- the keys that a number finds by its own, in a row of an operator
 abbrev pub key_meets : Op → ℤ → ℤ → Bool
 key_meets ops.Any x k = same_key (pos 0) k
 key_meets ops.Eq x k = same_key x k

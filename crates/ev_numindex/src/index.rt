@@ -48,7 +48,7 @@ impl NumIndex {
         let op = constraint.op();
         let key = key_of(constraint.operand());
         match place(&self.rows, constraint.kind(), op) {
-            Some(i) => self.rows[i].put(self.alloc, &key, id),
+            Some(i) => self.rows[i].put(&key, id),
             None => {
                 let row = Row::with(self.alloc, constraint.kind(), op, &key, id)?;
                 self.rows.push(row)?;

@@ -1,18 +1,16 @@
-//! The ids of the groups whose test a value passes.
-ghost use Rattle.std.specs.Prelude.{◌≡◌, ◌++◌, ℤ, pos, Bool, true, false, not, OnOk};
-ghost use Rattle.std.specs.List.{filter};
+//! The ids of a row whose test a value passes.
+ghost use Rattle.std.specs.Prelude.{◌≡◌, ◌≢◌, ◌++◌, ℤ, pos, Bool, true, false, not, OnOk};
 ghost use Rattle.ev_values.specs.declared.value.Kind.{Kind};
 ghost use Rattle.ev_values.specs.declared.value.Value.{Value};
 ghost use Rattle.ev_index.specs.Pairs.{ids_met};
-ghost use Rattle.ev_index.specs.Groups.{keyed, ids_of};
-ghost use Rattle.ev_numindex.specs.Keys.{test_at, same_key, truth_key, time_key, key_meets};
+ghost use Rattle.ev_constraint.specs.declared.op.Op.{Op};
+ghost use Rattle.ev_numindex.specs.Lines.{told, ids_with, on_side};
+ghost use Rattle.ev_numindex.specs.Keys.{test_at, truth_key, time_key, key_meets};
 
-use crate::groups::walk;
+use crate::line::Line;
+use crate::sides::Sides;
 use ev_constraint::Op;
-use ev_index::append_ids;
 use ev_memory::NoMemory;
-use std::collections::BTreeMap;
-use std::ops::Bound;
 
 /// The key of a truth value.
 pub(crate) fn truth_key(x: bool) -> i64
@@ -32,97 +30,65 @@ pub(crate) fn time_key(x: u64) -> i64
     }
 }
 
-/// Appends the ids of all keys but one.
-fn walk_others(
-    groups: &BTreeMap<i64, Vec<u32>>,
-    key: &i64,
-    found: &mut Vec<u32>,
-) -> Result<(), NoMemory>
-    ensures { OnOk result (found.new.items ≡ found.old.items ++ ids_of (filter (λ e. not (same_key key.now e.0)) groups.now.entries)) }
-{
-    for (other, ids) in groups {
-        if *key != *other {
-            append_ids(found, ids)?;
-        }
-    }
-    Ok(())
-}
+/// An equal key alone.
+const EQUAL: Sides = Sides {
+    below: false,
+    equal: true,
+    above: false,
+};
 
-/// Appends the ids of one key.
-fn walk_one(
-    groups: &BTreeMap<i64, Vec<u32>>,
-    key: &i64,
-    found: &mut Vec<u32>,
-) -> Result<(), NoMemory>
-    ensures { OnOk result (found.new.items ≡ found.old.items ++ ids_of (filter (λ e. same_key key.now e.0) groups.now.entries)) }
+/// The sides of a number that an operator asks for.
+fn sides(op: Op) -> Sides
+    ensures { op ≢ Op.Any → (x k : ℤ) → on_side result x k ≡ key_meets op x k }
 {
-    // The keys rise, so there is no other such group.
-    let _size = groups.len();
-    let Some(ids) = groups.get(key) else {
-        return Ok(());
+    let (below, equal, above) = match op {
+        Op::Eq => (false, true, false),
+        Op::Ne => (true, false, true),
+        Op::Lt => (false, false, true),
+        Op::Le => (false, true, true),
+        Op::Gt => (true, false, false),
+        Op::Ge => (true, true, false),
+        _ => (false, false, false),
     };
-    append_ids(found, ids)?;
-    Ok(())
-}
-
-/// Appends the ids of the groups that a number finds by its key, in a row of an operator.
-fn meet_key(
-    groups: &BTreeMap<i64, Vec<u32>>,
-    op: Op,
-    x: i64,
-    found: &mut Vec<u32>,
-) -> Result<(), NoMemory>
-    ensures { OnOk result (found.new.items ≡ found.old.items ++ ids_of (filter (λ e. key_meets op x e.0) groups.now.entries)) }
-{
-    match op {
-        Op::Any => walk_one(groups, &0, found),
-        Op::Eq => walk_one(groups, &x, found),
-        Op::Ne => walk_others(groups, &x, found),
-        Op::Lt => walk(groups, Bound::Excluded(x), Bound::Unbounded, found),
-        Op::Le => walk(groups, Bound::Included(x), Bound::Unbounded, found),
-        Op::Gt => walk(groups, Bound::Unbounded, Bound::Excluded(x), found),
-        Op::Ge => walk(groups, Bound::Unbounded, Bound::Included(x), found),
-        _ => Ok(()),
+    Sides {
+        below,
+        equal,
+        above,
     }
 }
 
-/// Appends the ids of the groups of an int row whose test the number passes.
-pub(crate) fn meet_number(
-    groups: &BTreeMap<i64, Vec<u32>>,
-    op: Op,
-    x: i64,
-    found: &mut Vec<u32>,
-) -> Result<(), NoMemory>
-    ensures { OnOk result (found.new.items ≡ found.old.items ++ ids_met (Value.Int x) (keyed (test_at Kind.Int op) groups.now.entries)) }
-{
-    meet_key(groups, op, x, found)
-}
-
-/// Appends the ids of the groups of a time row whose test the time passes.
-pub(crate) fn meet_time(
-    groups: &BTreeMap<i64, Vec<u32>>,
-    op: Op,
-    x: u64,
-    found: &mut Vec<u32>,
-) -> Result<(), NoMemory>
-    ensures { OnOk result (found.new.items ≡ found.old.items ++ ids_met (Value.Time x) (keyed (test_at Kind.Time op) groups.now.entries)) }
-{
-    meet_key(groups, op, time_key(x), found)
-}
-
-/// Appends the ids of the groups of a bool row whose test the truth value passes.
-pub(crate) fn meet_truth(
-    groups: &BTreeMap<i64, Vec<u32>>,
-    op: Op,
-    x: bool,
-    found: &mut Vec<u32>,
-) -> Result<(), NoMemory>
-    ensures { OnOk result (found.new.items ≡ found.old.items ++ ids_met (Value.Bool x) (keyed (test_at Kind.Bool op) groups.now.entries)) }
+/// Appends the ids of the keys that a number finds by its own, in a row of an operator.
+fn meet_key(line: &Line, op: Op, x: i64, found: &mut Vec<u32>) -> Result<(), NoMemory>
+    ensures { OnOk result (found.new.items ≡ found.old.items ++ ids_with (key_meets op x) line.now) }
 {
     match op {
-        Op::Any => walk_one(groups, &0, found),
-        Op::Eq => walk_one(groups, &truth_key(x), found),
-        Op::Ne => walk_one(groups, &truth_key(!x), found),
+        Op::Any => line.meet(EQUAL, 0, found),
+        _ => line.meet(sides(op), x, found),
+    }
+}
+
+/// Appends the ids of an int row whose test the number passes.
+pub(crate) fn meet_number(line: &Line, op: Op, x: i64, found: &mut Vec<u32>) -> Result<(), NoMemory>
+    ensures { OnOk result (found.new.items ≡ found.old.items ++ ids_met (Value.Int x) (told (test_at Kind.Int op) line.now)) }
+{
+    meet_key(line, op, x, found)
+}
+
+/// Appends the ids of a time row whose test the time passes.
+pub(crate) fn meet_time(line: &Line, op: Op, x: u64, found: &mut Vec<u32>) -> Result<(), NoMemory>
+    ensures { OnOk result (found.new.items ≡ found.old.items ++ ids_met (Value.Time x) (told (test_at Kind.Time op) line.now)) }
+{
+    meet_key(line, op, time_key(x), found)
+}
+
+/// Appends the ids of a bool row whose test the truth value passes.
+pub(crate) fn meet_truth(line: &Line, op: Op, x: bool, found: &mut Vec<u32>) -> Result<(), NoMemory>
+    ensures { OnOk result (found.new.items ≡ found.old.items ++ ids_met (Value.Bool x) (told (test_at Kind.Bool op) line.now)) }
+{
+    match op {
+        Op::Any => line.meet(EQUAL, 0, found),
+        Op::Eq => line.meet(EQUAL, truth_key(x), found),
+        Op::Ne => line.meet(EQUAL, truth_key(!x), found),
         _ => Ok(()),
     }
 }

@@ -1,24 +1,23 @@
-//! A row: the groups of one kind and operator.
+//! A row: the ids of one kind and operator.
 ghost use Rattle.std.specs.Prelude.{◌≡◌, ◌≢◌, ◌++◌, ◌∷◌, ◌<◌, ◌⊎◌, [], true, false, OnOk, OnErr, IfOk, IfSome, IfNone, length, slice_index_or, ℕ};
 ghost use Rattle.ev_index.specs.Pairs.{ids_met};
 ghost use Rattle.ev_numindex.specs.Keys.{key_of};
 ghost use Rattle.std.specs.Option.{option_copied};
 ghost use Rattle.ev_numindex.specs.Rows.{IsRowOf, HasAt};
 
-use crate::groups::{has, put, take};
+use crate::line::Line;
 use crate::meet::{meet_number, meet_time, meet_truth, time_key, truth_key};
 use ev_constraint::Op;
 use ev_memory::NoMemory;
 use ev_values::{Kind, Value};
 use std::alloc::Global;
-use std::collections::BTreeMap;
 
-/// Ids in groups by operand, for one kind and operator.
+/// Ids by operand, for one kind and operator.
 #[derive(Drop)]
 pub struct Row {
     pub(crate) kind: Kind,
     pub(crate) op: Op,
-    pub(crate) groups: BTreeMap<i64, Vec<u32>>,
+    pub(crate) line: Line,
 }
 
 /// The key of an operand.
@@ -37,7 +36,6 @@ impl Row {
     ghost use Rattle.std.specs.Prelude.{◌∷◌, [], IfOk};
     ghost use Rattle.std.specs.Prelude.{◌==◌, nat_lt, OnErr, true, false};
     ghost use Rattle.ev_index.specs.Pairs.{Same, tally};
-    ghost use Rattle.ev_index.specs.Groups.{keyed};
     ghost use Rattle.ev_numindex.specs.Keys.{test_at, same_key};
 
     /// The row of a kind and an operator with one id.
@@ -51,9 +49,9 @@ impl Row {
         ensures of { IfOk result (λ row. IsRowOf kind op row) }
         ensures one { IfOk result (λ row. Same (row_pairs row) ((test_at kind op key.now, id) ∷ [])) }
     {
-        let mut groups = BTreeMap::new(alloc);
-        put(alloc, &mut groups, key, id)?;
-        Ok(Row { kind, op, groups })
+        let mut line = Line::new(alloc);
+        line.put(*key, id)?;
+        Ok(Row { kind, op, line })
     }
 
     ghost use Rattle.std.specs.Prelude.{◌≡◌, ◌++◌, ◌&&◌, ◌↔◌, OnOk, IsTrue};
@@ -63,27 +61,27 @@ impl Row {
 
     /// Whether the row has an id under a key.
     fn has(&self, key: &i64, id: u32) -> bool
-        ensures { result ≡ nat_lt 0 (tally (λ x. same_key key.now x.0 && (x.1 == id)) (keyed (λ k. k) self.now.groups.entries)) }
+        ensures { result ≡ nat_lt 0 (tally (λ x. same_key key.now x.0 && (x.1 == id)) self.now.line) }
     {
-        has(&self.groups, key, id)
+        self.line.has(*key, id)
     }
 
     /// Puts an id under a key.
-    pub(crate) fn put(&mut self, alloc: Global, key: &i64, id: u32) -> Result<(), NoMemory>
+    pub(crate) fn put(&mut self, key: &i64, id: u32) -> Result<(), NoMemory>
         ensures of { IsRowOf self.old.kind self.old.op self.new }
         ensures added { OnOk result (Same (row_pairs self.new) ((test_at self.old.kind self.old.op key.now, id) ∷ row_pairs self.old)) }
         ensures err { OnErr result (row_pairs self.new ≡ row_pairs self.old) }
     {
-        put(alloc, &mut self.groups, key, id)
+        self.line.put(*key, id)
     }
 
     /// Takes an id from under a key; whether it was there.
     pub(crate) fn take(&mut self, key: &i64, id: u32) -> bool
         ensures of { IsRowOf self.old.kind self.old.op self.new }
         ensures there { result ≡ true → Same (row_pairs self.old) ((test_at self.old.kind self.old.op key.now, id) ∷ row_pairs self.new) }
-        ensures none { result ≡ false → tally (λ x. same_key key.now x.0 && (x.1 == id)) (keyed (λ k. k) self.old.groups.entries) ≡ 0 }
+        ensures none { result ≡ false → tally (λ x. same_key key.now x.0 && (x.1 == id)) self.old.line ≡ 0 }
     {
-        take(&mut self.groups, key, id)
+        self.line.take(*key, id)
     }
 
     /// Whether it is the row of the kind and the operator.
@@ -98,9 +96,9 @@ impl Row {
         ensures { OnOk result (found.new.items ≡ found.old.items ++ ids_met value.now (row_pairs self.now)) }
     {
         match (self.kind, value) {
-            (Kind::Bool, Value::Bool(x)) => meet_truth(&self.groups, self.op, *x, found),
-            (Kind::Int, Value::Int(x)) => meet_number(&self.groups, self.op, *x, found),
-            (Kind::Time, Value::Time(x)) => meet_time(&self.groups, self.op, *x, found),
+            (Kind::Bool, Value::Bool(x)) => meet_truth(&self.line, self.op, *x, found),
+            (Kind::Int, Value::Int(x)) => meet_number(&self.line, self.op, *x, found),
+            (Kind::Time, Value::Time(x)) => meet_time(&self.line, self.op, *x, found),
             _ => Ok(()),
         }
     }

@@ -1,13 +1,12 @@
 use Rattle.std.proofs.Common.{◌≡◌, ◌∙◌, ◌++◌, ap, subst, rules, ℕ, ℤ, List}
 use Rattle.std.specs.Prelude.{OnOk}
-use Rattle.std.specs.List.{filter}
 use Rattle.std.specs.Int.{w64}
 use Rattle.std.proofs.lemmas.Int.{to_z-of_z}
 use Rattle.std.proofs.lemmas.Result.{on_ok_weaker}
 use Rattle.ev_values.specs.declared.value.Kind.TheVariants as kinds
 use Rattle.ev_values.specs.declared.value.Value.TheVariants as values
-use Rattle.ev_index.specs.Groups.{ids_of}
-use Rattle.ev_index.proofs.Rows.{met-keyed}
+use Rattle.ev_numindex.specs.Lines.{ids_with}
+use Rattle.ev_numindex.proofs.Lines.{met-told}
 use Rattle.ev_numindex.specs.Keys.{test_at, time_key, key_meets}
 use Rattle.ev_numindex.proofs.Meets.{time-meets}
 use Rattle.ev_numindex.proofs.meet.meet_time.Goals as goal
@@ -15,8 +14,8 @@ use Rattle.ev_numindex.proofs.meet.meet_time.Goals as goal
 pub returns : goal.returns
 returns c =
     let found = c.args.found.now.items in
-    let entries = c.args.groups.now.entries in
+    let line = c.args.line.now in
     let z = to_z-of_z w64 c.time_key.result (search rules) ∙ c.time_key.ensures in
-    let h = subst (λ (x : ℤ). OnOk c.meet_key.result (c.meet_key.new.found.items ≡ found ++ ids_of (filter (λ e. key_meets c.args.op x e.0) entries))) z c.meet_key.ensures in
-    let e = met-keyed (values.Time c.args.x) (test_at kinds.Time c.args.op) (key_meets c.args.op (time_key c.args.x)) entries (time-meets c.args.op c.args.x) in
+    let h = subst (λ (x : ℤ). OnOk c.meet_key.result (c.meet_key.new.found.items ≡ found ++ ids_with (key_meets c.args.op x) line)) z c.meet_key.ensures in
+    let e = met-told (values.Time c.args.x) (test_at kinds.Time c.args.op) (key_meets c.args.op (time_key c.args.x)) line (time-meets c.args.op c.args.x) in
     on_ok_weaker c.meet_key.result (λ w. w ∙ ap (λ (ids : List ℕ). found ++ ids) e) h

@@ -1,33 +1,34 @@
-use Rattle.std.proofs.Common.{sym, pos, not, arith, append-nil}
+use Rattle.std.proofs.Common.{◌∙◌, sym, pos, not, arith, refl, append-nil}
 use Rattle.std.proofs.lemmas.Int.{to_z-of_z}
 use Rattle.ev_values.specs.declared.value.Kind.TheVariants as kinds
 use Rattle.ev_values.specs.declared.value.Value.TheVariants as values
 use Rattle.ev_constraint.specs.declared.op.Op.TheVariants as ops
-use Rattle.ev_index.proofs.Rows.{met-keyed, none-met-keyed}
-use Rattle.ev_numindex.specs.Keys.{test_at, same_key, truth_key}
+use Rattle.ev_numindex.specs.Keys.{test_at, truth_key}
+use Rattle.ev_numindex.specs.Lines.{on_side}
+use Rattle.ev_numindex.proofs.Lines.{met-told, none-met-told, alone, equal-alone}
 use Rattle.ev_numindex.proofs.Meets.{truth-any, truth-eq, truth-ne, truth-never}
 use Rattle.ev_numindex.proofs.meet.meet_truth.Goals as goal
 
 pub returns-in-Any : goal.returns-in-Any
 returns-in-Any c =
-    let e = met-keyed (values.Bool c.args.x) (test_at kinds.Bool ops.Any) (same_key (pos 0)) c.args.groups.now.entries (truth-any c.args.x) in
+    let e = met-told (values.Bool c.args.x) (test_at kinds.Bool ops.Any) (on_side alone (pos 0)) c.args.line.now (λ k. equal-alone alone refl refl refl (pos 0) k ∙ truth-any c.args.x k) in
     let o = c.in-Any.is in
-    grind (arith, e, o, to_z-of_z, c.walk_one.ensures)
+    grind (arith, e, o, to_z-of_z, c.meet.ensures)
 
 pub returns-in-Eq : goal.returns-in-Eq
 returns-in-Eq c =
-    let e = met-keyed (values.Bool c.args.x) (test_at kinds.Bool ops.Eq) (same_key (truth_key c.args.x)) c.args.groups.now.entries (truth-eq c.args.x) in
+    let e = met-told (values.Bool c.args.x) (test_at kinds.Bool ops.Eq) (on_side alone (truth_key c.args.x)) c.args.line.now (λ k. equal-alone alone refl refl refl (truth_key c.args.x) k ∙ truth-eq c.args.x k) in
     let o = c.in-Eq.is in
-    grind (arith, e, o, to_z-of_z, c.walk_one-in-Eq.ensures)
+    grind (arith, e, o, to_z-of_z, c.meet-in-Eq.ensures)
 
 pub returns-in-Ne : goal.returns-in-Ne
 returns-in-Ne c =
-    let e = met-keyed (values.Bool c.args.x) (test_at kinds.Bool ops.Ne) (same_key (truth_key (not c.args.x))) c.args.groups.now.entries (truth-ne c.args.x) in
+    let e = met-told (values.Bool c.args.x) (test_at kinds.Bool ops.Ne) (on_side alone (truth_key (not c.args.x))) c.args.line.now (λ k. equal-alone alone refl refl refl (truth_key (not c.args.x)) k ∙ truth-ne c.args.x k) in
     let o = c.in-Ne.is in
-    grind (arith, e, o, to_z-of_z, c.walk_one-in-Ne.ensures)
+    grind (arith, e, o, to_z-of_z, c.meet-in-Ne.ensures)
 
 pub returns-in_default : goal.returns-in_default
 returns-in_default c =
     let d = c.in_default in
-    let e = none-met-keyed (values.Bool c.args.x) (test_at kinds.Bool c.args.op) c.args.groups.now.entries (truth-never c.args.op d.not-Any d.not-Eq d.not-Ne c.args.x) in
+    let e = none-met-told (values.Bool c.args.x) (test_at kinds.Bool c.args.op) c.args.line.now (truth-never c.args.op d.not-Any d.not-Eq d.not-Ne c.args.x) in
     rw e (sym (append-nil c.args.found.now.items))

@@ -1,0 +1,6 @@
+use Rattle.std.proofs.Common.{◌≡◌, ◌++◌, take}
+use Rattle.ev_numindex.specs.Lines.{ids_in}
+use Rattle.ev_numindex.proofs.line.append_ids.Given as goal
+
+abbrev pub invariant-loop-pair : goal.invariant-loop-pair
+invariant-loop-pair l = l.found.items ≡ l.fn.found.items ++ ids_in (take l.pair-index l.pairs)
