@@ -3,7 +3,7 @@ use Rattle.std.proofs.Common.{◌≡◌, ◌≢◌, ◌⊎◌, ◌↔◌, inl, i
 use Rattle.std.specs.List.{list_any}
 use Rattle.std.proofs.lemmas.Bool.Decides.{nat_tests}
 use Rattle.ev_poset.specs.Graph.{Stand, NodeAt, is_marked, counts}
-use Rattle.ev_poset.specs.Standing.{is_root, is_root_for, SkipsMarked, differs}
+use Rattle.ev_poset.specs.Standing.{is_root, is_root_for, SkipsMarked, SameRoots, differs}
 use Rattle.ev_poset.specs.declared.standing.Standing.{Standing}
 use Rattle.ev_poset.specs.declared.standing.Difference.{Difference}
 use Rattle.std.proofs.lemmas.Bool.{cases_eq}
@@ -116,6 +116,29 @@ more-found old new key found d was p q l none k s =
       | inl e ↦ subst (λ z. is_root_for old l z ≡ is_root_for new l z) (sym e) (sym (p l) ∙ (same-roots l d r.1 ∙ q l))
       | inr f ↦ was l r.0 k (below-else k key s f)
     ]
+
+any-more : {A : Type 0} (f : A → Bool) (xs : List A) (x : A) → list_any f xs ≡ false → f x ≡ false → list_any f (xs ++ x ∷ []) ≡ false
+any-more f [] x e q = rw q refl
+any-more f (y ∷ ys) x e q = go (f y) refl (any-more f ys x)
+  where
+    go : (b : Bool) → f y ≡ b → (list_any f ys ≡ false → f x ≡ false → list_any f (ys ++ x ∷ []) ≡ false) → list_any f (y ∷ ys ++ x ∷ []) ≡ false
+    go true p ih = absurd (no-mark true refl (grind (arith, e, p)))
+    go false p ih = let r = ih (grind (arith, e, p)) q in grind (arith, p, r)
+
+alike-tells : (l : ℕ) (d : Difference) → is_root l d.old ≡ is_root l d.new → differs l d ≡ false
+alike-tells l d e = go (is_root l d.old) (is_root l d.new) e
+  where
+    go : (a b : Bool) → a ≡ b → cond a (not b) b ≡ false
+    go true true q = refl
+    go true false q = absurd (no-mark true refl q)
+    go false true q = absurd (no-mark true refl (sym q))
+    go false false q = refl
+
+-- where all roots are the same no difference tells, and one more neither
+pub more-told : (old new : List Standing) (key : ℕ) (found : List Difference) (d : Difference) → ((l : ℕ) → SameRoots old new l → list_any (differs l) found ≡ false)
+    → ((l : ℕ) → is_root l d.old ≡ is_root_for old l key) → ((l : ℕ) → is_root l d.new ≡ is_root_for new l key)
+    → (l : ℕ) → SameRoots old new l → list_any (differs l) (found ++ d ∷ []) ≡ false
+more-told old new key found d was p q l same = any-more (differs l) found d (was l same) (alike-tells l d (p l ∙ (same key ∙ sym (q l))))
 
 -- past the last key nobody has a root
 past-none : (l : ℕ) (xs : List Standing) (k : ℕ) → length xs ≤ k → is_root_for xs l k ≡ false

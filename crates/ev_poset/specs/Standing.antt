@@ -32,6 +32,10 @@ roots_for l standings = map (is_root l) standings
 abbrev pub is_root_for : List Standing → ℕ → ℕ → Bool
 is_root_for standings l k = is_marked (roots_for l standings) k
 
+-- for a holder, the same keys have a root before and after
+abbrev pub SameRoots : List Standing → List Standing → ℕ → Type 0
+SameRoots old new l = (k : ℕ) → is_root_for old l k ≡ is_root_for new l k
+
 -- for a holder, whether an item is a root before or after alone
 abbrev pub differs : ℕ → Difference → Bool
 differs l d = cond (is_root l d.old) (not (is_root l d.new)) (is_root l d.new)

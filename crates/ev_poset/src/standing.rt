@@ -3,7 +3,7 @@ ghost use Rattle.std.specs.Prelude.{◌≡◌, ◌↔◌, ◌==◌, ◌&&◌, �
 ghost use Rattle.std.specs.List.{list_any};
 ghost use Rattle.ev_poset.specs.Row.{In};
 ghost use Rattle.ev_poset.specs.Graph.{over, is_marked, counts, NodeAt, IsLine, IsTop};
-ghost use Rattle.ev_poset.specs.Standing.{reaches, is_root, marks_for, is_root_for, SkipsMarked, differs};
+ghost use Rattle.ev_poset.specs.Standing.{reaches, is_root, marks_for, is_root_for, SkipsMarked, SameRoots, differs};
 
 use crate::marks::is_marked;
 use crate::node::Node;
@@ -183,13 +183,14 @@ fn standing_at(standings: &[Standing], key: Key) -> Standing
     }
 }
 
-/// The standings of the keys where two lists of them differ.
+/// The standings of the keys where two lists of them differ: for a holder one of them tells
+/// exactly where some key has a root in one list alone.
 pub fn differences(
     alloc: Global,
     old: &[Standing],
     new: &[Standing],
 ) -> Result<Vec<Difference>, NoMemory>
-    ensures { IfOk result (λ found. (l : ℕ) → list_any (differs l) found.items ≡ false → (k : ℕ) → is_root_for old.now l k ≡ is_root_for new.now l k) }
+    ensures { IfOk result (λ found. (l : ℕ) → (list_any (differs l) found.items ≡ false) ↔ SameRoots old.now new.now l) }
 {
     let mut found = Vec::new(alloc);
     for key in 0..old.len().max(new.len()) {

@@ -7,7 +7,7 @@ ghost use Rattle.ev_routing.specs.Step.{NextCommand, Version};
 ghost use Rattle.ev_wire.specs.declared.id.Id.{Id};
 ghost use Rattle.ev_wire.specs.declared.message.Message.TheVariants as messages;
 ghost use Rattle.ev_wire.specs.MessageText.{IsSendable};
-ghost use Rattle.ev_control.specs.Control.{subs};
+ghost use Rattle.ev_control.specs.Control.{subs, advs};
 ghost use Rattle.ev_model.specs.Meaning.{message_of};
 ghost use Rattle.ev_session.specs.declared.planned.Planned.TheVariants.{Publish};
 ghost use Rattle.ev_session.specs.Plan.{next_plan};
@@ -35,7 +35,7 @@ use ev_counting::{Change, Route};
 use ev_memory::NoMemory;
 use ev_notice::{Advert, Notice, allows};
 use ev_session::Session;
-use ev_wire::{Command, Lists, Message, Semantics, Sent, SharedNotice};
+use ev_wire::{Adverts, Command, Filters, Lists, Message, Semantics, Sent, SharedNotice};
 use std::alloc::Global;
 use std::marker::Model;
 
@@ -295,6 +295,22 @@ impl Core {
             Some(notice) => Some(notice),
             None => None,
         }
+    }
+
+    /// What is held from an interface: its filters and its advertisements, each list rising.
+    pub fn held(&self, interface: u32) -> Result<HeldLink, NoMemory>
+        ensures link { IfOk result (λ held. held.link ≡ interface) }
+        ensures filters { IfOk result (λ held. held.filters ≡ subs self.now.control interface) }
+        ensures adverts { IfOk result (λ held. held.adverts ≡ advs self.now.control interface) }
+    {
+        let control = self.ledger.control();
+        let filters = Filters::of(control.filters(interface)?);
+        let adverts = Adverts::of(control.adverts(interface)?);
+        Ok(HeldLink {
+            link: interface,
+            filters,
+            adverts,
+        })
     }
 
     /// What the core would have on other links; the core stays as it is.
