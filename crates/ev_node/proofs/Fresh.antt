@@ -1,0 +1,128 @@
+-- A cell before its first step keeps what its type says.
+use Rattle.std.proofs.Common.{◌≡◌, ◌↔◌, ◌⊎◌, inl, inr, ℕ, zero, suc, ◌≤◌, ◌<◌, ◌^◌, ◌==◌, cond, Bool, true, false, List, [], ◌∷◌, length, map, drop, Some, None, slice_get, refl, sym, ap, subst, ◌∙◌, arith}
+use Rattle.std.specs.List.{Contains}
+use Rattle.ev_constraint.specs.Constraint.{ConstraintParts}
+use Rattle.ev_sets.specs.Sets.{Has}
+use Rattle.ev_tree.specs.Tree.{links_of}
+use Rattle.ev_run.specs.Journals.{Cell, IsReplay, opening_cells}
+use Rattle.ev_routing.specs.Net.{Net, PhasedCommand}
+use Rattle.ev_routing.specs.Server.{ServerState, interfaces}
+use Rattle.ev_routing.specs.Routing.{empty_server}
+use Rattle.ev_phases.specs.Trees.{net_at, entries_on}
+use Rattle.ev_theory.specs.Real.{real}
+use Rattle.ev_wire.specs.declared.command.Command.{Command}
+use Rattle.ev_lane.specs.Lane.{put_list, taken_list}
+use Rattle.ev_frame.specs.Frame.{FrameParts}
+use Rattle.ev_model.specs.Parts.{NetParts, EntryParts}
+use Rattle.ev_model.specs.Meaning.{journal_of}
+use Rattle.ev_model.specs.Nets.{phased_net, topology_at}
+use Rattle.ev_model.specs.Sound.{IsSound}
+use Rattle.ev_session.specs.Session.{SessionParts}
+use Rattle.ev_server.specs.Core.{CoreParts, IsServerState, published_from}
+use Rattle.ev_counting.specs.Table.{Held as Pair}
+use Rattle.ev_versions.specs.declared.publisher.Publisher.{Publisher}
+use Rattle.ev_versions.specs.Pairs.{pairs_after}
+use Rattle.ev_versions.proofs.Pairs.{none-after}
+use Rattle.ev_versions.specs.Ends.{staged, published, IsViewerOf}
+use Rattle.ev_node.specs.declared.held.Held.{Held}
+use Rattle.ev_node.specs.declared.held.Root.{Root}
+use Rattle.ev_node.specs.declared.link.Link.{Link}
+use Rattle.ev_node.specs.Links.{Both, Each, IsSameLink, put_for, taken_from}
+use Rattle.ev_node.specs.Lanes.{IsNew}
+use Rattle.ev_node.specs.Served.{IsTableOf}
+use Rattle.ev_node.specs.Cell.{IsCellOf, IsHeld, IsKept, IsDue, IsPublished, machine_in}
+use Rattle.ev_node.proofs.Hands.{names}
+use Rattle.ev_node.proofs.Entering.{all-same}
+use Rattle.ev_node.proofs.Published.{by-interface-of}
+use Rattle.ev_node.proofs.Due.{DueAt, due-sessions}
+use Rattle.ev_node.proofs.Keeping.{links_at}
+
+new-put : (links : List Link) → Each IsNew links → (n : ℕ) → put_for links n ≡ []
+new-put [] e n = refl
+new-put (x ∷ links) e n = go (x.neighbour == n) e.0.put (new-put links e.1 n)
+  where
+    go : (b : Bool) → put_list x.enter ≡ [] → put_for links n ≡ [] → cond b (put_list x.enter) (put_for links n) ≡ []
+    go true p q = p
+    go false p q = q
+
+new-taken : (links : List Link) → Each IsNew links → (n : ℕ) → taken_from links n ≡ []
+new-taken [] e n = refl
+new-taken (x ∷ links) e n = go (x.neighbour == n) e.0.taken (new-taken links e.1 n)
+  where
+    go : (b : Bool) → taken_list x.leave ≡ [] → taken_from links n ≡ [] → cond b (taken_list x.leave) (taken_from links n) ≡ []
+    go true p q = p
+    go false p q = q
+
+new-few : (clock : ℕ) (links : List Link) → Each IsNew links → Each (λ link. length (put_list link.enter) ≤ clock) links
+new-few clock [] e = tt
+new-few clock (x ∷ links) e = ((let n = ap (λ (l : List FrameParts). length l) e.0.put in omega (arith, n)), new-few clock links e.1)
+
+drop-none : {T : Type 0} (n : ℕ) → drop {A = T} n [] ≡ []
+drop-none zero = refl
+drop-none (suc n) = refl
+
+-- nothing is published, in the table and at the core
+none-there : (i : ℕ) (f : List ConstraintParts) → Contains (pairs_after []) (i, f) → ⊥
+none-there i f h = nothing (subst (λ (l : List Pair). Contains {X = Pair} l (i, f)) none-after h)
+  where
+    nothing : Contains {X = Pair} [] (i, f) → ⊥
+    nothing (k, lt, e) = omega (arith, lt)
+
+module _ (net : NetParts) (core : CoreParts) (links : List Link) (stands : IsServerState (net_at real (phased_net net) 0) core (empty_server real (net_at real (phased_net net) 0))) (clock : core.clock ≡ 0) (new : Each IsNew links) where
+  abbrev here : Net real
+  here = net_at real (phased_net net) 0
+
+  abbrev pub opening-cell : (server : ℕ) → Cell (machine_in net 0)
+  opening-cell server = opening_cells (machine_in net 0) (λ server. empty_server real here) server
+
+  pub opening-stands : (server : ℕ) → IsCellOf net 0 core links (opening-cell server)
+  opening-stands server = record {
+    state = stands;
+    clock = clock;
+    put = λ link. new-put links new link;
+    took = λ link. new-taken links new link;
+    put_readable = λ link m h. absurd h;
+    took_readable = λ link m h. absurd h;
+  }
+
+  nothing-published : (i : ℕ) → published_from core i ≡ []
+  nothing-published = by-interface-of here core (λ i. published_from core i ≡ []) (λ i h. sym (stands.published i h)) (λ i n. stands.published_apart i n)
+
+  shown : (publisher : Publisher) → published publisher ≡ [] → IsPublished publisher core
+  shown publisher e i f = subst (λ l. Contains (pairs_after l) (i, f) ↔ Has f (published_from core i)) (sym e)
+      ((λ h. absurd (none-there i f h)), (λ h. absurd (subst (Has f) (nothing-published i) h)))
+
+  due : IsDue 0 core.clients
+  due = due-sessions here core (empty_server real here) stands 0 (record {
+    left = λ client c h e. omega arith;
+    taken = λ client k c h lt e. absurd (omega (arith, lt));
+  })
+
+  pub kept-fresh : (root : Root) (held : Held) (journal : List EntryParts) → IsSound net → root.net.value ≡ net → core.server ≡ root.server → root.phase ≡ 0 → root.entries ≡ 0 → root.core.value ≡ core → root.links.value.items ≡ links
+      → held.core ≡ core → held.links.items ≡ links → staged held.publisher ≡ [] → published held.publisher ≡ [] → held.handed.items ≡ [] → IsViewerOf held.publisher root.viewer.value → names links ≡ links_of (topology_at net 0) root.server → journal ≡ [] → IsKept net root journal held
+  kept-fresh root held journal sound net_is server phase entries core_is links_is core_held links_held none-staged none-published none-handed viewer named none = record {
+    net_is = net_is;
+    sound = sound;
+    number = ap (λ (c : CoreParts). c.server) core_held ∙ server;
+    begins = subst (λ p. (begun : Cell (machine_in net p)) × IsCellOf net p root.core.value root.links.value.items begun) (sym phase)
+        (opening-cell root.server, subst (λ c. IsCellOf net 0 c root.links.value.items (opening-cell root.server)) (sym core_is) (subst (λ l. IsCellOf net 0 core l (opening-cell root.server)) (sym links_is) (opening-stands root.server)));
+    replays = λ begun is. record {
+      end = begun;
+      replay = replay begun;
+      stands = subst (λ c. IsCellOf net root.phase c held.links.items begun) (core_is ∙ sym core_held) (subst (λ l. IsCellOf net root.phase root.core.value l begun) (links_is ∙ sym links_held) is);
+    };
+    entries = (let e = entries in omega (arith, e));
+    links = subst (λ l. Both IsSameLink l held.links.items) (links_held ∙ sym links_is) (all-same held.links.items);
+    publisher = viewer;
+    now = record {
+      low = (let c = ap (λ (c : CoreParts). c.clock) core_held in omega (arith, c, clock));
+      neighbours = ap (λ l. names l) links_held ∙ named ∙ sym (links_at net 0 root.server) ∙ ap here.links (sym server) ∙ stands.control.links ∙ ap (λ (c : CoreParts). c.control.links) (sym core_held);
+      few = subst (λ l. Each (λ link. length (put_list link.enter) ≤ held.core.clock) l) (sym links_held) (new-few held.core.clock links new);
+      shown = subst (λ (c : CoreParts). IsPublished held.publisher c) (sym core_held) (shown held.publisher none-published);
+      handed = none-staged ∙ rw (none-published, none-handed) refl;
+    };
+    due = subst (λ p. IsDue p held.core.clients) (sym phase) (subst (λ (c : CoreParts). IsDue 0 c.clients) (sym core_held) due);
+  }
+    where
+      replay : (begun : Cell (machine_in net root.phase)) → IsReplay (machine_in net root.phase) root.phase root.server begun (entries_on real (net_at real (phased_net net) root.phase) (journal_of (drop root.entries journal))) begun
+      replay begun = subst (λ l. IsReplay (machine_in net root.phase) root.phase root.server begun (entries_on real (net_at real (phased_net net) root.phase) (journal_of l)) begun) (sym (ap (drop root.entries) none ∙ drop-none root.entries)) refl

@@ -1,0 +1,78 @@
+-- What a step of a core sends: texts of messages, in the order of its links; and the frames of it on each link.
+use Rattle.std.proofs.Common.{◌≡◌, ℕ, ◌≤◌, ◌==◌, cond, Bool, true, false, List, [], ◌∷◌, length, map, filter, refl, sym, ap, subst, ◌∙◌}
+use Rattle.ev_sets.specs.Sets.{Has}
+use Rattle.ev_sets.specs.Numbers.{IsDistinct}
+use Rattle.ev_tree.specs.Hops.{side_size}
+use Rattle.ev_run.specs.Machine.{Input, Outcome, stamped, receivers}
+use Rattle.ev_run.specs.Load.{MeasureLaws}
+use Rattle.ev_routing.specs.Net.{Net, NetLaws}
+use Rattle.ev_routing.specs.Server.{Message, ServerState, is_among}
+use Rattle.ev_routing.specs.Step.{Task, full_effect}
+use Rattle.ev_routing.specs.Routing.{routing_machine, measure}
+use Rattle.ev_routing.proofs.Laws.{one-has}
+use Rattle.ev_routing.proofs.Along.{strict-of, tree}
+use Rattle.ev_routing.proofs.Spreading.{spreads}
+use Rattle.ev_routing.proofs.Working.{served}
+use Rattle.ev_theory.specs.Real.{real, real_laws}
+use Rattle.ev_wire.specs.declared.sent.Sent.{Sent}
+use Rattle.ev_wire.specs.MessageText.{message_text, IsMessageText}
+use Rattle.ev_control.specs.Control.{texts, wired}
+use Rattle.ev_frame.specs.Frame.{HasMessage}
+use Rattle.ev_server.specs.Core.{CoreParts, IsServerState}
+use Rattle.ev_server.specs.Step.{IsStep}
+use Rattle.ev_node.specs.Served.{framed, frames_to}
+use Rattle.ev_node.proofs.Sending.{receivers-told, frames-told, texts-to, texts-of}
+use Rattle.ev_node.specs.Links.{AreInOrder}
+use Rattle.ev_node.proofs.Orders.{receivers-in-order}
+
+module _ (net : Net real) (laws : NetLaws real net) (state : ServerState real) (core next : CoreParts) (stands : IsServerState net core state)
+    (input : Input Task (Message real)) (sent : List Sent) (local : IsStep net state input core next sent) where
+  measured : MeasureLaws (routing_machine real net) (measure real net (side_size net.hop net.servers))
+  measured = spreads real (strict-of real real_laws) net (side_size net.hop net.servers) laws.single (tree real real_laws net laws)
+
+  one : (link : ℕ) → Has link core.control.links → length (local.outcome.outs link) ≤ 1
+  one link h = measured.one core.server state input local.outcome local.step link (subst (Has link) (sym stands.control.links) h)
+
+  pub links-apart : IsDistinct core.control.links
+  links-apart = subst IsDistinct stands.control.links (laws.tree.single core.server)
+
+  there : (s : Sent) → Has s sent → Has s (texts local.outcome.outs core.control.links)
+  there s h = subst (Has s) local.sent_texts h
+
+  pub going-texts : (s : Sent) → Has s sent → HasMessage s.bytes
+  going-texts s h =
+      let m = texts-of local.outcome.outs core.control.links s (there s h) in
+      (wired m.0, subst (λ z. IsMessageText z (wired m.0)) (sym m.2) (local.readable s.to (texts-to local.outcome.outs core.control.links s (there s h)) m.0 m.1))
+
+  told : map (λ s. s.to) sent ≡ receivers (routing_machine real net) local.outcome.outs core.control.links
+  told = ap (map (λ s. s.to)) local.sent_texts ∙ receivers-told local.outcome.outs net core.control.links one
+
+  pub going-order : AreInOrder (map (λ s. s.to) sent) core.control.links
+  going-order = subst (λ z. AreInOrder z core.control.links) (sym told) (receivers-in-order (routing_machine real net) local.outcome.outs core.control.links)
+
+  pub going-told : map (λ s. s.to) sent ≡ receivers (routing_machine real net) local.outcome.outs (net.links core.server)
+  going-told = told ∙ ap (receivers (routing_machine real net) local.outcome.outs) (sym stands.control.links)
+
+  -- nothing goes where there is no link
+  outs-apart : (b : ℕ) → is_among b (net.links core.server) ≡ false → local.outcome.outs b ≡ []
+  outs-apart b e =
+      let s = served real net core.server state input local.outcome local.step in
+      ap (λ (z : Outcome (ServerState real) (Message real)). z.outs b) s.made ∙ ap (λ z. cond z ((full_effect real net core.server s.from s.work).outs b) []) e
+
+  -- the frames for a neighbour are the messages for it
+  pub going-frames : (stamp b : ℕ) → frames_to stamp sent b ≡ map framed (stamped (routing_machine real net) stamp (local.outcome.outs b))
+  going-frames stamp b =
+      ap (λ z. frames_to stamp z b) local.sent_texts ∙ frames-told local.outcome.outs net stamp core.control.links links-apart b ∙ go (is_among b core.control.links) refl
+    where
+      go : (a : Bool) → is_among b core.control.links ≡ a
+          → cond (is_among b core.control.links) (map framed (stamped (routing_machine real net) stamp (local.outcome.outs b))) [] ≡ map framed (stamped (routing_machine real net) stamp (local.outcome.outs b))
+      go true e = rw e refl
+      go false e = rw (e, outs-apart b (ap (is_among b) stands.control.links ∙ e)) refl
+
+  -- each message can be read back, wherever it goes
+  pub going-readable : (b : ℕ) (m : Message real) → Has m (local.outcome.outs b) → IsMessageText (message_text (wired m)) (wired m)
+  going-readable b m h = go (is_among b core.control.links) refl
+    where
+      go : (a : Bool) → is_among b core.control.links ≡ a → IsMessageText (message_text (wired m)) (wired m)
+      go true e = local.readable b (one-has b core.control.links e) m h
+      go false e = absurd (subst (Has m) (outs-apart b (ap (is_among b) stands.control.links ∙ e)) h)

@@ -1,0 +1,121 @@
+-- What a cell's type keeps goes on through a turn.
+use Rattle.std.proofs.Common.{◌≡◌, ℕ, suc, ◌≤◌, ◌<◌, List, [], ◌∷◌, ◌++◌, length, map, drop, refl, sym, ap, subst, ◌∙◌, arith}
+use Rattle.std.specs.Prelude.{Result, Ok, Err, IfOk, OnErr}
+use Rattle.std.proofs.lemmas.List.{length-append}
+use Rattle.ev_run.specs.Journals.{Cell, IsReplay}
+use Rattle.ev_routing.specs.Net.{NetLaws}
+use Rattle.ev_phases.specs.Trees.{net_at, entries_on}
+use Rattle.ev_phases.proofs.Nets.{net-laws as each-net}
+use Rattle.ev_theory.specs.Real.{real}
+use Rattle.ev_model.specs.Parts.{NetParts, EntryParts, entry_parts}
+use Rattle.ev_model.specs.Meaning.{journal_of}
+use Rattle.ev_sets.specs.Sets.{Has}
+use Rattle.ev_tree.specs.Tree.{links_of}
+use Rattle.ev_model.specs.Nets.{phased_net, clients_of, first_tree, later_trees, topology_at}
+use Rattle.ev_model.specs.Sound.{IsSound}
+use Rattle.ev_model.proofs.SoundNets.{net-laws, tree-map}
+use Rattle.ev_model.specs.declared.turn.Act.{Act as EntryAct}
+use Rattle.ev_server.specs.Core.{CoreParts, IsServerState}
+use Rattle.ev_server.specs.declared.stepped.StepFault.{StepFault}
+use Rattle.ev_versions.specs.Ends.{IsSamePublisher, IsViewerOf}
+use Rattle.ev_node.specs.declared.held.Held.{Held}
+use Rattle.ev_node.specs.declared.held.Root.{Root}
+use Rattle.ev_node.specs.declared.link.Link.{Link}
+use Rattle.ev_node.specs.declared.what.What.{What}
+use Rattle.ev_node.specs.declared.what.What.TheVariants.{Command, Take, Version}
+use Rattle.ev_node.specs.declared.what.Turned.{Turned}
+use Rattle.ev_node.specs.declared.what.Turned.TheVariants.{Made, Stale, Idle}
+use Rattle.ev_node.specs.Served.{IsSomeServer, StampedInput, input_of}
+use Rattle.ev_node.specs.Links.{Both, IsSameLink, IsMoved, IsUnmoved, put_for, taken_from}
+use Rattle.ev_node.specs.Cell.{IsCellOf, IsHeld, IsKept, IsDue, IsReplayed, machine_in}
+use Rattle.ev_node.specs.Turns.{IsTurn, IsStill, taken_by}
+use Rattle.ev_node.specs.Asked.{Answers, Suits, SuitsHeld, act_for}
+use Rattle.ev_node.proofs.Walks.{both-map, both-comp}
+use Rattle.ev_node.proofs.Unmoved.{same-link}
+use Rattle.ev_node.proofs.Moved.{unmoved-put, unmoved-taken}
+use Rattle.ev_node.proofs.Replays.{local, stands-then, replays-then}
+use Rattle.ev_node.proofs.Due.{due-then}
+
+pub laws_at : (net : NetParts) → IsSound net → (phase : ℕ) → NetLaws real (net_at real (phased_net net) phase)
+laws_at net sound phase = each-net real (phased_net net) (net-laws net sound) phase
+
+-- the neighbours of a server in the tree of a phase
+pub links_at : (net : NetParts) (phase server : ℕ) → (net_at real (phased_net net) phase).links server ≡ links_of (topology_at net phase) server
+links_at net phase server = ap (λ z. z.links server) (sym (tree-map (first_tree net.trees) (later_trees net.trees) phase))
+
+module _ (net : NetParts) (root : Root) (journal : List EntryParts) (old : Held) (kept : IsKept net root journal old) where
+  pub replayed : IsReplayed net root journal kept.begins.0 old
+  replayed = kept.replays kept.begins.0 kept.begins.1
+
+  -- the core stands for a state of its server
+  pub some-server : IsSomeServer old.core
+  some-server = (net_at real (phased_net net) root.phase, laws_at net kept.sound root.phase, replayed.end.state, replayed.stands.state)
+
+  -- who is named is there in hand too
+  pub suits-held : (what : What) → Suits what root → root.net.value ≡ net → SuitsHeld what old
+  suits-held (Command client) has same =
+      subst (Has client) (ap (λ n. clients_of n root.server) same ∙ ap (clients_of net) (sym kept.number) ∙ replayed.stands.state.clients) has
+  suits-held (Take from) has same =
+      subst (Has from) (ap (λ n. links_of (topology_at n root.phase) root.server) same ∙ sym (links_at net root.phase root.server) ∙ ap (net_at real (phased_net net) root.phase).links (sym kept.number) ∙ replayed.stands.state.control.links) has
+  suits-held Version has same = tt
+
+  pub kept-turn : (input : StampedInput) (act : EntryAct) (new : Held) (after : List EntryParts) → IsTurn root.phase input act old new journal after → IsHeld new → IsKept net root after new
+  kept-turn input act new after turn held = record {
+    net_is = kept.net_is;
+    sound = kept.sound;
+    number = turn.step.same_server ∙ kept.number;
+    begins = kept.begins;
+    replays = λ begun is.
+        let r = kept.replays begun is in
+        record {
+          end = _;
+          replay = replays-then net root.phase (laws_at net kept.sound root.phase) input act old new journal after turn kept.now.neighbours r.end r.stands root.server kept.number begun root.entries kept.entries r.replay;
+          stands = stands-then net root.phase (laws_at net kept.sound root.phase) input act old new journal after turn kept.now.neighbours r.end r.stands;
+        };
+    entries = longer;
+    links = both-comp IsSameLink (IsMoved turn.stamp turn.sent (taken_by input)) IsSameLink (λ x y z a b. same-link x y z a b.same) root.links.value.items old.links.items new.links.items kept.links turn.links;
+    publisher = kept.publisher ∙ sym turn.publisher;
+    now = held;
+    due = due-then (net_at real (phased_net net) root.phase) replayed.end.state old.core new.core root.phase input turn.sent replayed.stands.state
+        (turn.step.step (net_at real (phased_net net) root.phase) replayed.end.state replayed.stands.state) (laws_at net kept.sound root.phase) turn.step.same_server turn.due kept.due;
+  }
+    where
+      longer : root.entries ≤ length after
+      longer = let e = ap (λ (l : List EntryParts). length l) turn.entry in let n = length-append journal (entry_parts turn.stamp old.core.server act (map (λ s. s.to) turn.sent) ∷ []) in let k = kept.entries in omega (arith, e, n, k)
+
+  pub kept-still : (new : Held) (after : List EntryParts) → IsStill old new journal after → IsHeld new → IsKept net root after new
+  kept-still new after still held = record {
+    net_is = kept.net_is;
+    sound = kept.sound;
+    number = ap (λ (c : CoreParts). c.server) still.core ∙ kept.number;
+    begins = kept.begins;
+    replays = λ begun is.
+        let r = kept.replays begun is in
+        record {
+          end = r.end;
+          replay = subst (λ l. IsReplay (machine_in net root.phase) root.phase root.server begun (entries_on real (net_at real (phased_net net) root.phase) (journal_of (drop root.entries l))) r.end) (sym still.journal) r.replay;
+          stands = stands-still r.end r.stands;
+        };
+    entries = subst (λ (l : List EntryParts). root.entries ≤ length l) (sym still.journal) kept.entries;
+    links = both-comp IsSameLink IsUnmoved IsSameLink (λ x y z a b. same-link x y z a b.same) root.links.value.items old.links.items new.links.items kept.links still.links;
+    publisher = kept.publisher ∙ sym still.publisher;
+    now = held;
+    due = subst (λ (c : CoreParts). IsDue root.phase c.clients) (sym still.core) kept.due;
+  }
+    where
+      stands-still : (end : Cell (machine_in net root.phase)) → IsCellOf net root.phase old.core old.links.items end → IsCellOf net root.phase new.core new.links.items end
+      stands-still end s = record {
+        state = subst (λ (c : CoreParts). IsServerState (net_at real (phased_net net) root.phase) c end.state) (sym still.core) s.state;
+        clock = ap (λ (c : CoreParts). c.clock) still.core ∙ s.clock;
+        put = λ link. unmoved-put old.links.items new.links.items still.links link ∙ s.put link;
+        took = λ link. unmoved-taken old.links.items new.links.items still.links link ∙ s.took link;
+        put_readable = s.put_readable;
+        took_readable = s.took_readable;
+      }
+
+  -- WHATEVER IS ANSWERED
+  pub kept-asked : (what : What) (new : Held) (after : List EntryParts) (r : Result Turned StepFault) → IfOk r (Answers root.phase what old new journal after) → OnErr r (IsStill old new journal after) → IsHeld new → IsKept net root after new
+  kept-asked what new after (Ok Made) a s held = kept-turn a.input (act_for what) new after a.turn held
+  kept-asked what new after (Ok Stale) a s held = elim a [ ]
+  kept-asked what new after (Ok Idle) a s held = kept-still new after a.0 held
+  kept-asked what new after (Err e) a s held = kept-still new after s held

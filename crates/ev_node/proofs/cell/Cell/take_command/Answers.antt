@@ -1,0 +1,29 @@
+use Rattle.std.proofs.Common.{◌≡◌, refl, sym, ap, subst, ◌∙◌}
+use Rattle.ev_server.specs.Core.{CoreParts}
+use Rattle.ev_node.specs.declared.what.What.TheVariants.{Command, Version}
+use Rattle.ev_node.specs.Cell.{CellParts}
+use Rattle.ev_node.specs.Asked.{Suits}
+use Rattle.ev_node.specs.Turns.{HasCommand}
+use Rattle.ev_node.specs.Together.{sight}
+use Rattle.ev_node.proofs.Keeping.{some-server, suits-held, kept-asked}
+use Rattle.ev_node.proofs.Walkers.{sight-still, idle-is}
+use Rattle.ev_node.proofs.cell.Cell.take_command.Goals as goal
+
+pub command_asked-requires-clause-stands : goal.command_asked-requires-clause-stands
+command_asked-requires-clause-stands c = some-server c.self.inside.net.now c.self.inside.root c.self.inside.journal.items c.self.inside.held c.self.invariant
+
+pub command_asked-requires-clause-suits : goal.command_asked-requires-clause-suits
+command_asked-requires-clause-suits c = suits-held c.self.inside.net.now c.self.inside.root c.self.inside.journal.items c.self.inside.held c.self.invariant (Command c.args.client) (subst (λ (z : CellParts). Suits (Command c.args.client) z.root) (sym c.self.view_is) c.requires) c.self.invariant.net_is
+
+pub invariant_of-self : goal.invariant_of-self
+invariant_of-self c = kept-asked c.self.inside.net.now c.self.inside.root c.self.inside.journal.items c.self.inside.held c.self.invariant (Command c.args.client) c.command_asked.new.held c.command_asked.new.journal.items c.command_asked.result c.command_asked.ensures.answers c.command_asked.ensures.still c.command_asked.ensures.held
+
+pub invariant_of-self-2 : goal.invariant_of-self-2
+invariant_of-self-2 c = kept-asked c.self.inside.net.now c.self.inside.root c.self.inside.journal.items c.self.inside.held c.self.invariant (Command c.args.client) c.command_asked.new.held c.command_asked.new.journal.items c.command_asked.result c.command_asked.ensures.answers c.command_asked.ensures.still c.command_asked.ensures.held
+
+pub returns-clause-idle : goal.returns-clause-idle
+returns-clause-idle c q =
+    let i = idle-is c.self.inside.root.phase (Command c.args.client) c.self.inside.held c.command_asked.new.held _ _ _ c.in_ok-turned.ensures.answers (c.was_made.ensures q) in (
+  sight-still c.self.inside.root c.self.inside.journal.items _ c.self.inside.held c.command_asked.new.held i.0 ∙ ap sight c.self.view_is,
+  λ h. i.1 (subst (λ (k : CoreParts). HasCommand k c.args.client c.self.inside.root.phase) i.0.core h),
+)

@@ -1,0 +1,15 @@
+use Rattle.ev_versions.specs.Ends.{published}
+use Rattle.ev_versions.specs.Pairs.{pairs_after}
+use Rattle.ev_node.proofs.Shown.{table_after_command}
+use Rattle.ev_node.proofs.Shown.{low_command}
+use Rattle.ev_node.proofs.desk.command_by.Goals as goal
+
+pub returns-clause-published : goal.returns-clause-published
+returns-clause-published c = table_after_command c.args.core.now c.take_command.new.self (pairs_after (published c.args.publisher.now)) c.args.client c.requires.stands c.take_command.result (λ s. s.stamp) (λ s. s.sent.items)
+    c.take_command.ensures.step c.take_command.ensures.err c.requires.published
+
+pub returns-clause-worn : goal.returns-clause-worn
+returns-clause-worn c s e = (c.take_command.ensures.worn s).0 e
+
+pub returns-clause-low : goal.returns-clause-low
+returns-clause-low c = low_command c.args.core.now c.take_command.new.self c.args.client c.take_command.result (λ s. s.stamp) (λ s. s.sent.items) c.clock-clock.result c.clock-clock.ensures.below c.clock-clock.ensures.clock c.take_command.ensures.worn c.take_command.ensures.step

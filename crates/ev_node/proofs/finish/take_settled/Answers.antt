@@ -1,0 +1,54 @@
+use Rattle.std.proofs.Common.{◌≡◌, ◌<◌, length, get_or, set, sym, ap, subst, ◌∙◌, arith}
+use Rattle.ev_node.proofs.Places.{found, one-value}
+use Rattle.ev_node.proofs.Splits.{map-set}
+use Rattle.ev_node.specs.Cell.{CellParts}
+use Rattle.ev_node.proofs.Emptied.{same-roots, same-count, lane-by-roots, take-idle, takes-now, place-now}
+use Rattle.ev_node.proofs.finish.take_settled.Goals as goal
+
+pub returns-in_err-settle_at-clause-roots : goal.returns-in_err-settle_at-clause-roots
+returns-in_err-settle_at-clause-roots g c = same-roots _ _ c.settle_at.ensures.sights
+
+pub take_from_place-requires : goal.take_from_place-requires
+take_from_place-requires g c =
+    let n = same-count _ _ c.settle_at.ensures.sights in
+    let lt : c.args.taker < length c.settle_at.new.cells = omega (arith, n, c.requires.taker) in
+    let y = found c.settle_at.new.cells c.args.taker c.index-cells-taker.result lt in
+    let named = takes-now c.args.cells.now c.settle_at.new.cells c.giver_of-giver.result.0 c.giver_of-giver.result.1 c.args.taker c.args.from c.giver_of-giver.ensures c.settle_at.ensures.sights (get_or c.settle_at.new.cells c.args.taker c.index-cells-taker.result) y in
+    subst (λ (h : CellParts). c.args.from < length h.held.links.items) (one-value _ _ (sym y ∙ found c.settle_at.new.cells c.args.taker c.index-cells-taker-2.result lt))
+    (place-now (get_or c.settle_at.new.cells c.args.taker c.index-cells-taker.result) c.args.from _ c.tells-2.ensures named)
+
+pub returns-in_default-clause-roots : goal.returns-in_default-clause-roots
+returns-in_default-clause-roots g c =
+    let n = same-count _ _ c.settle_at.ensures.sights in
+    map-set (λ (h : CellParts). h.root) c.settle_at.new.cells c.args.taker c.index-cells-taker-2.result c.take_from_place.new.self (omega (arith, n, c.requires.taker)) c.take_from_place.ensures.root
+    ∙ same-roots _ _ c.settle_at.ensures.sights
+
+pub returns-in_default-2-clause-roots : goal.returns-in_default-2-clause-roots
+returns-in_default-2-clause-roots g c =
+    let n = same-count _ _ c.settle_at.ensures.sights in
+    map-set (λ (h : CellParts). h.root) c.settle_at.new.cells c.args.taker c.index-cells-taker-2.result c.take_from_place.new.self (omega (arith, n, c.requires.taker)) c.take_from_place.ensures.root
+    ∙ same-roots _ _ c.settle_at.ensures.sights
+
+pub returns-in_default-2-clause-idle : goal.returns-in_default-2-clause-idle
+returns-in_default-2-clause-idle g c =
+    let n = same-count _ _ c.settle_at.ensures.sights in
+    let lt : c.args.taker < length c.settle_at.new.cells = omega (arith, n, c.requires.taker) in
+    let within : c.giver_of-giver.result.0 < length c.settle_at.new.cells = omega (arith, n, c.giver_of-giver.ensures.within) in
+    take-idle c.args.cells.now c.settle_at.new.cells c.giver_of-giver.result.0 c.giver_of-giver.result.1 c.args.taker c.args.from c.giver_of-giver.ensures c.settle_at.ensures.sights (get_or c.settle_at.new.cells c.giver_of-giver.result.0 c.index-cells-giver.result) (get_or c.settle_at.new.cells c.args.taker c.index-cells-taker.result) c.index-cells-taker-2.result c.take_from_place.new.self c.take_from_place.result lt
+    (found c.settle_at.new.cells c.giver_of-giver.result.0 c.index-cells-giver.result within) (found c.settle_at.new.cells c.args.taker c.index-cells-taker.result lt) c.tells.ensures c.tells-2.ensures c.in_ok-settle_at.ensures.settled c.take_from_place.ensures.idle
+
+pub settle_at-requires-in-Err-Worn-clause-lane : goal.settle_at-requires-in-Err-Worn-clause-lane
+settle_at-requires-in-Err-Worn-clause-lane g c =
+    let n = same-count _ _ c.settle_at.ensures.sights in
+    lane-by-roots c.args.cells.now (set c.settle_at.new.cells c.args.taker c.take_from_place.new.self) c.giver_of-giver.result.0 c.giver_of-giver.result.1 c.args.taker c.args.from
+    (map-set (λ (h : CellParts). h.root) c.settle_at.new.cells c.args.taker c.index-cells-taker-2.result c.take_from_place.new.self (omega (arith, n, c.requires.taker)) c.take_from_place.ensures.root ∙ same-roots _ _ c.settle_at.ensures.sights) c.giver_of-giver.ensures.lane
+
+pub returns-in_err-settle_at-in-Err-Worn-clause-roots : goal.returns-in_err-settle_at-in-Err-Worn-clause-roots
+returns-in_err-settle_at-in-Err-Worn-clause-roots g c =
+    let n = same-count _ _ c.settle_at.ensures.sights in
+    same-roots _ _ c.settle_at-in-Err-Worn.ensures.sights ∙ map-set (λ (h : CellParts). h.root) c.settle_at.new.cells c.args.taker c.index-cells-taker-2.result c.take_from_place.new.self (omega (arith, n, c.requires.taker)) c.take_from_place.ensures.root ∙ same-roots _ _ c.settle_at.ensures.sights
+
+pub returns-in_ok-settle_at-in-Err-Worn-clause-roots : goal.returns-in_ok-settle_at-in-Err-Worn-clause-roots
+returns-in_ok-settle_at-in-Err-Worn-clause-roots g c =
+    let n = same-count _ _ c.settle_at.ensures.sights in
+    same-roots _ _ c.settle_at-in-Err-Worn.ensures.sights ∙ map-set (λ (h : CellParts). h.root) c.settle_at.new.cells c.args.taker c.index-cells-taker-2.result c.take_from_place.new.self (omega (arith, n, c.requires.taker)) c.take_from_place.ensures.root ∙ same-roots _ _ c.settle_at.ensures.sights

@@ -1,0 +1,11 @@
+pub mod Links
+pub mod Served
+pub mod Cell
+pub mod Turns
+pub mod Versions
+pub mod Asked
+pub mod Looking
+pub mod Ahead
+pub mod Lanes
+pub mod Together
+pub mod Started

@@ -1,0 +1,280 @@
+//! Cells.
+ghost use Rattle.std.specs.Prelude.{◌≡◌};
+
+use crate::ahead::turn_held_ahead;
+use crate::asked::turn_held;
+use crate::held::{Held, Root};
+use crate::link::Link;
+use crate::looking::look_from;
+use crate::naming::{are_neighbours, lives_at};
+use crate::phases::{is_through, trees_come};
+use crate::what::{Turned, What};
+use ev_counting::Scratch;
+use ev_memory::NoMemory;
+use ev_model::{Entry, Net};
+use ev_notice::Notice;
+use ev_server::{Core, StepFault};
+use ev_turnlock::Standing;
+use ev_versions::{Ahead, Publisher, Viewer};
+use std::alloc::Global;
+use std::marker::Model;
+use std::snapshot::Snapshot;
+use std::sync::Wait;
+
+/// One server with everything that it needs between two threads: its core, its lanes, its publisher and its journal.
+///
+/// Contracts see what stays while a phase lasts, the journal, and what is in hand. What was in hand as the phase was
+/// entered, with the entries since then replayed, is always what is in hand now. It isn't `Drop`: end it.
+pub struct Cell<'a> {
+    pub(crate) alloc: Global,
+    pub(crate) net: &'a Net,
+    pub(crate) root: Root,
+    pub(crate) held: Held,
+    pub(crate) journal: Vec<Entry>,
+    pub(crate) scratch: Scratch,
+}
+
+impl<'a> Model for Cell<'a> {
+    ghost use Rattle.ev_node.specs.Cell.{CellParts, IsKept, cell_parts};
+
+    ghost Value = { CellParts };
+
+    ghost view = { λ c. cell_parts c.root c.journal.items c.held };
+
+    ghost invariant = { λ c. IsKept c.net.now c.root c.journal.items c.held };
+}
+
+impl<'a> Standing for Cell<'a> {
+    type Root = Root;
+
+    type Item = Entry;
+
+    ghost root = { λ c. c.root };
+
+    ghost list = { λ c. c.journal };
+}
+
+impl<'a> Cell<'a> {
+    ghost use Rattle.std.specs.Prelude.{◌≡◌, ◌≤◌, ◌<◌, ◌^◌, ℕ, true, [], length, map, IfOk, OnErr, IsErrOf, IsTrue, ◌↔◌};
+    ghost use Rattle.ev_tree.specs.Tree.{links_of};
+    ghost use Rattle.ev_routing.specs.Routing.{empty_server};
+    ghost use Rattle.ev_phases.specs.Trees.{is_one_tree, net_at};
+    ghost use Rattle.ev_theory.specs.Real.{real};
+    ghost use Rattle.ev_model.specs.Nets.{phased_net, topology_at};
+    ghost use Rattle.ev_model.specs.Sound.{IsSound};
+    ghost use Rattle.ev_server.specs.Core.{IsServerState};
+    ghost use Rattle.ev_node.specs.Cell.{IsKept, HasEntered, HasNoneBelow};
+    ghost use Rattle.ev_node.specs.Turns.{IsStill};
+    ghost use Rattle.ev_versions.specs.Ends.{staged, published, IsAheadBy, IsSameViewer, IsViewerOf};
+    ghost use Rattle.ev_node.specs.Links.{Each};
+    ghost use Rattle.ev_node.specs.Lanes.{IsNew};
+    ghost use Rattle.ev_node.specs.Started.{IsFresh};
+    ghost use Rattle.ev_node.specs.Asked.{Answers, IsWorn, Suits};
+    ghost use Rattle.ev_node.specs.Ahead.{AnswersAhead};
+    ghost use Rattle.ev_node.specs.Looking.{IsLookedFor};
+
+    /// The cell of a server in phase 0 before its first step.
+    pub(crate) fn fresh(
+        alloc: Global,
+        net: &'a Net,
+        server: u32,
+        core: Core,
+        links: Vec<Link>,
+        publisher: Publisher,
+        viewer: &Viewer,
+    ) -> Cell<'a>
+        requires sound { IsSound net.now }
+        requires server { core.server ≡ server }
+        requires state { IsServerState (net_at real (phased_net net.now) 0) core (empty_server real (net_at real (phased_net net.now) 0)) }
+        requires clock { core.clock ≡ 0 }
+        requires names { map (λ link. link.neighbour) links.items ≡ links_of (topology_at net.now 0) server }
+        requires new { Each IsNew links.items }
+        requires publisher { (staged publisher ≡ []) × (published publisher ≡ []) }
+        requires viewer { IsViewerOf publisher viewer.now }
+        ensures fresh { IsFresh net.now server links.items result }
+        ensures viewer { result.root.viewer.value ≡ viewer.now }
+    {
+        let root = Root {
+            net: Snapshot::of(net),
+            server,
+            phase: 0,
+            entries: 0,
+            core: Snapshot::of(&core),
+            links: Snapshot::of(&links),
+            viewer: Snapshot::of(viewer),
+        };
+        let held = Held {
+            core,
+            links,
+            publisher,
+            handed: Vec::new(alloc),
+        };
+        Cell {
+            alloc,
+            net,
+            root,
+            held,
+            journal: Vec::new(alloc),
+            scratch: Scratch::new(alloc),
+        }
+    }
+
+    /// Ends the cell with its publisher. It may wait for a viewer that is inside a match.
+    pub fn end<R: Wait>(self, rt: &R) {
+        let Cell {
+            alloc: _,
+            net: _,
+            root: _root,
+            held,
+            journal: _journal,
+            scratch: _scratch,
+        } = self;
+        let Held {
+            core: _core,
+            links: _links,
+            publisher,
+            handed: _handed,
+        } = held;
+        publisher.end(rt);
+    }
+
+    /// What the type keeps: the entries since the cell entered its phase, replayed from what it had in hand then, lead
+    /// to what it has in hand.
+    pub fn tells(&self)
+        ensures { IsKept self.now.root.net.value self.now.root self.now.journal self.now.held }
+    {
+        let _held = &self.held;
+    }
+
+    /// Its phase.
+    pub fn phase(&self) -> u32
+        ensures { result ≡ self.now.root.phase }
+    {
+        self.root.phase
+    }
+
+    /// Its core.
+    pub fn core(&self) -> &Core
+        ensures { result.now ≡ self.now.held.core }
+    {
+        &self.held.core
+    }
+
+    /// Its journal.
+    pub fn journal(&self) -> &[Entry]
+        ensures { result.now ≡ self.now.journal }
+    {
+        &self.journal
+    }
+
+    /// One step, where there is one to make. After a made step each putting end stands as a flush leaves it. After a fault the
+    /// cell is as before, but that an unchanged part of a lane may have moved along it, and some of what is staged may have
+    /// been handed to the publisher, which has published none of it. It may wait as a publish or a taking may.
+    pub fn turn<R: Wait>(&mut self, rt: &R, what: What) -> Result<Turned, StepFault>
+        requires suits { Suits what self.old.root }
+        ensures root { self.new.root ≡ self.old.root }
+        ensures answers { IfOk result (Answers self.old.root.phase what self.old.held self.new.held self.old.journal self.new.journal) }
+        ensures still { OnErr result (IsStill self.old.held self.new.held self.old.journal self.new.journal) }
+        ensures worn { (s : ℕ) → IsErrOf result (StepFault.Worn s) → IsWorn what s self.old.held self.new.held }
+    {
+        turn_held(
+            rt,
+            self.alloc,
+            &mut self.held,
+            &mut self.journal,
+            &mut self.scratch,
+            self.root.server,
+            self.root.phase,
+            what,
+        )
+    }
+
+    /// The same with a route that was matched ahead, which is used exactly where its notice is the step's and it had seen all
+    /// that is published. The viewer and the match are of the cell's publisher.
+    pub fn turn_ahead<R: Wait>(
+        &mut self,
+        rt: &R,
+        what: What,
+        viewer: &mut Viewer,
+        ahead: &Ahead,
+    ) -> Result<Turned, StepFault>
+        requires suits { Suits what self.old.root }
+        requires viewer { IsSameViewer self.old.root.viewer.value viewer.old }
+        requires ahead { IsAheadBy self.old.root.viewer.value ahead.now }
+        ensures root { self.new.root ≡ self.old.root }
+        ensures answers { IfOk result (AnswersAhead self.old.root.phase what ahead.now self.old.held self.new.held
+            self.old.journal self.new.journal) }
+        ensures still { OnErr result (IsStill self.old.held self.new.held self.old.journal self.new.journal) }
+        ensures worn { (s : ℕ) → IsErrOf result (StepFault.Worn s) → IsWorn what s self.old.held self.new.held }
+        ensures viewer { IsSameViewer viewer.old viewer.new }
+    {
+        turn_held_ahead(
+            rt,
+            self.alloc,
+            &mut self.held,
+            &mut self.journal,
+            &mut self.scratch,
+            self.root.server,
+            self.root.phase,
+            what,
+            viewer,
+            ahead,
+        )
+    }
+
+    /// The notice that the next taking from a neighbour gives. `None` only where the misses of that lane rose, or where what
+    /// comes next is no notice. It may wait as a taking may.
+    pub fn look<R: Wait>(&mut self, rt: &R, from: u32) -> Result<Option<Notice>, NoMemory>
+        requires { Suits (What.Take from) self.old.root }
+        ensures root { self.new.root ≡ self.old.root }
+        ensures still { IsStill self.old.held self.new.held self.old.journal self.new.journal }
+        ensures looked { IfOk result (IsLookedFor from self.old.held.links.items self.new.held.links.items) }
+    {
+        look_from(rt, self.alloc, &mut self.held.links, from)
+    }
+
+    /// Whether who is named is there: a client that lives at its server, or a neighbour.
+    pub fn suits(&self, what: What) -> bool
+        ensures { IsTrue result ↔ Suits what self.now.root }
+    {
+        match what {
+            What::Command(client) => lives_at(self.net, client, self.root.server),
+            What::Take(from) => are_neighbours(self.net, self.root.phase, self.root.server, from),
+            What::Version => true,
+        }
+    }
+
+    /// Whether no client of its server has a command of a phase below this one left.
+    pub fn is_through(&self, phase: u32) -> bool
+        ensures { IsTrue result → HasNoneBelow phase self.now.held.core.clients }
+    {
+        is_through(&self.held.core, self.net, self.root.server, phase)
+    }
+
+    /// Whether the tree in force at a phase is that of the cell's phase.
+    pub fn keeps_tree(&self, phase: u32) -> bool
+        ensures { IsTrue result ↔ (is_one_tree real (phased_net self.now.root.net.value) self.now.root.phase phase ≡ true) }
+    {
+        trees_come(self.net, self.root.phase) == trees_come(self.net, phase)
+    }
+
+    /// The cell enters a phase with the same tree, with this clock. It is called outside a lock.
+    pub fn enter_phase(&mut self, phase: u32, clock: u64)
+        requires clock { self.old.held.core.clock ≤ clock }
+        requires low { clock < 2 ^ 62 }
+        requires phase { self.old.root.phase ≤ phase }
+        requires through { HasNoneBelow phase self.old.held.core.clients }
+        requires tree { is_one_tree real (phased_net self.old.root.net.value) self.old.root.phase phase ≡ true }
+        ensures core { self.new.held.core ≡ record self.old.held.core { clock = clock } }
+        ensures lanes { self.new.held.links ≡ self.old.held.links }
+        ensures publisher { self.new.held.publisher ≡ self.old.held.publisher }
+        ensures journal { self.new.journal ≡ self.old.journal }
+        ensures entered { HasEntered self.old.root phase self.new }
+    {
+        self.held.core.raise(clock);
+        self.root.phase = phase;
+        self.root.entries = self.journal.len();
+        self.root.core = Snapshot::of(&self.held.core);
+        self.root.links = Snapshot::of(&self.held.links);
+    }
+}

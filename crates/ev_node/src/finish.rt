@@ -1,0 +1,185 @@
+//! The rest of a phase, with the cells of all servers in hand.
+ghost use Rattle.std.specs.Prelude.{◌≡◌, ◌<◌, ℕ, false, length, OnOk, IfOk, IsErrOf, Some, slice_get};
+ghost use Rattle.ev_run.specs.Journals.{Cell as Begun};
+ghost use Rattle.ev_frame.specs.Frame.{FrameParts};
+ghost use Rattle.ev_model.specs.Parts.{NetParts};
+ghost use Rattle.ev_node.specs.declared.held.Root.{Root as RootParts};
+ghost use Rattle.ev_node.specs.Cell.{CellParts, IsKept, machine_in};
+ghost use Rattle.ev_node.specs.Links.{At, IsNextAt, IsOneLane, IsSettled};
+ghost use Rattle.ev_node.specs.Together.{AreTogether, AreBegun, AreDone, IsCellDone, IsFinished, IsLaneOf, IsTakenUp, IsWornSomewhere, links_of, roots, sights};
+
+use crate::cell::Cell;
+use crate::settling::settle_two;
+use ev_memory::NoMemory;
+use ev_server::StepFault;
+use std::sync::Wait;
+
+/// Brings all that was put on a lane, and not taken, to its taking end.
+fn settle_at(
+    cells: &mut [Cell<'_>],
+    giver: usize,
+    to: usize,
+    taker: usize,
+    from: usize,
+) -> Result<(), NoMemory>
+    requires giver { giver < length cells.old }
+    requires taker { taker < length cells.old }
+    requires apart { giver ≡ taker → ⊥ }
+    requires lane { (a b : CellParts) → slice_get cells.old giver ≡ Some a → slice_get cells.old taker ≡ Some b
+        → At IsOneLane to (links_of a.root) from (links_of b.root) }
+    ensures sights { sights cells.new ≡ sights cells.old }
+    ensures settled { OnOk result ((a b : CellParts) × (slice_get cells.new giver ≡ Some a) × (slice_get cells.new taker ≡ Some b)
+        × At IsSettled to a.held.links.items from b.held.links.items) }
+    ensures next { (b : CellParts) (frame : FrameParts) → slice_get cells.old taker ≡ Some b → IsNextAt from frame b.held.links.items
+        → (c : CellParts) × (slice_get cells.new taker ≡ Some c) × IsNextAt from frame c.held.links.items }
+{
+    settle_two(cells, giver, to, taker, from)
+}
+
+/// Where the lane to a server from one of its neighbours comes from: the place of that neighbour's cell, and the place of
+/// its link to the server.
+fn giver_of(cells: &[Cell<'_>], taker: usize, from: usize) -> (usize, usize)
+    requires taker { taker < length cells.now }
+    requires from { (b : RootParts) → slice_get (roots cells.now) taker ≡ Some b → from < length (links_of b) }
+    requires together { (net : NetParts) × (phase : ℕ) × AreTogether net phase (roots cells.now) }
+    ensures { IsLaneOf cells.now result.0 result.1 taker from }
+{
+    let mine = &cells[taker];
+    mine.tells();
+    let giver = mine.neighbour(from) as usize - 1;
+    let theirs = &cells[giver];
+    theirs.tells();
+    let Some(to) = theirs.place_of(mine.number()) else {
+        unreachable!()
+    };
+    (giver, to)
+}
+
+/// Takes the next frame from a neighbour, after all that it put was brought here; answers whether there was one.
+fn take_settled<R: Wait>(
+    rt: &R,
+    cells: &mut [Cell<'_>],
+    taker: usize,
+    from: usize,
+) -> Result<bool, StepFault>
+    requires taker { taker < length cells.old }
+    requires from { (b : RootParts) → slice_get (roots cells.old) taker ≡ Some b → from < length (links_of b) }
+    requires together { (net : NetParts) × (phase : ℕ) × AreTogether net phase (roots cells.old) }
+    ensures roots { roots cells.new ≡ roots cells.old }
+    ensures idle { IfOk result (λ made. made ≡ false → (sights cells.new ≡ sights cells.old) × IsTakenUp (sights cells.new) taker from) }
+    ensures worn { (s : ℕ) → IsErrOf result (StepFault.Worn s) → IsWornSomewhere s (sights cells.new) }
+{
+    let (giver, to) = giver_of(cells, taker, from);
+    settle_at(cells, giver, to, taker, from)?;
+    cells[giver].tells();
+    cells[taker].tells();
+    match cells[taker].take_from_place(rt, from) {
+        Err(StepFault::Worn(stamp)) => {
+            settle_at(cells, giver, to, taker, from)?;
+            cells[giver].tells();
+            Err(StepFault::Worn(stamp))
+        }
+        answer => answer,
+    }
+}
+
+/// Takes from each neighbour once, where there is something; answers whether there was.
+fn walk_links<R: Wait>(rt: &R, cells: &mut [Cell<'_>], k: usize) -> Result<bool, StepFault>
+    requires k { k < length cells.old }
+    requires together { (net : NetParts) × (phase : ℕ) × AreTogether net phase (roots cells.old) }
+    ensures roots { roots cells.new ≡ roots cells.old }
+    ensures idle { IfOk result (λ made. made ≡ false → (sights cells.new ≡ sights cells.old)
+        × ((p : ℕ) → IsTakenUp (sights cells.new) k p)) }
+    ensures worn { (s : ℕ) → IsErrOf result (StepFault.Worn s) → IsWornSomewhere s (sights cells.new) }
+{
+    let mut made = false;
+    let mine = &cells[k];
+    mine.tells();
+    for from in 0..mine.neighbours() {
+        if take_settled(rt, cells, k, from)? {
+            made = true;
+        }
+    }
+    Ok(made)
+}
+
+/// Tries each turn of one server once; answers whether one was made.
+fn walk_cell<R: Wait>(rt: &R, cells: &mut [Cell<'_>], k: usize) -> Result<bool, StepFault>
+    requires k { k < length cells.old }
+    requires together { (net : NetParts) × (phase : ℕ) × AreTogether net phase (roots cells.old) }
+    ensures roots { roots cells.new ≡ roots cells.old }
+    ensures idle { IfOk result (λ made. made ≡ false → (sights cells.new ≡ sights cells.old) × IsCellDone (sights cells.new) k) }
+    ensures worn { (s : ℕ) → IsErrOf result (StepFault.Worn s) → IsWornSomewhere s (sights cells.new) }
+{
+    let took = walk_links(rt, cells, k)?;
+    let did = cells[k].walk_tasks(rt)?;
+    Ok(took || did)
+}
+
+/// Tries each turn of each server once; answers whether one was made.
+fn walk_once<R: Wait>(rt: &R, cells: &mut [Cell<'_>]) -> Result<bool, StepFault>
+    requires { (net : NetParts) × (phase : ℕ) × AreTogether net phase (roots cells.old) }
+    ensures roots { roots cells.new ≡ roots cells.old }
+    ensures idle { IfOk result (λ made. made ≡ false → AreDone (sights cells.new)) }
+    ensures worn { (s : ℕ) → IsErrOf result (StepFault.Worn s) → IsWornSomewhere s (sights cells.new) }
+{
+    let mut made = false;
+    for k in 0..cells.len() {
+        if walk_cell(rt, cells, k)? {
+            made = true;
+        }
+    }
+    Ok(made)
+}
+
+/// Makes rounds until one makes nothing.
+fn walk_rest<R: Wait>(rt: &R, cells: &mut [Cell<'_>]) -> Result<(), StepFault>
+    requires { (net : NetParts) × (phase : ℕ) × AreTogether net phase (roots cells.old) }
+    ensures roots { roots cells.new ≡ roots cells.old }
+    ensures done { OnOk result (AreDone (sights cells.new)) }
+    ensures worn { (s : ℕ) → IsErrOf result (StepFault.Worn s) → IsWornSomewhere s (sights cells.new) }
+{
+    for _ in rt.forever() {
+        if !walk_once(rt, cells)? {
+            return Ok(());
+        }
+    }
+    unreachable!()
+}
+
+/// Takes the commands of the phase that are left, server by server.
+fn walk_commands(cells: &mut [Cell<'_>]) -> Result<(), StepFault>
+    ensures roots { roots cells.new ≡ roots cells.old }
+    ensures worn { (s : ℕ) → IsErrOf result (StepFault.Worn s) → IsWornSomewhere s (sights cells.new) }
+{
+    for k in 0..cells.len() {
+        cells[k].take_commands()?;
+    }
+    Ok(())
+}
+
+/// Each cell keeps what its type says.
+fn tell_all(cells: &[Cell<'_>])
+    ensures { (k : ℕ) (cell : CellParts) → slice_get cells.now k ≡ Some cell → IsKept cell.root.net.value cell.root cell.journal cell.held }
+{
+    for cell in cells {
+        cell.tells();
+    }
+}
+
+/// Makes the rest of the phase: all commands that are left, server by server, and then rounds, in which each server takes
+/// from each neighbour and publishes what is staged, until one makes nothing. Then all lanes are empty, nothing is staged,
+/// and no command of the phase is left. After a fault the steps that were made stand.
+pub fn finish_phase<R: Wait>(rt: &R, cells: &mut [Cell<'_>]) -> Result<(), StepFault>
+    requires together { (net : NetParts) × (phase : ℕ) × AreTogether net phase (roots cells.old) }
+    ensures roots { roots cells.new ≡ roots cells.old }
+    ensures done { OnOk result (AreDone (sights cells.new)) }
+    ensures finished { OnOk result ((net : NetParts) (phase : ℕ) → AreTogether net phase (roots cells.old)
+        → (begun : ℕ → Begun (machine_in net phase)) → AreBegun net phase cells.new begun → IsFinished net phase cells.new begun) }
+    ensures worn { (s : ℕ) → IsErrOf result (StepFault.Worn s) → IsWornSomewhere s (sights cells.new) }
+{
+    walk_commands(cells)?;
+    walk_rest(rt, cells)?;
+    tell_all(cells);
+    Ok(())
+}

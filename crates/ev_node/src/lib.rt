@@ -1,0 +1,31 @@
+//! One server with everything that it needs between two threads.
+#![tactic(auto)]
+
+mod ahead;
+mod asked;
+mod cell;
+mod choice;
+mod desk;
+mod finish;
+mod held;
+mod lanes;
+mod link;
+mod looking;
+mod naming;
+mod phases;
+mod same;
+mod settling;
+mod starting;
+mod step;
+mod taking;
+mod turn;
+mod version;
+mod walking;
+mod what;
+
+pub use cell::Cell;
+pub use finish::finish_phase;
+pub use held::{Held, Root};
+pub use link::Link;
+pub use starting::{Started, start};
+pub use what::{Turned, What};
