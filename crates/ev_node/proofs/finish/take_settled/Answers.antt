@@ -1,8 +1,10 @@
 use Rattle.std.proofs.Common.{◌≡◌, ◌<◌, length, get_or, set, sym, ap, subst, ◌∙◌, arith}
-use Rattle.ev_node.proofs.Places.{found, one-value}
+use Rattle.std.proofs.lemmas.Grind.{common_steps}
+use Rattle.ev_node.proofs.Places.{found, set-found, one-value}
 use Rattle.ev_node.proofs.Splits.{map-set}
 use Rattle.ev_node.specs.Cell.{CellParts}
-use Rattle.ev_node.proofs.Emptied.{same-roots, same-count, lane-by-roots, take-idle, takes-now, place-now}
+use Rattle.ev_node.proofs.Emptied.{same-roots, same-count, roots-count, lane-by-roots, take-idle, takes-now, place-now}
+use Rattle.ev_node.proofs.Worn.{worn-taken}
 use Rattle.ev_node.proofs.finish.take_settled.Goals as goal
 
 pub returns-in_err-settle_at-clause-roots : goal.returns-in_err-settle_at-clause-roots
@@ -52,3 +54,14 @@ pub returns-in_ok-settle_at-in-Err-Worn-clause-roots : goal.returns-in_ok-settle
 returns-in_ok-settle_at-in-Err-Worn-clause-roots g c =
     let n = same-count _ _ c.settle_at.ensures.sights in
     same-roots _ _ c.settle_at-in-Err-Worn.ensures.sights ∙ map-set (λ (h : CellParts). h.root) c.settle_at.new.cells c.args.taker c.index-cells-taker-2.result c.take_from_place.new.self (omega (arith, n, c.requires.taker)) c.take_from_place.ensures.root ∙ same-roots _ _ c.settle_at.ensures.sights
+
+pub returns-in_ok-settle_at-in-Err-Worn-clause-worn : goal.returns-in_ok-settle_at-in-Err-Worn-clause-worn
+returns-in_ok-settle_at-in-Err-Worn-clause-worn g c s e =
+    let n = same-count _ _ c.settle_at.ensures.sights in
+    let lt : c.args.taker < length c.settle_at.new.cells = omega (arith, n, c.requires.taker) in
+    let r = same-roots _ _ c.settle_at-in-Err-Worn.ensures.sights ∙ map-set (λ (h : CellParts). h.root) c.settle_at.new.cells c.args.taker c.index-cells-taker-2.result c.take_from_place.new.self lt c.take_from_place.ensures.root ∙ same-roots _ _ c.settle_at.ensures.sights in
+    let within : c.giver_of-giver.result.0 < length c.settle_at-in-Err-Worn.new.cells = omega (arith, roots-count _ _ r, c.giver_of-giver.ensures.within) in
+    let w = c.in-Err-Worn.ensures.worn s (grind (arith, common_steps, e, c.in-Err-Worn.field-0-is)) in
+    worn-taken (set c.settle_at.new.cells c.args.taker c.take_from_place.new.self) c.settle_at-in-Err-Worn.new.cells c.giver_of-giver.result.0 c.giver_of-giver.result.1 c.args.taker c.args.from s c.take_from_place.new.self (get_or c.settle_at-in-Err-Worn.new.cells c.giver_of-giver.result.0 c.index-cells-giver-in-Err-Worn.result)
+    c.settle_at-in-Err-Worn.ensures.sights (set-found c.settle_at.new.cells c.args.taker c.take_from_place.new.self lt) w.1 c.in_ok-settle_at-in-Err-Worn.ensures.settled c.settle_at-in-Err-Worn.ensures.next
+    (found c.settle_at-in-Err-Worn.new.cells c.giver_of-giver.result.0 c.index-cells-giver-in-Err-Worn.result within) c.tells-in-Err-Worn.ensures
