@@ -23,4 +23,3 @@ any-member x (y ∷ ys) e = go (compare y x) (any-member x ys) e
 
 pub any_has : (x : ℕ) (xs : List ℕ) (b : Bool) → b ≡ list_any (λ y. y == x) xs → IsTrue b ↔ Has x xs
 any_has x xs b e = ((λ t. any-member x xs (sym e ∙ t)), (λ h. e ∙ has-any x xs h))
-

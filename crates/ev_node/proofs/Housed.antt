@@ -47,12 +47,13 @@ all-past net server phase n sessions same all past s c h e =
 -- at home is exactly to be a client
 pub home-iff : (net : NetParts) (server n : ℕ) (client : ClientParts) → 1 ≤ n → slice_get net.clients (n - 1) ≡ Some client → IsTrue (client.home == server) ↔ Has n (clients_of net server)
 home-iff net server n client low e =
-    let up : suc (n - 1) ≡ n = omega (arith, low) in
-    ((λ t. subst (λ k. Has k (clients_of net server)) up (at-home net server (n - 1) client e (eqb-true client.home server t))),
-    (λ h. (
-      let a = home-at net server n h in
-      let same : a.0 ≡ n - 1 = omega (arith, a.2, low) in
-      eq-eqb client.home server (ap (λ (c : ClientParts). c.home) (one-value client a.1 (sym e ∙ ap (slice_get net.clients) (sym same) ∙ a.3)) ∙ a.4))))
+    let up : suc (n - 1) ≡ n = omega (arith, low) in (
+      (λ t. subst (λ k. Has k (clients_of net server)) up (at-home net server (n - 1) client e (eqb-true client.home server t))),
+      (λ h. (
+          let a = home-at net server n h in
+          let same : a.0 ≡ n - 1 = omega (arith, a.2, low) in
+          eq-eqb client.home server (ap (λ (c : ClientParts). c.home) (one-value client a.1 (sym e ∙ ap (slice_get net.clients) (sym same) ∙ a.3)) ∙ a.4))),
+    )
 
 -- no number beyond is
 pub no-home : (net : NetParts) (server n : ℕ) → ((1 ≤ n) × (n ≤ length net.clients) → ⊥) → IsTrue false ↔ Has n (clients_of net server)
@@ -79,6 +80,7 @@ one-more net server phase n client sessions at before here place c lt e h = go (
         deep : (p < n) ⊎ (p ≡ n) → (suc p < suc n) ⊎ (suc p ≡ suc n)
         deep (inl l) = inl (omega (arith, l))
         deep (inr q) = inr (ap suc q)
+
     go : (place < n) ⊎ (place ≡ n) → IsPast phase (suc place) sessions
     go (inl l) = before place c l e h
     go (inr q) = subst (λ k. IsPast phase (suc k) sessions) (sym q)

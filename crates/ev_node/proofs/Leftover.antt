@@ -39,6 +39,7 @@ place-more P n before here k lt = go (less-or k n lt)
         deep : (p < n) ⊎ (p ≡ n) → (suc p < suc n) ⊎ (suc p ≡ suc n)
         deep (inl l) = inl (omega (arith, l))
         deep (inr q) = inr (ap suc q)
+
     go : (k < n) ⊎ (k ≡ n) → P k
     go (inl l) = before k l
     go (inr q) = subst P (sym q) here

@@ -101,7 +101,8 @@ pub record IsKept (net : NetParts) (root : Root) (journal : List EntryParts) (he
   pub sound : IsSound net
   pub number : held.core.server ≡ root.server
   pub begins : (begun : Cell (machine_in net root.phase)) × IsCellOf net root.phase root.core.value root.links.value.items begun
-  pub replays : (begun : Cell (machine_in net root.phase)) → IsCellOf net root.phase root.core.value root.links.value.items begun → IsReplayed net root journal begun held
+  pub replays : (begun : Cell (machine_in net root.phase)) → IsCellOf net root.phase root.core.value root.links.value.items begun
+      → IsReplayed net root journal begun held
   pub entries : root.entries ≤ length journal
   pub links : Both IsSameLink root.links.value.items held.links.items
   pub publisher : IsViewerOf held.publisher root.viewer.value

@@ -53,7 +53,8 @@ IsLaid server bound a b = (a < server) ⊎ ((b < server) ⊎ (((a ≡ server) ×
 pub record AreLanes (tree : Topology) (server bound : ℕ) (rows : List (List Link)) : Type 0 where
   pub long : length rows ≡ tree.count
   pub rising : (k : ℕ) (r : List Link) → slice_get rows k ≡ Some r → IsRising nat_lt (named r)
-  pub members : (k : ℕ) (r : List Link) → slice_get rows k ≡ Some r → (b : ℕ) → Has b (named r) ↔ (Has b (links_of tree (suc k)) × IsLaid server bound (suc k) b)
+  pub members : (k : ℕ) (r : List Link) → slice_get rows k ≡ Some r → (b : ℕ)
+      → Has b (named r) ↔ (Has b (links_of tree (suc k)) × IsLaid server bound (suc k) b)
   pub new : (k : ℕ) (r : List Link) → slice_get rows k ≡ Some r → Each IsNew r
   pub ends : AreEnds rows
 

@@ -23,7 +23,8 @@ pub record IsFresh (net : NetParts) (server : ℕ) (links : List Link) (cell : C
   pub links_are : cell.held.links.items ≡ links
   pub clock : cell.held.core.clock ≡ 0
   pub journal : cell.journal ≡ []
-  pub opening : IsCellOf net 0 cell.held.core cell.held.links.items (opening_cells (machine_in net 0) (λ server. empty_server real (net_at real (phased_net net) 0)) server)
+  pub opening : IsCellOf net 0 cell.held.core cell.held.links.items
+      (opening_cells (machine_in net 0) (λ server. empty_server real (net_at real (phased_net net) 0)) server)
 
 -- with its viewers, which are of the publisher that the cell's root names
 pub record IsStarted (net : NetParts) (server : ℕ) (links : List Link) (started : Started) : Type 0 where

@@ -56,7 +56,8 @@ sights cells = map sight cells
 
 -- all that was put on the lane from the neighbour at a place is taken
 abbrev pub IsTakenUp : List Sight → ℕ → ℕ → Type 0
-IsTakenUp all k p = (s t : Sight) (y : Link) (i : ℕ) → slice_get all k ≡ Some s → slice_get (links_of s.root) p ≡ Some y → slice_get all i ≡ Some t → y.neighbour ≡ suc i
+IsTakenUp all k p = (s t : Sight) (y : Link) (i : ℕ) → slice_get all k ≡ Some s → slice_get (links_of s.root) p ≡ Some y
+    → slice_get all i ≡ Some t → y.neighbour ≡ suc i
     → s.took y.neighbour ≡ t.put s.root.server
 
 -- no client of a cell has a command of its phase left
@@ -96,7 +97,8 @@ journals net phase cells = of_server [] (map (entries_in net phase) cells)
 -- cells of the laws of journals that were in hand as the phase was entered; of who is no server nothing was put or taken
 pub record AreBegun (net : NetParts) (phase : ℕ) (cells : List CellParts) (begun : ℕ → Cell (machine_in net phase)) : Type 0 where
   pub stand : (k : ℕ) (cell : CellParts) → slice_get cells k ≡ Some cell → IsCellOf net phase cell.root.core.value (links_of cell.root) (begun (suc k))
-  pub others : (server : ℕ) → ((k : ℕ) → server ≡ suc k → k < length cells → ⊥) → ((link : ℕ) → ((begun server).put link ≡ []) × ((begun server).took link ≡ []))
+  pub others : (server : ℕ) → ((k : ℕ) → server ≡ suc k → k < length cells → ⊥)
+      → ((link : ℕ) → ((begun server).put link ≡ []) × ((begun server).took link ≡ []))
 
 -- WITH ALL CELLS IN HAND THE PHASE IS ENDED, and their journals have a merge
 pub record IsFinished (net : NetParts) (phase : ℕ) (cells : List CellParts) (begun : ℕ → Cell (machine_in net phase)) : Type 0 where

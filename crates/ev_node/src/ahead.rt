@@ -127,7 +127,17 @@ fn take_place_ahead<R: Wait>(
     };
     match choose_of(&held.core, &held.publisher, viewer, ahead, &seen.1) {
         Choice::Agreed(route) => {
-            take_seen(rt, alloc, held, journal, scratch, server, place, seen, Some(route))?;
+            take_seen(
+                rt,
+                alloc,
+                held,
+                journal,
+                scratch,
+                server,
+                place,
+                seen,
+                Some(route),
+            )?;
             Ok(Turned::Made)
         }
         Choice::Other => {

@@ -135,9 +135,7 @@ pub(crate) fn turn_held<R: Wait>(
         What::Command(client) => {
             command_asked(alloc, held, journal, scratch, server, phase, client)
         }
-        What::Take(from) => {
-            take_asked(rt, alloc, held, journal, scratch, server, phase, from)
-        }
+        What::Take(from) => { take_asked(rt, alloc, held, journal, scratch, server, phase, from) }
         What::Version => version_asked(rt, alloc, held, journal, server, phase),
     }
 }

@@ -30,12 +30,7 @@ fn between(alloc: Global, one: u32, other: u32) -> Result<(Link, Link), NoMemory
 }
 
 /// Joins the servers at two places by lanes.
-fn join(
-    alloc: Global,
-    rows: &mut Vec<Vec<Link>>,
-    one: u32,
-    other: u32,
-) -> Result<(), NoMemory>
+fn join(alloc: Global, rows: &mut Vec<Vec<Link>>, one: u32, other: u32) -> Result<(), NoMemory>
     requires one { (1 ≤ one) × (one ≤ length rows.old.items) }
     requires other { (1 ≤ other) × (other ≤ length rows.old.items) }
     ensures joined { OnOk result (AreJoined one other (map (λ r. r.items) rows.old.items) (map (λ r. r.items) rows.new.items)) }

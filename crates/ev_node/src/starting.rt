@@ -31,11 +31,7 @@ pub struct Started<'a> {
 
 /// The cells of all servers of a net before their first step, by server, in phase 0. Where it finds no memory it ends those
 /// that it has made.
-pub fn start<'a, R: Wait>(
-    alloc: Global,
-    rt: &R,
-    net: &'a Net,
-) -> Result<Vec<Started<'a>>, NoMemory>
+pub fn start<'a, R: Wait>(alloc: Global, rt: &R, net: &'a Net) -> Result<Vec<Started<'a>>, NoMemory>
     requires { IsSound net.now }
     ensures { IfOk result (λ started. AreStarted net.now started.items) }
 {

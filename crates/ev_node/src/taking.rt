@@ -17,11 +17,7 @@ impl Link {
     ghost use Rattle.ev_node.specs.Links.{ComesNext, IsLooked, IsTaken, IsUnmoved};
 
     /// The stamp and the message of the next frame, which stays where it is; `None` where there is none.
-    fn look<R: Wait>(
-        &mut self,
-        rt: &R,
-        alloc: Global,
-    ) -> Result<Option<(u64, Message)>, NoMemory>
+    fn look<R: Wait>(&mut self, rt: &R, alloc: Global) -> Result<Option<(u64, Message)>, NoMemory>
         ensures unmoved { IsUnmoved self.old self.new × (self.new.enter ≡ self.old.enter) }
         ensures looked { IfOk result (λ seen. IsLooked self.old self.new seen) }
     {

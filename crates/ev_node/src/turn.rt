@@ -95,9 +95,7 @@ pub(crate) fn turn_take<R: Wait>(
     let Some(seen) = look_at(rt, alloc, &mut held.links, place)? else {
         return Ok(false);
     };
-    take_seen(
-        rt, alloc, held, journal, scratch, server, place, seen, None,
-    )?;
+    take_seen(rt, alloc, held, journal, scratch, server, place, seen, None)?;
     Ok(true)
 }
 

@@ -38,8 +38,7 @@ pub returns-then-giver-taker-clause-next : goal.returns-then-giver-taker-clause-
 returns-then-giver-taker-clause-next g c b frame at is =
     let s = c.split_at_mut-left in
     let back_len = s.ensures.back_len in
-    let old = ap (λ l. slice_get l c.args.taker) s.ensures.value ∙ back s.result.0.now s.result.1.now c.args.taker c.index-right-0.result s.ensures.front_len (omega arith) in
-    (
+    let old = ap (λ l. slice_get l c.args.taker) s.ensures.value ∙ back s.result.0.now s.result.1.now c.args.taker c.index-right-0.result s.ensures.front_len (omega arith) in (
       c.settle.new.taker,
       back-set s.result.0.now s.result.1.now c.args.giver c.args.taker c.settle.new.self c.settle.new.taker s.ensures.front_len (omega arith),
       c.settle.ensures.next frame (subst (λ x. IsNextAt c.args.from frame (g.T.Settles.cell x).held.links.items) (one-value _ _ (sym at ∙ old)) is),
@@ -89,8 +88,7 @@ returns-else-giver-taker-clause-next g c b frame at is =
     let back_len = s.ensures.back_len in
     let front_len = s.ensures.front_len in
     let less = below c.args.taker c.args.giver c.if-giver-taker.false c.requires.apart in
-    let old = ap (λ l. slice_get l c.args.taker) s.ensures.value ∙ front s.result.0.now s.result.1.now c.args.taker c.index-left-taker.result (omega arith) in
-    (
+    let old = ap (λ l. slice_get l c.args.taker) s.ensures.value ∙ front s.result.0.now s.result.1.now c.args.taker c.index-left-taker.result (omega arith) in (
       t.new.taker,
       front-set s.result.0.now _ c.args.taker t.new.taker (omega arith),
       t.ensures.next frame (subst (λ x. IsNextAt c.args.from frame (g.T.Settles.cell x).held.links.items) (one-value _ _ (sym at ∙ old)) is),

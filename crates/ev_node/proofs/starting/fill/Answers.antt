@@ -20,8 +20,8 @@ start_one-requires-clause-names g c =
     let v = c.len-place-end.ensures in
     let l = c.loop-place.invariant.long in
     let at : slice_get (map (λ r. r.items) c.args.rows.items) c.loop-place.place ≡ Some c.replace-links.result.items =
-        row-is (λ r. r.items) c.loop-place.rows.items c.args.rows.items c.loop-place.place c.index_mut.result.now (omega (arith, v)) (omega (arith, v, l)) c.loop-place.invariant.rest
-        ∙ ap (λ r. Some r.items) (sym c.index_mut.ensures.value ∙ sym c.replace-links.ensures.value) in
+    row-is (λ r. r.items) c.loop-place.rows.items c.args.rows.items c.loop-place.place c.index_mut.result.now (omega (arith, v)) (omega (arith, v, l)) c.loop-place.invariant.rest
+    ∙ ap (λ r. Some r.items) (sym c.index_mut.ensures.value ∙ sym c.replace-links.ensures.value) in
     rw add-one (c.requires.lanes.names c.loop-place.place c.replace-links.result.items at)
 
 pub start_one-requires-clause-new : goal.start_one-requires-clause-new
@@ -29,8 +29,8 @@ start_one-requires-clause-new g c =
     let v = c.len-place-end.ensures in
     let l = c.loop-place.invariant.long in
     let at : slice_get (map (λ r. r.items) c.args.rows.items) c.loop-place.place ≡ Some c.replace-links.result.items =
-        row-is (λ r. r.items) c.loop-place.rows.items c.args.rows.items c.loop-place.place c.index_mut.result.now (omega (arith, v)) (omega (arith, v, l)) c.loop-place.invariant.rest
-        ∙ ap (λ r. Some r.items) (sym c.index_mut.ensures.value ∙ sym c.replace-links.ensures.value) in
+    row-is (λ r. r.items) c.loop-place.rows.items c.args.rows.items c.loop-place.place c.index_mut.result.now (omega (arith, v)) (omega (arith, v, l)) c.loop-place.invariant.rest
+    ∙ ap (λ r. Some r.items) (sym c.index_mut.ensures.value ∙ sym c.replace-links.ensures.value) in
     c.requires.lanes.new c.loop-place.place c.replace-links.result.items at
 
 pub loop-place-preserved : goal.loop-place-preserved
@@ -38,8 +38,8 @@ loop-place-preserved g c =
     let v = c.len-place-end.ensures in
     let l = c.loop-place.invariant.long in
     let at : slice_get (map (λ r. r.items) c.args.rows.items) c.loop-place.place ≡ Some c.replace-links.result.items =
-        row-is (λ r. r.items) c.loop-place.rows.items c.args.rows.items c.loop-place.place c.index_mut.result.now (omega (arith, v)) (omega (arith, v, l)) c.loop-place.invariant.rest
-        ∙ ap (λ r. Some r.items) (sym c.index_mut.ensures.value ∙ sym c.replace-links.ensures.value) in
+    row-is (λ r. r.items) c.loop-place.rows.items c.args.rows.items c.loop-place.place c.index_mut.result.now (omega (arith, v)) (omega (arith, v, l)) c.loop-place.invariant.rest
+    ∙ ap (λ r. Some r.items) (sym c.index_mut.ensures.value ∙ sym c.replace-links.ensures.value) in
     record {
       made = one-more c.args.net.now (map (λ r. r.items) c.args.rows.items) c.loop-place.place c.loop-place.started.items c.push_reserved.new.self.items c.in_ok-start_one.field-0 c.replace-links.result.items c.push_reserved.ensures.items at c.in_ok-start_one.ensures c.loop-place.invariant.made;
       rest = rest-set (λ r. r.items) c.loop-place.rows.items c.args.rows.items c.loop-place.place _ c.loop-place.invariant.rest;

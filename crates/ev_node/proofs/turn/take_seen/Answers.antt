@@ -124,10 +124,10 @@ returns-clause-made g c phase =
     let f : Found c.args.place c.args.held.now.links.items c.make_room.new.links.items c.args.seen.0 c.args.seen.1 c.index.result.now = found-roomed c.args.place c.args.held.now.links.items c.make_room.new.links.items c.args.seen c.index.result.now c.requires.seen c.make_room.ensures.roomed lt c.index.ensures in
     let tk : Both (IsTaken c.index.result.now.neighbour f.seen.frame) c.make_room.new.links.items c.take_at.new.links.items = c.take_at.ensures.taken f.seen.frame c.index.result.now f.there f.seen.next in
     let turn = took phase c.index.result.now.neighbour c.args.seen.1 (acts.Take c.index.result.now.neighbour) c.args.held.now _ c.make_room.new.links.items c.take_at.new.links.items f.seen.frame c.args.journal.now.items c.enter.new.journal.items c.args.seen.0 c.in_ok-stepped.stepped.stamp c.in_ok-stepped.stepped.sent.items
-        refl f.seen.stamped f.seen.text c.in_ok-stepped.ensures.step u tk c.enter.ensures.given
-        (c.enter.ensures.entry ∙ ap (λ z. z ++ entry_parts c.in_ok-stepped.stepped.stamp c.args.server (acts.Take c.index.result.now.neighbour) (map (λ s. s.to) c.in_ok-stepped.stepped.sent.items) ∷ []) c.make_room.ensures.journal
-        ∙ ap (λ z. c.args.journal.now.items ++ entry_parts c.in_ok-stepped.stepped.stamp z (acts.Take c.index.result.now.neighbour) (map (λ s. s.to) c.in_ok-stepped.stepped.sent.items) ∷ []) (sym c.requires.server))
-        refl in
+    refl f.seen.stamped f.seen.text c.in_ok-stepped.ensures.step u tk c.enter.ensures.given
+    (c.enter.ensures.entry ∙ ap (λ z. z ++ entry_parts c.in_ok-stepped.stepped.stamp c.args.server (acts.Take c.index.result.now.neighbour) (map (λ s. s.to) c.in_ok-stepped.stepped.sent.items) ∷ []) c.make_room.ensures.journal
+    ∙ ap (λ z. c.args.journal.now.items ++ entry_parts c.in_ok-stepped.stepped.stamp z (acts.Take c.index.result.now.neighbour) (map (λ s. s.to) c.in_ok-stepped.stepped.sent.items) ∷ []) (sym c.requires.server))
+    refl in
     taking-from phase c.args.place c.index.result.now.neighbour f.link _ c.args.held.now _ c.args.journal.now.items c.enter.new.journal.items f.found f.name turn
     (has-seen c.args.place _ f.seen.frame c.in_ok-stepped.stepped.stamp c.in_ok-stepped.stepped.sent.items c.args.held.now.links.items c.make_room.new.links.items c.take_at.new.links.items c.enter.new.links.items c.make_room.ensures.roomed tk c.enter.ensures.given)
 

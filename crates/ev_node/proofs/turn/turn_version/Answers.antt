@@ -48,13 +48,14 @@ enter-requires-clause-outs g c =
 pub returns-clause-made : goal.returns-clause-made
 returns-clause-made g c phase =
     let u = subst (λ l. Both IsUnmoved c.args.held.now.links.items l.items) (sym c.publish.ensures.links) (unmoved-roomed _ _ c.make_room.ensures.roomed) in
-    let step = subst (λ n. MakesStep (Does Version) 0 c.args.held.now.core c.publish.new.held.core n []) (sym c.silent-stepped.ensures.0) c.in_ok-stamp.ensures.step in
-    (did phase Version acts.Version c.args.held.now _ c.publish.new.held.links.items c.args.journal.now.items c.enter.new.journal.items c.silent-stepped.result.stamp c.silent-stepped.result.sent.items refl tt
-    (subst (λ s. MakesStep (Does Version) 0 c.args.held.now.core c.publish.new.held.core c.silent-stepped.result.stamp s) (sym c.silent-stepped.ensures.1) step) u c.enter.ensures.given
-    (c.enter.ensures.entry ∙ ap (λ z. z ++ entry_parts c.silent-stepped.result.stamp c.args.server acts.Version (map (λ s. s.to) c.silent-stepped.result.sent.items) ∷ []) c.make_room.ensures.journal
-    ∙ ap (λ z. c.args.journal.now.items ++ entry_parts c.silent-stepped.result.stamp z acts.Version (map (λ s. s.to) c.silent-stepped.result.sent.items) ∷ []) (sym c.requires.server))
-    c.publish.ensures.publisher,
-    λ e. let t = c.is_calm.ensures.1 e in let q : true ≡ false = sym t ∙ c.if-is_calm.false in absurd cc)
+    let step = subst (λ n. MakesStep (Does Version) 0 c.args.held.now.core c.publish.new.held.core n []) (sym c.silent-stepped.ensures.0) c.in_ok-stamp.ensures.step in (
+      did phase Version acts.Version c.args.held.now _ c.publish.new.held.links.items c.args.journal.now.items c.enter.new.journal.items c.silent-stepped.result.stamp c.silent-stepped.result.sent.items refl tt
+          (subst (λ s. MakesStep (Does Version) 0 c.args.held.now.core c.publish.new.held.core c.silent-stepped.result.stamp s) (sym c.silent-stepped.ensures.1) step) u c.enter.ensures.given
+          (c.enter.ensures.entry ∙ ap (λ z. z ++ entry_parts c.silent-stepped.result.stamp c.args.server acts.Version (map (λ s. s.to) c.silent-stepped.result.sent.items) ∷ []) c.make_room.ensures.journal
+          ∙ ap (λ z. c.args.journal.now.items ++ entry_parts c.silent-stepped.result.stamp z acts.Version (map (λ s. s.to) c.silent-stepped.result.sent.items) ∷ []) (sym c.requires.server))
+          c.publish.ensures.publisher,
+      λ e. let t = c.is_calm.ensures.1 e in let q : true ≡ false = sym t ∙ c.if-is_calm.false in absurd cc,
+    )
 
 pub returns-clause-held : goal.returns-clause-held
 returns-clause-held g c =

@@ -21,6 +21,6 @@ invariant_of-self-2 g c = kept-asked c.self.inside.net.now c.self.inside.root c.
 pub returns-clause-idle : goal.returns-clause-idle
 returns-clause-idle g c q =
     let i = idle-is c.self.inside.root.phase Version c.self.inside.held c.version_asked.new.held _ _ _ c.in_ok-turned.ensures.answers (c.was_made.ensures q) in (
-  sight-still c.self.inside.root c.self.inside.journal.items _ c.self.inside.held c.version_asked.new.held i.0 ∙ ap sight c.self.view_is,
-  ap (λ (k : CoreParts). k.staged) i.0.core ∙ i.1,
-)
+      sight-still c.self.inside.root c.self.inside.journal.items _ c.self.inside.held c.version_asked.new.held i.0 ∙ ap sight c.self.view_is,
+      ap (λ (k : CoreParts). k.staged) i.0.core ∙ i.1,
+    )

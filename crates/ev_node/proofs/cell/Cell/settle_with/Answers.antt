@@ -15,13 +15,13 @@ settle_links-requires-clause-lane c =
 pub settle_links-requires-clause-to : goal.settle_links-requires-clause-to
 settle_links-requires-clause-to c =
     let l = lane-at c.args.to c.args.from (links_of c.self.inside.root) c.self.inside.held.links.items (links_of c.taker.inside.root) c.taker.inside.held.links.items c.self.invariant.links c.taker.invariant.links
-        (subst (λ (z : CellParts). At IsOneLane c.args.to (links_of z.root) c.args.from (links_of c.taker.inside.root)) (sym c.self.view_is) (subst (λ (z : CellParts). At IsOneLane c.args.to (links_of c.args.self.now.root) c.args.from (links_of z.root)) (sym c.taker.view_is) c.requires.lane)) in
+    (subst (λ (z : CellParts). At IsOneLane c.args.to (links_of z.root) c.args.from (links_of c.taker.inside.root)) (sym c.self.view_is) (subst (λ (z : CellParts). At IsOneLane c.args.to (links_of c.args.self.now.root) c.args.from (links_of z.root)) (sym c.taker.view_is) c.requires.lane)) in
     below-found c.args.to c.self.inside.held.links.items l.0 l.2
 
 pub settle_links-requires-clause-from : goal.settle_links-requires-clause-from
 settle_links-requires-clause-from c =
     let l = lane-at c.args.to c.args.from (links_of c.self.inside.root) c.self.inside.held.links.items (links_of c.taker.inside.root) c.taker.inside.held.links.items c.self.invariant.links c.taker.invariant.links
-        (subst (λ (z : CellParts). At IsOneLane c.args.to (links_of z.root) c.args.from (links_of c.taker.inside.root)) (sym c.self.view_is) (subst (λ (z : CellParts). At IsOneLane c.args.to (links_of c.args.self.now.root) c.args.from (links_of z.root)) (sym c.taker.view_is) c.requires.lane)) in
+    (subst (λ (z : CellParts). At IsOneLane c.args.to (links_of z.root) c.args.from (links_of c.taker.inside.root)) (sym c.self.view_is) (subst (λ (z : CellParts). At IsOneLane c.args.to (links_of c.args.self.now.root) c.args.from (links_of z.root)) (sym c.taker.view_is) c.requires.lane)) in
     below-found c.args.from c.taker.inside.held.links.items l.1 l.3
 
 pub invariant_of-self : goal.invariant_of-self

@@ -24,6 +24,6 @@ invariant_of-self-2 c = kept-asked c.self.inside.net.now c.self.inside.root c.se
 pub returns-clause-idle : goal.returns-clause-idle
 returns-clause-idle c q =
     let i = idle-is c.self.inside.root.phase (Command c.args.client) c.self.inside.held c.command_asked.new.held _ _ _ c.in_ok-turned.ensures.answers (c.was_made.ensures q) in (
-  sight-still c.self.inside.root c.self.inside.journal.items _ c.self.inside.held c.command_asked.new.held i.0 ∙ ap sight c.self.view_is,
-  λ h. i.1 (subst (λ (k : CoreParts). HasCommand k c.args.client c.self.inside.root.phase) i.0.core h),
-)
+      sight-still c.self.inside.root c.self.inside.journal.items _ c.self.inside.held c.command_asked.new.held i.0 ∙ ap sight c.self.view_is,
+      λ h. i.1 (subst (λ (k : CoreParts). HasCommand k c.args.client c.self.inside.root.phase) i.0.core h),
+    )

@@ -9,5 +9,5 @@ abbrev pub invariant-loop-place : goal.invariant-loop-place
 invariant-loop-place l = record {
   root : l.self.root ≡ l.fn.self.root;
   idle : l.made ≡ false → (sight l.self ≡ sight l.fn.self)
-    × ((place : ℕ) → place < l.place → Has (suc place) (clients_of l.fn.self.root.net.value l.fn.self.root.server) → HasCommand l.fn.self.held.core (suc place) l.fn.self.root.phase → ⊥);
+      × ((place : ℕ) → place < l.place → Has (suc place) (clients_of l.fn.self.root.net.value l.fn.self.root.server) → HasCommand l.fn.self.held.core (suc place) l.fn.self.root.phase → ⊥);
 }
