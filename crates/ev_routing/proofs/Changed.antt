@@ -21,9 +21,9 @@ use Rattle.ev_routing.proofs.Flows.{relinked-settled}
 use Rattle.ev_routing.proofs.Scripts.{through-count, through-one, below-rises}
 use Rattle.ev_routing.proofs.Begins.{through-client}
 use Rattle.ev_routing.proofs.Current.{upto}
-use Rattle.ev_routing.proofs.Started.{history, ends, last-phase, ordered-run, authentic-run, delivered-once}
+use Rattle.ev_routing.proofs.Started.{history, ends, last-phase, ordered-run, authentic-run, delivered-once, starts, low}
 use Rattle.ev_routing.proofs.Passing.{given-rises}
-use Rattle.ev_routing.proofs.Flooded.{starts, low, quiet-at-rest, allowed-run}
+use Rattle.ev_routing.proofs.Flooded.{quiet-at-rest, allowed-run}
 
 module _ (th : Theory) (laws : TheoryLaws th) (run : LegalRun th) where
   -- an inbox only grows

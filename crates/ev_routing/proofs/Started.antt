@@ -10,7 +10,7 @@ use Rattle.ev_run.proofs.History.{run-history, run-ends}
 use Rattle.ev_run.proofs.Lists.{Same, Is, Not, compare}
 use Rattle.ev_routing.specs.Theory.{Theory, TheoryLaws}
 use Rattle.ev_routing.specs.Net.{Net, NetLaws}
-use Rattle.ev_routing.specs.Clients.{ordinal}
+use Rattle.ev_routing.specs.Clients.{ordinal, commands_below}
 use Rattle.ev_routing.specs.Server.{Message, Publication, sent, sent_adverts}
 use Rattle.ev_routing.specs.Routing.{routing_machine, Network, NetEntry, opening}
 use Rattle.ev_routing.specs.Rest.{IsWay, end_of, IsAtRest}
@@ -18,7 +18,7 @@ use Rattle.ev_routing.specs.AsOf.{calm, back, times_delivered}
 use Rattle.ev_routing.specs.Order.{IsStrictlyRising, ordinals_put, ordinals_delivered, IsOrderly, IsAccepted, IsAuthentic, ordinals_routed}
 use Rattle.ev_routing.specs.Start.{IsStart}
 use Rattle.ev_routing.specs.LegalRun.{LegalRun, states, phases, Routed, IsSentTo, IsWanted, IsDelivered, IsInForce, IsDeliveredOnce, IsSettledTo}
-use Rattle.ev_routing.proofs.Scripts.{take-rises, zero-below}
+use Rattle.ev_routing.proofs.Scripts.{take-rises, zero-below, below-rises}
 use Rattle.ev_routing.proofs.Rest.{none-sent, none-sent_adverts}
 use Rattle.ev_routing.proofs.Along.{strict, tree, filters-back, adverts-back}
 use Rattle.ev_routing.proofs.Ordered.{orderly-all}
@@ -183,3 +183,10 @@ module _ (th : Theory) (laws : TheoryLaws th) (run : LegalRun th) where
 
       has : Has p ((run.end.state far).inbox c)
       has = subst (λ (z : Network th run.net). Has p ((z.state far).inbox c)) ends got
+
+  -- the commands taken at the start are those below its phase
+  pub starts : (t c : ℕ) → Has t run.net.servers → Has c (run.net.clients t) → commands_below th run.first (run.net.script c) ≤ (run.start.state t).done c
+  starts t c here lives = omega (arith, run.begins.counts t c lives)
+
+  pub low : (t c : ℕ) → Has c (run.net.clients t) → (run.start.state t).done c ≤ commands_below th (suc run.first) (run.net.script c)
+  low t c lives = omega (arith, run.begins.counts t c lives, below-rises th run.first (suc run.first) (run.net.script c) (omega arith))

@@ -24,7 +24,7 @@ use Rattle.ev_routing.proofs.Laws.{machine-laws}
 use Rattle.ev_routing.proofs.Along.{strict, tree}
 use Rattle.ev_routing.proofs.Spreading.{spreads}
 use Rattle.ev_routing.proofs.Listing.{has-either, map-has}
-use Rattle.ev_routing.proofs.Started.{history, ends, last-phase, within-start}
+use Rattle.ev_routing.proofs.Started.{history, ends, last-phase, within-start, starts}
 use Rattle.ev_routing.proofs.Total.{no-load, none-staged, less-remain}
 use Rattle.ev_routing.proofs.Idle.{idle-quiet}
 use Rattle.ev_routing.proofs.Working.{within-all}
@@ -32,7 +32,6 @@ use Rattle.ev_links.proofs.Numbers.{below}
 use Rattle.ev_routing.proofs.Scripts.{upto-count, below-rises}
 use Rattle.ev_routing.proofs.Begins.{begun, phase-rises}
 use Rattle.ev_routing.proofs.Current.{done-rising}
-use Rattle.ev_routing.proofs.Flooded.{starts}
 use Rattle.ev_routing.proofs.Drained.{drained-run}
 use Rattle.ev_routing.proofs.Commanded.{done-more, servers-done}
 

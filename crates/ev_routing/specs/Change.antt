@@ -9,13 +9,14 @@ use Rattle.ev_routing.specs.Flow.{relinked}
 module _ (theory : Theory) (net : Net theory) (links : ℕ → List ℕ) (hop : ℕ → ℕ → ℕ) where
   -- the net with its servers on another tree
   abbrev pub with_tree : Net theory
-  with_tree = record { adverts = net.adverts; servers = net.servers; links = links; hop = hop; home = net.home; clients = net.clients; script = net.script }
+  with_tree = record net { links = links; hop = hop }
 
   -- the sets that a server holds from its clients
   abbrev pub client_sets : {T : Type 0} → (ℕ → List T) → ℕ → List T
   client_sets sets i = cond (nat_lt 64 i) (sets i) []
 
-  -- the network on that tree: each server holds its clients' sets and what flows from beyond its neighbours, all published; every clock is raised, and no link has a message
+  -- the network on that tree: each server holds its clients' sets and what flows from beyond its neighbours, all published; every clock is raised,
+  -- and no link has a message
   abbrev pub on_tree : Network theory net → Network theory with_tree
   on_tree network = record {
     state = λ t. record {

@@ -70,7 +70,8 @@ module _ (theory : Theory) where
     -- the ordinals of the refused publishes of a list of commands, with these advertisements and so many publishes before it
     abbrev pub refused_from : List theory.Advert → ℕ → List (PhasedCommand theory) → List ℕ
     refused_from adverts before [] = []
-    refused_from adverts before (command ∷ commands) = add_refused adverts before command.command (refused_from (adverts_step adverts command.command) (cond (is_publish command.command) (suc before) before) commands)
+    refused_from adverts before (command ∷ commands) = add_refused adverts before command.command
+        (refused_from (adverts_step adverts command.command) (cond (is_publish command.command) (suc before) before) commands)
 
     -- the refused ordinals of a client after its first count commands
     abbrev pub refused_after : ℕ → ℕ → List ℕ

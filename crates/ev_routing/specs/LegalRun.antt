@@ -1,19 +1,21 @@
 -- A legal run of a net from a start, and what may be said of its entries: the one premise of the laws.
-use Rattle.std.specs.Prelude.{◌≡◌, ℕ, ◌+◌, ◌*◌, ◌≤◌, true, List, [], length, take}
+use Rattle.std.specs.Prelude.{◌≡◌, ℕ, ◌+◌, ◌*◌, ◌≤◌, ◌<◌, true, List, [], length, take}
 use Rattle.ev_sets.specs.Sets.{Has}
 use Rattle.ev_tree.specs.Hops.{side_size}
-use Rattle.ev_run.specs.Runs.{greatest, IsRun}
-use Rattle.ev_run.specs.Load.{takings as takings_in, versions as versions_in, commands as commands_in}
+use Rattle.ev_run.specs.Runs.{greatest, IsRun, IsQuiet, IsThrough}
+use Rattle.ev_run.specs.Load.{Measure, takings as takings_in, versions as versions_in, commands as commands_in}
 use Rattle.ev_run.specs.History.{state_at, phase_at}
 use Rattle.ev_routing.specs.Theory.{Theory}
-use Rattle.ev_routing.specs.Net.{Net, NetLaws}
+use Rattle.ev_routing.specs.Net.{Net, NetLaws, PhasedCommand}
 use Rattle.ev_routing.specs.Clients.{ordinal}
-use Rattle.ev_routing.specs.Server.{Publication}
+use Rattle.ev_routing.specs.Server.{Publication, sent, sent_adverts}
 use Rattle.ev_routing.specs.Routing.{routing_machine, Network, NetEntry, measure, all_commands}
-use Rattle.ev_routing.specs.Rest.{filters_of, IsWay, end_of}
-use Rattle.ev_routing.specs.AsOf.{calm, IsRoutedAt, IsSettledAlong, IsTakenAlong, IsDeliveredAt, IsWantedBeyond, times_delivered}
+use Rattle.ev_routing.specs.Rest.{filters_of, IsWay, end_of, IsAtRest, IsDrained}
+use Rattle.ev_routing.specs.AsOf.{calm, back, as_of, IsRoutedAt, IsSettledAlong, IsTakenAlong, IsDeliveredAt, IsWantedBeyond, times_delivered}
 use Rattle.ev_routing.specs.Owed.{IsPublication, IsOwed, IsAllowed}
 use Rattle.ev_routing.specs.Start.{IsStart}
+use Rattle.ev_routing.specs.Order.{IsOrderly, ordinals_routed}
+use Rattle.ev_routing.specs.Walk.{walk_of}
 
 -- a net with its laws, and a legal run of it from a start
 pub record LegalRun (theory : Theory) : Type 0 where
@@ -48,11 +50,17 @@ module _ (theory : Theory) (run : LegalRun theory) where
     pub server : ℕ
     pub interface : ℕ
     pub publication : Publication theory
-    pub at : IsRoutedAt theory run.net states run.journal moment server interface publication.publisher publication.ordinal publication.notice
+    pub at : IsRoutedAt theory run.net states run.journal moment server interface
+        publication.publisher publication.ordinal publication.notice
 
   -- the entry sends it to a neighbour
   abbrev pub IsSentTo : Routed → ℕ → Type 0
   IsSentTo routed neighbour = Has neighbour routed.at.entry.outs
+
+  -- a link of the entry's server but the one that the publication came by
+  pub record IsOnward (routed : Routed) (neighbour : ℕ) : Type 0 where
+    pub near : Has neighbour (run.net.links routed.server)
+    pub other : neighbour ≡ routed.interface → ⊥
 
   -- a client beyond a neighbour had a filter that matches, at the moment that the server knows of by its last version
   abbrev pub IsWanted : Routed → ℕ → Type 0
@@ -64,7 +72,9 @@ module _ (theory : Theory) (run : LegalRun theory) where
 
   -- a filter that matches was in the client's list at the server's last calm moment
   abbrev pub IsInForce : Routed → ℕ → Type 0
-  IsInForce routed client = (f : theory.Filter) × Has f (filters_of theory run.net (states (calm theory run.net states routed.server routed.moment)) client) × (theory.matches routed.publication.notice f ≡ true)
+  IsInForce routed client = (f : theory.Filter)
+      × Has f (filters_of theory run.net (states (calm theory run.net states routed.server routed.moment)) client)
+      × (theory.matches routed.publication.notice f ≡ true)
 
   -- the inbox of a client at the end
   abbrev pub inbox_of : ℕ → List (Publication theory)
@@ -72,18 +82,37 @@ module _ (theory : Theory) (run : LegalRun theory) where
 
   -- at the end a client's inbox has the publication, once
   abbrev pub IsDeliveredOnce : Publication theory → ℕ → Type 0
-  IsDeliveredOnce publication client = Has publication (inbox_of client) × (times_delivered theory run.net publication.publisher publication.ordinal (inbox_of client) ≡ 1)
+  IsDeliveredOnce publication client = Has publication (inbox_of client)
+      × (times_delivered theory run.net publication.publisher publication.ordinal (inbox_of client) ≡ 1)
 
-  -- an entry at the publisher's home publishes it, it is settled wherever it passes on the way to the client, and each of its messages on that way is taken
+  -- a way from a publication's home that never turns back
+  abbrev pub IsWayFromHome : Publication theory → List ℕ → Type 0
+  IsWayFromHome publication path = IsWay theory run.net (run.net.home publication.publisher) (run.net.home publication.publisher) path
+
+  -- along a way from its home a publication is settled, for a client, wherever an entry routes it
+  abbrev pub IsSettledFromHome : Publication theory → ℕ → List ℕ → Type 0
+  IsSettledFromHome publication client path =
+      IsSettledAlong theory run.net states run.journal publication.publisher publication.ordinal publication.notice client []
+      (run.net.home publication.publisher) path
+
+  -- along it each of its messages is taken by the end
+  abbrev pub IsTakenFromHome : Publication theory → List ℕ → Type 0
+  IsTakenFromHome publication path =
+      IsTakenAlong theory run.net states (length run.journal) publication.publisher publication.ordinal publication.notice
+      (run.net.home publication.publisher) path
+
+  -- an entry at the publisher's home publishes it, it is settled wherever it passes on the way to the client, and each of its messages on that way
+  -- is taken
   pub record IsSettledTo (publication : Publication theory) (client : ℕ) : Type 0 where
     pub here : Has publication.publisher (run.net.clients (run.net.home publication.publisher))
     pub moment : ℕ
-    pub published : IsRoutedAt theory run.net states run.journal moment (run.net.home publication.publisher) (64 + publication.publisher) publication.publisher publication.ordinal publication.notice
+    pub published : IsRoutedAt theory run.net states run.journal moment (run.net.home publication.publisher) (64 + publication.publisher)
+        publication.publisher publication.ordinal publication.notice
     pub path : List ℕ
-    pub way : IsWay theory run.net (run.net.home publication.publisher) (run.net.home publication.publisher) path
+    pub way : IsWayFromHome publication path
     pub lives : Has client (run.net.clients (end_of theory run.net (run.net.home publication.publisher) path))
-    pub settled : IsSettledAlong theory run.net states run.journal publication.publisher publication.ordinal publication.notice client [] (run.net.home publication.publisher) path
-    pub taken : IsTakenAlong theory run.net states (length run.journal) publication.publisher publication.ordinal publication.notice (run.net.home publication.publisher) path
+    pub settled : IsSettledFromHome publication client path
+    pub taken : IsTakenFromHome publication path
 
   -- a publication of a phase of the run that is owed to a client
   pub record IsOwedTo (publication : Publication theory) (client : ℕ) : Type 0 where
@@ -96,13 +125,116 @@ module _ (theory : Theory) (run : LegalRun theory) where
 
   -- a publication that is allowed to a client
   abbrev pub IsAllowedTo : Publication theory → ℕ → Type 0
-  IsAllowedTo publication client = (phase : ℕ) × IsPublication theory run.net publication.publisher publication.ordinal phase publication.notice × IsAllowed theory run.net phase publication.notice client
+  IsAllowedTo publication client = (phase : ℕ)
+      × IsPublication theory run.net publication.publisher publication.ordinal phase publication.notice
+      × IsAllowed theory run.net phase publication.notice client
 
-  -- takings, versions and entries are bounded by the commands taken and the number of servers, the commands taken by those of the scripts, and the stamps by the entries
+  -- what the load of the run is measured by
+  abbrev pub run_measure : Measure (routing_machine theory run.net)
+  run_measure = measure theory run.net (side_size run.net.hop run.net.servers)
+
+  -- how many entries of the run are takings
+  abbrev pub takings_made : ℕ
+  takings_made = takings_in (routing_machine theory run.net) run_measure run.journal
+
+  -- how many are versions
+  abbrev pub versions_made : ℕ
+  versions_made = versions_in (routing_machine theory run.net) run_measure run.journal
+
+  -- how many are commands
+  abbrev pub commands_made : ℕ
+  commands_made = commands_in (routing_machine theory run.net) run_measure run.journal
+
+  -- how many servers there are
+  abbrev pub server_count : ℕ
+  server_count = length run.net.servers
+
+  -- takings, versions and entries are bounded by the commands taken and the number of servers, the commands taken by those of the scripts, and the
+  -- stamps by the entries
   pub record IsBounded : Type 0 where
-    pub takings : takings_in (routing_machine theory run.net) (measure theory run.net (side_size run.net.hop run.net.servers)) run.journal ≤ commands_in (routing_machine theory run.net) (measure theory run.net (side_size run.net.hop run.net.servers)) run.journal * (length run.net.servers * length run.net.servers)
-    pub versions : versions_in (routing_machine theory run.net) (measure theory run.net (side_size run.net.hop run.net.servers)) run.journal ≤ takings_in (routing_machine theory run.net) (measure theory run.net (side_size run.net.hop run.net.servers)) run.journal + commands_in (routing_machine theory run.net) (measure theory run.net (side_size run.net.hop run.net.servers)) run.journal
-    pub entries : length run.journal ≤ 2 * (commands_in (routing_machine theory run.net) (measure theory run.net (side_size run.net.hop run.net.servers)) run.journal * (length run.net.servers * length run.net.servers + 1))
-    pub commands : commands_in (routing_machine theory run.net) (measure theory run.net (side_size run.net.hop run.net.servers)) run.journal ≤ all_commands theory run.net
-    pub within : length run.journal ≤ 2 * (all_commands theory run.net * (length run.net.servers * length run.net.servers + 1))
-    pub stamps : (entry : NetEntry theory run.net) → Has entry run.journal → entry.stamp ≤ greatest (routing_machine theory run.net) run.start.clock run.net.servers + length run.journal
+    pub takings : takings_made ≤ commands_made * (server_count * server_count)
+    pub versions : versions_made ≤ takings_made + commands_made
+    pub entries : length run.journal ≤ 2 * (commands_made * (server_count * server_count + 1))
+    pub commands : commands_made ≤ all_commands theory run.net
+    pub within : length run.journal ≤ 2 * (all_commands theory run.net * (server_count * server_count + 1))
+    pub stamps : (entry : NetEntry theory run.net) → Has entry run.journal
+        → entry.stamp ≤ greatest (routing_machine theory run.net) run.start.clock run.net.servers + length run.journal
+
+  -- after n entries all links are empty and nothing is staged
+  abbrev pub IsQuietAt : ℕ → Type 0
+  IsQuietAt n = IsQuiet (routing_machine theory run.net) (states n)
+
+  -- after n entries the network is at rest
+  abbrev pub IsAtRestAt : ℕ → Type 0
+  IsAtRestAt n = IsAtRest theory run.net (states n)
+
+  -- the run ends quiet
+  abbrev pub EndsQuiet : Type 0
+  EndsQuiet = IsQuiet (routing_machine theory run.net) run.end
+
+  -- it ends with all commands of the phases below this one taken
+  abbrev pub EndsThrough : ℕ → Type 0
+  EndsThrough phase = IsThrough (routing_machine theory run.net) run.end phase
+
+  -- it ends drained
+  abbrev pub EndsDrained : Type 0
+  EndsDrained = IsDrained theory run.net run.end
+
+  -- all commands of the scripts are of phases below this one
+  abbrev pub AllBelow : ℕ → Type 0
+  AllBelow phase = (client : ℕ) (command : PhasedCommand theory) → Has command (run.net.script client) → command.phase < phase
+
+  -- the walk of so many phases goes on from the run as a legal run, and ends drained
+  abbrev pub WalkDrains : ℕ → Type 0
+  WalkDrains phases = (end : Network theory run.net) × (last : ℕ)
+      × IsRun (routing_machine theory run.net) run.end run.last (walk_of theory run.net phases (record { network = run.end; phase = run.last })) end last
+      × IsDrained theory run.net end
+
+  -- the moment that a server looks back to on a link from a neighbour
+  abbrev pub back_at : ℕ → ℕ → ℕ → ℕ
+  back_at server neighbour m = back theory run.net states server neighbour m
+
+  -- the last moment up to m at which nothing was staged at a server
+  abbrev pub calm_at : ℕ → ℕ → ℕ
+  calm_at server m = calm theory run.net states server m
+
+  -- the moment at the end of a way that a server knows of at m
+  abbrev pub as_of_at : ℕ → List ℕ → ℕ → ℕ
+  as_of_at server path m = as_of theory run.net states server path m
+
+  -- the filters that a server sends to a neighbour after n entries
+  abbrev pub filters_sent : ℕ → ℕ → ℕ → List theory.Filter
+  filters_sent n from to = sent theory run.net ((states n).state from) from to
+
+  -- and the advertisements
+  abbrev pub adverts_sent : ℕ → ℕ → ℕ → List theory.Advert
+  adverts_sent n from to = sent_adverts theory run.net ((states n).state from) from to
+
+  -- a moment, a moment at rest that is no later, and a way from a server
+  pub record LooksBack : Type 0 where
+    pub rest : ℕ
+    pub rests : IsAtRestAt rest
+    pub moment : ℕ
+    pub earlier : rest ≤ moment
+    pub before : ℕ
+    pub server : ℕ
+    pub path : List ℕ
+    pub way : IsWay theory run.net before server path
+
+  -- the inbox of a client after n entries
+  abbrev pub inbox_at : ℕ → ℕ → ℕ → List (Publication theory)
+  inbox_at n server client = ((states n).state server).inbox client
+
+  -- how often that has an id
+  abbrev pub times_given : ℕ → ℕ → ℕ → ℕ → ℕ → ℕ
+  times_given n server client publisher ordinal = times_delivered theory run.net publisher ordinal (inbox_at n server client)
+
+  -- after n entries one publisher's notices are in the order of their ordinals, at each server, on each link and in each inbox
+  abbrev pub IsOrderlyAt : ℕ → ℕ → Type 0
+  IsOrderlyAt publisher n =
+      IsOrderly theory run.net publisher (ordinal_before publisher) (states n) (ordinals_routed theory run.net states run.journal publisher n)
+
+  -- all that is allowed to a client is owed to it, and it has a home
+  pub record IsStable (client : ℕ) : Type 0 where
+    pub lives : Has client (run.net.clients (run.net.home client))
+    pub owed : (publication : Publication theory) → IsAllowedTo publication client → IsOwedTo publication client

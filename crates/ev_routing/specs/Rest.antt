@@ -27,13 +27,20 @@ module _ (theory : Theory) (net : Net theory) where
   end_of server [] = server
   end_of server (next ∷ path) = end_of next path
 
+  -- there is a way from a server to another
+  pub record HasWay (server other : ℕ) : Type 0 where
+    pub path : List ℕ
+    pub way : IsWay server server path
+    pub end : end_of server path ≡ other
+
   -- nothing is on its way or staged, what is published is what is held, clients' sets are their lists, and what is held of a neighbour is what it sends
   pub record IsAtRest (network : Network theory net) : Type 0 where
     pub empty : (a b : ℕ) → network.taken a b ≡ length (network.put a b)
     pub unstaged : (server : ℕ) → (network.state server).staged ≡ false
     pub published : (server interface : ℕ) → (network.state server).published interface ≡ (network.state server).subs interface
     pub filters : (server client : ℕ) → Has client (net.clients server) → (network.state server).subs (64 + client) ≡ filters_of network client
-    pub adverts : (server client : ℕ) → Has client (net.clients server) → net.adverts ≡ true → (network.state server).advs (64 + client) ≡ adverts_of network client
+    pub adverts : (server client : ℕ) → Has client (net.clients server) → net.adverts ≡ true
+        → (network.state server).advs (64 + client) ≡ adverts_of network client
     pub subs : (from to : ℕ) → Has to (net.links from) → (network.state to).subs from ≡ sent theory net (network.state from) from to
     pub advs : (from to : ℕ) → Has to (net.links from) → (network.state to).advs from ≡ sent_adverts theory net (network.state from) from to
 

@@ -47,7 +47,8 @@ module _ (theory : Theory) (net : Net theory) where
 
   -- the filters needed on a link: all that are held from elsewhere; under advertisement semantics those that overlap an advertisement held from there
   abbrev pub needed : ServerState theory → ℕ → ℕ → List theory.Filter
-  needed state server link = filter (λ f. not net.adverts || some_pass (theory.overlaps f) (state.advs link)) (union_except theory.before state.subs link (interfaces server))
+  needed state server link =
+      filter (λ f. not net.adverts || some_pass (theory.overlaps f) (state.advs link)) (union_except theory.before state.subs link (interfaces server))
 
   -- the filters sent on a link: the covering roots of those needed
   abbrev pub sent : ServerState theory → ℕ → ℕ → List theory.Filter
@@ -71,4 +72,5 @@ module _ (theory : Theory) (net : Net theory) where
 
   -- the messages to a link of a step that turns one state into another: of filters, then of advertisements
   abbrev pub messages_to : ServerState theory → ServerState theory → ℕ → ℕ → List (Message theory)
-  messages_to old new server link = filter_change (sent old server link) (sent new server link) ++ advert_change (sent_adverts old server link) (sent_adverts new server link)
+  messages_to old new server link =
+      filter_change (sent old server link) (sent new server link) ++ advert_change (sent_adverts old server link) (sent_adverts new server link)

@@ -23,35 +23,41 @@ pub data Work (theory : Theory) : Type 0 where
 module _ (theory : Theory) (net : Net theory) where
   -- a new set of filters is staged where it differs from the old
   abbrev pub with_filters : ServerState theory → ℕ → List theory.Filter → ServerState theory
-  with_filters state interface filters = record { subs = at state.subs interface filters; advs = state.advs; published = state.published; staged = state.staged || not (same_list theory.before (state.subs interface) filters); done = state.done; inbox = state.inbox }
+  with_filters state interface filters = record state {
+    subs = at state.subs interface filters;
+    staged = state.staged || not (same_list theory.before (state.subs interface) filters);
+  }
 
   -- advertisements stage nothing
   abbrev pub with_adverts : ServerState theory → ℕ → List theory.Advert → ServerState theory
-  with_adverts state interface adverts = record { subs = state.subs; advs = at state.advs interface adverts; published = state.published; staged = state.staged; done = state.done; inbox = state.inbox }
+  with_adverts state interface adverts = record state { advs = at state.advs interface adverts }
 
   -- each client of the server with a published filter that matches has the publication delivered
   abbrev pub with_deliveries : ServerState theory → ℕ → Publication theory → ServerState theory
-  with_deliveries state server publication = record {
-    subs = state.subs;
-    advs = state.advs;
-    published = state.published;
-    staged = state.staged;
-    done = state.done;
-    inbox = λ c. cond (is_among c (net.clients server) && some_pass (theory.matches publication.notice) (state.published (64 + c))) (state.inbox c ++ publication ∷ []) (state.inbox c);
+  with_deliveries state server publication = record state {
+    inbox = λ c. cond (is_among c (net.clients server) && some_pass (theory.matches publication.notice) (state.published (64 + c)))
+        (state.inbox c ++ publication ∷ [])
+        (state.inbox c);
   }
 
   -- a version publishes the filters that are held
   abbrev pub with_version : ServerState theory → ServerState theory
-  with_version state = record { subs = state.subs; advs = state.advs; published = state.subs; staged = false; done = state.done; inbox = state.inbox }
+  with_version state = record state { published = state.subs; staged = false }
 
   -- one more command of a client is taken
   abbrev pub with_command_taken : ServerState theory → ℕ → ServerState theory
-  with_command_taken state client = record { subs = state.subs; advs = state.advs; published = state.published; staged = state.staged; done = at state.done client (suc (state.done client)); inbox = state.inbox }
+  with_command_taken state client = record state { done = at state.done client (suc (state.done client)) }
 
   -- what a work makes of a server's state, with its messages: a notice goes to each interface but the one it came by that has a published filter that matches
   abbrev pub full_effect : ℕ → ServerState theory → Work theory → Outcome (ServerState theory) (Message theory)
-  full_effect server state (SetsFilters interface filters) = record { state = with_filters state interface filters; outs = messages_to theory net state (with_filters state interface filters) server }
-  full_effect server state (SetsAdverts interface adverts) = record { state = with_adverts state interface adverts; outs = messages_to theory net state (with_adverts state interface adverts) server }
+  full_effect server state (SetsFilters interface filters) = record {
+    state = with_filters state interface filters;
+    outs = messages_to theory net state (with_filters state interface filters) server;
+  }
+  full_effect server state (SetsAdverts interface adverts) = record {
+    state = with_adverts state interface adverts;
+    outs = messages_to theory net state (with_adverts state interface adverts) server;
+  }
   full_effect server state (Routes interface publisher ordinal notice) = record {
     state = with_deliveries state server (record { publisher = publisher; ordinal = ordinal; notice = notice });
     outs = λ l. cond (not (l == interface) && some_pass (theory.matches notice) (state.published l)) (Noticed publisher ordinal notice ∷ []) [];
@@ -61,16 +67,24 @@ module _ (theory : Theory) (net : Net theory) where
 
   -- the same; messages are put on links alone
   abbrev pub effect : ℕ → ServerState theory → Work theory → Outcome (ServerState theory) (Message theory)
-  effect server state work = record { state = (full_effect server state work).state; outs = λ l. cond (is_among l (net.links server)) ((full_effect server state work).outs l) [] }
+  effect server state work = record {
+    state = (full_effect server state work).state;
+    outs = λ l. cond (is_among l (net.links server)) ((full_effect server state work).outs l) [];
+  }
 
   -- what a client's next command comes to, after its first count commands
   abbrev pub command_work : ℕ → ℕ → Command theory → Work theory
   command_work client count (Subscribe f) = SetsFilters (64 + client) (filters_after theory [] (take (suc count) (net.script client)))
   command_work client count (Unsubscribe f) = SetsFilters (64 + client) (filters_after theory [] (take (suc count) (net.script client)))
-  command_work client count (Advertise a) = cond net.adverts (SetsAdverts (64 + client) (adverts_after theory [] (take (suc count) (net.script client)))) Nothing
-  command_work client count (Unadvertise a) = cond net.adverts (SetsAdverts (64 + client) (adverts_after theory [] (take (suc count) (net.script client)))) Nothing
+  command_work client count (Advertise a) =
+      cond net.adverts (SetsAdverts (64 + client) (adverts_after theory [] (take (suc count) (net.script client)))) Nothing
+  command_work client count (Unadvertise a) =
+      cond net.adverts (SetsAdverts (64 + client) (adverts_after theory [] (take (suc count) (net.script client)))) Nothing
   -- an accepted publish is routed, a refused one does nothing
-  command_work client count (Publish n) = cond (accepts theory net (adverts_after theory [] (take count (net.script client))) n) (Routes (64 + client) client (ordinal theory (take (suc count) (net.script client))) n) Nothing
+  command_work client count (Publish n) =
+      cond (accepts theory net (adverts_after theory [] (take count (net.script client))) n)
+      (Routes (64 + client) client (ordinal theory (take (suc count) (net.script client))) n)
+      Nothing
 
   -- what a message comes to: out are taken from what is held, and add added; a notice is routed
   abbrev pub message_work : ServerState theory → ℕ → Message theory → Work theory
@@ -85,17 +99,26 @@ module _ (theory : Theory) (net : Net theory) where
 
   -- what an input comes to at a server, where it is possible
   abbrev pub work_of : ℕ → ServerState theory → Input Task (Message theory) → Option (Work theory)
-  work_of server state (Does (NextCommand client)) = cond (is_among server net.servers && is_among client (net.clients server)) (next_work client (state.done client) (slice_get (net.script client) (state.done client))) None
+  work_of server state (Does (NextCommand client)) =
+      cond (is_among server net.servers && is_among client (net.clients server))
+      (next_work client (state.done client) (slice_get (net.script client) (state.done client)))
+      None
   work_of server state (Does Version) = cond (is_among server net.servers && state.staged) (Some ShowsVersion) None
-  work_of server state (Takes from message) = cond (is_among server net.servers && is_among from (net.links server)) (Some (message_work state from message)) None
+  work_of server state (Takes from message) =
+      cond (is_among server net.servers && is_among from (net.links server)) (Some (message_work state from message)) None
 
   -- the outcome of a next command, where there is one: the count rises and its work is done
   abbrev pub command_outcome : ℕ → ServerState theory → ℕ → Option (PhasedCommand theory) → Option (Outcome (ServerState theory) (Message theory))
   command_outcome server state client None = None
-  command_outcome server state client (Some next) = Some (effect server (with_command_taken state client) (command_work client (state.done client) next.command))
+  command_outcome server state client (Some next) =
+      Some (effect server (with_command_taken state client) (command_work client (state.done client) next.command))
 
   -- THE STEP OF ONE SERVER: a command of a client that lives there and has one left, a version where something is staged, or a message from a neighbour
   abbrev pub local_step : ℕ → ServerState theory → Input Task (Message theory) → Option (Outcome (ServerState theory) (Message theory))
-  local_step server state (Does (NextCommand client)) = cond (is_among server net.servers && is_among client (net.clients server)) (command_outcome server state client (slice_get (net.script client) (state.done client))) None
+  local_step server state (Does (NextCommand client)) =
+      cond (is_among server net.servers && is_among client (net.clients server))
+      (command_outcome server state client (slice_get (net.script client) (state.done client)))
+      None
   local_step server state (Does Version) = cond (is_among server net.servers && state.staged) (Some (effect server state ShowsVersion)) None
-  local_step server state (Takes from message) = cond (is_among server net.servers && is_among from (net.links server)) (Some (effect server state (message_work state from message))) None
+  local_step server state (Takes from message) =
+      cond (is_among server net.servers && is_among from (net.links server)) (Some (effect server state (message_work state from message))) None

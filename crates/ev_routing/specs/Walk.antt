@@ -21,7 +21,9 @@ module _ (theory : Theory) (net : Net theory) where
   -- of these clients of a server, each takes its commands one after the other
   abbrev pub client_turns : ℕ → List ℕ → List (ℕ × Act Task)
   client_turns server [] = []
-  client_turns server (client ∷ clients) = repeated (routing_machine theory net) (length (net.script client)) ((server, Did (NextCommand client)) ∷ []) ++ client_turns server clients
+  client_turns server (client ∷ clients) =
+      repeated (routing_machine theory net) (length (net.script client)) ((server, Did (NextCommand client)) ∷ [])
+      ++ client_turns server clients
 
   -- all commands, server by server
   abbrev pub command_turns : List ℕ → List (ℕ × Act Task)

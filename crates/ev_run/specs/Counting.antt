@@ -9,4 +9,14 @@ counting_step server sum (Takes from amount) = Some (record { state = sum + amou
 
 -- the machine
 abbrev pub counting : Machine
-counting = record { State = ℕ; Task = ℕ; Message = ℕ; links = λ t. []; step = counting_step; servers = []; phase = λ t s a. None; through = λ t s k. true; staged = λ t s. false }
+counting = record {
+  State = ℕ;
+  Task = ℕ;
+  Message = ℕ;
+  servers = [];
+  links = λ t. [];
+  step = counting_step;
+  phase = λ t s a. None;
+  through = λ t s k. true;
+  staged = λ t s. false;
+}

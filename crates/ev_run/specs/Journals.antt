@@ -1,5 +1,5 @@
 -- Journals of the single servers, and their merge.
-use Rattle.std.specs.Prelude.{◌≡◌, ℕ, suc, ◌≤◌, ◌<◌, ◌==◌, cond, List, [], ◌∷◌, ◌++◌, ◌⊎◌, length, Option, Some, None}
+use Rattle.std.specs.Prelude.{◌≡◌, ℕ, suc, ◌≤◌, ◌<◌, ◌==◌, true, false, cond, List, [], ◌∷◌, ◌++◌, ◌⊎◌, length, Option, Some, None}
 use Rattle.ev_run.specs.Machine.{Has, at, Machine, Input, Does, Takes, Outcome, Stamped, Entry, unstamped, next_stamp, stamped, entry_of, act_phase}
 use Rattle.ev_run.specs.Network.{NetworkState, IsStep}
 use Rattle.ev_run.specs.Runs.{greatest, raised, IsQuiet, IsThrough, IsRun}
@@ -39,16 +39,27 @@ module _ (machine : Machine) where
   abbrev pub IsReplay : ℕ → ℕ → Cell → List (Entry machine) → Cell → Type 0
   IsReplay phase server cell [] end = cell ≡ end
   IsReplay phase server cell (entry ∷ entries) end =
-      IsInPhase phase (act_phase machine server cell.state entry.act) × (input : Input machine.Task (Stamped machine.Message)) × (outcome : Outcome machine.State machine.Message) × (machine.step server cell.state (unstamped machine input) ≡ Some outcome) × (entry ≡ entry_of machine server cell.clock input outcome) × IsReplay phase server (cell_after cell input outcome) entries end
+      IsInPhase phase (act_phase machine server cell.state entry.act)
+      × (input : Input machine.Task (Stamped machine.Message)) × (outcome : Outcome machine.State machine.Message)
+      × (machine.step server cell.state (unstamped machine input) ≡ Some outcome)
+      × (entry ≡ entry_of machine server cell.clock input outcome)
+      × IsReplay phase server (cell_after cell input outcome) entries end
 
   -- steps of the network one after the other, within a phase
   abbrev pub IsPhaseRun : ℕ → NetworkState machine → List (Entry machine) → NetworkState machine → Type 0
   IsPhaseRun phase network [] end = network ≡ end
-  IsPhaseRun phase network (entry ∷ entries) end = (next : NetworkState machine) × IsInPhase phase (act_phase machine entry.server (network.state entry.server) entry.act) × IsStep machine network entry next × IsPhaseRun phase next entries end
+  IsPhaseRun phase network (entry ∷ entries) end = (next : NetworkState machine)
+      × IsInPhase phase (act_phase machine entry.server (network.state entry.server) entry.act)
+      × IsStep machine network entry next × IsPhaseRun phase next entries end
 
   -- the network of all cells
   abbrev pub network_of : (ℕ → Cell) → NetworkState machine
-  network_of cells = record { state = λ t. (cells t).state; clock = λ t. (cells t).clock; put = λ u t. (cells u).put t; taken = λ u t. length ((cells t).took u) }
+  network_of cells = record {
+    state = λ t. (cells t).state;
+    clock = λ t. (cells t).clock;
+    put = λ u t. (cells u).put t;
+    taken = λ u t. length ((cells t).took u);
+  }
 
   -- the entries of one server
   abbrev pub entries_of : ℕ → List (Entry machine) → List (Entry machine)
@@ -72,7 +83,22 @@ module _ (machine : Machine) where
   -- the entries of one server, with stamps that rise
   abbrev pub IsJournal : ℕ → List (Entry machine) → Type 0
   IsJournal server [] = Unit {0}
-  IsJournal server (entry ∷ entries) = (entry.server ≡ server) × ((other : Entry machine) → Has other entries → entry.stamp < other.stamp) × IsJournal server entries
+  IsJournal server (entry ∷ entries) = (entry.server ≡ server)
+      × ((other : Entry machine) → Has other entries → entry.stamp < other.stamp) × IsJournal server entries
+
+  -- journals of these servers: each has entries of its own server, with stamps that rise, and there is none of another server
+  pub record AreJournals (servers : List ℕ) (journals : ℕ → List (Entry machine)) : Type 0 where
+    pub own : (server : ℕ) → IsJournal server (journals server)
+    pub none : (server : ℕ) → (Has server servers → ⊥) → journals server ≡ []
+
+  -- journals have a merge
+  abbrev pub HaveMerge : (ℕ → List (Entry machine)) → Type 0
+  HaveMerge journals = (merged : List (Entry machine)) × IsMerge journals merged
+
+  -- states at which nothing is staged, and no command is of a phase below the first
+  pub record IsUntouched (start : ℕ → machine.State) : Type 0 where
+    pub calm : (server : ℕ) → Has server machine.servers → machine.staged server (start server) ≡ false
+    pub through : (server : ℕ) → Has server machine.servers → machine.through server (start server) 0 ≡ true
 
   -- the cells at the opening
   abbrev pub opening_cells : (ℕ → machine.State) → ℕ → Cell
@@ -80,10 +106,12 @@ module _ (machine : Machine) where
 
   -- cells that enter a phase, with their clocks raised
   abbrev pub entering : ℕ → (ℕ → Cell) → ℕ → Cell
-  entering clock cells server = record { state = (cells server).state; clock = clock; put = (cells server).put; took = (cells server).took }
+  entering clock cells server = record (cells server) { clock = clock }
 
-  -- a phase with all cells in hand: each server's journal of it replays from its cell to its cell after it, what each took of another is the beginning of what that put, and the journals have this merge
-  pub record IsPhaseInHand (phase : ℕ) (cells : ℕ → Cell) (journals : ℕ → List (Entry machine)) (merged : List (Entry machine)) (ends : ℕ → Cell) : Type 0 where
+  -- a phase with all cells in hand: each server's journal of it replays from its cell to its cell after it,
+  -- what each took of another is the beginning of what that put, and the journals have this merge
+  pub record IsPhaseInHand (phase : ℕ) (cells : ℕ → Cell) (journals : ℕ → List (Entry machine)) (merged : List (Entry machine))
+      (ends : ℕ → Cell) : Type 0 where
     pub merge : IsMerge journals merged
     pub replay : (server : ℕ) → IsReplay phase server (cells server) (journals server) (ends server)
     pub took : (from to : ℕ) → IsPrefix ((ends to).took from) ((ends from).put to)
@@ -94,7 +122,8 @@ module _ (machine : Machine) where
     pub through : IsThrough machine (network_of ends) (suc phase)
 
   -- between two phases: the entries so far are a run to w, they are the merge of the journals, and the cells stand at w with the clocks raised
-  pub record IsBetweenPhases (opening w : NetworkState machine) (last next : ℕ) (sofar : List (Entry machine)) (journals : ℕ → List (Entry machine)) (cells : ℕ → Cell) : Type 0 where
+  pub record IsBetweenPhases (opening w : NetworkState machine) (last next : ℕ) (sofar : List (Entry machine)) (journals : ℕ → List (Entry machine))
+      (cells : ℕ → Cell) : Type 0 where
     pub run : IsRun machine opening 0 sofar w last
     pub merge : IsMerge journals sofar
     pub low : (entry : Entry machine) → Has entry sofar → entry.stamp ≤ greatest machine w.clock machine.servers
@@ -102,3 +131,41 @@ module _ (machine : Machine) where
     pub quiet : IsQuiet machine w
     pub through : IsThrough machine w next
     pub phase : (last < next) ⊎ ((last ≡ next) × (raised machine w ≡ w))
+
+  -- states of servers at which nothing was done: no phase is done, no entry made, and the cells are those of the opening
+  abbrev pub StandsAtOpening : (ℕ → machine.State) → Type 0
+  StandsAtOpening start =
+      IsBetweenPhases (network_of (opening_cells start)) (network_of (opening_cells start)) 0 0 [] (λ server. []) (opening_cells start)
+
+  -- a network between two phases: where the run began and where it stands, the phase of its last command and the phase that is next, its entries, the
+  -- journals, and the cells
+  pub record BetweenPhases : Type 0 where
+    pub opening : NetworkState machine
+    pub network : NetworkState machine
+    pub last : ℕ
+    pub next : ℕ
+    pub sofar : List (Entry machine)
+    pub journals : ℕ → List (Entry machine)
+    pub cells : ℕ → Cell
+    pub stands : IsBetweenPhases opening network last next sofar journals cells
+
+  -- the next phase with all cells in hand: its journals, their merge, and the cells after it
+  pub record NextPhase (between : BetweenPhases) : Type 0 where
+    pub fresh : ℕ → List (Entry machine)
+    pub merged : List (Entry machine)
+    pub ends : ℕ → Cell
+    pub hand : IsPhaseInHand between.next between.cells fresh merged ends
+
+  -- with that phase the run has gone on to some state: its entries stand behind those so far, in all and in each journal, and the cells enter the phase
+  -- after it with their clocks raised
+  abbrev pub HasGoneOn : (between : BetweenPhases) → NextPhase between → Type 0
+  HasGoneOn between phase =
+      (end : NetworkState machine) × (now : ℕ)
+      × IsBetweenPhases between.opening end now (suc between.next) (between.sofar ++ phase.merged)
+      (λ server. between.journals server ++ phase.fresh server)
+      (entering (greatest machine (network_of phase.ends).clock machine.servers) phase.ends)
+
+  -- no clock of a server and no message that was put has a stamp above n
+  pub record HaveStampsUpTo (n : ℕ) (cells : ℕ → Cell) : Type 0 where
+    pub clocks : (server : ℕ) → Has server machine.servers → (cells server).clock ≤ n
+    pub puts : (from to : ℕ) (message : Stamped machine.Message) → Has message ((cells from).put to) → message.stamp ≤ n

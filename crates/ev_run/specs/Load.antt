@@ -1,8 +1,9 @@
 -- How far messages spread: what is on its way is weighed, and each taking makes it lighter.
-use Rattle.std.specs.Prelude.{◌≡◌, ℕ, suc, ◌*◌, ◌≤◌, ◌==◌, Bool, true, false, cond, List, [], length, drop, Some}
+use Rattle.std.specs.Prelude.{◌≡◌, ℕ, suc, ◌+◌, ◌*◌, ◌≤◌, ◌==◌, Bool, true, false, cond, List, [], length, drop, Some}
 use Rattle.ev_sets.specs.Numbers.{sum_over, count, IsDistinct}
-use Rattle.ev_run.specs.Machine.{Has, Machine, Input, Does, Takes, Outcome, Act, Did, Took, Entry}
+use Rattle.ev_run.specs.Machine.{Has, Machine, Input, Does, Takes, Made, Act, Did, Took, Entry}
 use Rattle.ev_run.specs.Network.{NetworkState}
+use Rattle.ev_run.specs.Runs.{IsWithinPuts, Run}
 
 -- the sum of the sizes but that of one
 abbrev pub other_sizes : (ℕ → ℕ) → ℕ → List ℕ → ℕ
@@ -30,20 +31,28 @@ module _ (machine : Machine) where
       pub apart : (a : ℕ) → Has a (machine.links a) → ⊥
       pub weighs : (a b : ℕ) → Has b (machine.links a) → measure.size a b ≡ suc (other_sizes (measure.size b) a (machine.links b))
       pub total : (t : ℕ) → Has t machine.servers → suc (sum_over (measure.size t) (machine.links t)) ≡ length machine.servers
-      pub among : (t : ℕ) (s : machine.State) (d : Input machine.Task machine.Message) (r : Outcome machine.State machine.Message) → machine.step t s d ≡ Some r → Has t machine.servers
+      pub among : (t : ℕ) (s : machine.State) (d : Input machine.Task machine.Message) (r : Made machine) → machine.step t s d ≡ Some r → Has t machine.servers
       -- a step puts at most one message on a link
-      pub one : (t : ℕ) (s : machine.State) (d : Input machine.Task machine.Message) (r : Outcome machine.State machine.Message) → machine.step t s d ≡ Some r → (v : ℕ) → Has v (machine.links t) → length (r.outs v) ≤ 1
-      pub from : (t : ℕ) (s : machine.State) (u : ℕ) (x : machine.Message) (r : Outcome machine.State machine.Message) → machine.step t s (Takes u x) ≡ Some r → Has u (machine.links t)
-      pub silent : (t : ℕ) (s : machine.State) (a : machine.Task) (r : Outcome machine.State machine.Message) → machine.step t s (Does a) ≡ Some r → measure.version a ≡ true → (v : ℕ) → r.outs v ≡ []
+      pub one : (t : ℕ) (s : machine.State) (d : Input machine.Task machine.Message) (r : Made machine) → machine.step t s d ≡ Some r
+          → (v : ℕ) → Has v (machine.links t) → length (r.outs v) ≤ 1
+      pub from : (t : ℕ) (s : machine.State) (u : ℕ) (x : machine.Message) (r : Made machine) → machine.step t s (Takes u x) ≡ Some r → Has u (machine.links t)
+      pub silent : (t : ℕ) (s : machine.State) (a : machine.Task) (r : Made machine) → machine.step t s (Does a) ≡ Some r
+          → measure.version a ≡ true → (v : ℕ) → r.outs v ≡ []
       -- a plain message makes plain ones, and none back
-      pub back : (t : ℕ) (s : machine.State) (u : ℕ) (x : machine.Message) (r : Outcome machine.State machine.Message) → machine.step t s (Takes u x) ≡ Some r → measure.wide x ≡ false → r.outs u ≡ []
-      pub plain : (t : ℕ) (s : machine.State) (u : ℕ) (x : machine.Message) (r : Outcome machine.State machine.Message) → machine.step t s (Takes u x) ≡ Some r → measure.wide x ≡ false → (v : ℕ) (y : machine.Message) → Has y (r.outs v) → measure.wide y ≡ false
+      pub back : (t : ℕ) (s : machine.State) (u : ℕ) (x : machine.Message) (r : Made machine) → machine.step t s (Takes u x) ≡ Some r
+          → measure.wide x ≡ false → r.outs u ≡ []
+      pub plain : (t : ℕ) (s : machine.State) (u : ℕ) (x : machine.Message) (r : Made machine) → machine.step t s (Takes u x) ≡ Some r
+          → measure.wide x ≡ false → (v : ℕ) (y : machine.Message) → Has y (r.outs v) → measure.wide y ≡ false
       -- a wide one makes a plain one back
-      pub back_plain : (t : ℕ) (s : machine.State) (u : ℕ) (x : machine.Message) (r : Outcome machine.State machine.Message) → machine.step t s (Takes u x) ≡ Some r → (y : machine.Message) → Has y (r.outs u) → measure.wide y ≡ false
+      pub back_plain : (t : ℕ) (s : machine.State) (u : ℕ) (x : machine.Message) (r : Made machine) → machine.step t s (Takes u x) ≡ Some r
+          → (y : machine.Message) → Has y (r.outs u) → measure.wide y ≡ false
       -- a version publishes what is staged, another task takes a command
-      pub clears : (t : ℕ) (s : machine.State) (a : machine.Task) (r : Outcome machine.State machine.Message) → machine.step t s (Does a) ≡ Some r → measure.version a ≡ true → (machine.staged t s ≡ true) × (machine.staged t r.state ≡ false)
-      pub uses : (t : ℕ) (s : machine.State) (a : machine.Task) (r : Outcome machine.State machine.Message) → machine.step t s (Does a) ≡ Some r → measure.version a ≡ false → suc (measure.left t r.state) ≤ measure.left t s
-      pub keeps : (t : ℕ) (s : machine.State) (d : Input machine.Task machine.Message) (r : Outcome machine.State machine.Message) → machine.step t s d ≡ Some r → measure.left t r.state ≤ measure.left t s
+      pub clears : (t : ℕ) (s : machine.State) (a : machine.Task) (r : Made machine) → machine.step t s (Does a) ≡ Some r
+          → measure.version a ≡ true → (machine.staged t s ≡ true) × (machine.staged t r.state ≡ false)
+      pub uses : (t : ℕ) (s : machine.State) (a : machine.Task) (r : Made machine) → machine.step t s (Does a) ≡ Some r
+          → measure.version a ≡ false → suc (measure.left t r.state) ≤ measure.left t s
+      pub keeps : (t : ℕ) (s : machine.State) (d : Input machine.Task machine.Message) (r : Made machine) → machine.step t s d ≡ Some r
+          → measure.left t r.state ≤ measure.left t s
 
     -- the commands that are left
     abbrev pub remaining : NetworkState machine → ℕ
@@ -95,3 +104,14 @@ module _ (machine : Machine) where
     -- how many are commands
     abbrev pub commands : List (Entry machine) → ℕ
     commands entries = sum_over (λ entry. count (is_command entry.act)) entries
+
+    -- a run that begins with nothing on its way and nothing staged
+    pub record BeginsQuiet (run : Run machine) : Type 0 where
+      pub within : IsWithinPuts machine run.start
+      pub light : load run.start ≡ 0
+      pub calm : staged_count run.start ≡ 0
+
+    -- the commands of these entries and the number of servers bound how many of them are takings, and how many there are
+    pub record IsBoundedByCommands (entries : List (Entry machine)) : Type 0 where
+      pub of_takings : takings entries ≤ commands entries * (length machine.servers * length machine.servers)
+      pub of_all : length entries ≤ 2 * (commands entries * (length machine.servers * length machine.servers + 1))

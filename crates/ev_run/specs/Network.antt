@@ -1,6 +1,6 @@
 -- The state of a network, and the step of one of its servers as a step of the network.
 use Rattle.std.specs.Prelude.{◌≡◌, ℕ, suc, ◌==◌, cond, ◌&&◌, List, [], ◌++◌, slice_get, Option, Some, None}
-use Rattle.ev_run.specs.Machine.{at, Act, Did, Took, Machine, Input, Does, Takes, Outcome, Stamped, Entry, unstamped, next_stamp, stamped, entry_of}
+use Rattle.ev_run.specs.Machine.{at, Act, Did, Took, Machine, Input, Does, Takes, Outcome, Made, Stamped, Entry, unstamped, next_stamp, stamped, entry_of}
 
 module _ (machine : Machine) where
   -- of each server its state and clock; of each directed link the messages put, and how many of them were taken
@@ -27,14 +27,19 @@ module _ (machine : Machine) where
   network_after network server input outcome = record {
     state = at network.state server outcome.state;
     clock = at network.clock server (next_stamp machine (network.clock server) input);
-    put = λ a b. cond (a == server) (network.put a b ++ stamped machine (next_stamp machine (network.clock server) input) (outcome.outs b)) (network.put a b);
+    put = λ a b. cond (a == server)
+        (network.put a b ++ stamped machine (next_stamp machine (network.clock server) input) (outcome.outs b))
+        (network.put a b);
     taken = taken_after network.taken server input;
   }
 
   -- an entry leads from one state of the network to the next: its server makes the step that it tells
   abbrev pub IsStep : NetworkState → Entry machine → NetworkState → Type 0
   IsStep network entry next =
-      (input : Input machine.Task (Stamped machine.Message)) × (outcome : Outcome machine.State machine.Message) × (machine.step entry.server (network.state entry.server) (unstamped machine input) ≡ Some outcome) × (entry ≡ entry_of machine entry.server (network.clock entry.server) input outcome) × IsAvailable network entry.server input × (network_after network entry.server input outcome ≡ next)
+      (input : Input machine.Task (Stamped machine.Message)) × (outcome : Outcome machine.State machine.Message)
+      × (machine.step entry.server (network.state entry.server) (unstamped machine input) ≡ Some outcome)
+      × (entry ≡ entry_of machine entry.server (network.clock entry.server) input outcome)
+      × IsAvailable network entry.server input × (network_after network entry.server input outcome ≡ next)
 
   -- the taking of a message from a neighbour, where there is one
   abbrev pub taking_of : ℕ → Option (Stamped machine.Message) → Option (Input machine.Task (Stamped machine.Message))
@@ -45,6 +50,26 @@ module _ (machine : Machine) where
   abbrev pub input_of : NetworkState → ℕ → Act machine.Task → Option (Input machine.Task (Stamped machine.Message))
   input_of network server (Did task) = Some (Does task)
   input_of network server (Took from) = taking_of from (slice_get (network.put from server) (network.taken from server))
+
+  -- an act of a server that is possible: the input that it stands for, and the outcome of that
+  pub record PossibleAct (network : NetworkState) (server : ℕ) (act : Act machine.Task) : Type 0 where
+    pub input : Input machine.Task (Stamped machine.Message)
+    pub outcome : Made machine
+    pub stands : input_of network server act ≡ Some input
+    pub steps : machine.step server (network.state server) (unstamped machine input) ≡ Some outcome
+
+  -- a taking that is possible: a server takes the next message of a link, with this outcome
+  pub record PossibleTaking (network : NetworkState) : Type 0 where
+    pub server : ℕ
+    pub from : ℕ
+    pub message : Stamped machine.Message
+    pub outcome : Made machine
+    pub next : IsAvailable network server (Takes from message)
+    pub steps : machine.step server (network.state server) (Takes from message.message) ≡ Some outcome
+
+  -- the network after it
+  abbrev pub after_taking : (network : NetworkState) → PossibleTaking network → NetworkState
+  after_taking network taking = network_after network taking.server (Takes taking.from taking.message) taking.outcome
 
   -- the outcome of an input of a server, where there is one
   abbrev pub outcome_of : NetworkState → ℕ → Option (Input machine.Task (Stamped machine.Message)) → Option (Outcome machine.State machine.Message)
@@ -79,7 +104,7 @@ module _ (machine : Machine) where
   turn network server act = after_input network server (input_of network server act)
 
   -- the entry of an outcome, where there is one
-  abbrev pub entry_given : NetworkState → ℕ → Input machine.Task (Stamped machine.Message) → Option (Outcome machine.State machine.Message) → Option (Entry machine)
+  abbrev pub entry_given : NetworkState → ℕ → Input machine.Task (Stamped machine.Message) → Option (Made machine) → Option (Entry machine)
   entry_given network server input None = None
   entry_given network server input (Some outcome) = Some (entry_of machine server (network.clock server) input outcome)
 

@@ -11,7 +11,7 @@ module _ (machine : Machine) where
 
   -- every clock is raised to the greatest
   abbrev pub raised : NetworkState machine → NetworkState machine
-  raised network = record { state = network.state; clock = λ server. greatest network.clock machine.servers; put = network.put; taken = network.taken }
+  raised network = record network { clock = λ server. greatest network.clock machine.servers }
 
   -- all links are empty and nothing is staged
   pub record IsQuiet (network : NetworkState machine) : Type 0 where
@@ -27,10 +27,12 @@ module _ (machine : Machine) where
   -- what is no command is always ready
   IsReady network last None found next = (network ≡ found) × (last ≡ next)
   -- a command of the same phase is ready; one of a later phase where all is taken and quiet, and then the clocks are raised
-  IsReady network last (Some phase) found next = (phase ≡ next) × (((last ≡ phase) × (network ≡ found)) ⊎ ((last < phase) × IsThrough network phase × IsQuiet network × (raised network ≡ found)))
+  IsReady network last (Some phase) found next = (phase ≡ next)
+      × (((last ≡ phase) × (network ≡ found)) ⊎ ((last < phase) × IsThrough network phase × IsQuiet network × (raised network ≡ found)))
 
   -- a turn is permitted: the rule of phases lets its act, and the act is possible; it makes this entry and leads to this state and phase
-  pub record IsPermitted (network : NetworkState machine) (last server : ℕ) (act : Act machine.Task) (entry : Entry machine) (next : NetworkState machine) (now : ℕ) : Type 0 where
+  pub record IsPermitted (network : NetworkState machine) (last server : ℕ) (act : Act machine.Task) (entry : Entry machine)
+      (next : NetworkState machine) (now : ℕ) : Type 0 where
     pub found : NetworkState machine
     pub ready : IsReady network last (act_phase machine server (network.state server) act) found now
     pub possible : entry_at machine found server act ≡ Some entry
@@ -40,14 +42,34 @@ module _ (machine : Machine) where
   abbrev pub IsRun : NetworkState machine → ℕ → List (Entry machine) → NetworkState machine → ℕ → Type 0
   IsRun network last [] end phase = (network ≡ end) × (last ≡ phase)
   IsRun network last (entry ∷ entries) end phase =
-      (found next : NetworkState machine) × (now : ℕ) × IsReady network last (act_phase machine entry.server (network.state entry.server) entry.act) found now × IsStep machine found entry next × IsRun next now entries end phase
+      (found next : NetworkState machine) × (now : ℕ)
+      × IsReady network last (act_phase machine entry.server (network.state entry.server) entry.act) found now
+      × IsStep machine found entry next × IsRun next now entries end phase
+
+  -- a legal run with its ends: the state at its start and the phase of the last command before it, its entries, and the state and phase at its end
+  pub record Run : Type 0 where
+    pub start : NetworkState machine
+    pub first : ℕ
+    pub entries : List (Entry machine)
+    pub end : NetworkState machine
+    pub last : ℕ
+    pub legal : IsRun start first entries end last
+
+  -- some entries are a run from the start to a state between, and the rest is a run from there to the end
+  pub record IsRunInTwo (start : NetworkState machine) (first : ℕ) (entries rest : List (Entry machine)) (end : NetworkState machine) (last : ℕ) : Type 0 where
+    pub middle : NetworkState machine
+    pub now : ℕ
+    pub begins : IsRun start first entries middle now
+    pub goes_on : IsRun middle now rest end last
 
   -- what is asked of a machine
   pub record MachineLaws : Type 0 where
     -- only its servers make steps
-    pub among : (server : ℕ) (state : machine.State) (input : Input machine.Task machine.Message) (outcome : Outcome machine.State machine.Message) → machine.step server state input ≡ Some outcome → Has server machine.servers
+    pub among : (server : ℕ) (state : machine.State) (input : Input machine.Task machine.Message) (outcome : Outcome machine.State machine.Message)
+        → machine.step server state input ≡ Some outcome → Has server machine.servers
     -- a task that is no command needs something staged
-    pub version : (server : ℕ) (state : machine.State) (task : machine.Task) (outcome : Outcome machine.State machine.Message) → machine.step server state (Does task) ≡ Some outcome → machine.phase server state task ≡ None → machine.staged server state ≡ true
+    pub version : (server : ℕ) (state : machine.State) (task : machine.Task) (outcome : Outcome machine.State machine.Message)
+        → machine.step server state (Does task) ≡ Some outcome → machine.phase server state task ≡ None → machine.staged server state ≡ true
 
   -- no clock and no message has a stamp above n
   pub record HasStampsUpTo (n : ℕ) (network : NetworkState machine) : Type 0 where

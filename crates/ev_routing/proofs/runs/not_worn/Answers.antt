@@ -1,8 +1,17 @@
-use Rattle.std.proofs.Common.{arith}
+use Rattle.std.proofs.Common.{sym, subst, arith}
+use Rattle.ev_run.specs.Runs.{HasStampsUpTo}
+use Rattle.ev_routing.specs.Theory.{Theory}
+use Rattle.ev_routing.specs.Net.{Net}
 use Rattle.ev_routing.specs.Routing.{opening, routing_machine}
 use Rattle.ev_routing.proofs.Laws.{machine-laws}
 use Rattle.ev_run.proofs.Phases.{not-worn}
 use Rattle.ev_routing.proofs.runs.not_worn.Goals as goal
 
+low : (th : Theory) (net : Net th) → HasStampsUpTo (routing_machine th net) 0 (opening th net)
+low th net = record { clocks = λ t. omega arith; puts = λ u t s i. absurd i }
+
 pub returns : goal.returns
-returns hold c net w last phase sofar journals cells stands fresh merged ends hand server h = (not-worn (routing_machine hold.M.Matching.theory net) (machine-laws hold.M.Matching.theory net) (opening hold.M.Matching.theory net) w last phase sofar journals cells stands fresh merged ends hand.merge hand.replay (record { clocks = λ t. omega arith; puts = λ u t s i. absurd i }) hand.took).0 server h
+returns hold c net between begins phase =
+    let at = subst (HasStampsUpTo (routing_machine hold.M.Matching.theory net) 0) (sym begins) (low hold.M.Matching.theory net) in
+    let n = not-worn (routing_machine hold.M.Matching.theory net) (machine-laws hold.M.Matching.theory net) between.opening between.network between.last between.next between.sofar between.journals between.cells between.stands phase.fresh phase.merged phase.ends phase.hand.merge phase.hand.replay at phase.hand.took in
+    record { clocks = n.0; puts = n.1 }

@@ -17,7 +17,7 @@ in_or_out t (x ∷ xs) = go (compare t x) (in_or_out t xs)
 
 pub returns : goal.returns
 returns hold c = record {
-  some = λ net d journals j none. (let ys = merge-some (routing_machine hold.M.Matching.theory net) net.servers d journals j in
-      (ys.0, record { order = ys.1; parts = λ t. elim (in_or_out t net.servers) [ inl h ↦ ys.3 t h | inr n ↦ ys.4 t n ∙ sym (none t n) ] }));
+  some = λ net d journals j. (let ys = merge-some (routing_machine hold.M.Matching.theory net) net.servers d journals j.own in
+      (ys.0, record { order = ys.1; parts = λ t. elim (in_or_out t net.servers) [ inl h ↦ ys.3 t h | inr n ↦ ys.4 t n ∙ sym (j.none t n) ] }));
   once = λ net journals xs ys a b. merge-once (routing_machine hold.M.Matching.theory net) xs ys a.order b.order (λ t. a.parts t ∙ sym (b.parts t));
 }
