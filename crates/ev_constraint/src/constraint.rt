@@ -65,8 +65,11 @@ impl Constraint {
         ensures ok { IsOk result ↔ IsTest kind op operand }
         ensures bad_op { IsErrOf result BadConstraint.BadOp ↔ (has_op kind op ≡ false) }
         ensures operand { IsErrOf result BadConstraint.Operand ↔ ((has_op kind op ≡ true) × (is_misplaced op operand ≡ true)) }
-        ensures wrong_kind { IsErrOf result BadConstraint.WrongKind ↔ ((has_op kind op ≡ true) × (is_misplaced op operand ≡ false) × (is_of_other_kind kind operand ≡ true)) }
-        ensures empty_pattern { IsErrOf result BadConstraint.EmptyPattern ↔ ((has_op kind op ≡ true) × (is_misplaced op operand ≡ false) × (is_of_other_kind kind operand ≡ false) × (is_empty_pattern op operand ≡ true)) }
+        ensures wrong_kind { IsErrOf result BadConstraint.WrongKind
+            ↔ ((has_op kind op ≡ true) × (is_misplaced op operand ≡ false) × (is_of_other_kind kind operand ≡ true)) }
+        ensures empty_pattern { IsErrOf result BadConstraint.EmptyPattern
+            ↔ ((has_op kind op ≡ true) × (is_misplaced op operand ≡ false) × (is_of_other_kind kind operand ≡ false)
+            × (is_empty_pattern op operand ≡ true)) }
         ensures answer { MatchResult result (λ _. fault_of kind op operand ≡ None) (λ e. fault_of kind op operand ≡ Some e) }
     {
         if !has_op(kind, op) {

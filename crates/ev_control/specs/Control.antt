@@ -79,12 +79,15 @@ abbrev pub texts : (ℕ → List (Message real)) → List ℕ → List Sent
 texts messages links = flat_map (λ link. map (sent_to link) (messages link)) links
 
 -- the filters sent on a link that offers these advertisements, once these are withdrawn from an interface
-abbrev pub filters_left : Semantics → ℕ → ℕ → List (List ConstraintParts) → List (List ConstraintParts) → List (Held (List ConstraintParts)) → List (List ConstraintParts)
-filters_left semantics interface link offered out pairs = roots real.covers real.before (left_for real.before interface link out (is_wanted semantics offered) pairs)
+abbrev pub filters_left : Semantics → ℕ → ℕ → List (List ConstraintParts) → List (List ConstraintParts) → List (Held (List ConstraintParts))
+    → List (List ConstraintParts)
+filters_left semantics interface link offered out pairs =
+    roots real.covers real.before (left_for real.before interface link out (is_wanted semantics offered) pairs)
 
 -- the advertisements sent on a link once these are withdrawn from an interface
 abbrev pub adverts_left : ℕ → ℕ → List (List ConstraintParts) → List (Held (List ConstraintParts)) → List (List ConstraintParts)
-adverts_left interface link out pairs = roots real.covers_advert real.before_advert (held_by_others real.before_advert link (stays real.before_advert interface link out pairs) pairs)
+adverts_left interface link out pairs = roots real.covers_advert real.before_advert
+    (held_by_others real.before_advert link (stays real.before_advert interface link out pairs) pairs)
 
 -- the text of bytes, if there are any, to a link
 abbrev pub text_to : ℕ → Option (List ℕ) → List Sent

@@ -14,7 +14,9 @@ ghost use Rattle.ev_wire.specs.declared.sent.Sent.{Sent};
 ghost use Rattle.ev_wire.specs.MessageText.{IsMessageText};
 ghost use Rattle.ev_routing.specs.Clients.{some_pass};
 ghost use Rattle.ev_control.specs.Stock.{named, AreLive, stays, held_without};
-ghost use Rattle.ev_control.specs.Control.{is_wanted, filter_change, advert_change, sent_to, text_to, HaveTexts, filters_left, adverts_left, filters_turn, adverts_turn, filter_messages, advert_messages, filters_to, adverts_to};
+ghost use Rattle.ev_control.specs.Control.{is_wanted, filter_change, advert_change, sent_to, text_to, HaveTexts, filters_left};
+ghost use Rattle.ev_control.specs.Control.{adverts_left, filters_turn, adverts_turn, filter_messages, advert_messages, filters_to};
+ghost use Rattle.ev_control.specs.Control.{adverts_to};
 
 use crate::stock::Stock;
 use ev_cover::{Ad, Sub};
@@ -62,7 +64,8 @@ fn is_left(
     filter: &Sub,
 ) -> bool
     requires { AreLive adverts.now.pool offered.now }
-    ensures { result ≡ stays list_before interface link out.now filters.now.pairs filter.now && is_wanted semantics (named adverts.now.pool offered.now) filter.now }
+    ensures { result ≡ stays list_before interface link out.now filters.now.pairs filter.now
+        && is_wanted semantics (named adverts.now.pool offered.now) filter.now }
 {
     filters.stays(interface, link, out, filter) && is_wanted(semantics, adverts, offered, filter)
 }
@@ -79,7 +82,8 @@ fn filter_row(
     out: &[Sub],
 ) -> Result<Vec<Key>, NoMemory>
     requires { AreLive adverts.now.pool offered.now }
-    ensures { IfOk result (λ row. Names filters.now.pool row.items (filters_left semantics interface link (named adverts.now.pool offered.now) out.now filters.now.pairs)) }
+    ensures { IfOk result (λ row. Names filters.now.pool row.items
+        (filters_left semantics interface link (named adverts.now.pool offered.now) out.now filters.now.pairs)) }
 {
     filters.roots(
         link,
@@ -117,8 +121,11 @@ fn filter_text(
     out: &[Sub],
     add: &[Sub],
 ) -> Result<Option<Bytes>, NoMemory>
-    ensures change { IfOk result (λ text. text_to link text ≡ map (sent_to link) (filters_turn semantics interface link (held_without list_before link [] adverts.now.pairs) (held_without list_before link [] adverts.now.pairs) out.now add.now filters.now.pairs)) }
-    ensures text { OnOk result (HaveTexts (filters_turn semantics interface link (held_without list_before link [] adverts.now.pairs) (held_without list_before link [] adverts.now.pairs) out.now add.now filters.now.pairs)) }
+    ensures change { IfOk result (λ text. text_to link text
+        ≡ map (sent_to link) (filters_turn semantics interface link (held_without list_before link [] adverts.now.pairs)
+        (held_without list_before link [] adverts.now.pairs) out.now add.now filters.now.pairs)) }
+    ensures text { OnOk result (HaveTexts (filters_turn semantics interface link (held_without list_before link [] adverts.now.pairs)
+        (held_without list_before link [] adverts.now.pairs) out.now add.now filters.now.pairs)) }
 {
     let offered = adverts.kept(link, &[])?;
     let before = filter_row(semantics, filters, adverts, &offered, interface, link, add)?;
@@ -136,8 +143,11 @@ fn offer_text(
     out: &[Ad],
     add: &[Ad],
 ) -> Result<Option<Bytes>, NoMemory>
-    ensures change { IfOk result (λ text. text_to link text ≡ map (sent_to link) (filters_turn semantics link link (held_without list_before link add.now adverts.now.pairs) (held_without list_before link out.now adverts.now.pairs) [] [] filters.now.pairs)) }
-    ensures text { OnOk result (HaveTexts (filters_turn semantics link link (held_without list_before link add.now adverts.now.pairs) (held_without list_before link out.now adverts.now.pairs) [] [] filters.now.pairs)) }
+    ensures change { IfOk result (λ text. text_to link text
+        ≡ map (sent_to link) (filters_turn semantics link link (held_without list_before link add.now adverts.now.pairs)
+        (held_without list_before link out.now adverts.now.pairs) [] [] filters.now.pairs)) }
+    ensures text { OnOk result (HaveTexts (filters_turn semantics link link (held_without list_before link add.now adverts.now.pairs)
+        (held_without list_before link out.now adverts.now.pairs) [] [] filters.now.pairs)) }
 {
     let offered = adverts.kept(link, add)?;
     let before = filter_row(semantics, filters, adverts, &offered, link, link, &[])?;
@@ -209,7 +219,8 @@ fn filter_differences(
     add: &[Sub],
 ) -> Result<Vec<Difference>, NoMemory>
     ensures { IfOk result (λ found. (link : ℕ) → list_any (differs link) found.items ≡ false
-        → filters_turn semantics interface link (held_without list_before link [] adverts.now.pairs) (held_without list_before link [] adverts.now.pairs) out.now add.now filters.now.pairs ≡ []) }
+        → filters_turn semantics interface link (held_without list_before link [] adverts.now.pairs)
+        (held_without list_before link [] adverts.now.pairs) out.now add.now filters.now.pairs ≡ []) }
 {
     let _ = adverts;
     if links.len() <= FEW_LINKS {
@@ -230,7 +241,8 @@ fn advert_differences(
     out: &[Ad],
     add: &[Ad],
 ) -> Result<Vec<Difference>, NoMemory>
-    ensures { IfOk result (λ found. (link : ℕ) → list_any (differs link) found.items ≡ false → adverts_turn interface link out.now add.now adverts.now.pairs ≡ []) }
+    ensures { IfOk result (λ found. (link : ℕ) → list_any (differs link) found.items ≡ false
+        → adverts_turn interface link out.now add.now adverts.now.pairs ≡ []) }
 {
     if links.len() <= FEW_LINKS {
         return each_may_differ(Vec::new(alloc));

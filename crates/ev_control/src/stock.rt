@@ -1,5 +1,6 @@
 //! The items that interfaces hold: a pool of them, and the pairs of a key and an interface.
-ghost use Rattle.std.specs.Prelude.{◌≡◌, ◌≢◌, ◌<◌, ◌^◌, ◌⊎◌, ◌↔◌, ℕ, ◌==◌, not, ◌||◌, ◌&&◌, Bool, true, false, cond, length, List, [], IfSome, IfNone, IfOk, OnOk, OnErr, MatchOption};
+ghost use Rattle.std.specs.Prelude.{◌≡◌, ◌≢◌, ◌<◌, ◌^◌, ◌⊎◌, ◌↔◌, ℕ, ◌==◌, not, ◌||◌, ◌&&◌, Bool, true, false, cond, length, List, []};
+ghost use Rattle.std.specs.Prelude.{IfSome, IfNone, IfOk, OnOk, OnErr, MatchOption};
 ghost use Rattle.std.specs.Fn.{FnReturnsAt};
 ghost use Rattle.std.specs.List.{list_any};
 ghost use Rattle.ev_sets.specs.Sets.{Has, IsRising, roots, minus, same};
@@ -206,7 +207,8 @@ impl<T: Item> Stock<T> {
     fn standings(&self, interface: u32, out: &[T]) -> Result<Vec<Standing>, NoMemory>
         ghost passes: { ℕ → T → Bool }
         requires { (l : ℕ) (x : T) → passes l x ≡ stays T.order interface l out.now self.now.pairs x }
-        ensures { IfOk result (λ standings. (l : ℕ) → AreOf self.now.pool (is_root_for standings.items l) (roots T.covering T.order (held_by_others T.order l (passes l) self.now.pairs))) }
+        ensures { IfOk result (λ standings. (l : ℕ)
+            → AreOf self.now.pool (is_root_for standings.items l) (roots T.covering T.order (held_by_others T.order l (passes l) self.now.pairs))) }
     {
         self.pool.items_are_distinct();
         let marks = self.marks(out)?;
@@ -225,7 +227,8 @@ impl<T: Item> Stock<T> {
         ghost passes: { ℕ → List T → T → Bool }
         requires { (l : ℕ) (items : List T) (x : T) → passes l items x ≡ stays T.order interface l items self.now.pairs x }
         ensures { IfOk result (λ found. (l : ℕ) → list_any (differs l) found.items ≡ false
-            → roots T.covering T.order (held_by_others T.order l (passes l first.now) self.now.pairs) ≡ roots T.covering T.order (held_by_others T.order l (passes l second.now) self.now.pairs)) }
+            → roots T.covering T.order (held_by_others T.order l (passes l first.now) self.now.pairs)
+            ≡ roots T.covering T.order (held_by_others T.order l (passes l second.now) self.now.pairs)) }
     {
         let old = self.standings(interface, first)?;
         let new = self.standings(interface, second)?;
@@ -287,7 +290,8 @@ impl<T: Item> Stock<T> {
     fn lost(&self, from: &[Key], to: &[Key]) -> Result<Vec<T>, NoMemory>
         requires from { (old : List T) × Names self.now.pool from.now old }
         requires to { IsRow T.order self.now.pool.slots to.now }
-        ensures { IfOk result (λ items. (old new : List T) → Names self.now.pool from.now old → Names self.now.pool to.now new → items.items ≡ minus T.order old new) }
+        ensures { IfOk result (λ items. (old new : List T) → Names self.now.pool from.now old → Names self.now.pool to.now new
+            → items.items ≡ minus T.order old new) }
     {
         self.pool.items_are_distinct();
         let mut items = Vec::new(self.alloc);
@@ -309,7 +313,10 @@ impl<T: Item> Stock<T> {
         requires to { AreLive self.now.pool to.now }
         requires from_rises { IsRising T.order (named self.now.pool from.now) }
         requires to_rises { IsRising T.order (named self.now.pool to.now) }
-        ensures { IfOk result (λ text. MatchOption text (named self.now.pool from.now ≡ named self.now.pool to.now) (λ text. (named self.now.pool from.now ≢ named self.now.pool to.now) × IsMessageText text.items (T.change (minus T.order (named self.now.pool from.now) (named self.now.pool to.now)) (minus T.order (named self.now.pool to.now) (named self.now.pool from.now))))) }
+        ensures { IfOk result (λ text. MatchOption text (named self.now.pool from.now ≡ named self.now.pool to.now)
+            (λ text. (named self.now.pool from.now ≢ named self.now.pool to.now)
+            × IsMessageText text.items (T.change (minus T.order (named self.now.pool from.now) (named self.now.pool to.now))
+            (minus T.order (named self.now.pool to.now) (named self.now.pool from.now))))) }
     {
         let out = self.lost(from, to)?;
         let add = self.lost(to, from)?;

@@ -1,5 +1,6 @@
 -- The places of a table in the order of their pairs, and its free places.
-use Rattle.std.specs.Prelude.{◌≡◌, ◌≢◌, ◌<◌, ◌≤◌, ◌^◌, slice_set, ◌==◌, ◌&&◌, ◌||◌, ℕ, Bool, true, false, nat_lt, List, length, slice_index_or, Some, None, IsSome}
+use Rattle.std.specs.Prelude.{◌≡◌, ◌≢◌, ◌<◌, ◌≤◌, ◌^◌, slice_set, ◌==◌, ◌&&◌, ◌||◌, ℕ, Bool, true, false, nat_lt, List, length}
+use Rattle.std.specs.Prelude.{slice_index_or, Some, None, IsSome}
 use Rattle.std.specs.List.{Contains}
 use Rattle.ev_notice.specs.Before.{list_before}
 use Rattle.ev_counting.specs.Table.{Held}

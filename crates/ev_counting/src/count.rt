@@ -15,9 +15,14 @@ fn count_hit(goal: Goal, id: usize, base: u32, counts: &mut [u32], marks: &mut [
     requires short { goal.constraints ≤ 16 }
     requires fits { base + 16 < 2 ^ 32 }
     requires few { is_marked (counts_of base counts.old marks.old) goal.place ≡ false → count_at (counts_of base counts.old marks.old) id < goal.constraints }
-    ensures passed { is_marked (counts_of base counts.old marks.old) goal.place ≡ true → (result ≡ false) × (counts_of base counts.new marks.new ≡ counts_of base counts.old marks.old) }
-    ensures part { is_marked (counts_of base counts.old marks.old) goal.place ≡ false → result ≡ false → (counts_of base counts.new marks.new ≡ counted (counts_of base counts.old marks.old) id) × (count_at (counts_of base counts.old marks.old) id + 1 < goal.constraints) }
-    ensures full { is_marked (counts_of base counts.old marks.old) goal.place ≡ false → result ≡ true → (counts_of base counts.new marks.new ≡ marked (counted (counts_of base counts.old marks.old) id) goal.place) × (count_at (counts_of base counts.old marks.old) id + 1 ≡ goal.constraints) }
+    ensures passed { is_marked (counts_of base counts.old marks.old) goal.place ≡ true
+        → (result ≡ false) × (counts_of base counts.new marks.new ≡ counts_of base counts.old marks.old) }
+    ensures part { is_marked (counts_of base counts.old marks.old) goal.place ≡ false → result ≡ false
+        → (counts_of base counts.new marks.new ≡ counted (counts_of base counts.old marks.old) id)
+        × (count_at (counts_of base counts.old marks.old) id + 1 < goal.constraints) }
+    ensures full { is_marked (counts_of base counts.old marks.old) goal.place ≡ false → result ≡ true
+        → (counts_of base counts.new marks.new ≡ marked (counted (counts_of base counts.old marks.old) id) goal.place)
+        × (count_at (counts_of base counts.old marks.old) id + 1 ≡ goal.constraints) }
 {
     let place = goal.place as usize;
     if marks[place] == base {

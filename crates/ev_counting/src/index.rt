@@ -61,7 +61,8 @@ fn put(
 /// Takes a use from the shelf of its name; whether it was there.
 fn pull(shelves: &mut BTreeMap<Key, Shelf>, constraint: &Constraint, id: u32) -> bool
     ensures there { result ≡ true → Same (uses_of shelves.old.entries) ((constraint.now, id) ∷ uses_of shelves.new.entries) }
-    ensures none { result ≡ false → Same (uses_of shelves.new.entries) (uses_of shelves.old.entries) × (IsIn (constraint.now, id) (uses_of shelves.old.entries) → ⊥) }
+    ensures none { result ≡ false → Same (uses_of shelves.new.entries) (uses_of shelves.old.entries)
+        × (IsIn (constraint.now, id) (uses_of shelves.old.entries) → ⊥) }
     ensures used { AreUsed shelves.old.entries → AreUsedBut constraint.now.name shelves.new.entries }
 {
     match shelves.get_mut(constraint.name().bytes()) {
@@ -88,7 +89,8 @@ fn prune(shelves: &mut BTreeMap<Key, Shelf>, name: &Name)
 /// Takes a use from the shelf of its name, and the shelf where it was the last; whether it was there.
 fn take(shelves: &mut BTreeMap<Key, Shelf>, constraint: &Constraint, id: u32) -> bool
     ensures there { result ≡ true → Same (uses_of shelves.old.entries) ((constraint.now, id) ∷ uses_of shelves.new.entries) }
-    ensures none { result ≡ false → Same (uses_of shelves.new.entries) (uses_of shelves.old.entries) × (IsIn (constraint.now, id) (uses_of shelves.old.entries) → ⊥) }
+    ensures none { result ≡ false → Same (uses_of shelves.new.entries) (uses_of shelves.old.entries)
+        × (IsIn (constraint.now, id) (uses_of shelves.old.entries) → ⊥) }
     ensures used { AreUsed shelves.old.entries → AreUsed shelves.new.entries }
 {
     let there = pull(shelves, constraint, id);

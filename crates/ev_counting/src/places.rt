@@ -103,7 +103,8 @@ impl Places {
 
     /// Sets the place of a pair free; the place, if the pair is there.
     pub(crate) fn take(&mut self, iface: u32, filter: &Filter) -> Option<u32>
-        ensures some { IfSome result (λ id. (id < length self.old) × HasPair (slot_at self.old id) (iface, filter.now) × (self.new ≡ slice_set self.old id None)) }
+        ensures some { IfSome result (λ id. (id < length self.old) × HasPair (slot_at self.old id) (iface, filter.now)
+            × (self.new ≡ slice_set self.old id None)) }
         ensures none { IfNone result (self.new ≡ self.old) }
         ensures gone { Contains (held self.new) (iface, filter.now) → ⊥ }
     {

@@ -57,7 +57,8 @@ fn move_all<T: Drop>(
     rest: &mut VecDeque<T>,
     consumer: &mut Consumer<T, Global, Bounded>,
 ) -> u64
-    requires pair { IsPair producer.old consumer.old × (received consumer.old ++ known_items consumer.old ≡ sent producer.old) × (producer_capacity producer.old ≡ 256) }
+    requires pair { IsPair producer.old consumer.old × (received consumer.old ++ known_items consumer.old ≡ sent producer.old)
+        × (producer_capacity producer.old ≡ 256) }
     requires room { deque_len rest.old + length (known_items consumer.old) + deque_len outbox.old ≤ deque_capacity rest.old }
     requires few { length (sent producer.old) + deque_len outbox.old ≤ 2 ^ 63 }
     ensures same { SameProducer producer.old producer.new × SameConsumer consumer.old consumer.new }
@@ -65,7 +66,8 @@ fn move_all<T: Drop>(
     ensures count { length (sent producer.new) ≡ length (sent producer.old) + result }
     ensures moved { (IsPrefix (sent producer.old) (sent producer.new)) × (deque_capacity outbox.new ≡ deque_capacity outbox.old) }
     ensures received { (received consumer.new ≡ sent producer.new) × (known_items consumer.new ≡ []) }
-    ensures rest { (n : ℕ) → n ≤ length (received consumer.old) → drop n (received consumer.old) ≡ rest.old.items → (drop n (received consumer.new) ≡ rest.new.items) × (take n (received consumer.new) ≡ take n (received consumer.old)) }
+    ensures rest { (n : ℕ) → n ≤ length (received consumer.old) → drop n (received consumer.old) ≡ rest.old.items
+        → (drop n (received consumer.new) ≡ rest.new.items) × (take n (received consumer.new) ≡ take n (received consumer.old)) }
 {
     let mut pushed = 0;
     take_known(consumer, rest);

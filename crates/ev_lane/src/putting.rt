@@ -57,7 +57,8 @@ impl<T: Drop> LaneIn<T> {
     /// Makes room for n items, which can then be put without memory. It wants memory only where there
     /// isn't room for n already; after want of memory the lane is as before.
     pub fn room(&mut self, n: usize) -> Result<(), NoMemory>
-        ensures same { SameIn self.old self.new × (pushed_list self.new ≡ pushed_list self.old) × (waiting_list self.new ≡ waiting_list self.old) × (mark_of self.new ≡ mark_of self.old) }
+        ensures same { SameIn self.old self.new × (pushed_list self.new ≡ pushed_list self.old) × (waiting_list self.new ≡ waiting_list self.old)
+            × (mark_of self.new ≡ mark_of self.old) }
         ensures kept { spare self.old ≤ spare self.new }
         ensures room { OnOk result (n ≤ spare self.new) }
         ensures wanting { OnErr result (spare self.old < n) }

@@ -38,8 +38,10 @@ fn next_from<T: Drop, R: Wait>(
     ensures same { SameConsumer consumer.old consumer.new }
     ensures seat { (seat.new.table_id ≡ seat.old.table_id) × (seat.new.me.1 ≡ []) × (seat.new.me.0.puts ≡ false) }
     ensures next { MatchOption result
-        ((known_items consumer.old ≡ []) × (received consumer.new ≡ received consumer.old) × (seat.new.me.0.misses ≡ seat.old.me.0.misses + 1) × (seat.new.me.0.count ≡ length (received consumer.new)))
-        (λ x. (received consumer.new ≡ received consumer.old ++ x ∷ []) × (seat.new.me.0.misses ≡ seat.old.me.0.misses) × (length (received consumer.old) < 2 ^ 63)) }
+        ((known_items consumer.old ≡ []) × (received consumer.new ≡ received consumer.old) × (seat.new.me.0.misses ≡ seat.old.me.0.misses + 1)
+        × (seat.new.me.0.count ≡ length (received consumer.new)))
+        (λ x. (received consumer.new ≡ received consumer.old ++ x ∷ []) × (seat.new.me.0.misses ≡ seat.old.me.0.misses)
+        × (length (received consumer.old) < 2 ^ 63)) }
     ensures known { IfSome result (λ x. IsPrefix (known_items consumer.old) (x ∷ known_items consumer.new)) }
 {
     for _ in rt.forever() {
@@ -67,7 +69,8 @@ fn see_from<T: Drop, R: Wait>(
     ensures looked { ConsumerLooked consumer.old consumer.new }
     ensures seat { (seat.new.table_id ≡ seat.old.table_id) × (seat.new.me.1 ≡ []) × (seat.new.me.0.puts ≡ false) }
     ensures yes { IsTrue result → (0 < length (known_items consumer.new)) × (seat.new.me.0.misses ≡ seat.old.me.0.misses) }
-    ensures no { IsFalse result → (known_items consumer.old ≡ []) × (seat.new.me.0.misses ≡ seat.old.me.0.misses + 1) × (seat.new.me.0.count ≡ length (received consumer.new)) }
+    ensures no { IsFalse result → (known_items consumer.old ≡ []) × (seat.new.me.0.misses ≡ seat.old.me.0.misses + 1)
+        × (seat.new.me.0.count ≡ length (received consumer.new)) }
 {
     for _ in rt.forever() {
         if !consumer.is_empty() {

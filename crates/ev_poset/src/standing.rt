@@ -125,7 +125,8 @@ pub(crate) fn standings_of<T: Cover>(
     ghost passes: { ℕ → T → Bool }
     requires line { IsLine (over T.covering T.order) nodes.now line.now }
     requires passes { (l : ℕ) → SkipsMarked nodes.now skipped marks.now l (passes l) }
-    ensures { IfOk result (λ standings. (l k : ℕ) → (is_root_for standings.items l k ≡ true) ↔ IsTop (over T.covering T.order) nodes.now (counts l (passes l)) k) }
+    ensures { IfOk result (λ standings. (l k : ℕ)
+        → (is_root_for standings.items l k ≡ true) ↔ IsTop (over T.covering T.order) nodes.now (counts l (passes l)) k) }
 {
     let nobody = Standing {
         own: Reach::Nobody,

@@ -52,7 +52,8 @@ pub(crate) fn has(groups: &BTreeMap<Key, Vec<u32>>, key: &[u8], id: u32) -> bool
 /// Takes an id from under a key; whether it was there.
 fn pull(groups: &mut BTreeMap<Key, Vec<u32>>, key: &[u8], id: u32) -> bool
     ensures there { result ≡ true → Same (keyed bytes_of groups.old.entries) ((key.now, id) ∷ keyed bytes_of groups.new.entries) }
-    ensures none { result ≡ false → (keyed bytes_of groups.new.entries ≡ keyed bytes_of groups.old.entries) × (tally (λ x. same_bytes key.now x.0 && (x.1 == id)) (keyed bytes_of groups.old.entries) ≡ 0) }
+    ensures none { result ≡ false → (keyed bytes_of groups.new.entries ≡ keyed bytes_of groups.old.entries)
+        × (tally (λ x. same_bytes key.now x.0 && (x.1 == id)) (keyed bytes_of groups.old.entries) ≡ 0) }
 {
     let Some(ids) = groups.get_mut(key) else {
         return false;
@@ -78,7 +79,8 @@ fn prune(groups: &mut BTreeMap<Key, Vec<u32>>, key: &[u8])
 /// Takes an id from under a key, and its group where it was the last; whether it was there.
 pub(crate) fn take(groups: &mut BTreeMap<Key, Vec<u32>>, key: &[u8], id: u32) -> bool
     ensures there { result ≡ true → Same (keyed bytes_of groups.old.entries) ((key.now, id) ∷ keyed bytes_of groups.new.entries) }
-    ensures none { result ≡ false → (keyed bytes_of groups.new.entries ≡ keyed bytes_of groups.old.entries) × (tally (λ x. same_bytes key.now x.0 && (x.1 == id)) (keyed bytes_of groups.old.entries) ≡ 0) }
+    ensures none { result ≡ false → (keyed bytes_of groups.new.entries ≡ keyed bytes_of groups.old.entries)
+        × (tally (λ x. same_bytes key.now x.0 && (x.1 == id)) (keyed bytes_of groups.old.entries) ≡ 0) }
 {
     let there = pull(groups, key, id);
     if there {

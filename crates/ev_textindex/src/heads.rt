@@ -80,7 +80,8 @@ fn pull(shelves: &mut BTreeMap<u32, Shelf>, constraint: &Constraint, id: u32) ->
     requires kind { constraint.now.kind ≡ Kind.Str }
     requires filed { AreFiled shelves.old.entries }
     ensures there { result ≡ true → Same (shelved shelves.old.entries) ((test_of constraint.now, id) ∷ shelved shelves.new.entries) }
-    ensures none { result ≡ false → (shelved shelves.new.entries ≡ shelved shelves.old.entries) × (IsIn (test_of constraint.now, id) (shelved shelves.old.entries) → ⊥) }
+    ensures none { result ≡ false → (shelved shelves.new.entries ≡ shelved shelves.old.entries)
+        × (IsIn (test_of constraint.now, id) (shelved shelves.old.entries) → ⊥) }
     ensures filed { AreFiled shelves.new.entries }
     ensures used { AreUsed shelves.old.entries → AreUsedBut (head_of (test_of constraint.now, id)) shelves.new.entries }
     ensures kept { result ≡ false → AreUsed shelves.old.entries → AreUsed shelves.new.entries }
@@ -111,7 +112,8 @@ fn take(shelves: &mut BTreeMap<u32, Shelf>, constraint: &Constraint, id: u32) ->
     requires kind { constraint.now.kind ≡ Kind.Str }
     requires filed { AreFiled shelves.old.entries }
     ensures there { result ≡ true → Same (shelved shelves.old.entries) ((test_of constraint.now, id) ∷ shelved shelves.new.entries) }
-    ensures none { result ≡ false → (shelved shelves.new.entries ≡ shelved shelves.old.entries) × (IsIn (test_of constraint.now, id) (shelved shelves.old.entries) → ⊥) }
+    ensures none { result ≡ false → (shelved shelves.new.entries ≡ shelved shelves.old.entries)
+        × (IsIn (test_of constraint.now, id) (shelved shelves.old.entries) → ⊥) }
     ensures filed { AreFiled shelves.new.entries }
     ensures used { AreUsed shelves.old.entries → AreUsed shelves.new.entries }
 {

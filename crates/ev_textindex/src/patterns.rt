@@ -3,7 +3,8 @@ ghost use Rattle.std.specs.Prelude.{◌≡◌, ◌==◌, ◌&&◌, ◌||◌, not
 ghost use Rattle.ev_values.specs.declared.value.Value.{Value};
 ghost use Rattle.ev_constraint.specs.declared.op.Op.{Op};
 ghost use Rattle.ev_index.specs.Pairs.{Appends, tally, ids_met};
-ghost use Rattle.ev_textindex.specs.Heads.{mark, one, two, head_first, last_bytes, is_among, is_at_begin, is_at_end, is_inside, is_part, has_one, has_two, ids_headed, AreAllPatterns};
+ghost use Rattle.ev_textindex.specs.Heads.{mark, one, two, head_first, last_bytes, is_among, is_at_begin, is_at_end, is_inside, is_part};
+ghost use Rattle.ev_textindex.specs.Heads.{has_one, has_two, ids_headed, AreAllPatterns};
 
 use crate::head::{has_one, has_two, head_first, last_bytes, mark, one, two};
 use crate::heads::Heads;
@@ -25,7 +26,8 @@ fn meet_other(
     x: &[u8],
     found: &mut Vec<u32>,
 ) -> Result<(), NoMemory>
-    ensures { OnOk result (Appends found.old.items found.new.items (ids_headed (λ h. not (others.0 == head || others.1 == head) && (head == h)) (Value.Str x.now) heads.now)) }
+    ensures { OnOk result (Appends found.old.items found.new.items
+        (ids_headed (λ h. not (others.0 == head || others.1 == head) && (head == h)) (Value.Str x.now) heads.now)) }
 {
     if is_either(others, head) {
         return Ok(());
@@ -75,7 +77,8 @@ fn meet_one(
     x: &[u8],
     found: &mut Vec<u32>,
 ) -> Result<(), NoMemory>
-    ensures { OnOk result (Appends found.old.items found.new.items (ids_headed (λ h. not (has_one later.now (one Op.Contains a)) && (one Op.Contains a == h)) (Value.Str x.now) heads.now)) }
+    ensures { OnOk result (Appends found.old.items found.new.items
+        (ids_headed (λ h. not (has_one later.now (one Op.Contains a)) && (one Op.Contains a == h)) (Value.Str x.now) heads.now)) }
 {
     let head = one(Op::Contains, a);
     if has_one(later, head) {
@@ -92,7 +95,8 @@ fn meet_two(
     x: &[u8],
     found: &mut Vec<u32>,
 ) -> Result<(), NoMemory>
-    ensures { OnOk result (Appends found.old.items found.new.items (ids_headed (λ h. not (has_two later.now (two Op.Contains bytes.0 bytes.1)) && (two Op.Contains bytes.0 bytes.1 == h)) (Value.Str x.now) heads.now)) }
+    ensures { OnOk result (Appends found.old.items found.new.items
+        (ids_headed (λ h. not (has_two later.now (two Op.Contains bytes.0 bytes.1)) && (two Op.Contains bytes.0 bytes.1 == h)) (Value.Str x.now) heads.now)) }
 {
     let head = two(Op::Contains, bytes.0, bytes.1);
     if has_two(later, head) {

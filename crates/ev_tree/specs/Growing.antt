@@ -8,7 +8,8 @@ abbrev pub hop_after : List ℕ → List ℕ → ℕ → ℕ → ℕ → ℕ →
 hop_after labels row x a b y =
     cond (slice_index labels x == slice_index labels a)
     (cond (slice_index labels y == slice_index labels b) (cond (x == a) b (slice_index row a)) (slice_index row y))
-    (cond (slice_index labels x == slice_index labels b) (cond (slice_index labels y == slice_index labels a) (cond (x == b) a (slice_index row b)) (slice_index row y)) (slice_index row y))
+    (cond (slice_index labels x == slice_index labels b)
+    (cond (slice_index labels y == slice_index labels a) (cond (x == b) a (slice_index row b)) (slice_index row y)) (slice_index row y))
 
 -- the rows after an edge joins a and b
 pub record IsJoined (labels : List ℕ) (old new : List (List ℕ)) (a b : ℕ) : Type 0 where

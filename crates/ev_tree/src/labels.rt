@@ -1,5 +1,6 @@
 //! Labels of servers: the same exactly where edges join the servers.
-ghost use Rattle.std.specs.Prelude.{◌≡◌, ◌≢◌, ◌==◌, ◌<◌, ◌≤◌, ◌↔◌, ◌++◌, ◌∷◌, [], ℕ, List, false, true, cond, length, slice_index, take, IfSome, IfNone, slice_get, MatchResult, Some, None};
+ghost use Rattle.std.specs.Prelude.{◌≡◌, ◌≢◌, ◌==◌, ◌<◌, ◌≤◌, ◌↔◌, ◌++◌, ◌∷◌, [], ℕ, List, false, true, cond, length, slice_index, take};
+ghost use Rattle.std.specs.Prelude.{IfSome, IfNone, slice_get, MatchResult, Some, None};
 ghost use Rattle.ev_tree.specs.Graph.{has_edge, AreWithin, IsEdgeWithin, AreJoined, IsForest, IsTree, IsApart, IsCount};
 ghost use Rattle.ev_tree.specs.Labels.{AreLabelsOf, IsFault};
 
@@ -40,7 +41,8 @@ fn unlike_first(n: u32, labels: &[u32]) -> Option<u32>
     requires some { 1 ≤ n }
     requires labels { n < length labels.now }
     ensures none { IfNone result ((x : ℕ) → 1 ≤ x → x ≤ n → slice_index labels.now x ≡ slice_index labels.now 1) }
-    ensures some { IfSome result (λ s. (1 ≤ s) × (s ≤ n) × (slice_index labels.now s ≢ slice_index labels.now 1) × ((x : ℕ) → 1 ≤ x → x < s → slice_index labels.now x ≡ slice_index labels.now 1)) }
+    ensures some { IfSome result (λ s. (1 ≤ s) × (s ≤ n) × (slice_index labels.now s ≢ slice_index labels.now 1)
+        × ((x : ℕ) → 1 ≤ x → x < s → slice_index labels.now x ≡ slice_index labels.now 1)) }
 {
     for s in 1..=n {
         if labels[s as usize] != labels[1] {

@@ -13,5 +13,6 @@ pub fn sides()
 
 /// Between two servers there is one path.
 pub fn one_path()
-    ensures { (servers : List ℕ) (links : ℕ → List ℕ) (hop : ℕ → ℕ → ℕ) → AreHops servers links hop → (a x : ℕ) (p q : List ℕ) → Has x servers → IsPath links a x p → IsPath links a x q → p ≡ q }
+    ensures { (servers : List ℕ) (links : ℕ → List ℕ) (hop : ℕ → ℕ → ℕ) → AreHops servers links hop → (a x : ℕ) (p q : List ℕ) → Has x servers
+        → IsPath links a x p → IsPath links a x q → p ≡ q }
 {}

@@ -69,7 +69,9 @@ impl Row {
         requires near { near < length self.old }
         requires far { far < length labels.now }
         ensures len { length self.new ≡ length self.old }
-        ensures hops { (y : ℕ) → y < length self.old → slice_index self.new y ≡ cond (slice_index labels.now y == slice_index labels.now far) (cond (x == near) far (slice_index self.old near)) (slice_index self.old y) }
+        ensures hops { (y : ℕ) → y < length self.old
+            → slice_index self.new y ≡ cond (slice_index labels.now y == slice_index labels.now far)
+            (cond (x == near) far (slice_index self.old near)) (slice_index self.old y) }
     {
         let step = if x == near { far } else { self.get(near) };
         write_steps(&mut self.numbers, labels, labels[far as usize], step);

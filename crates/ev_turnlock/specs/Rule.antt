@@ -81,7 +81,8 @@ module _ {T I R : Type 0} (root : T → R) (list : T → List I) where
   -- just one pass has the value in hand, and has seen its list; the slot is empty, or out with that pass
   abbrev pub Away : List I → State (Option T) (View I R) → Type 0
   Away front s = (slice_index s.words 0 ≡ 1)
-      × ((h : ℕ) × (w : View I R) × (get_elem? s.views h ≡ some w) × (w.hand ≡ true) × (0 < w.parts) × (w.seen ≡ front) × (w.out ≡ false → get_elem? s.homes 0 ≡ some (some None))
+      × ((h : ℕ) × (w : View I R) × (get_elem? s.views h ≡ some w) × (w.hand ≡ true) × (0 < w.parts) × (w.seen ≡ front)
+      × (w.out ≡ false → get_elem? s.homes 0 ≡ some (some None))
       × ((j : ℕ) (u : View I R) → get_elem? s.views j ≡ some u → u.hand ≡ true → j ≡ h))
 
   -- the rule: n parts in all, what each pass has seen begins the list, and the value is in its place or in one hand

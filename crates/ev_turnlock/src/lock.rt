@@ -83,7 +83,8 @@ impl<T: Standing> TurnLock<T> {
         ensures own { IsPassOf T.root self.now pass.new × IsSamePass pass.old pass.new }
         ensures found { IfSome result (λ v. (T.root v ≡ T.root (first_value self.now)) × IsPrefix (seen_by pass.old) (T.list v)) }
         ensures taken { IfSome result (λ v. (seen_by pass.new ≡ T.list v) × (has_in_hand pass.new ≡ true) × (pass_misses pass.new ≡ pass_misses pass.old)) }
-        ensures missed { IfNone result ((pass_misses pass.new ≡ pass_misses pass.old + 1) × (seen_by pass.new ≡ seen_by pass.old) × (has_in_hand pass.new ≡ false)) }
+        ensures missed { IfNone result ((pass_misses pass.new ≡ pass_misses pass.old + 1) × (seen_by pass.new ≡ seen_by pass.old)
+            × (has_in_hand pass.new ≡ false)) }
     {
         let shared = &self.table.shared;
         let mut seat: PassSeat<T> = replace(&mut pass.badge, Badge::blank()).into_seat();

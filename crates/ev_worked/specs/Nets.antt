@@ -98,7 +98,8 @@ subscribed_again = record {
   home = λ client. 1;
   clients = λ server. cond (server == 1) (1 ∷ 2 ∷ []) [];
   script = λ client.
-      cond (client == 1) (in_phase 0 (Subscribe (Above 5)) ∷ in_phase 0 (Subscribe (Equal 1)) ∷ in_phase 0 (Subscribe Any) ∷ in_phase 1 (Unsubscribe Any) ∷ in_phase 1 (Subscribe Any) ∷ [])
+      cond (client == 1) (in_phase 0 (Subscribe (Above 5)) ∷ in_phase 0 (Subscribe (Equal 1)) ∷ in_phase 0 (Subscribe Any)
+      ∷ in_phase 1 (Unsubscribe Any) ∷ in_phase 1 (Subscribe Any) ∷ [])
       (cond (client == 2) (in_phase 1 (Publish 8) ∷ []) []);
 }
 

@@ -31,12 +31,14 @@ module _ (theory : Theory) where
     -- the messages of an entry for these neighbours
     abbrev pub outs_to : Network theory net → NetEntry theory net → List ℕ → List (ℕ × Message theory)
     outs_to network entry [] = []
-    outs_to network entry (link ∷ links) = map (λ message. (link, message)) (messages_of (routing_machine theory net) network entry link) ++ outs_to network entry links
+    outs_to network entry (link ∷ links) = map (λ message. (link, message)) (messages_of (routing_machine theory net) network entry link)
+        ++ outs_to network entry links
 
     -- the lines of entries from a moment on
     abbrev pub lines_from : Moment (routing_machine theory net) → List (NetEntry theory net) → List Line
     lines_from moment [] = []
-    lines_from moment (entry ∷ entries) = line entry.stamp entry.server entry.act (outs_to moment.network entry (net.links entry.server)) ∷ lines_from (network_step (routing_machine theory net) moment entry) entries
+    lines_from moment (entry ∷ entries) = line entry.stamp entry.server entry.act (outs_to moment.network entry (net.links entry.server))
+        ∷ lines_from (network_step (routing_machine theory net) moment entry) entries
 
     -- the trace of a journal
     abbrev pub trace : List (NetEntry theory net) → List Line
@@ -49,7 +51,9 @@ module _ (theory : Theory) where
     -- schedules of turns, phase by phase: in each phase the turns are taken, and the walk ends it
     abbrev pub replay_from : ℕ → Moment (routing_machine theory net) → List (List (ℕ × Act Task)) → List (NetEntry theory net)
     replay_from phase moment [] = []
-    replay_from phase moment (turns ∷ schedules) = entries_by (routing_machine theory net) phase moment (turns ++ walk_turns theory net) ++ replay_from (suc phase) (moment_by (routing_machine theory net) phase moment (turns ++ walk_turns theory net)) schedules
+    replay_from phase moment (turns ∷ schedules) =
+        entries_by (routing_machine theory net) phase moment (turns ++ walk_turns theory net)
+        ++ replay_from (suc phase) (moment_by (routing_machine theory net) phase moment (turns ++ walk_turns theory net)) schedules
 
     -- the journal of schedules from the opening on
     abbrev pub replay : List (List (ℕ × Act Task)) → List (NetEntry theory net)

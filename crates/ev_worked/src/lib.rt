@@ -20,7 +20,8 @@ ghost use Rattle.ev_phases.specs.Moments.{opening_moment};
 ghost use Rattle.ev_phases.specs.Runs.{IsRunTo};
 ghost use Rattle.ev_phases.specs.AtMoments.{DrainsBy};
 ghost use Rattle.ev_worked.specs.Phased.{on_one_tree, phased_trace, phased_walk, phased_given, phased_held, line_becomes_star, subscriber_publishes};
-ghost use Rattle.ev_worked.specs.Nets.{publication, wide_travels, wide_and_narrow, withdrawn_wide, all_know, both_set_out, notice_arrives, withdrawal_known, equal_ranges, advertised_small, subscribed_again};
+ghost use Rattle.ev_worked.specs.Nets.{publication, wide_travels, wide_and_narrow, withdrawn_wide, all_know, both_set_out, notice_arrives};
+ghost use Rattle.ev_worked.specs.Nets.{withdrawal_known, equal_ranges, advertised_small, subscribed_again};
 
 /// Ranges of numbers are a theory of filters, and the nets below are nets over it, so that every law of runs holds of them.
 pub fn all_lawful()
@@ -34,12 +35,16 @@ pub fn all_lawful()
 
 /// The walk of such a net is a legal run that ends drained.
 pub fn walk_runs()
-    ensures { (net : Net ranges) → NetLaws ranges net → (phases : ℕ) → ((client : ℕ) (command : PhasedCommand ranges) → Has command (net.script client) → command.phase < phases) → 0 < phases → (end : Network ranges net) × (last : ℕ) × IsRun (routing_machine ranges net) (opening ranges net) 0 (walk ranges net phases) end last × IsDrained ranges net end }
+    ensures { (net : Net ranges) → NetLaws ranges net → (phases : ℕ)
+        → ((client : ℕ) (command : PhasedCommand ranges) → Has command (net.script client) → command.phase < phases) → 0 < phases
+        → (end : Network ranges net) × (last : ℕ) × IsRun (routing_machine ranges net) (opening ranges net) 0 (walk ranges net phases) end last
+        × IsDrained ranges net end }
 {}
 
 /// Schedules of turns, phase by phase, are a legal run of such a net, whatever they try.
 pub fn replay_runs()
-    ensures { (net : Net ranges) → NetLaws ranges net → (schedules : List (List (ℕ × Act Task))) → (end : Network ranges net) × (last : ℕ) × IsRun (routing_machine ranges net) (opening ranges net) 0 (replay ranges net schedules) end last }
+    ensures { (net : Net ranges) → NetLaws ranges net → (schedules : List (List (ℕ × Act Task)))
+        → (end : Network ranges net) × (last : ℕ) × IsRun (routing_machine ranges net) (opening ranges net) 0 (replay ranges net schedules) end last }
 {}
 
 /// A net on one tree is a net with trees by phase that keeps its laws: each of its runs is a run of that, its walk is that walk, and they tell the same
