@@ -4,6 +4,7 @@
 
 mod gate;
 mod memory;
+mod pending;
 mod piece;
 mod sink;
 mod source;
@@ -14,6 +15,7 @@ mod word;
 
 pub use gate::{Gate, NoGate, Place, Spot, Worker};
 pub use memory::{MemorySink, MemorySource};
+pub use pending::Pending;
 pub use sink::Sink;
 pub use source::{Failed, Source};
 pub use standard::{StdSink, StdSource};
