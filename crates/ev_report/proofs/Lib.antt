@@ -4,3 +4,5 @@ pub mod Ids
 pub mod Strict
 pub mod Given
 pub mod AsDelivered
+pub mod Sections
+pub mod SortedTexts

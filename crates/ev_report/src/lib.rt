@@ -1,16 +1,20 @@
-//! The texts that are printed, each written once into one vector.
+//! The texts that are printed: each written once into one vector, or put line by line on its way to a sink.
 #![tactic(auto)]
 
 mod deliveries;
 mod flood;
 pub mod law;
 mod lines;
+mod ordering;
 mod publish;
 mod sorted;
 mod summary;
 mod trace;
+mod writing;
 
 pub use deliveries::deliveries_text;
 pub use flood::flood_text;
+pub use ordering::ordered;
 pub use summary::{check_text, summary_text};
 pub use trace::trace_text;
+pub use writing::put_deliveries;

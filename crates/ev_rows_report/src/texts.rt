@@ -3,7 +3,8 @@ ghost use Rattle.std.specs.Prelude.{◌≡◌, length, IfOk};
 
 use crate::nets::{net, publish, subscribe};
 use ev_model::{Act, Delivery, Entry, Id, Net, Semantics, Sent};
-use ev_report::{check_text, deliveries_text, trace_text};
+use ev_outside::{MemorySink, Pending};
+use ev_report::{check_text, deliveries_text, ordered, put_deliveries, trace_text};
 use ev_wire::{Bytes, Lists, SharedText};
 use std::alloc::Global;
 use std::rt::HostRuntime;
@@ -16,9 +17,9 @@ fn delivery(alloc: Global, publisher: u32, ordinal: u32, text: &[u8]) -> Result<
     })
 }
 
-// Client a received two of p and then one of its own; p has a refused publish.
-fn printed(alloc: Global, net: &Net, sorted: bool) -> Result<Vec<u8>, Fail>
-    requires { length net.now.clients ≡ 3 }
+// Client a received two of p and then one of its own.
+fn received(alloc: Global) -> Result<Vec<Lists<Delivery>>, Fail>
+    ensures { IfOk result (λ lists. length lists.items ≡ 3) }
 {
     let mut received = Vec::new(alloc);
     received.push(delivery(alloc, 3, 10, b"x int 1")?)?;
@@ -28,11 +29,39 @@ fn printed(alloc: Global, net: &Net, sorted: bool) -> Result<Vec<u8>, Fail>
     all.push(Lists::of(received))?;
     all.push(Lists::of(Vec::new(alloc)))?;
     all.push(Lists::of(Vec::new(alloc)))?;
+    Ok(all)
+}
+
+// And p has a refused publish.
+fn refused(alloc: Global) -> Result<Vec<Lists<u32>>, Fail>
+    ensures { IfOk result (λ lists. length lists.items ≡ 3) }
+{
     let mut refused = Vec::new(alloc);
     refused.push(Lists::of(Vec::new(alloc)))?;
     refused.push(Lists::of(Vec::new(alloc)))?;
     refused.push(Lists::of(vec![in alloc; 4u32]?))?;
-    Ok(deliveries_text(alloc, net, &refused, &all, sorted)?)
+    Ok(refused)
+}
+
+// The text of both.
+fn printed(alloc: Global, net: &Net, sorted: bool) -> Result<Vec<u8>, Fail>
+    requires { length net.now.clients ≡ 3 }
+{
+    let received = received(alloc)?;
+    Ok(deliveries_text(alloc, net, &refused(alloc)?, &received, sorted)?)
+}
+
+// What a sink gets of both.
+fn written(alloc: Global, net: &Net, sorted: bool) -> Result<Vec<u8>, Fail>
+    requires { length net.now.clients ≡ 3 }
+{
+    let received = ordered(alloc, received(alloc)?, sorted)?;
+    let refused = refused(alloc)?;
+    let mut sink = MemorySink::make(alloc, 7, Vec::new(alloc), 1000)?;
+    let mut out = Pending::new(alloc)?;
+    put_deliveries(&mut out, &mut sink, net, &refused, &received);
+    let _ = out.finish(&mut sink);
+    Ok(sink.bytes().to_vec(alloc)?)
 }
 
 #[test]
@@ -49,10 +78,12 @@ fn deliveries(rt: HostRuntime) -> Result<(), Fail> {
     let want =
         b"client a\ndeliver p 10 x int 1\ndeliver p 9 x int 2\ndeliver a 1 x int 3\nclient b\nclient p\nrefused 4 unadvertised\n";
     assert_eq!(rt; text.as_slice(), want.as_slice());
+    assert_eq!(rt; written(alloc, &net, false)?.as_slice(), want.as_slice());
     let text = printed(alloc, &net, true)?;
     let want =
         b"client a\ndeliver a 1 x int 3\ndeliver p 9 x int 2\ndeliver p 10 x int 1\nclient b\nclient p\nrefused 4 unadvertised\n";
     assert_eq!(rt; text.as_slice(), want.as_slice());
+    assert_eq!(rt; written(alloc, &net, true)?.as_slice(), want.as_slice());
     Ok(())
 }
 

@@ -1,0 +1,117 @@
+//! What clients received, line by line on its way to a sink. No call takes memory.
+ghost use Rattle.std.specs.Prelude.{◌≡◌, false, length};
+ghost use Rattle.std.specs.List.{flat_map};
+ghost use Rattle.std.specs.Fmt.{decimal};
+ghost use Rattle.ev_outside.specs.Pending.{outlet, Went};
+ghost use Rattle.ev_report.specs.Lines.{client_line, refused_line};
+ghost use Rattle.ev_report.specs.Deliveries.{delivery_line, delivery_section, deliveries_text};
+
+use crate::lines::name_of;
+use ev_model::{Client, Net};
+use ev_outside::{Pending, Sink};
+use ev_values::Name;
+use ev_wire::{Delivery, Lists};
+use itoa::Buffer;
+
+// A number in decimal.
+fn put_number<K: Sink>(out: &mut Pending, sink: &mut K, number: u64)
+    ensures { Went (outlet (K.written sink.old) (K.faults sink.old) out.old) (outlet (K.written sink.new) (K.faults sink.new) out.new) (decimal number) }
+{
+    let mut buffer = Buffer::new();
+    out.put(sink, buffer.format(number).as_bytes())
+}
+
+// The line before what a client receives.
+fn put_client<K: Sink>(out: &mut Pending, sink: &mut K, name: &Name)
+    ensures { Went (outlet (K.written sink.old) (K.faults sink.old) out.old) (outlet (K.written sink.new) (K.faults sink.new) out.new) (client_line name.now) }
+{
+    out.put(sink, b"client ");
+    out.put(sink, name.bytes());
+    out.put(sink, b"\n")
+}
+
+// The line of a refused publish.
+fn put_refusal<K: Sink>(out: &mut Pending, sink: &mut K, ordinal: u32)
+    ensures { Went (outlet (K.written sink.old) (K.faults sink.old) out.old) (outlet (K.written sink.new) (K.faults sink.new) out.new) (refused_line ordinal) }
+{
+    out.put(sink, b"refused ");
+    put_number(out, sink, u64::from(ordinal));
+    out.put(sink, b" unadvertised\n")
+}
+
+// A line for each refused publish.
+fn put_refused<K: Sink>(out: &mut Pending, sink: &mut K, ordinals: &[u32])
+    ensures { Went (outlet (K.written sink.old) (K.faults sink.old) out.old) (outlet (K.written sink.new) (K.faults sink.new) out.new)
+        (flat_map refused_line ordinals.now) }
+{
+    for ordinal in ordinals {
+        put_refusal(out, sink, *ordinal);
+    }
+}
+
+// The line of a delivery.
+fn put_delivery<K: Sink>(out: &mut Pending, sink: &mut K, clients: &[Client], delivery: &Delivery)
+    ensures { Went (outlet (K.written sink.old) (K.faults sink.old) out.old) (outlet (K.written sink.new) (K.faults sink.new) out.new)
+        (delivery_line clients.now delivery.now) }
+{
+    out.put(sink, b"deliver ");
+    out.put(sink, name_of(clients, delivery.id.publisher));
+    out.put(sink, b" ");
+    put_number(out, sink, u64::from(delivery.id.ordinal));
+    out.put(sink, b" ");
+    out.put(sink, delivery.bytes.as_slice());
+    out.put(sink, b"\n")
+}
+
+// The lines of deliveries, in their order.
+fn put_received<K: Sink>(out: &mut Pending, sink: &mut K, clients: &[Client], received: &[Delivery])
+    ensures { Went (outlet (K.written sink.old) (K.faults sink.old) out.old) (outlet (K.written sink.new) (K.faults sink.new) out.new)
+        (flat_map (delivery_line clients.now) received.now) }
+{
+    for delivery in received {
+        put_delivery(out, sink, clients, delivery);
+    }
+}
+
+// A client with what it received.
+fn put_section<K: Sink>(
+    out: &mut Pending,
+    sink: &mut K,
+    clients: &[Client],
+    client: &Client,
+    refused: &[u32],
+    received: &[Delivery],
+)
+    ensures { Went (outlet (K.written sink.old) (K.faults sink.old) out.old) (outlet (K.written sink.new) (K.faults sink.new) out.new)
+        (delivery_section clients.now false client.now refused.now received.now) }
+{
+    put_client(out, sink, &client.name);
+    put_refused(out, sink, refused);
+    put_received(out, sink, clients, received)
+}
+
+/// What the clients received, client by client in the order of the net: its refused publishes, and a line for each
+/// delivery, in the order of its list. It takes no memory.
+pub fn put_deliveries<K: Sink>(
+    out: &mut Pending,
+    sink: &mut K,
+    net: &Net,
+    refused: &[Lists<u32>],
+    received: &[Lists<Delivery>],
+)
+    requires refused { length refused.now ≡ length net.now.clients }
+    requires received { length received.now ≡ length net.now.clients }
+    ensures { Went (outlet (K.written sink.old) (K.faults sink.old) out.old) (outlet (K.written sink.new) (K.faults sink.new) out.new)
+        (deliveries_text net.now refused.now received.now false) }
+{
+    for (i, client) in net.clients.iter().enumerate() {
+        put_section(
+            out,
+            sink,
+            &net.clients,
+            client,
+            refused[i].as_slice(),
+            received[i].as_slice(),
+        );
+    }
+}
