@@ -1,5 +1,6 @@
 //! The links between servers.
-ghost use Rattle.std.specs.Prelude.{◌≡◌, ℕ, ◌≤◌, ◌<◌, drop, true, List, [], ◌∷◌, ◌++◌, Some, slice_get, length, IfOk, OnOk, IfSome, IfNone, IsSomeAnd, IsTrue, ◌↔◌};
+ghost use Rattle.std.specs.Prelude.{◌≡◌, ℕ, ◌≤◌, ◌<◌, drop, true, List, [], ◌∷◌, ◌++◌, Some, slice_get, length, IfOk, OnOk, IfSome, IfNone};
+ghost use Rattle.std.specs.Prelude.{IsSomeAnd, IsTrue, ◌↔◌};
 ghost use Rattle.ev_sets.specs.Sets.{Has};
 ghost use Rattle.ev_frame.specs.Frame.{FrameParts};
 ghost use Rattle.ev_net.specs.Links.{link_place, frames_at, has_room, AreSame};

@@ -248,7 +248,8 @@ fn is_calm_at(places: &[Place], i: usize) -> bool
 /// Whether no client has a command of a lower phase left.
 fn none_below(net: &Net, servers: &Servers, own: u32) -> bool
     requires kept { (phase : ℕ) × IsNetwork net.now phase (seen servers.now) }
-    ensures { IsTrue result ↔ ((client : ℕ) → 1 ≤ client → client ≤ length net.now.clients → is_below (next_phase_by net.now servers.now.journal.items client) own ≡ false) }
+    ensures { IsTrue result ↔ ((client : ℕ) → 1 ≤ client → client ≤ length net.now.clients
+        → is_below (next_phase_by net.now servers.now.journal.items client) own ≡ false) }
 {
     for client in 1..=net.clients.len() as u32 {
         if is_below(next_phase(net, servers, client), own) {

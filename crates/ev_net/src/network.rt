@@ -130,6 +130,14 @@ impl<'a> Network<'a> {
         &self.servers.journal
     }
 
+    /// What was done, where nothing else is wanted any more: the journal is handed on and not copied.
+    pub fn into_journal(self) -> Vec<Entry>
+        ensures { result.items ≡ self.entry.journal }
+    {
+        let servers = self.servers;
+        servers.journal
+    }
+
     /// The net.
     pub(crate) fn net(&self) -> &'a Net
         ensures net { result.now ≡ self.now.net }

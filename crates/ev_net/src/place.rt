@@ -75,7 +75,8 @@ impl Place {
         requires sound { IsSound net.now }
         requires among { Has server (servers_in net.now) }
         ensures server { IfOk result (λ place. place.server ≡ server) }
-        ensures state { IfOk result (λ place. IsServerState (net_at real (phased_net net.now) 0) place (empty_server real (net_at real (phased_net net.now) 0))) }
+        ensures state { IfOk result (λ place. IsServerState (net_at real (phased_net net.now) 0) place
+            (empty_server real (net_at real (phased_net net.now) 0))) }
         ensures clock { IfOk result (λ place. place.clock ≡ 0) }
     {
         let core = Core::start(alloc, net, server)?;

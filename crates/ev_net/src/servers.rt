@@ -1,5 +1,6 @@
 //! The servers of a network with their links and their journal, and the steps of one of them.
-ghost use Rattle.std.specs.Prelude.{◌≡◌, ℕ, ◌≤◌, ◌<◌, ◌^◌, ◌-◌, ◌∷◌, ◌++◌, [], true, false, Some, slice_get, length, map, IfOk, OnOk, OnErr, vec_len, vec_capacity};
+ghost use Rattle.std.specs.Prelude.{◌≡◌, ℕ, ◌≤◌, ◌<◌, ◌^◌, ◌-◌, ◌∷◌, ◌++◌, [], true, false, Some, slice_get, length, map, IfOk, OnOk};
+ghost use Rattle.std.specs.Prelude.{OnErr, vec_len, vec_capacity};
 ghost use Rattle.ev_sets.specs.Sets.{Has};
 ghost use Rattle.ev_sets.specs.Numbers.{IsDistinct};
 ghost use Rattle.ev_run.specs.Machine.{Does, Takes, Stamped};
