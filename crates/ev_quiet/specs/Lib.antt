@@ -8,3 +8,4 @@ pub mod Faults
 pub mod Ran
 pub mod Answers
 pub mod Refusals
+pub mod Showing

@@ -16,7 +16,7 @@ use std::alloc::Global;
 
 // What is wanted of the document that the source gives.
 fn of_source<S: Source>(alloc: Global, query: Query, source: &mut S) -> Result<Printed, Refusal>
-    ensures printed { IfOk result (λ p. IsPrintedBy (Wanted.Document query) (S.left source.old) p.text.items p.journal.items) }
+    ensures printed { IfOk result (λ p. IsPrintedBy (Wanted.Document query) (S.left source.old) p.text p.journal) }
     ensures end { OnOk result (IsAtEnd (S.left source.new)) }
     ensures sure { OnOk result (S.faults source.new ≡ S.faults source.old) }
     ensures bad { (line : ℕ) (kind : Fault) → IsErrOf result (Refusal.BadInput line kind)
@@ -36,7 +36,7 @@ fn of_source<S: Source>(alloc: Global, query: Query, source: &mut S) -> Result<P
 
 /// What is wanted, or why nothing is written.
 pub fn answer<S: Source>(alloc: Global, wanted: Wanted, source: &mut S) -> Result<Printed, Refusal>
-    ensures printed { IfOk result (λ p. IsPrintedBy wanted (S.left source.old) p.text.items p.journal.items) }
+    ensures printed { IfOk result (λ p. IsPrintedBy wanted (S.left source.old) p.text p.journal) }
     ensures end { OnOk result (reads_document wanted ≡ true → IsAtEnd (S.left source.new)) }
     ensures sure { OnOk result (S.faults source.new ≡ S.faults source.old) }
     ensures unread { reads_document wanted ≡ false → source.new ≡ source.old }

@@ -15,7 +15,7 @@ use std::alloc::Global;
 // The summary of the walk of a document that has a net. One that has none, as no generated document is, would be told as
 // want of memory, which is the one answer that needs no cause.
 fn summary(alloc: Global, bytes: &[u8]) -> Result<Printed, NoMemory>
-    ensures { IfOk result (λ p. IsSummaryOf bytes.now p.text.items p.journal.items) }
+    ensures { IfOk result (λ p. IsSummaryOf bytes.now p.text p.journal) }
 {
     let Ok(net) = net(alloc, bytes) else {
         return Err(NoMemory);
@@ -24,20 +24,17 @@ fn summary(alloc: Global, bytes: &[u8]) -> Result<Printed, NoMemory>
         return Err(NoMemory);
     };
     let text = run_summary(alloc, &net, &ran)?;
-    Ok(Printed {
-        text,
-        journal: ran.journal,
-    })
+    Printed::make(alloc, None, text, ran.journal)
 }
 
 /// The document that a seed makes, or the summary of its walk.
 pub fn of_seed(alloc: Global, seed: u64, summarized: bool) -> Result<Printed, NoMemory>
-    ensures { IfOk result (λ p. IsGenerated seed summarized p.text.items p.journal.items) }
+    ensures { IfOk result (λ p. IsGenerated seed summarized p.text p.journal) }
 {
     let document = generate(alloc, seed)?;
     if summarized {
         summary(alloc, &document)
     } else {
-        Ok(Printed::alone(alloc, document))
+        Printed::alone(alloc, document)
     }
 }

@@ -3,6 +3,7 @@
 
 mod answer;
 mod generated;
+mod given;
 mod law;
 mod notices;
 mod printed;

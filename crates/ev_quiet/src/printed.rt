@@ -1,68 +1,134 @@
 //! What is printed of a document.
 ghost use Rattle.std.specs.Prelude.{◌≡◌, ◌⊎◌, ℕ, [], IfOk, IsOk, IsErrOf};
+ghost use Rattle.std.specs.Io.KnownBytes.{Appends};
+ghost use Rattle.ev_outside.specs.Cause.{Rose};
+ghost use Rattle.ev_outside.specs.Whole.{AppendsPart};
+ghost use Rattle.ev_outside.specs.Pending.{outlet, Went};
 ghost use Rattle.ev_model.specs.Sound.{IsSound};
 ghost use Rattle.ev_input.specs.declared.fault.Fault.TheVariants.{BadTurn};
 ghost use Rattle.ev_quiet.specs.Runs.{turns_first};
 ghost use Rattle.ev_quiet.specs.Ran.{IsShown};
+ghost use Rattle.ev_quiet.specs.Showing.{given_text};
 ghost use Rattle.ev_quiet.specs.Faults.{ArePermitted, StopsAtLine, IsAtFault, MustBeRefused, CanBeDone};
 ghost use Rattle.ev_quiet.specs.Answers.{IsPrintedOf};
 
+use crate::given::Given;
 use crate::law::promise;
 use crate::ran::make_run;
 use crate::reading::net;
 use crate::refusal::Refusal;
-use crate::text::run_text;
+use crate::text::printed_run;
 use crate::words::{Query, Schedule, Shown};
 use ev_flood::must_may;
 use ev_input::Fault;
+use ev_memory::NoMemory;
 use ev_model::{Entry, Net};
+use ev_outside::{Failed, Pending, Sink};
 use ev_report::{check_text, flood_text};
 use std::alloc::Global;
+use std::marker::Model;
 
-/// A text to be written, with the journal of its run: empty where there is none.
+/// What is to be written, with the journal of its run: empty where there is none. It holds all memory that writing wants.
+///
+/// Contracts see the text and the journal.
 #[derive(Drop)]
 pub struct Printed {
-    /// The text.
-    pub text: Vec<u8>,
-    /// The journal.
-    pub journal: Vec<Entry>,
+    given: Option<Given>,
+    rest: Vec<u8>,
+    journal: Vec<Entry>,
+    pending: Pending,
+}
+
+impl Model for Printed {
+    ghost use Rattle.std.specs.Prelude.{◌≡◌, false};
+    ghost use Rattle.ev_outside.specs.Pending.{drained};
+    ghost use Rattle.ev_quiet.specs.Showing.{PrintedParts, printed_parts};
+
+    ghost Value = { PrintedParts };
+
+    ghost view = { λ p. printed_parts p.given p.rest.items p.journal.items };
+
+    ghost invariant = { λ p. p.pending ≡ drained false };
+}
+
+// Puts the text of what clients received behind what waits, where there is a run.
+fn put_given<K: Sink>(given: &Option<Given>, out: &mut Pending, sink: &mut K)
+    ensures { Went (outlet (K.written sink.old) (K.faults sink.old) out.old) (outlet (K.written sink.new) (K.faults sink.new) out.new)
+        (given_text given.now) }
+{
+    match given {
+        Some(given) => given.put(out, sink),
+        None => {}
+    }
 }
 
 impl Printed {
-    ghost use Rattle.std.specs.Prelude.{◌≡◌, []};
+    ghost use Rattle.std.specs.Prelude.{◌≡◌, [], None, IfOk, OnOk, OnErr};
+    ghost use Rattle.ev_quiet.specs.Showing.{printed_parts};
+
+    /// What clients received, where that is printed, and then a text.
+    pub fn make(
+        alloc: Global,
+        given: Option<Given>,
+        rest: Vec<u8>,
+        journal: Vec<Entry>,
+    ) -> Result<Printed, NoMemory>
+        ensures { IfOk result (λ p. p ≡ printed_parts given rest.items journal.items) }
+    {
+        Ok(Printed {
+            given,
+            rest,
+            journal,
+            pending: Pending::new(alloc)?,
+        })
+    }
 
     /// A text without a run.
-    pub fn alone(alloc: Global, text: Vec<u8>) -> Printed
-        ensures text { result.text.items ≡ text.items }
-        ensures journal { result.journal.items ≡ [] }
+    pub fn alone(alloc: Global, text: Vec<u8>) -> Result<Printed, NoMemory>
+        ensures { IfOk result (λ p. p ≡ printed_parts None text.items []) }
     {
-        Printed {
-            text,
-            journal: Vec::new(alloc),
+        Printed::make(alloc, None, text, Vec::new(alloc))
+    }
+
+    /// Writes the text, and hands on the journal. It takes no memory.
+    pub fn write<K: Sink>(self, sink: &mut K) -> Result<Vec<Entry>, Failed>
+        ensures journal { IfOk result (λ journal. journal.items ≡ self.journal) }
+        ensures ok { OnOk result (Appends (K.written sink.old) (K.written sink.new) self.text) }
+        ensures sure { OnOk result (K.faults sink.new ≡ K.faults sink.old) }
+        ensures err { OnErr result (AppendsPart (K.written sink.old) (K.written sink.new) self.text) }
+        ensures rose { OnErr result (Rose (K.faults sink.old) (K.faults sink.new)) }
+    {
+        let Printed {
+            given,
+            rest,
+            journal,
+            mut pending,
+        } = self;
+        put_given(&given, &mut pending, sink);
+        pending.put(sink, &rest);
+        match pending.finish(sink) {
+            Ok(()) => Ok(journal),
+            Err(failed) => Err(failed),
         }
     }
 }
 
 // The run of a net.
-fn shown(alloc: Global, net: &Net, schedule: Schedule, shown: Shown) -> Result<Printed, Refusal>
-    requires { IsSound net.now }
-    ensures shown { IfOk result (λ p. IsShown schedule shown net.now p.text.items p.journal.items) }
-    ensures permitted { IfOk result (λ p. ArePermitted net.now (turns_first schedule net.now)) }
+fn shown(alloc: Global, net: Net, schedule: Schedule, shown: Shown) -> Result<Printed, Refusal>
+    requires { IsSound net }
+    ensures shown { IfOk result (λ p. IsShown schedule shown net p.text p.journal) }
+    ensures permitted { IfOk result (λ p. ArePermitted net (turns_first schedule net)) }
     ensures bad { (line : ℕ) (kind : Fault) → IsErrOf result (Refusal.BadInput line kind)
-        → (kind ≡ BadTurn) × StopsAtLine net.now [] (turns_first schedule net.now) line }
+        → (kind ≡ BadTurn) × StopsAtLine net [] (turns_first schedule net) line }
     ensures unread { IsErrOf result Refusal.ReadFault → ⊥ }
 {
-    let ran = make_run(alloc, net, schedule)?;
-    let text = run_text(alloc, net, &ran, shown)?;
-    Ok(Printed {
-        text,
-        journal: ran.journal,
-    })
+    let ran = make_run(alloc, &net, schedule)?;
+    Ok(printed_run(alloc, net, ran, shown)?)
 }
 
 // The run of a document.
 fn run(alloc: Global, bytes: &[u8], schedule: Schedule, options: Shown) -> Result<Printed, Refusal>
-    ensures printed { IfOk result (λ p. IsPrintedOf (Query.Run schedule options) bytes.now p.text.items p.journal.items) }
+    ensures printed { IfOk result (λ p. IsPrintedOf (Query.Run schedule options) bytes.now p.text p.journal) }
     ensures bad { (line : ℕ) (kind : Fault) → IsErrOf result (Refusal.BadInput line kind) → IsAtFault (Query.Run schedule options) bytes.now line kind }
     ensures refused { (line : ℕ) (kind : Fault) → MustBeRefused (Query.Run schedule options) bytes.now line kind
         → IsErrOf result (Refusal.BadInput line kind) ⊎ IsErrOf result Refusal.NoMemory }
@@ -71,12 +137,12 @@ fn run(alloc: Global, bytes: &[u8], schedule: Schedule, options: Shown) -> Resul
 {
     promise();
     let net = net(alloc, bytes)?;
-    shown(alloc, &net, schedule, options)
+    shown(alloc, net, schedule, options)
 }
 
 // What flooding brings by a document.
 fn flood(alloc: Global, bytes: &[u8]) -> Result<Printed, Refusal>
-    ensures printed { IfOk result (λ p. IsPrintedOf Query.Flood bytes.now p.text.items p.journal.items) }
+    ensures printed { IfOk result (λ p. IsPrintedOf Query.Flood bytes.now p.text p.journal) }
     ensures bad { (line : ℕ) (kind : Fault) → IsErrOf result (Refusal.BadInput line kind) → IsAtFault Query.Flood bytes.now line kind }
     ensures refused { (line : ℕ) (kind : Fault) → MustBeRefused Query.Flood bytes.now line kind
         → IsErrOf result (Refusal.BadInput line kind) ⊎ IsErrOf result Refusal.NoMemory }
@@ -86,12 +152,12 @@ fn flood(alloc: Global, bytes: &[u8]) -> Result<Printed, Refusal>
     let net = net(alloc, bytes)?;
     let owed = must_may(alloc, &net)?;
     let text = flood_text(alloc, &net, &owed)?;
-    Ok(Printed::alone(alloc, text))
+    Ok(Printed::alone(alloc, text)?)
 }
 
 // How much a document has.
 fn check(alloc: Global, bytes: &[u8]) -> Result<Printed, Refusal>
-    ensures printed { IfOk result (λ p. IsPrintedOf Query.Check bytes.now p.text.items p.journal.items) }
+    ensures printed { IfOk result (λ p. IsPrintedOf Query.Check bytes.now p.text p.journal) }
     ensures bad { (line : ℕ) (kind : Fault) → IsErrOf result (Refusal.BadInput line kind) → IsAtFault Query.Check bytes.now line kind }
     ensures refused { (line : ℕ) (kind : Fault) → MustBeRefused Query.Check bytes.now line kind
         → IsErrOf result (Refusal.BadInput line kind) ⊎ IsErrOf result Refusal.NoMemory }
@@ -100,12 +166,12 @@ fn check(alloc: Global, bytes: &[u8]) -> Result<Printed, Refusal>
 {
     let net = net(alloc, bytes)?;
     let text = check_text(alloc, &net)?;
-    Ok(Printed::alone(alloc, text))
+    Ok(Printed::alone(alloc, text)?)
 }
 
 /// What is wanted of a document, or its fault.
 pub fn of_document(alloc: Global, query: Query, bytes: &[u8]) -> Result<Printed, Refusal>
-    ensures printed { IfOk result (λ p. IsPrintedOf query bytes.now p.text.items p.journal.items) }
+    ensures printed { IfOk result (λ p. IsPrintedOf query bytes.now p.text p.journal) }
     ensures bad { (line : ℕ) (kind : Fault) → IsErrOf result (Refusal.BadInput line kind) → IsAtFault query bytes.now line kind }
     ensures refused { (line : ℕ) (kind : Fault) → MustBeRefused query bytes.now line kind
         → IsErrOf result (Refusal.BadInput line kind) ⊎ IsErrOf result Refusal.NoMemory }

@@ -50,17 +50,6 @@ fn through<'a>(alloc: Global, net: &'a Net, schedule: Schedule) -> Result<Networ
     Ok(network)
 }
 
-// An equal journal.
-fn copied(alloc: Global, journal: &[Entry]) -> Result<Vec<Entry>, NoMemory>
-    ensures { IfOk result (λ copy. copy.items ≡ journal.now) }
-{
-    let mut copy = Vec::with_capacity(alloc, journal.len())?;
-    for entry in journal {
-        copy.push(entry.copy(alloc)?)?;
-    }
-    Ok(copy)
-}
-
 // Equal deliveries.
 fn copied_deliveries(alloc: Global, deliveries: &[Delivery]) -> Result<Vec<Delivery>, NoMemory>
     ensures { IfOk result (λ copy. copy.items ≡ deliveries.now) }
@@ -120,11 +109,10 @@ pub fn make_run(alloc: Global, net: &Net, schedule: Schedule) -> Result<Ran, Ref
 {
     let network = through(alloc, net, schedule)?;
     let count = clients(net);
-    let journal = copied(alloc, network.journal())?;
     let refused = refused(alloc, &network, count)?;
     let received = received(alloc, &network, count)?;
     Ok(Ran {
-        journal,
+        journal: network.into_journal(),
         refused,
         received,
     })

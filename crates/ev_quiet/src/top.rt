@@ -12,7 +12,7 @@ use crate::status::Status;
 use crate::words::{Wanted, read_words};
 use ev_input::Fault;
 use ev_model::Entry;
-use ev_outside::{Sink, Source, Word, write_all};
+use ev_outside::{Sink, Source, Word};
 use std::alloc::Global;
 
 /// How a run ended, and its journal in the order of the turns: that of the run for `walk`, `replay` and a summary, and
@@ -37,18 +37,18 @@ fn ended(alloc: Global, status: Status) -> Outcome
 
 // Writes a text.
 fn written<K: Sink>(alloc: Global, printed: Printed, sink: &mut K) -> Outcome
-    ensures done { result.status ≡ Status.Done → Appends (K.written sink.old) (K.written sink.new) printed.text.items }
+    ensures done { result.status ≡ Status.Done → Appends (K.written sink.old) (K.written sink.new) printed.text }
     ensures sure { result.status ≡ Status.Done → K.faults sink.new ≡ K.faults sink.old }
-    ensures journal { result.status ≡ Status.Done → result.journal.items ≡ printed.journal.items }
-    ensures part { result.status ≡ Status.WriteFault → AppendsPart (K.written sink.old) (K.written sink.new) printed.text.items }
+    ensures journal { result.status ≡ Status.Done → result.journal.items ≡ printed.journal }
+    ensures part { result.status ≡ Status.WriteFault → AppendsPart (K.written sink.old) (K.written sink.new) printed.text }
     ensures write_fault { result.status ≡ Status.WriteFault → Rose (K.faults sink.old) (K.faults sink.new) }
     ensures empty { result.status ≢ Status.Done → result.journal.items ≡ [] }
     ensures ends { (result.status ≡ Status.Done) ⊎ (result.status ≡ Status.WriteFault) }
 {
-    match write_all(sink, &printed.text) {
-        Ok(()) => Outcome {
+    match printed.write(sink) {
+        Ok(journal) => Outcome {
             status: Status::Done,
-            journal: printed.journal,
+            journal,
         },
         Err(_) => ended(alloc, Status::WriteFault),
     }

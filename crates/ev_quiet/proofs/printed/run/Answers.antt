@@ -23,11 +23,11 @@ returns-in_err-net-clause-done c = λ d.
 
 pub returns-clause-printed : goal.returns-clause-printed
 returns-clause-printed c =
-    if-ok c.shown.result (λ p. IsShown c.args.schedule c.args.options c.in_ok-net.net p.text.items p.journal.items)
-    (λ p. IsPrintedOf (Run c.args.schedule c.args.options) c.args.bytes.now p.text.items p.journal.items)
+    if-ok c.shown.result (λ p. IsShown c.args.schedule c.args.options c.in_ok-net.net p.text p.journal)
+    (λ p. IsPrintedOf (Run c.args.schedule c.args.options) c.args.bytes.now p.text p.journal)
     (λ p s.
     let net = c.in_ok-net.net in
-    let journal = p.journal.items in
+    let journal = p.journal in
     let whole : IsWholeRun net journal = record { sound = c.in_ok-net.ensures.sound; notices = c.in_ok-net.ensures.notices; legal = s.legal; drained = s.drained } in record {
       net = net;
       well_formed = c.in_ok-net.ensures.net;

@@ -7,8 +7,8 @@ use Rattle.ev_quiet.proofs.top.carry_out.Goals as goal
 
 pub returns-in-Ok-clause-printed : goal.returns-in-Ok-clause-printed
 returns-in-Ok-clause-printed g c = λ d. (
-  c.in-Ok.printed.text.items,
-  subst (λ j. IsPrintedBy c.args.wanted (g.S.Source.left c.args.source.now) c.in-Ok.printed.text.items j) (sym (c.written.ensures.journal d)) c.in-Ok.ensures.printed,
+  c.in-Ok.printed.text,
+  subst (λ j. IsPrintedBy c.args.wanted (g.S.Source.left c.args.source.now) c.in-Ok.printed.text j) (sym (c.written.ensures.journal d)) c.in-Ok.ensures.printed,
   c.written.ensures.done d,
 )
 
@@ -29,7 +29,7 @@ pub returns-in-Ok-clause-read_fault : goal.returns-in-Ok-clause-read_fault
 returns-in-Ok-clause-read_fault g c = λ u. absurd (written-only c.written.result.status statuses.ReadFault ⊥ c.written.ensures.ends u (λ e. absurd cc) (λ e. absurd cc))
 
 pub returns-in-Ok-clause-part : goal.returns-in-Ok-clause-part
-returns-in-Ok-clause-part g c = λ w. (c.in-Ok.printed.text.items, c.in-Ok.printed.journal.items, c.in-Ok.ensures.printed, c.written.ensures.part w)
+returns-in-Ok-clause-part g c = λ w. (c.in-Ok.printed.text, c.in-Ok.printed.journal, c.in-Ok.ensures.printed, c.written.ensures.part w)
 
 pub returns-in-Ok-clause-refused : goal.returns-in-Ok-clause-refused
 returns-in-Ok-clause-refused g c = λ line kind t n. absurd (no-refusal c.in-Ok.printed line kind (c.in-Ok.ensures.refused line kind t n))

@@ -1,0 +1,60 @@
+//! What clients received, kept until it is written.
+ghost use Rattle.std.specs.Prelude.{◌≡◌, length, IfOk};
+ghost use Rattle.ev_outside.specs.Pending.{outlet, Went};
+ghost use Rattle.ev_report.specs.Deliveries.{deliveries_text};
+
+use ev_memory::NoMemory;
+use ev_model::{Delivery, Net};
+use ev_outside::{Pending, Sink};
+use ev_report::{ordered, put_deliveries};
+use ev_wire::Lists;
+use std::alloc::Global;
+use std::marker::Model;
+
+/// What clients received, in the order in which it is printed. Contracts see its text.
+#[derive(Drop)]
+pub struct Given {
+    net: Net,
+    refused: Vec<Lists<u32>>,
+    received: Vec<Lists<Delivery>>,
+}
+
+impl Model for Given {
+    ghost use Rattle.std.specs.Prelude.{◌≡◌, ℕ, List, false, length};
+    ghost use Rattle.ev_report.specs.Deliveries.{deliveries_text};
+
+    ghost Value = { List ℕ };
+
+    ghost view = { λ g. deliveries_text g.net g.refused.items g.received.items false };
+
+    ghost invariant = { λ g. (length g.refused.items ≡ length g.net.clients) × (length g.received.items ≡ length g.net.clients) };
+}
+
+impl Given {
+    /// What these clients received, by publisher and ordinal where it is to be sorted.
+    pub fn make(
+        alloc: Global,
+        net: Net,
+        refused: Vec<Lists<u32>>,
+        received: Vec<Lists<Delivery>>,
+        sorted: bool,
+    ) -> Result<Given, NoMemory>
+        requires refused { length refused.items ≡ length net.clients }
+        requires received { length received.items ≡ length net.clients }
+        ensures { IfOk result (λ given. given ≡ deliveries_text net refused.items received.items sorted) }
+    {
+        let received = ordered(alloc, received, sorted)?;
+        Ok(Given {
+            net,
+            refused,
+            received,
+        })
+    }
+
+    /// Puts the text behind what waits. It takes no memory.
+    pub fn put<K: Sink>(&self, out: &mut Pending, sink: &mut K)
+        ensures { Went (outlet (K.written sink.old) (K.faults sink.old) out.old) (outlet (K.written sink.new) (K.faults sink.new) out.new) self.now }
+    {
+        put_deliveries(out, sink, &self.net, &self.refused, &self.received)
+    }
+}
