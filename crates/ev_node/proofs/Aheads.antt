@@ -1,8 +1,8 @@
 -- Steps with a match ahead keep what a cell's type says, and their notices.
-use Rattle.std.proofs.Common.{◌≡◌, ◌↔◌, ℕ, List, [], length, Option, Some, None, refl, sym, ap, subst, ◌∙◌}
-use Rattle.std.specs.Prelude.{Result, Ok, Err, IfOk, OnErr, IfSome, IfNone}
+use Rattle.std.proofs.Common.{◌≡◌, ℕ, List, Option, Some, sym, ap, subst, ◌∙◌}
+use Rattle.std.specs.Prelude.{Result, Ok, Err, IfOk, OnErr}
 use Rattle.ev_notice.specs.Notice.{Attribute, AreValues}
-use Rattle.ev_run.specs.Machine.{Input, Act, Does, Takes, Did, Took, Stamped}
+use Rattle.ev_run.specs.Machine.{Act, Does, Takes, Did, Took}
 use Rattle.ev_routing.specs.Server.{Message as Carried, Noticed}
 use Rattle.ev_routing.specs.Step.{Task, NextCommand, Version}
 use Rattle.ev_theory.specs.Real.{real}

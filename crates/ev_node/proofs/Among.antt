@@ -1,5 +1,5 @@
 -- Members of lists of numbers, by a test.
-use Rattle.std.proofs.Common.{◌≡◌, ◌↔◌, ℕ, zero, suc, ◌<◌, ◌≤◌, ◌==◌, ◌||◌, nat_le, cond, Bool, true, false, List, [], ◌∷◌, length, slice_get, slice_index_or, Some, inl, inr, refl, sym, ap, ◌∙◌, arith, eq-eqb, IsTrue}
+use Rattle.std.proofs.Common.{◌≡◌, ◌↔◌, ℕ, ◌==◌, ◌||◌, Bool, true, false, List, [], ◌∷◌, inl, inr, refl, sym, ap, ◌∙◌, eq-eqb, IsTrue}
 use Rattle.std.specs.List.{list_any}
 use Rattle.ev_sets.specs.Sets.{Has}
 use Rattle.ev_links.proofs.Numbers.{Same, Is, Not, compare}

@@ -1,11 +1,10 @@
 -- What is answered to what is asked.
-use Rattle.std.proofs.Common.{◌≡◌, ◌<◌, ℕ, Bool, true, false, List, length, Option, Some, slice_get, refl, sym, ap, subst, ◌∙◌}
+use Rattle.std.proofs.Common.{◌≡◌, ℕ, Bool, true, false, List, sym, ap, subst, ◌∙◌}
 use Rattle.std.specs.Prelude.{Result, Ok, Err, IfOk, OnErr, IsErrOf}
 use Rattle.ev_sets.specs.Sets.{Has}
-use Rattle.ev_notice.specs.Notice.{Attribute}
 use Rattle.ev_run.specs.Machine.{Does, Takes, Stamped}
 use Rattle.ev_routing.specs.Server.{Message}
-use Rattle.ev_routing.specs.Step.{NextCommand, Version as MakesVersion}
+use Rattle.ev_routing.specs.Step.{Version as MakesVersion}
 use Rattle.ev_theory.specs.Real.{real}
 use Rattle.ev_model.specs.declared.turn.Act.TheVariants as acts
 use Rattle.ev_model.specs.Parts.{EntryParts}
@@ -15,11 +14,10 @@ use Rattle.ev_versions.specs.declared.ahead.Ahead.{Ahead}
 use Rattle.ev_versions.specs.Ends.{notice_in}
 use Rattle.ev_node.specs.declared.held.Held.{Held}
 use Rattle.ev_node.specs.declared.link.Link.{Link}
-use Rattle.ev_node.specs.declared.what.What.{What}
-use Rattle.ev_node.specs.declared.what.What.TheVariants.{Command, Take, Version}
+use Rattle.ev_node.specs.declared.what.What.TheVariants.{Take, Version}
 use Rattle.ev_node.specs.declared.what.Turned.{Turned}
 use Rattle.ev_node.specs.declared.what.Turned.TheVariants.{Made, Stale, Idle}
-use Rattle.ev_node.specs.Links.{Both, IsNeighbour, IsUnmoved}
+use Rattle.ev_node.specs.Links.{IsNeighbour, IsUnmoved}
 use Rattle.ev_node.specs.Cell.{IsHeld}
 use Rattle.ev_node.specs.Turns.{IsTurn, IsStill, IsTaking, IsTakingFrom, IsVersion, IsWornAt, message_seen}
 use Rattle.ev_node.specs.Asked.{Answers, IsMade, IsWorn, SuitsHeld}

@@ -1,7 +1,7 @@
 -- No lower command is left and none of a higher phase is taken: this goes on through each step.
-use Rattle.std.proofs.Common.{◌≡◌, ℕ, zero, suc, ◌+◌, ◌≤◌, ◌<◌, ◌==◌, cond, true, false, Bool, List, [], ◌∷◌, ◌⊎◌, inl, inr, map, Option, Some, None, slice_get, refl, sym, ap, subst, ◌∙◌, arith}
+use Rattle.std.proofs.Common.{◌≡◌, ℕ, zero, suc, ◌≤◌, ◌<◌, ◌==◌, cond, List, [], ◌∷◌, ◌⊎◌, inl, inr, map, Some, slice_get, refl, sym, ap, subst, ◌∙◌, arith}
 use Rattle.ev_sets.specs.Sets.{Has}
-use Rattle.ev_run.specs.Machine.{Input, Does, Takes, Outcome, at}
+use Rattle.ev_run.specs.Machine.{Input, Does, Takes, Outcome}
 use Rattle.ev_run.proofs.Lists.{Same, Is, Not, compare}
 use Rattle.ev_routing.specs.Net.{Net, NetLaws, NeverFalls, PhasedCommand}
 use Rattle.ev_routing.specs.Server.{Message, ServerState}
@@ -10,11 +10,9 @@ use Rattle.ev_routing.specs.Works.{done_after}
 use Rattle.ev_routing.proofs.Listing.{get-has, has-map, map-has}
 use Rattle.ev_routing.proofs.Working.{Served, served}
 use Rattle.ev_theory.specs.Real.{real}
-use Rattle.ev_wire.specs.declared.command.Command.{Command}
 use Rattle.ev_wire.specs.declared.sent.Sent.{Sent}
 use Rattle.ev_model.specs.Meaning.{phased_command}
 use Rattle.ev_session.specs.Session.{SessionParts}
-use Rattle.ev_server.specs.Clients.{numbers_of}
 use Rattle.ev_server.specs.Core.{CoreParts, IsServerState}
 use Rattle.ev_server.specs.Step.{IsStep}
 use Rattle.ev_node.specs.Served.{StampedInput, input_of}

@@ -1,17 +1,16 @@
 -- A lane from which all is taken, and cells that have nothing left to do.
-use Rattle.std.proofs.Common.{◌≡◌, ℕ, zero, suc, ◌+◌, ◌<◌, ◌≤◌, ◌==◌, true, false, cond, Bool, List, [], ◌∷◌, ◌++◌, length, map, get_or, set, Some, slice_get, ◌⊎◌, inl, inr, refl, sym, ap, subst, ◌∙◌, arith, ne_eqb, eq-eqb}
+use Rattle.std.proofs.Common.{◌≡◌, ℕ, zero, suc, ◌<◌, ◌≤◌, false, Bool, List, [], ◌∷◌, ◌++◌, length, map, get_or, set, Some, slice_get, inl, refl, sym, ap, subst, ◌∙◌, arith, ne_eqb, eq-eqb}
 use Rattle.std.specs.Prelude.{Result, Ok, Err, IfOk}
 use Rattle.std.proofs.lemmas.List.{length-map}
 use Rattle.ev_sets.specs.Sets.{Has}
 use Rattle.ev_sets.specs.Numbers.{IsDistinct}
 use Rattle.ev_run.proofs.Lists.{append-nothing}
 use Rattle.ev_lane.specs.Lane.{put_list, taken_list, rest_list}
-use Rattle.ev_frame.specs.Frame.{FrameParts}
 use Rattle.ev_server.specs.declared.stepped.StepFault.{StepFault}
 use Rattle.ev_node.specs.declared.held.Root.{Root}
 use Rattle.ev_node.specs.declared.link.Link.{Link}
 use Rattle.ev_node.specs.Links.{Both, At, IsOneLane, IsSettled, IsNeighbour, IsSameLink, HasMissed, put_for, taken_from}
-use Rattle.ev_node.specs.Cell.{CellParts, IsKept}
+use Rattle.ev_node.specs.Cell.{CellParts}
 use Rattle.ev_node.specs.Together.{Sight, IsLaneOf, IsTakenUp, IsCellDone, HasNoCommand, IsWornSomewhere, sight, sights, roots, links_of}
 use Rattle.ev_server.specs.Step.{last_stamp}
 use Rattle.ev_node.proofs.Places.{found, set-found, one-value, both-before, both-behind, found-name, below-found}

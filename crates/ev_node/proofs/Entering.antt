@@ -1,5 +1,6 @@
 -- A cell that enters a phase with the same tree keeps what its type says.
-use Rattle.std.proofs.Common.{◌≡◌, ℕ, zero, suc, ◌≤◌, ◌<◌, ◌^◌, true, eqb-true, List, [], ◌∷◌, length, map, drop, Some, slice_get, refl, sym, ap, subst, ◌∙◌, arith}
+use Rattle.std.proofs.Common.{◌≡◌, ℕ, zero, suc, ◌≤◌, ◌<◌, ◌^◌, true, eqb-true, List, [], ◌∷◌, length, map, take, drop, Some, slice_get, refl, sym, ap, subst, ◌∙◌, arith}
+use Rattle.std.proofs.lemmas.List.{take_all}
 use Rattle.ev_sets.specs.Sets.{Has}
 use Rattle.ev_wire.specs.declared.command.Command.{Command}
 use Rattle.ev_session.specs.Session.{SessionParts}
@@ -14,7 +15,6 @@ use Rattle.ev_model.specs.Parts.{NetParts, EntryParts}
 use Rattle.ev_model.specs.Meaning.{journal_of}
 use Rattle.ev_model.specs.Nets.{phased_net}
 use Rattle.ev_server.specs.Core.{CoreParts, IsServerState}
-use Rattle.ev_versions.specs.Ends.{staged, published}
 use Rattle.ev_node.specs.declared.held.Held.{Held}
 use Rattle.ev_node.specs.declared.held.Root.{Root}
 use Rattle.ev_node.specs.declared.link.Link.{Link}
@@ -26,11 +26,11 @@ pub all-same : (xs : List Link) → Both IsSameLink xs xs
 all-same [] = tt
 all-same (x ∷ xs) = (same-refl x, all-same xs)
 
-drop-all : {T : Type 0} (xs : List T) → drop (length xs) xs ≡ []
+pub drop-all : {T : Type 0} (xs : List T) → drop (length xs) xs ≡ []
 drop-all [] = refl
 drop-all (x ∷ xs) = drop-all xs
 
-any-clock : (n : Net real) (core : CoreParts) (clock : ℕ) (state : ServerState real) → IsServerState n core state → IsServerState n (record core { clock = clock }) state
+pub any-clock : (n : Net real) (core : CoreParts) (clock : ℕ) (state : ServerState real) → IsServerState n core state → IsServerState n (record core { clock = clock }) state
 any-clock n core clock state is = record {
   among = is.among;
   control = is.control;
@@ -57,9 +57,9 @@ raised old new clock held le low core links publisher handed = record {
 }
 
 pub entered : (net : NetParts) (root after : Root) (journal : List EntryParts) (old new : Held) (clock : ℕ) → IsKept net root journal old → old.core.clock ≤ clock → clock < 2 ^ 62
-    → is_one_tree real (phased_net net) root.phase after.phase ≡ true → root.phase ≤ after.phase → HasNoneBelow after.phase old.core.clients → after.net ≡ root.net → after.server ≡ root.server → after.entries ≡ length journal → after.core.value ≡ new.core → after.links.value ≡ new.links → after.viewer ≡ root.viewer
+    → is_one_tree real (phased_net net) root.phase after.phase ≡ true → root.phase ≤ after.phase → HasNoneBelow after.phase old.core.clients → after.net ≡ root.net → after.server ≡ root.server → after.entries ≡ length journal → after.before.value.items ≡ journal → after.core.value ≡ new.core → after.links.value ≡ new.links → after.viewer ≡ root.viewer
     → new.core ≡ record old.core { clock = clock } → new.links ≡ old.links → new.publisher ≡ old.publisher → new.handed ≡ old.handed → IsKept net after journal new
-entered net root after journal old new clock kept le low tree later none net_same server entries core_is links_is viewer core links publisher handed = record {
+entered net root after journal old new clock kept le low tree later none net_same server entries before core_is links_is viewer core links publisher handed = record {
   net_is = ap (λ z. z.value) net_same ∙ kept.net_is;
   sound = kept.sound;
   number = ap (λ (z : CoreParts). z.server) core ∙ kept.number ∙ sym server;
@@ -70,6 +70,7 @@ entered net root after journal old new clock kept le low tree later none net_sam
     stands = subst (λ z. IsCellOf net after.phase new.core z.items begun) links_is (subst (λ z. IsCellOf net after.phase z after.links.value.items begun) core_is is);
   };
   entries = let e = entries in omega (arith, e);
+  before = take_all after.entries journal (let e = entries in omega (arith, e)) ∙ sym before;
   links = subst (λ z. Both IsSameLink z.items new.links.items) (sym links_is) (all-same new.links.items);
   publisher = rw (publisher, viewer) kept.publisher;
   now = raised old new clock kept.now le low core links publisher handed;

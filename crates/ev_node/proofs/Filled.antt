@@ -1,21 +1,23 @@
 -- The cells of a net are started one by one.
-use Rattle.std.proofs.Common.{◌≡◌, ◌⊎◌, inl, inr, ℕ, zero, suc, ◌+◌, ◌<◌, ◌≤◌, List, [], ◌∷◌, ◌++◌, length, map, get_or, set, Some, slice_get, refl, sym, ap, subst, ◌∙◌, arith}
+use Rattle.std.proofs.Common.{◌≡◌, ◌⊎◌, inl, inr, true, false, ℕ, zero, suc, ◌+◌, ◌<◌, ◌≤◌, List, [], ◌∷◌, ◌++◌, length, map, get_or, set, Some, slice_get, refl, sym, ap, subst, ◌∙◌, arith}
 use Rattle.std.proofs.lemmas.List.{length-append, length-map}
 use Rattle.ev_sets.specs.Sets.{Has}
-use Rattle.ev_tree.specs.Tree.{Topology}
 use Rattle.ev_tree.proofs.Servers.{in-server}
 use Rattle.ev_model.specs.Parts.{NetParts}
 use Rattle.ev_model.specs.Sound.{IsSound}
 use Rattle.ev_model.proofs.SoundNets.{few-servers}
-use Rattle.ev_model.specs.Nets.{first_tree, servers_in, topology_at}
+use Rattle.ev_model.specs.Nets.{first_tree, servers_in}
+use Rattle.ev_counting.specs.declared.change.Change.{Change}
+use Rattle.ev_server.specs.Staged.{is_some_there}
 use Rattle.ev_node.specs.declared.held.Root.{Root}
 use Rattle.ev_node.specs.declared.link.Link.{Link}
 use Rattle.ev_node.specs.declared.starting.Started.{Started}
-use Rattle.ev_node.specs.Lanes.{AreEnds, AreLanesOf}
-use Rattle.ev_node.specs.Started.{IsFresh, IsStarted, AreStarted}
-use Rattle.ev_node.specs.Together.{AreTogether, links_of}
-use Rattle.ev_node.proofs.Places.{found, one-value, below-found}
-use Rattle.ev_node.proofs.Rows.{get-end}
+use Rattle.ev_node.specs.Lanes.{AreEnds}
+use Rattle.ev_node.specs.Started.{IsStarted, AreStarted}
+use Rattle.ev_node.specs.Cell.{CellParts}
+use Rattle.ev_node.specs.Together.{links_of}
+use Rattle.ev_node.specs.Entered.{AreCalm}
+use Rattle.ev_node.proofs.Places.{found, one-value}
 use Rattle.ev_node.proofs.Gathered.{map-found, found-map, found-within}
 
 -- the first n cells over these rows
@@ -29,7 +31,7 @@ none-yet net rows started e = record {
   each = λ k s f. absurd (let z : slice_get [] k ≡ Some s = subst (λ (l : List Started). slice_get l k ≡ Some s) e f in cc);
 }
 
-get-last : {X : Type 0} (xs : List X) (x y : X) (k : ℕ) → slice_get (xs ++ x ∷ []) k ≡ Some y → (slice_get xs k ≡ Some y) ⊎ ((k ≡ length xs) × (y ≡ x))
+pub get-last : {X : Type 0} (xs : List X) (x y : X) (k : ℕ) → slice_get (xs ++ x ∷ []) k ≡ Some y → (slice_get xs k ≡ Some y) ⊎ ((k ≡ length xs) × (y ≡ x))
 get-last [] x y zero e = inr (refl, one-value y x (sym e))
 get-last [] x y (suc k) e = absurd cc
 get-last (z ∷ xs) x y zero e = inl e
@@ -80,7 +82,7 @@ pub row-server : (net : NetParts) (rows : List (List Link)) (k : ℕ) → length
 row-server net rows k count lt = in-server (first_tree net.trees).count (suc k) (omega arith, omega (arith, lt, count))
 
 -- other rows stay where one is set
-get-other : {X : Type 0} (xs : List X) (n k : ℕ) (v : X) → (k ≡ n → ⊥) → slice_get (set xs n v) k ≡ slice_get xs k
+pub get-other : {X : Type 0} (xs : List X) (n k : ℕ) (v : X) → (k ≡ n → ⊥) → slice_get (set xs n v) k ≡ slice_get xs k
 get-other [] n k v other = refl
 get-other (x ∷ xs) zero zero v other = absurd (other refl)
 get-other (x ∷ xs) zero (suc k) v other = refl
@@ -107,3 +109,14 @@ row-is f rows first place d lt lt' rest =
 
 pub few-rows : (net : NetParts) (rows : List (List Link)) → IsSound net → length rows ≡ (first_tree net.trees).count → length rows ≤ 64
 few-rows net rows sound e = let l = few-servers net.trees sound.trees in omega (arith, e, l)
+
+-- cells before their first step have nothing staged
+pub calm-started : (net : NetParts) (started : List Started) → AreStarted net started → AreCalm (map (λ (s : Started). s.cell) started)
+calm-started net started are k cell e =
+    let s = found-map (λ (s : Started). s.cell) k started cell e in
+    let is = are.each k s.0 s.1 in
+    subst (λ (c : CellParts). c.held.core.staged ≡ []) s.2 (nothing s.0.cell.held.core.staged (sym is.1.fresh.opening.state.staged))
+  where
+    nothing : (changes : List Change) → is_some_there changes ≡ false → changes ≡ []
+    nothing [] q = refl
+    nothing (x ∷ changes) q = absurd (let t : true ≡ false = q in cc)

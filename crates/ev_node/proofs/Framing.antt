@@ -1,10 +1,8 @@
 -- Frames tell their messages.
-use Rattle.std.proofs.Common.{◌≡◌, ℕ, List, [], ◌∷◌, ◌⊎◌, inl, inr, map, refl, sym, ap, subst, ◌∙◌}
-use Rattle.ev_sets.specs.Sets.{Has}
+use Rattle.std.proofs.Common.{◌≡◌, List, [], ◌∷◌, inl, inr, map, refl, sym, ap, subst, ◌∙◌}
 use Rattle.ev_run.specs.Machine.{Stamped}
 use Rattle.ev_routing.specs.Server.{Message, Subs, Advs, Noticed}
 use Rattle.ev_theory.specs.Real.{real}
-use Rattle.ev_wire.specs.declared.message.Message.{Message as WireMessage}
 use Rattle.ev_wire.specs.MessageText.{message_text, IsMessageText}
 use Rattle.ev_wire.proofs.Unique.{message_value}
 use Rattle.ev_control.specs.Control.{wired}

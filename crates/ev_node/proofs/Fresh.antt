@@ -1,23 +1,20 @@
 -- A cell before its first step keeps what its type says.
-use Rattle.std.proofs.Common.{◌≡◌, ◌↔◌, ◌⊎◌, inl, inr, ℕ, zero, suc, ◌≤◌, ◌<◌, ◌^◌, ◌==◌, cond, Bool, true, false, List, [], ◌∷◌, length, map, drop, Some, None, slice_get, refl, sym, ap, subst, ◌∙◌, arith}
+use Rattle.std.proofs.Common.{◌≡◌, ◌↔◌, ◌⊎◌, inl, inr, ℕ, zero, suc, ◌≤◌, ◌<◌, ◌^◌, ◌==◌, cond, Bool, true, false, List, [], ◌∷◌, length, map, take, drop, Some, None, slice_get, refl, sym, ap, subst, ◌∙◌, arith}
 use Rattle.std.specs.List.{Contains}
 use Rattle.ev_constraint.specs.Constraint.{ConstraintParts}
 use Rattle.ev_sets.specs.Sets.{Has}
 use Rattle.ev_tree.specs.Tree.{links_of}
 use Rattle.ev_run.specs.Journals.{Cell, IsReplay, opening_cells}
-use Rattle.ev_routing.specs.Net.{Net, PhasedCommand}
-use Rattle.ev_routing.specs.Server.{ServerState, interfaces}
+use Rattle.ev_routing.specs.Net.{Net}
 use Rattle.ev_routing.specs.Routing.{empty_server}
 use Rattle.ev_phases.specs.Trees.{net_at, entries_on}
 use Rattle.ev_theory.specs.Real.{real}
-use Rattle.ev_wire.specs.declared.command.Command.{Command}
 use Rattle.ev_lane.specs.Lane.{put_list, taken_list}
 use Rattle.ev_frame.specs.Frame.{FrameParts}
 use Rattle.ev_model.specs.Parts.{NetParts, EntryParts}
 use Rattle.ev_model.specs.Meaning.{journal_of}
 use Rattle.ev_model.specs.Nets.{phased_net, topology_at}
 use Rattle.ev_model.specs.Sound.{IsSound}
-use Rattle.ev_session.specs.Session.{SessionParts}
 use Rattle.ev_server.specs.Core.{CoreParts, IsServerState, published_from}
 use Rattle.ev_counting.specs.Table.{Held as Pair}
 use Rattle.ev_versions.specs.declared.publisher.Publisher.{Publisher}
@@ -29,15 +26,14 @@ use Rattle.ev_node.specs.declared.held.Root.{Root}
 use Rattle.ev_node.specs.declared.link.Link.{Link}
 use Rattle.ev_node.specs.Links.{Both, Each, IsSameLink, put_for, taken_from}
 use Rattle.ev_node.specs.Lanes.{IsNew}
-use Rattle.ev_node.specs.Served.{IsTableOf}
-use Rattle.ev_node.specs.Cell.{IsCellOf, IsHeld, IsKept, IsDue, IsPublished, machine_in}
+use Rattle.ev_node.specs.Cell.{IsCellOf, IsKept, IsDue, IsPublished, machine_in}
 use Rattle.ev_node.proofs.Hands.{names}
 use Rattle.ev_node.proofs.Entering.{all-same}
 use Rattle.ev_node.proofs.Published.{by-interface-of}
-use Rattle.ev_node.proofs.Due.{DueAt, due-sessions}
+use Rattle.ev_node.proofs.Due.{due-sessions}
 use Rattle.ev_node.proofs.Keeping.{links_at}
 
-new-put : (links : List Link) → Each IsNew links → (n : ℕ) → put_for links n ≡ []
+pub new-put : (links : List Link) → Each IsNew links → (n : ℕ) → put_for links n ≡ []
 new-put [] e n = refl
 new-put (x ∷ links) e n = go (x.neighbour == n) e.0.put (new-put links e.1 n)
   where
@@ -45,7 +41,7 @@ new-put (x ∷ links) e n = go (x.neighbour == n) e.0.put (new-put links e.1 n)
     go true p q = p
     go false p q = q
 
-new-taken : (links : List Link) → Each IsNew links → (n : ℕ) → taken_from links n ≡ []
+pub new-taken : (links : List Link) → Each IsNew links → (n : ℕ) → taken_from links n ≡ []
 new-taken [] e n = refl
 new-taken (x ∷ links) e n = go (x.neighbour == n) e.0.taken (new-taken links e.1 n)
   where
@@ -53,7 +49,7 @@ new-taken (x ∷ links) e n = go (x.neighbour == n) e.0.taken (new-taken links e
     go true p q = p
     go false p q = q
 
-new-few : (clock : ℕ) (links : List Link) → Each IsNew links → Each (λ link. length (put_list link.enter) ≤ clock) links
+pub new-few : (clock : ℕ) (links : List Link) → Each IsNew links → Each (λ link. length (put_list link.enter) ≤ clock) links
 new-few clock [] e = tt
 new-few clock (x ∷ links) e = ((let n = ap (λ (l : List FrameParts). length l) e.0.put in omega (arith, n)), new-few clock links e.1)
 
@@ -98,9 +94,9 @@ module _ (net : NetParts) (core : CoreParts) (links : List Link) (stands : IsSer
     taken = λ client k c h lt e. absurd (omega (arith, lt));
   })
 
-  pub kept-fresh : (root : Root) (held : Held) (journal : List EntryParts) → IsSound net → root.net.value ≡ net → core.server ≡ root.server → root.phase ≡ 0 → root.entries ≡ 0 → root.core.value ≡ core → root.links.value.items ≡ links
+  pub kept-fresh : (root : Root) (held : Held) (journal : List EntryParts) → IsSound net → root.net.value ≡ net → core.server ≡ root.server → root.phase ≡ 0 → root.entries ≡ 0 → root.before.value.items ≡ [] → root.core.value ≡ core → root.links.value.items ≡ links
       → held.core ≡ core → held.links.items ≡ links → staged held.publisher ≡ [] → published held.publisher ≡ [] → held.handed.items ≡ [] → IsViewerOf held.publisher root.viewer.value → names links ≡ links_of (topology_at net 0) root.server → journal ≡ [] → IsKept net root journal held
-  kept-fresh root held journal sound net_is server phase entries core_is links_is core_held links_held none-staged none-published none-handed viewer named none = record {
+  kept-fresh root held journal sound net_is server phase entries before core_is links_is core_held links_held none-staged none-published none-handed viewer named none = record {
     net_is = net_is;
     sound = sound;
     number = ap (λ (c : CoreParts). c.server) core_held ∙ server;
@@ -112,6 +108,7 @@ module _ (net : NetParts) (core : CoreParts) (links : List Link) (stands : IsSer
       stands = subst (λ c. IsCellOf net root.phase c held.links.items begun) (core_is ∙ sym core_held) (subst (λ l. IsCellOf net root.phase root.core.value l begun) (links_is ∙ sym links_held) is);
     };
     entries = (let e = entries in omega (arith, e));
+    before = ap (λ n. take n journal) entries ∙ sym before;
     links = subst (λ l. Both IsSameLink l held.links.items) (links_held ∙ sym links_is) (all-same held.links.items);
     publisher = viewer;
     now = record {

@@ -1,25 +1,20 @@
 -- Cells together: where a lane comes from.
-use Rattle.std.proofs.Common.{◌≡◌, ◌⊎◌, inl, inr, ℕ, zero, suc, ◌+◌, ◌-◌, ◌<◌, ◌≤◌, List, [], ◌∷◌, length, map, get_or, Some, None, slice_get, refl, sym, ap, subst, ◌∙◌, arith}
+use Rattle.std.proofs.Common.{◌≡◌, ◌⊎◌, inl, inr, ℕ, zero, suc, ◌-◌, ◌<◌, ◌≤◌, List, [], ◌∷◌, length, map, Some, None, slice_get, refl, sym, ap, subst, ◌∙◌, arith}
 use Rattle.std.proofs.lemmas.List.{length-map}
 use Rattle.ev_sets.specs.Sets.{Has}
 use Rattle.ev_tree.proofs.Servers.{server-in}
 use Rattle.ev_routing.specs.Net.{Net, NetLaws}
 use Rattle.ev_phases.specs.Trees.{net_at}
 use Rattle.ev_theory.specs.Real.{real}
-use Rattle.ev_model.specs.Parts.{NetParts, EntryParts}
+use Rattle.ev_model.specs.Parts.{NetParts}
 use Rattle.ev_model.specs.Nets.{phased_net, first_tree}
 use Rattle.ev_model.specs.Sound.{IsSound}
-use Rattle.ev_server.specs.Core.{CoreParts}
-use Rattle.ev_node.specs.declared.held.Held.{Held}
-use Rattle.ev_node.specs.declared.held.Root.{Root}
 use Rattle.ev_node.specs.declared.link.Link.{Link}
-use Rattle.ev_node.specs.Links.{Both, At, IsOneLane, IsNeighbour, IsSameLink}
-use Rattle.ev_node.specs.Lanes.{AreEnds}
+use Rattle.ev_node.specs.Links.{At, IsOneLane, IsNeighbour, IsSameLink}
 use Rattle.ev_node.specs.Cell.{CellParts, IsKept}
 use Rattle.ev_node.specs.Together.{AreTogether, IsLaneOf, roots, links_of}
 use Rattle.ev_node.proofs.Hands.{names}
-use Rattle.ev_node.proofs.Moved.{names-same}
-use Rattle.ev_node.proofs.Places.{found, one-value, both-before, both-behind, below-found, found-name}
+use Rattle.ev_node.proofs.Places.{one-value, both-before, both-behind, found-name}
 use Rattle.ev_node.proofs.Keeping.{laws_at, replayed}
 
 module _ {X Y : Type 0} (f : X → Y) where

@@ -5,7 +5,7 @@ use Rattle.ev_constraint.specs.Constraint.{ConstraintParts}
 use Rattle.ev_sets.specs.Sets.{Has}
 use Rattle.ev_control.specs.Control.{subs}
 use Rattle.ev_control.specs.Holdings.{Holding}
-use Rattle.ev_counting.specs.Table.{Held, IsAdded, IsTaken, AreApplied}
+use Rattle.ev_counting.specs.Table.{Held, AreApplied}
 use Rattle.ev_counting.specs.declared.change.Change.{Change}
 use Rattle.ev_counting.specs.declared.change.Change.TheVariants.{Add, Remove}
 use Rattle.ev_server.specs.Core.{CoreParts, published_from}

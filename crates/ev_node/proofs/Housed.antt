@@ -1,12 +1,11 @@
 -- The clients of a server by their places in a net.
-use Rattle.std.proofs.Common.{◌≡◌, ◌↔◌, IsTrue, ◌⊎◌, inl, inr, ℕ, zero, suc, ◌+◌, ◌-◌, ◌<◌, ◌≤◌, ◌==◌, true, false, List, [], ◌∷◌, length, Option, Some, None, slice_get, slice_index_or, refl, sym, ap, subst, ◌∙◌, arith, eqb-true, eq-eqb}
+use Rattle.std.proofs.Common.{◌≡◌, ◌↔◌, IsTrue, ◌⊎◌, inl, inr, ℕ, zero, suc, ◌-◌, ◌<◌, ◌≤◌, ◌==◌, false, List, [], ◌∷◌, length, Some, slice_get, slice_index_or, refl, sym, ap, subst, ◌∙◌, arith, eqb-true, eq-eqb}
 use Rattle.std.specs.List.{range_with_len}
 use Rattle.ev_sets.specs.Sets.{Has}
 use Rattle.ev_sets.proofs.Roots.{Has-filter, filter-Has}
 use Rattle.ev_tree.proofs.Servers.{server-in, in-server}
-use Rattle.ev_wire.specs.declared.command.Command.{Command}
 use Rattle.ev_model.specs.Parts.{ClientParts, NetParts}
-use Rattle.ev_model.specs.Nets.{client_at, home_in, home_of, clients_of}
+use Rattle.ev_model.specs.Nets.{home_in, home_of, clients_of}
 use Rattle.ev_session.specs.Session.{SessionParts}
 use Rattle.ev_server.specs.Clients.{numbers_of}
 use Rattle.ev_routing.proofs.Listing.{has-map}

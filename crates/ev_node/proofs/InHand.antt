@@ -1,33 +1,33 @@
 -- With all cells in hand and nothing left to do the phase is ended, and their journals have a merge.
-use Rattle.std.proofs.Common.{◌≡◌, ℕ, zero, suc, ◌+◌, ◌-◌, ◌<◌, ◌≤◌, ◌==◌, nat_le, max, true, false, cond, ◌&&◌, Bool, List, [], ◌∷◌, ◌++◌, ◌⊎◌, inl, inr, length, map, drop, get_or, Option, Some, None, slice_get, refl, sym, ap, subst, ◌∙◌, arith}
+use Rattle.std.proofs.Common.{◌≡◌, ℕ, zero, suc, ◌-◌, ◌<◌, ◌≤◌, nat_le, true, ◌&&◌, List, [], ◌∷◌, ◌⊎◌, inl, inr, length, map, Option, Some, None, slice_get, refl, sym, ap, subst, ◌∙◌, arith}
 use Rattle.std.proofs.lemmas.Bool.Decides.{nat_tests}
 use Rattle.ev_sets.specs.Sets.{Has}
 use Rattle.ev_sets.specs.Numbers.{IsDistinct}
 use Rattle.ev_run.specs.Machine.{Machine, Entry, Input, Does, Takes, Stamped, next_stamp}
-use Rattle.ev_run.specs.Journals.{Cell, IsReplay, IsJournal, IsMerge, IsPrefix, IsPhaseInHand, IsPhaseEnded, cell_after, network_of}
+use Rattle.ev_run.specs.Journals.{Cell, IsReplay, IsJournal, IsMerge, IsPrefix, cell_after}
 use Rattle.ev_run.proofs.Exists.{merge-some}
 use Rattle.ev_run.proofs.Lists.{Same, Is, Not, compare, prefix-self}
 use Rattle.ev_routing.specs.Net.{Net, PhasedCommand}
 use Rattle.ev_routing.specs.Server.{Message, ServerState}
 use Rattle.ev_routing.specs.Routing.{all_through, not_below}
 use Rattle.ev_tree.proofs.Servers.{server-in}
-use Rattle.ev_phases.specs.Trees.{net_at, entries_on}
+use Rattle.ev_phases.specs.Trees.{net_at}
 use Rattle.ev_theory.specs.Real.{real}
 use Rattle.ev_frame.specs.Frame.{FrameParts}
-use Rattle.ev_model.specs.Parts.{NetParts, EntryParts}
-use Rattle.ev_model.specs.Meaning.{journal_of, phased_command}
+use Rattle.ev_model.specs.Parts.{NetParts}
+use Rattle.ev_model.specs.Meaning.{phased_command}
 use Rattle.ev_model.specs.Nets.{phased_net, first_tree}
 use Rattle.ev_server.specs.Core.{CoreParts, IsServerState}
 use Rattle.ev_server.specs.Staged.{is_some_there}
 use Rattle.ev_node.specs.declared.link.Link.{Link}
 use Rattle.ev_node.specs.Links.{IsNeighbour, put_for, taken_from}
 use Rattle.ev_node.specs.Served.{framed}
-use Rattle.ev_node.specs.Cell.{CellParts, IsCellOf, IsDue, IsKept, IsReplayed, AreReadable, machine_in}
-use Rattle.ev_node.specs.Together.{Sight, AreTogether, AreBegun, AreDone, IsFinished, HasNoCommand, entries_in, journals, links_of, of_server, roots, sight, sights}
-use Rattle.ev_node.proofs.Places.{found, one-value, below-found}
+use Rattle.ev_node.specs.Cell.{CellParts, IsCellOf, IsDue, AreReadable, machine_in}
+use Rattle.ev_node.specs.Together.{AreTogether, AreBegun, AreDone, IsFinished, HasNoCommand, entries_in, journals, links_of, of_server, roots, sight, sights}
+use Rattle.ev_node.proofs.Places.{one-value, below-found}
 use Rattle.ev_node.proofs.Due.{DueAt, due-state, session-of, script-of, done-of, map-get}
 use Rattle.ev_node.proofs.Framing.{frames-one}
-use Rattle.ev_node.proofs.Gathered.{IsKeptCell, map-found, found-map, found-within, one-suc, there-or-not, neighbour-then, root-at, number-at, count-cells, among, numbered, back}
+use Rattle.ev_node.proofs.Gathered.{IsKeptCell, map-found, found-within, one-suc, there-or-not, neighbour-then, root-at, number-at, count-cells, among, numbered, back}
 
 -- the servers up to n
 abbrev pub upto : ℕ → List ℕ

@@ -1,7 +1,7 @@
 -- What a cell's type keeps goes on through a turn.
-use Rattle.std.proofs.Common.{◌≡◌, ℕ, suc, ◌≤◌, ◌<◌, List, [], ◌∷◌, ◌++◌, length, map, drop, refl, sym, ap, subst, ◌∙◌, arith}
+use Rattle.std.proofs.Common.{◌≡◌, ℕ, suc, ◌≤◌, ◌<◌, List, [], ◌∷◌, ◌++◌, length, map, take, drop, refl, sym, ap, subst, ◌∙◌, arith}
 use Rattle.std.specs.Prelude.{Result, Ok, Err, IfOk, OnErr}
-use Rattle.std.proofs.lemmas.List.{length-append}
+use Rattle.std.proofs.lemmas.List.{length-append, take-append-le}
 use Rattle.ev_run.specs.Journals.{Cell, IsReplay}
 use Rattle.ev_routing.specs.Net.{NetLaws}
 use Rattle.ev_phases.specs.Trees.{net_at, entries_on}
@@ -17,23 +17,21 @@ use Rattle.ev_model.proofs.SoundNets.{net-laws, tree-map}
 use Rattle.ev_model.specs.declared.turn.Act.{Act as EntryAct}
 use Rattle.ev_server.specs.Core.{CoreParts, IsServerState}
 use Rattle.ev_server.specs.declared.stepped.StepFault.{StepFault}
-use Rattle.ev_versions.specs.Ends.{IsSamePublisher, IsViewerOf}
 use Rattle.ev_node.specs.declared.held.Held.{Held}
 use Rattle.ev_node.specs.declared.held.Root.{Root}
-use Rattle.ev_node.specs.declared.link.Link.{Link}
 use Rattle.ev_node.specs.declared.what.What.{What}
 use Rattle.ev_node.specs.declared.what.What.TheVariants.{Command, Take, Version}
 use Rattle.ev_node.specs.declared.what.Turned.{Turned}
 use Rattle.ev_node.specs.declared.what.Turned.TheVariants.{Made, Stale, Idle}
-use Rattle.ev_node.specs.Served.{IsSomeServer, StampedInput, input_of}
-use Rattle.ev_node.specs.Links.{Both, IsSameLink, IsMoved, IsUnmoved, put_for, taken_from}
+use Rattle.ev_node.specs.Served.{IsSomeServer, StampedInput}
+use Rattle.ev_node.specs.Links.{IsSameLink, IsMoved, IsUnmoved}
 use Rattle.ev_node.specs.Cell.{IsCellOf, IsHeld, IsKept, IsDue, IsReplayed, machine_in}
 use Rattle.ev_node.specs.Turns.{IsTurn, IsStill, taken_by}
 use Rattle.ev_node.specs.Asked.{Answers, Suits, SuitsHeld, act_for}
-use Rattle.ev_node.proofs.Walks.{both-map, both-comp}
+use Rattle.ev_node.proofs.Walks.{both-comp}
 use Rattle.ev_node.proofs.Unmoved.{same-link}
 use Rattle.ev_node.proofs.Moved.{unmoved-put, unmoved-taken}
-use Rattle.ev_node.proofs.Replays.{local, stands-then, replays-then}
+use Rattle.ev_node.proofs.Replays.{stands-then, replays-then}
 use Rattle.ev_node.proofs.Due.{due-then}
 
 pub laws_at : (net : NetParts) → IsSound net → (phase : ℕ) → NetLaws real (net_at real (phased_net net) phase)
@@ -73,6 +71,7 @@ module _ (net : NetParts) (root : Root) (journal : List EntryParts) (old : Held)
           stands = stands-then net root.phase (laws_at net kept.sound root.phase) input act old new journal after turn kept.now.neighbours r.end r.stands;
         };
     entries = longer;
+    before = ap (take root.entries) turn.entry ∙ take-append-le root.entries journal (entry_parts turn.stamp old.core.server act (map (λ s. s.to) turn.sent) ∷ []) kept.entries ∙ kept.before;
     links = both-comp IsSameLink (IsMoved turn.stamp turn.sent (taken_by input)) IsSameLink (λ x y z a b. same-link x y z a b.same) root.links.value.items old.links.items new.links.items kept.links turn.links;
     publisher = kept.publisher ∙ sym turn.publisher;
     now = held;
@@ -97,6 +96,7 @@ module _ (net : NetParts) (root : Root) (journal : List EntryParts) (old : Held)
           stands = stands-still r.end r.stands;
         };
     entries = subst (λ (l : List EntryParts). root.entries ≤ length l) (sym still.journal) kept.entries;
+    before = ap (take root.entries) still.journal ∙ kept.before;
     links = both-comp IsSameLink IsUnmoved IsSameLink (λ x y z a b. same-link x y z a b.same) root.links.value.items old.links.items new.links.items kept.links still.links;
     publisher = kept.publisher ∙ sym still.publisher;
     now = held;

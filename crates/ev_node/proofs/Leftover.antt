@@ -4,14 +4,13 @@ use Rattle.ev_sets.specs.Sets.{Has}
 use Rattle.ev_model.specs.Parts.{NetParts, EntryParts}
 use Rattle.ev_model.specs.Nets.{clients_of}
 use Rattle.ev_session.specs.Session.{SessionParts}
-use Rattle.ev_server.specs.Core.{CoreParts}
 use Rattle.ev_server.specs.Clients.{numbers_of}
 use Rattle.ev_routing.proofs.Listing.{has-map}
 use Rattle.ev_node.specs.declared.held.Held.{Held}
 use Rattle.ev_node.specs.declared.held.Root.{Root}
 use Rattle.ev_node.specs.Cell.{IsKept}
 use Rattle.ev_node.specs.Turns.{HasCommand}
-use Rattle.ev_node.specs.Together.{Sight, HasNoCommand}
+use Rattle.ev_node.specs.Together.{HasNoCommand}
 use Rattle.ev_node.proofs.Housed.{home-at}
 use Rattle.ev_node.proofs.Places.{below-found}
 use Rattle.ev_node.proofs.Keeping.{replayed}

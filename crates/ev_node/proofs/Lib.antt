@@ -36,3 +36,10 @@ pub mod Filled
 pub mod Walkers
 pub mod Trees
 pub mod Worn
+pub mod Comings
+pub mod Handing
+pub mod Turnover
+pub mod Uniting
+pub mod Rehung
+pub mod Onward
+pub mod Nexts

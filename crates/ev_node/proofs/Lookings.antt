@@ -3,9 +3,8 @@ use Rattle.std.proofs.Common.{◌≡◌, List, refl}
 use Rattle.ev_model.specs.Parts.{NetParts, EntryParts}
 use Rattle.ev_node.specs.declared.held.Held.{Held}
 use Rattle.ev_node.specs.declared.held.Root.{Root}
-use Rattle.ev_node.specs.declared.link.Link.{Link}
 use Rattle.ev_node.specs.Links.{Both, IsUnmoved}
-use Rattle.ev_node.specs.Cell.{IsHeld, IsKept}
+use Rattle.ev_node.specs.Cell.{IsKept}
 use Rattle.ev_node.specs.Turns.{IsStill}
 use Rattle.ev_node.proofs.Turning.{still, held-still}
 use Rattle.ev_node.proofs.Keeping.{kept-still}

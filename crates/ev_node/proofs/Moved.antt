@@ -1,5 +1,5 @@
 -- What was put and taken on the lanes of a server.
-use Rattle.std.proofs.Common.{◌≡◌, ℕ, zero, suc, ◌+◌, ◌<◌, ◌≤◌, ◌==◌, true, false, cond, List, [], ◌∷◌, ◌++◌, ◌⊎◌, inl, inr, length, map, refl, sym, ap, subst, ◌∙◌, arith}
+use Rattle.std.proofs.Common.{◌≡◌, ℕ, ◌<◌, ◌≤◌, ◌==◌, true, false, cond, List, [], ◌∷◌, ◌++◌, inl, inr, length, refl, sym, ap, subst, ◌∙◌, arith}
 use Rattle.std.proofs.lemmas.List.{length-append, length-map}
 use Rattle.ev_sets.specs.Sets.{Has}
 use Rattle.ev_run.proofs.Lists.{Same, Is, Not, compare, append-nothing}
@@ -9,7 +9,7 @@ use Rattle.ev_lane.specs.Lane.{put_list, taken_list}
 use Rattle.ev_frame.specs.Frame.{FrameParts}
 use Rattle.ev_wire.specs.declared.sent.Sent.{Sent}
 use Rattle.ev_node.specs.declared.link.Link.{Link}
-use Rattle.ev_node.specs.Links.{Both, Each, IsSameLink, IsUnmoved, IsGiven, IsTaken, IsMoved, put_for, taken_from, only_for, only_from, frame_of, frames_of}
+use Rattle.ev_node.specs.Links.{Both, IsSameLink, IsUnmoved, IsGiven, IsTaken, IsMoved, put_for, taken_from, only_for, only_from, frame_of, frames_of}
 use Rattle.ev_node.proofs.Hands.{names}
 use Rattle.ev_node.proofs.Unmoved.{same-link}
 

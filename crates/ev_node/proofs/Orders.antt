@@ -1,5 +1,5 @@
 -- Numbers out of a list, in its order.
-use Rattle.std.proofs.Common.{◌≡◌, ℕ, suc, ◌≤◌, ◌==◌, cond, true, false, nat_lt, List, [], ◌∷◌, ◌⊎◌, inl, inr, length, refl, sym, subst, arith}
+use Rattle.std.proofs.Common.{ℕ, ◌≤◌, cond, true, false, nat_lt, List, [], ◌∷◌, inl, inr, length, refl, arith}
 use Rattle.ev_run.specs.Machine.{Machine, receivers}
 use Rattle.ev_node.specs.Links.{AreInOrder}
 

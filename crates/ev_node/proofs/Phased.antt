@@ -1,5 +1,5 @@
 -- The next command of a client, and its phase.
-use Rattle.std.proofs.Common.{◌≡◌, ◌↔◌, ◌<◌, ◌≤◌, nat_le, true, ℕ, zero, suc, List, [], ◌∷◌, length, Some, None, slice_get, refl, sym, ap, subst, ◌∙◌, arith}
+use Rattle.std.proofs.Common.{◌≡◌, ◌↔◌, ◌<◌, ◌≤◌, nat_le, true, ℕ, length, Some, slice_get, sym, ap, subst, ◌∙◌, arith}
 use Rattle.std.proofs.lemmas.Bool.Decides.{nat_tests}
 use Rattle.ev_sets.specs.Sets.{Has}
 use Rattle.ev_wire.specs.declared.command.Command.{Command}
@@ -34,6 +34,9 @@ module _ (core : CoreParts) (client phase : ℕ) (some : IsSomeServer core) (s :
   past-by c e t z d h q f =
       let g : slice_get s.script s.taken ≡ Some d = subst (λ (z : SessionParts). slice_get z.script z.taken ≡ Some d) (same-session z h q) f in
       subst (λ (w : ℕ × Command). phase ≤ w.0) (one-value c d (sym e ∙ g)) (grind (arith, nat_tests, t))
+
+  pub past-next : (c : ℕ × Command) → slice_get s.script s.taken ≡ Some c → IsPast phase client core.clients → nat_le phase c.0 ≡ true
+  past-next c e past = let le = past s c has is e in grind (arith, nat_tests, le)
 
   pub past-none : (s.taken < length s.script → ⊥) → IsPast phase client core.clients
   past-none none z d h q f = absurd (none (below-found s.taken s.script d (subst (λ (z : SessionParts). slice_get z.script z.taken ≡ Some d) (same-session z h q) f)))

@@ -1,37 +1,30 @@
 -- A made step goes on with the replay of the journal.
-use Rattle.std.proofs.Common.{◌≡◌, ℕ, zero, suc, max, ◌+◌, ◌≤◌, ◌<◌, ◌^◌, ◌==◌, cond, true, false, List, [], ◌∷◌, ◌++◌, ◌⊎◌, inl, inr, length, map, drop, Some, slice_get, refl, sym, ap, subst, ◌∙◌, arith}
+use Rattle.std.proofs.Common.{◌≡◌, ℕ, zero, suc, ◌≤◌, List, [], ◌∷◌, ◌++◌, ◌⊎◌, inl, inr, length, map, drop, Some, slice_get, refl, sym, ap, subst, ◌∙◌, arith}
 use Rattle.std.proofs.lemmas.List.{map-append}
 use Rattle.ev_sets.specs.Sets.{Has}
-use Rattle.ev_run.specs.Machine.{Input, Does, Takes, Outcome, Stamped, Entry, at, unstamped, next_stamp, stamped, act_phase, act_of as machine_act, receivers, entry_of as machine_entry}
+use Rattle.ev_run.specs.Machine.{Does, Takes, Outcome, Stamped, unstamped, next_stamp, stamped, act_phase, act_of as machine_act, receivers, entry_of as machine_entry}
 use Rattle.ev_run.specs.Journals.{Cell, IsReplay, IsInPhase, cell_after, took_after}
 use Rattle.ev_run.proofs.Exists.{tells-more}
 use Rattle.ev_run.proofs.Lists.{append-nothing, Same, Is, Not, compare}
-use Rattle.ev_routing.specs.Net.{Net, NetLaws, PhasedCommand}
+use Rattle.ev_routing.specs.Net.{Net, NetLaws}
 use Rattle.ev_routing.specs.Server.{Message, ServerState, is_among}
-use Rattle.ev_routing.specs.Step.{Task, NextCommand, Version, local_step}
+use Rattle.ev_routing.specs.Step.{NextCommand, Version, local_step}
 use Rattle.ev_routing.proofs.Laws.{one-has, cond-some}
 use Rattle.ev_routing.proofs.Listing.{has-either}
-use Rattle.ev_routing.specs.Routing.{NetEntry, phase_of}
-use Rattle.ev_phases.specs.Trees.{JournalEntry, net_at, entry_on, entries_on}
+use Rattle.ev_phases.specs.Trees.{net_at, entry_on, entries_on}
 use Rattle.ev_theory.specs.Real.{real}
-use Rattle.ev_wire.specs.declared.sent.Sent.{Sent}
 use Rattle.ev_wire.specs.MessageText.{message_text, IsMessageText}
 use Rattle.ev_control.specs.Control.{wired}
-use Rattle.ev_frame.specs.Frame.{FrameParts}
-use Rattle.ev_lane.specs.Lane.{put_list}
 use Rattle.ev_model.specs.Parts.{NetParts, EntryParts, entry_parts}
-use Rattle.ev_model.specs.Meaning.{act_of, entry_of, journal_of, phased_command}
+use Rattle.ev_model.specs.Meaning.{entry_of, journal_of, phased_command}
 use Rattle.ev_model.specs.Nets.{phased_net}
 use Rattle.ev_model.specs.declared.turn.Act.{Act as EntryAct}
-use Rattle.ev_session.specs.Session.{SessionParts}
-use Rattle.ev_server.specs.Core.{CoreParts, IsServerState}
 use Rattle.ev_server.specs.Step.{IsStep, stamp_after}
 use Rattle.ev_node.specs.Served.{StampedInput, input_of, stamp_of, told_as}
-use Rattle.ev_node.specs.Served.{framed, frames_to}
+use Rattle.ev_node.specs.Served.{framed}
 use Rattle.ev_node.specs.declared.held.Held.{Held}
-use Rattle.ev_node.specs.declared.held.Root.{Root}
-use Rattle.ev_node.specs.Links.{AreInOrder, IsMoved, put_for, taken_from, only_for, only_from, frames_of}
-use Rattle.ev_node.specs.Cell.{IsCellOf, IsHeld, IsKept, IsReplayed, AreReadable, machine_in}
+use Rattle.ev_node.specs.Links.{AreInOrder, put_for, taken_from, only_for, frames_of}
+use Rattle.ev_node.specs.Cell.{IsCellOf, AreReadable, machine_in}
 use Rattle.ev_node.specs.Turns.{IsTurn, IsTold, IsOfPhase, taken_by}
 use Rattle.ev_node.proofs.Going.{going-frames, going-readable, going-told, going-order}
 use Rattle.ev_node.proofs.Hands.{names, tos, none}

@@ -1,14 +1,13 @@
 -- The lanes of a tree are laid edge by edge.
-use Rattle.std.proofs.Common.{◌≡◌, ◌↔◌, ◌⊎◌, inl, inr, ℕ, zero, suc, ◌+◌, ◌-◌, ◌<◌, ◌≤◌, nat_lt, true, false, Bool, List, [], ◌∷◌, ◌++◌, map, length, get_or, set, Some, None, slice_get, refl, sym, ap, subst, ◌∙◌, arith}
+use Rattle.std.proofs.Common.{◌≡◌, ◌↔◌, ◌⊎◌, inl, inr, ℕ, zero, suc, ◌+◌, ◌-◌, ◌<◌, ◌≤◌, nat_lt, true, List, [], ◌∷◌, ◌++◌, map, length, get_or, set, Some, slice_get, refl, sym, ap, subst, ◌∙◌, arith}
 use Rattle.std.proofs.lemmas.List.{length-append}
 use Rattle.std.proofs.lemmas.Bool.Decides.{nat_tests}
 use Rattle.ev_sets.specs.Sets.{Has, IsRising}
 use Rattle.ev_tree.specs.Tree.{Topology, TreeLaws, links_of}
-use Rattle.ev_tree.specs.Graph.{servers_to}
 use Rattle.ev_tree.proofs.Servers.{server-in}
 use Rattle.ev_node.specs.declared.link.Link.{Link}
 use Rattle.ev_node.specs.Links.{Each, IsOneLane}
-use Rattle.ev_node.specs.Lanes.{IsNew, AreBetween, AreNone, AreJoined, AreEnds, AreLanes, AreLanesOf, IsLaid, named, with_link}
+use Rattle.ev_node.specs.Lanes.{IsNew, AreNone, AreJoined, AreEnds, AreLanes, AreLanesOf, IsLaid, named, with_link}
 
 less : (x y : ℕ) → nat_lt x y ≡ true → x < y
 less x y e = grind (arith, nat_tests, e)

@@ -1,5 +1,5 @@
 -- What is taken after a look is what was seen.
-use Rattle.std.proofs.Common.{◌≡◌, ℕ, List, [], ◌∷◌, ◌++◌, Option, Some, None, refl, sym, ap, subst, ◌∙◌, arith}
+use Rattle.std.proofs.Common.{◌≡◌, List, [], ◌∷◌, ◌++◌, Option, Some, None, sym, ap, subst, ◌∙◌}
 use Rattle.std.specs.Option.{IfSome, IfNone}
 use mathlib.Core.List.{IsPrefix}
 use denote.Bor.{Bor}

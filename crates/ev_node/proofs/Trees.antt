@@ -1,5 +1,5 @@
 -- Trees by phase, as a program counts them.
-use Rattle.std.proofs.Common.{◌≡◌, ◌↔◌, IsTrue, nat_eq, ◌==◌, ◌≤◌, nat_le, ◌⊎◌, inl, inr, ℕ, suc, true, false, Bool, cond, List, [], ◌∷◌, map, refl, sym, ap, subst, ◌∙◌, eqb-true, eq-eqb}
+use Rattle.std.proofs.Common.{◌≡◌, ◌↔◌, IsTrue, nat_eq, ◌≤◌, nat_le, inl, inr, ℕ, suc, true, false, Bool, cond, List, [], ◌∷◌, map, refl, sym, ap, subst, ◌∙◌, eqb-true, eq-eqb}
 use Rattle.ev_sets.specs.Sets.{Has}
 use Rattle.ev_tree.specs.Tree.{Topology, IsServer}
 use Rattle.ev_tree.proofs.Servers.{server-in}
@@ -8,7 +8,7 @@ use Rattle.ev_phases.specs.Trees.{is_one_tree, net_at, tree_after, trees_by}
 use Rattle.ev_theory.specs.Real.{real}
 use Rattle.ev_model.specs.Parts.{NetParts, EntryParts}
 use Rattle.ev_model.specs.Nets.{phased_net, phased_tree, first_tree, later_trees, topology_at}
-use Rattle.ev_model.specs.Sound.{IsSound, HasTrees}
+use Rattle.ev_model.specs.Sound.{HasTrees}
 use Rattle.ev_node.specs.declared.held.Held.{Held}
 use Rattle.ev_node.specs.declared.held.Root.{Root}
 use Rattle.ev_node.specs.Cell.{IsKept}

@@ -1,11 +1,11 @@
 -- What a turn finds on the lanes, and what it leaves.
-use Rattle.std.proofs.Common.{◌≡◌, ℕ, suc, max, ◌+◌, ◌<◌, ◌≤◌, ◌^◌, List, [], ◌∷◌, ◌++◌, length, map, get_or, Option, Some, None, slice_get, refl, sym, ap, subst, ◌∙◌, arith}
+use Rattle.std.proofs.Common.{◌≡◌, ℕ, ◌<◌, ◌≤◌, ◌^◌, List, [], ◌∷◌, ◌++◌, length, map, get_or, Option, Some, slice_get, refl, sym, ap, subst, ◌∙◌, arith}
 use Rattle.std.proofs.lemmas.List.{length-map}
 use Rattle.std.specs.Prelude.{Result, Ok, Err, OnErr}
 use mathlib.Core.List.{IsPrefix}
 use Rattle.ev_sets.specs.Sets.{Has}
 use Rattle.ev_sets.specs.Numbers.{IsDistinct}
-use Rattle.ev_run.specs.Machine.{Input, Does, Takes, Stamped, Did, Took}
+use Rattle.ev_run.specs.Machine.{Input, Does, Takes, Did, Took}
 use Rattle.ev_routing.specs.Server.{Message}
 use Rattle.ev_routing.specs.Step.{Task}
 use Rattle.ev_theory.specs.Real.{real}
@@ -26,13 +26,13 @@ use Rattle.ev_server.specs.Step.{MakesStep}
 use Rattle.ev_versions.specs.Ends.{staged, published, IsSamePublisher}
 use Rattle.ev_node.specs.declared.held.Held.{Held}
 use Rattle.ev_node.specs.declared.link.Link.{Link}
-use Rattle.ev_node.specs.Served.{IsSomeServer, StampedInput, input_of, stamp_of, told_as, framed}
-use Rattle.ev_node.specs.Links.{Both, Each, AreInOrder, ComesNext, IsSameLink, IsUnmoved, IsRoomed, IsGiven, IsTaken, IsMoved, IsFlushed, IsSeen, IsSeenAt, IsLooked, IsLookedAt, only_from, taken_from}
+use Rattle.ev_node.specs.Served.{IsSomeServer, framed}
+use Rattle.ev_node.specs.Links.{Both, Each, AreInOrder, IsSameLink, IsUnmoved, IsRoomed, IsGiven, IsTaken, IsMoved, IsFlushed, IsSeen, IsSeenAt, IsLookedAt, only_from}
 use Rattle.ev_node.specs.Cell.{IsHeld, IsPublished}
-use Rattle.ev_node.specs.Turns.{IsTurn, IsStill, IsTold, IsOfPhase, taken_by}
+use Rattle.ev_node.specs.Turns.{IsTurn, IsStill, IsOfPhase}
 use Rattle.ev_node.proofs.Walks.{both-map, both-each, both-comp, each-after}
 use Rattle.ev_node.proofs.Hands.{names, tos}
-use Rattle.ev_node.proofs.Going.{going-texts, going-order, links-apart}
+use Rattle.ev_node.proofs.Going.{going-texts, going-order}
 use Rattle.ev_node.proofs.Places.{both-behind, read-found, one-value}
 use Rattle.ev_node.proofs.Moved.{names-same, moved-given, moved-taken, moved-after, few-after}
 

@@ -1,5 +1,5 @@
 -- Lanes on which nothing was put or taken.
-use Rattle.std.proofs.Common.{◌≡◌, ℕ, List, [], ◌∷◌, refl, ◌∙◌}
+use Rattle.std.proofs.Common.{List, [], ◌∷◌, refl, ◌∙◌}
 use Rattle.ev_node.specs.declared.link.Link.{Link}
 use Rattle.ev_lane.specs.declared.putting.LaneIn.{LaneIn}
 use Rattle.ev_lane.specs.Lane.{SameIn}

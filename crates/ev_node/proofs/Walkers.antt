@@ -1,23 +1,20 @@
 -- What is seen of a cell after steps that may find nothing to do.
-use Rattle.std.proofs.Common.{◌≡◌, ◌<◌, ℕ, Bool, true, false, List, length, refl, sym, ap, subst, ◌∙◌}
+use Rattle.std.proofs.Common.{◌≡◌, ℕ, Bool, true, false, List, sym, subst}
 use Rattle.std.specs.Prelude.{Result, Ok, Err, IfOk, OnErr, IsErrOf}
 use Rattle.ev_model.specs.Parts.{NetParts, EntryParts}
 use Rattle.ev_server.specs.Core.{CoreParts}
 use Rattle.ev_server.specs.declared.stepped.StepFault.{StepFault}
 use Rattle.ev_server.specs.declared.stepped.StepFault.TheVariants.{Worn}
-use Rattle.ev_server.specs.Step.{last_stamp}
 use Rattle.ev_node.specs.declared.held.Held.{Held}
 use Rattle.ev_node.specs.declared.held.Root.{Root}
-use Rattle.ev_node.specs.declared.link.Link.{Link}
 use Rattle.ev_node.specs.declared.what.What.{What}
-use Rattle.ev_node.specs.declared.what.What.TheVariants.{Command, Take, Version}
 use Rattle.ev_node.specs.declared.what.Turned.{Turned}
 use Rattle.ev_node.specs.declared.what.Turned.TheVariants.{Made, Stale, Idle}
 use Rattle.ev_node.specs.Links.{Both, At, IsOneLane, IsSameLink, IsUnmoved, HasMissed}
 use Rattle.ev_node.specs.Cell.{CellParts, IsHeld, IsKept, cell_parts}
-use Rattle.ev_node.specs.Turns.{HasCommand, IsStill, IsTaking, IsWornAt}
-use Rattle.ev_node.specs.Asked.{Answers, IsIdle, IsWorn}
-use Rattle.ev_node.specs.Together.{Sight, sight, links_of}
+use Rattle.ev_node.specs.Turns.{IsStill, IsTaking, IsWornAt}
+use Rattle.ev_node.specs.Asked.{Answers, IsIdle}
+use Rattle.ev_node.specs.Together.{sight, links_of}
 use Rattle.ev_node.proofs.Walks.{both-map}
 use Rattle.ev_node.proofs.Moved.{unmoved-put, unmoved-taken}
 use Rattle.ev_node.proofs.Places.{lane-at}

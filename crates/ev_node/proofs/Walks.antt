@@ -1,5 +1,5 @@
 -- A walk along a list that changes each element.
-use Rattle.std.proofs.Common.{◌≡◌, ℕ, zero, suc, ◌+◌, ◌<◌, ◌≤◌, List, [], ◌∷◌, length, get_or, set, refl, sym, ap, subst, ◌∙◌, arith, add-one}
+use Rattle.std.proofs.Common.{◌≡◌, ℕ, zero, suc, ◌+◌, ◌<◌, ◌≤◌, List, [], ◌∷◌, length, get_or, set, refl, subst, arith, add-one}
 use Rattle.ev_node.specs.Links.{Both, Each}
 
 -- the first n elements are related, the others are the same

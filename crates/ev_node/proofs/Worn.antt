@@ -1,13 +1,13 @@
 -- Where a frame that comes next has the last stamp, the cell that put it has it.
-use Rattle.std.proofs.Common.{◌≡◌, ◌⊎◌, inl, inr, ℕ, List, [], ◌∷◌, ◌++◌, max, set, Some, slice_get, refl, sym, ap, subst, ◌∙◌, arith}
+use Rattle.std.proofs.Common.{◌≡◌, ◌⊎◌, inl, inr, ℕ, List, [], ◌∷◌, max, Some, slice_get, refl, sym, ap, subst, ◌∙◌, arith}
 use mathlib.Core.List.{IsPrefix}
 use Rattle.ev_sets.specs.Sets.{Has}
-use Rattle.ev_routing.proofs.Listing.{has-left, has-right}
+use Rattle.ev_routing.proofs.Listing.{has-right}
 use Rattle.ev_lane.specs.Lane.{put_list, taken_list, rest_list, coming_list}
 use Rattle.ev_frame.specs.Frame.{FrameParts}
 use Rattle.ev_server.specs.Step.{last_stamp}
 use Rattle.ev_node.specs.declared.link.Link.{Link}
-use Rattle.ev_node.specs.Links.{At, IsSettled, IsNextAt, put_for}
+use Rattle.ev_node.specs.Links.{At, IsSettled, IsNextAt}
 use Rattle.ev_node.specs.Cell.{CellParts}
 use Rattle.ev_node.specs.Turns.{IsWornAt}
 use Rattle.ev_node.specs.Together.{IsWornSomewhere, sight, sights}

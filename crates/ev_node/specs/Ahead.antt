@@ -1,5 +1,5 @@
 -- Steps whose notice was matched ahead.
-use Rattle.std.specs.Prelude.{◌≡◌, ◌↔◌, ℕ, List, Some, length}
+use Rattle.std.specs.Prelude.{◌≡◌, ℕ, List, Some, length}
 use Rattle.ev_sets.specs.Sets.{Has}
 use Rattle.ev_notice.specs.Notice.{Attribute}
 use Rattle.ev_run.specs.Machine.{Does, Takes}

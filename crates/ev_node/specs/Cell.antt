@@ -1,5 +1,5 @@
 -- What a cell's type keeps.
-use Rattle.std.specs.Prelude.{◌≡◌, ◌↔◌, ◌≤◌, ◌<◌, ◌^◌, ℕ, List, [], ◌∷◌, ◌++◌, map, length, drop, slice_get, Some}
+use Rattle.std.specs.Prelude.{◌≡◌, ◌↔◌, ◌≤◌, ◌<◌, ◌^◌, ℕ, List, [], ◌∷◌, ◌++◌, map, length, take, drop, slice_get, Some}
 use Rattle.ev_sets.specs.Sets.{Has}
 use Rattle.ev_run.specs.Machine.{Machine, Stamped}
 use Rattle.ev_run.specs.Journals.{Cell, IsReplay}
@@ -41,6 +41,7 @@ pub record HasEntered (old : Root) (phase : ℕ) (cell : CellParts) : Type 0 whe
   pub server : cell.root.server ≡ old.server
   pub phase_is : cell.root.phase ≡ phase
   pub entries : cell.root.entries ≡ length cell.journal
+  pub before : cell.root.before.value.items ≡ cell.journal
   pub core : cell.root.core.value ≡ cell.held.core
   pub links : cell.root.links.value ≡ cell.held.links
   pub viewer : cell.root.viewer ≡ old.viewer
@@ -95,7 +96,8 @@ pub record IsReplayed (net : NetParts) (root : Root) (journal : List EntryParts)
       (entries_on real (net_at real (phased_net net) root.phase) (journal_of (drop root.entries journal))) end
   pub stands : IsCellOf net root.phase held.core held.links.items end
 
--- WHAT A CELL KEEPS: from each cell that was in hand as it entered its phase, the entries since then replay to one that is in hand
+-- WHAT A CELL KEEPS: its journal begins with the entries that it had as it entered its phase, and from each cell that was in hand then the entries since
+-- replay to one that is in hand
 pub record IsKept (net : NetParts) (root : Root) (journal : List EntryParts) (held : Held) : Type 0 where
   pub net_is : root.net.value ≡ net
   pub sound : IsSound net
@@ -104,6 +106,7 @@ pub record IsKept (net : NetParts) (root : Root) (journal : List EntryParts) (he
   pub replays : (begun : Cell (machine_in net root.phase)) → IsCellOf net root.phase root.core.value root.links.value.items begun
       → IsReplayed net root journal begun held
   pub entries : root.entries ≤ length journal
+  pub before : take root.entries journal ≡ root.before.value.items
   pub links : Both IsSameLink root.links.value.items held.links.items
   pub publisher : IsViewerOf held.publisher root.viewer.value
   pub now : IsHeld held

@@ -8,4 +8,7 @@ pub mod Looking
 pub mod Ahead
 pub mod Lanes
 pub mod Together
+pub mod Entered
+pub mod Coming
 pub mod Started
+pub mod Relinking

@@ -6,7 +6,7 @@ use Rattle.ev_phases.specs.Trees.{net_at}
 use Rattle.ev_theory.specs.Real.{real}
 use Rattle.ev_model.specs.Parts.{NetParts}
 use Rattle.ev_model.specs.Nets.{phased_net}
-use Rattle.ev_versions.specs.Ends.{staged, published, IsSameViewer}
+use Rattle.ev_versions.specs.Ends.{IsSameViewer}
 use Rattle.ev_node.specs.declared.link.Link.{Link}
 use Rattle.ev_node.specs.declared.starting.Started.{Started}
 use Rattle.ev_node.specs.Cell.{CellParts, IsCellOf, machine_in}
@@ -18,6 +18,7 @@ pub record IsFresh (net : NetParts) (server : ℕ) (links : List Link) (cell : C
   pub server_is : cell.root.server ≡ server
   pub phase : cell.root.phase ≡ 0
   pub entries : cell.root.entries ≡ 0
+  pub before : cell.root.before.value.items ≡ []
   pub core : cell.root.core.value ≡ cell.held.core
   pub lanes : cell.root.links.value ≡ cell.held.links
   pub links_are : cell.held.links.items ≡ links

@@ -1,5 +1,5 @@
 -- The cells of all servers of a net.
-use Rattle.std.specs.Prelude.{◌≡◌, ◌⊎◌, ◌<◌, ℕ, zero, suc, List, [], ◌∷◌, map, length, drop, Some, slice_get, slice_index_or}
+use Rattle.std.specs.Prelude.{◌≡◌, ◌⊎◌, ◌<◌, ℕ, zero, suc, List, [], map, length, drop, Some, slice_get, slice_index_or}
 use Rattle.ev_sets.specs.Sets.{Has}
 use Rattle.ev_run.specs.Machine.{Entry}
 use Rattle.ev_run.specs.Journals.{Cell, IsPhaseInHand, IsPhaseEnded}

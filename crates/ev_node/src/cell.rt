@@ -3,12 +3,15 @@ ghost use Rattle.std.specs.Prelude.{◌≡◌};
 
 use crate::ahead::turn_held_ahead;
 use crate::asked::turn_held;
+use crate::coming::next_of;
 use crate::held::{Held, Root};
 use crate::link::Link;
 use crate::looking::look_from;
 use crate::naming::{are_neighbours, lives_at};
 use crate::phases::{is_through, trees_come};
+use crate::rehanging::put_on;
 use crate::what::{Turned, What};
+use ev_control::HeldLink;
 use ev_counting::Scratch;
 use ev_memory::NoMemory;
 use ev_model::{Entry, Net};
@@ -55,7 +58,7 @@ impl<'a> Standing for Cell<'a> {
 }
 
 impl<'a> Cell<'a> {
-    ghost use Rattle.std.specs.Prelude.{◌≡◌, ◌≤◌, ◌<◌, ◌^◌, ℕ, true, [], length, map, IfOk, OnErr, IsErrOf, IsTrue, ◌↔◌};
+    ghost use Rattle.std.specs.Prelude.{◌≡◌, ◌≤◌, ◌<◌, ◌^◌, ℕ, true, [], length, map, IfOk, OnOk, OnErr, IsErrOf, IsTrue, ◌↔◌};
     ghost use Rattle.ev_tree.specs.Tree.{links_of};
     ghost use Rattle.ev_routing.specs.Routing.{empty_server};
     ghost use Rattle.ev_phases.specs.Trees.{is_one_tree, net_at};
@@ -72,6 +75,9 @@ impl<'a> Cell<'a> {
     ghost use Rattle.ev_node.specs.Asked.{Answers, IsWorn, Suits};
     ghost use Rattle.ev_node.specs.Ahead.{AnswersAhead};
     ghost use Rattle.ev_node.specs.Looking.{IsLookedFor};
+    ghost use Rattle.ev_node.specs.Coming.{AreFrom, IsOfSome};
+    ghost use Rattle.ev_node.specs.Relinking.{CanMove, HasMoved};
+    ghost use Rattle.ev_node.specs.Entered.{IsSameCell};
 
     /// The cell of a server in phase 0 before its first step.
     pub(crate) fn fresh(
@@ -94,11 +100,13 @@ impl<'a> Cell<'a> {
         ensures fresh { IsFresh net.now server links.items result }
         ensures viewer { result.root.viewer.value ≡ viewer.now }
     {
+        let journal = Vec::new(alloc);
         let root = Root {
             net: Snapshot::of(net),
             server,
             phase: 0,
             entries: 0,
+            before: Snapshot::of(&journal),
             core: Snapshot::of(&core),
             links: Snapshot::of(&links),
             viewer: Snapshot::of(viewer),
@@ -114,7 +122,7 @@ impl<'a> Cell<'a> {
             net,
             root,
             held,
-            journal: Vec::new(alloc),
+            journal,
             scratch: Scratch::new(alloc),
         }
     }
@@ -246,9 +254,17 @@ impl<'a> Cell<'a> {
 
     /// Whether no client of its server has a command of a phase below this one left.
     pub fn is_through(&self, phase: u32) -> bool
-        ensures { IsTrue result → HasNoneBelow phase self.now.held.core.clients }
+        ensures { IsTrue result ↔ HasNoneBelow phase self.now.held.core.clients }
     {
         is_through(&self.held.core, self.net, self.root.server, phase)
+    }
+
+    /// The least phase of the next commands of its server's clients; `None` where none is left.
+    pub fn next_phase(&self) -> Option<u32>
+        ensures from { AreFrom result self.now.held.core.clients }
+        ensures own { IsOfSome result self.now.held.core }
+    {
+        next_of(&self.held.core, self.net, self.root.server)
     }
 
     /// Whether the tree in force at a phase is that of the cell's phase.
@@ -274,7 +290,33 @@ impl<'a> Cell<'a> {
         self.held.core.raise(clock);
         self.root.phase = phase;
         self.root.entries = self.journal.len();
+        self.root.before = Snapshot::of(&self.journal);
         self.root.core = Snapshot::of(&self.held.core);
         self.root.links = Snapshot::of(&self.held.links);
+    }
+
+    /// The cell enters a phase on other links, of which this is given, over these lanes, with this clock. It is called outside
+    /// a lock, and it may wait as a publish may.
+    pub(crate) fn enter_on<R: Wait>(
+        &mut self,
+        rt: &R,
+        phase: u32,
+        clock: u64,
+        given: &[HeldLink],
+        links: Vec<Link>,
+    ) -> Result<(), NoMemory>
+        requires low { clock < 2 ^ 62 }
+        requires can { CanMove phase clock given.now links.items self.old }
+        ensures same { IsSameCell self.old self.new }
+        ensures moved { OnOk result (HasMoved phase clock given.now links.items self.old self.new) }
+    {
+        put_on(rt, self.alloc, &mut self.held, given, links)?;
+        self.held.core.raise(clock);
+        self.root.phase = phase;
+        self.root.entries = self.journal.len();
+        self.root.before = Snapshot::of(&self.journal);
+        self.root.core = Snapshot::of(&self.held.core);
+        self.root.links = Snapshot::of(&self.held.links);
+        Ok(())
     }
 }

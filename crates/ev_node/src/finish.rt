@@ -159,7 +159,7 @@ fn walk_commands(cells: &mut [Cell<'_>]) -> Result<(), StepFault>
 }
 
 /// Each cell keeps what its type says.
-fn tell_all(cells: &[Cell<'_>])
+pub(crate) fn tell_all(cells: &[Cell<'_>])
     ensures { (k : ℕ) (cell : CellParts) → slice_get cells.now k ≡ Some cell → IsKept cell.root.net.value cell.root cell.journal cell.held }
 {
     for cell in cells {

@@ -1,7 +1,7 @@
 //! What a cell has in hand, and what stays while a phase lasts.
 use crate::link::Link;
 use ev_counting::Change;
-use ev_model::Net;
+use ev_model::{Entry, Net};
 use ev_server::Core;
 use ev_versions::{Publisher, Viewer};
 use std::snapshot::Snapshot;
@@ -15,8 +15,8 @@ pub struct Held {
     pub(crate) handed: Vec<Change>,
 }
 
-/// What stays of a cell while a phase lasts: its net, its server, the phase, how many entries were in its journal when it
-/// entered the phase, and the core and the lanes that it had in hand then. Its publisher is named by one of its viewers.
+/// What stays of a cell while a phase lasts: its net, its server, the phase, the entries that were in its journal when it
+/// entered the phase, how many these are, and the core and the lanes that it had in hand then. Its publisher is named by one of its viewers.
 /// But for the numbers it has no bytes.
 #[derive(Drop)]
 pub struct Root {
@@ -24,6 +24,7 @@ pub struct Root {
     pub(crate) server: u32,
     pub(crate) phase: u32,
     pub(crate) entries: usize,
+    pub(crate) before: Snapshot<Vec<Entry>>,
     pub(crate) core: Snapshot<Core>,
     pub(crate) links: Snapshot<Vec<Link>>,
     pub(crate) viewer: Snapshot<Viewer>,

@@ -1,5 +1,5 @@
 //! Phases of a net, and what is left of them at a server.
-ghost use Rattle.std.specs.Prelude.{◌≡◌, ◌≤◌, ◌+◌, length, IsTrue};
+ghost use Rattle.std.specs.Prelude.{◌≡◌, ◌↔◌, ◌≤◌, ◌+◌, length, IsTrue};
 ghost use Rattle.ev_sets.specs.Sets.{Has};
 ghost use Rattle.ev_phases.specs.Trees.{trees_by};
 ghost use Rattle.ev_model.specs.Nets.{clients_of, later_trees};
@@ -29,7 +29,7 @@ pub(crate) fn trees_come(net: &Net, phase: u32) -> usize
 fn is_past(core: &Core, client: u32, phase: u32) -> bool
     requires lives { Has client (numbers_of core.now.clients) }
     requires stands { IsSomeServer core.now }
-    ensures { IsTrue result → IsPast phase client core.now.clients }
+    ensures { IsTrue result ↔ IsPast phase client core.now.clients }
 {
     match core.session(client).next() {
         Some((own, _)) => own >= phase,
@@ -42,7 +42,7 @@ pub(crate) fn is_through(core: &Core, net: &Net, server: u32, phase: u32) -> boo
     requires stands { IsSomeServer core.now }
     requires sound { IsSound net.now }
     requires clients { clients_of net.now server ≡ numbers_of core.now.clients }
-    ensures { IsTrue result → HasNoneBelow phase core.now.clients }
+    ensures { IsTrue result ↔ HasNoneBelow phase core.now.clients }
 {
     for place in 0..net.clients.len() {
         if net.clients[place].home == server && !is_past(core, place as u32 + 1, phase) {

@@ -87,7 +87,7 @@ pub(crate) fn are_touched(these: &[Change], changes: &[Change]) -> bool
 }
 
 /// Hands a change over to the publisher, and keeps a copy of it.
-fn hand(
+pub(crate) fn hand(
     alloc: Global,
     publisher: &mut Publisher,
     handed: &mut Vec<Change>,

@@ -1,4 +1,4 @@
-use Rattle.std.proofs.Common.{◌≡◌, sym, subst}
+use Rattle.std.proofs.Common.{sym, subst}
 use Rattle.ev_node.specs.Links.{IsNeighbour}
 use Rattle.ev_node.proofs.Places.{below-found}
 use Rattle.ev_node.proofs.Asking.{place-of, taken-ahead, worn-by}

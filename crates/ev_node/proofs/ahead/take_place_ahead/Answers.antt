@@ -1,7 +1,6 @@
-use Rattle.std.proofs.Common.{arith, ◌≡◌, ◌<◌, length, refl, sym, ap, subst}
+use Rattle.std.proofs.Common.{arith, refl}
 use Rattle.std.proofs.lemmas.Grind.{common_steps}
 use Rattle.ev_node.specs.Turns.{message_seen}
-use Rattle.ev_node.specs.Links.{Both, IsUnmoved}
 use Rattle.ev_node.proofs.Sooner.{looked-some, looked-seen, still-before, taking-before}
 use Rattle.ev_node.proofs.Turning.{held-still, long-left, on_err}
 use Rattle.ev_node.proofs.ahead.take_place_ahead.Goals as goal

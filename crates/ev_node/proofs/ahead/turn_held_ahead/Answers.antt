@@ -1,4 +1,4 @@
-use Rattle.std.proofs.Common.{◌≡◌, sym, subst}
+use Rattle.std.proofs.Common.{sym, subst}
 use Rattle.std.specs.Prelude.{IfOk}
 use Rattle.ev_node.specs.Ahead.{AnswersAhead}
 use Rattle.ev_node.proofs.Asking.{version-ahead}

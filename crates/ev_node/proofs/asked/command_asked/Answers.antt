@@ -1,4 +1,4 @@
-use Rattle.std.proofs.Common.{◌≡◌, refl}
+use Rattle.std.proofs.Common.{refl}
 use Rattle.ev_run.specs.Machine.{Does}
 use Rattle.ev_routing.specs.Step.{NextCommand}
 use Rattle.ev_node.proofs.Unmoved.{all-unmoved}

@@ -1,4 +1,4 @@
-use Rattle.std.proofs.Common.{◌≡◌, ◌↔◌, IsTrue, true, false, ◌∙◌, sym, eqb-true, eq-eqb}
+use Rattle.std.proofs.Common.{◌≡◌, true, false, eqb-true, eq-eqb}
 use Rattle.ev_node.proofs.Phased.{of-phase, left-of}
 use Rattle.ev_node.proofs.asked.is_of_phase.Goals as goal
 

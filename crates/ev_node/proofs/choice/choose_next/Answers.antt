@@ -1,4 +1,3 @@
-use Rattle.std.proofs.Common.{◌≡◌, sym, subst}
 use Rattle.ev_node.proofs.Aheads.{choice-next, choice-none}
 use Rattle.ev_node.proofs.choice.choose_next.Goals as goal
 

@@ -1,4 +1,3 @@
-use Rattle.std.proofs.Common.{◌≡◌, sym, subst}
 use Rattle.ev_node.proofs.Aheads.{choice-of}
 use Rattle.ev_node.proofs.choice.choose_of.Goals as goal
 

@@ -1,4 +1,4 @@
-use Rattle.std.proofs.Common.{◌≡◌, ◌∙◌, sym, subst}
+use Rattle.std.proofs.Common.{◌∙◌, sym, subst}
 use Rattle.ev_node.specs.Together.{AreTogether}
 use Rattle.ev_node.proofs.InHand.{finished}
 use Rattle.ev_node.proofs.finish.finish_phase.Goals as goal

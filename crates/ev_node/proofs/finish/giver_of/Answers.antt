@@ -1,4 +1,4 @@
-use Rattle.std.proofs.Common.{ℕ, ◌<◌, ◌-◌, length, subst, arith}
+use Rattle.std.proofs.Common.{ℕ, ◌-◌, subst, arith}
 use Rattle.ev_node.specs.Links.{IsNeighbour}
 use Rattle.ev_node.proofs.Places.{placed}
 use Rattle.ev_node.proofs.Gathered.{map-found, numbered, among, has-place, lane-of}

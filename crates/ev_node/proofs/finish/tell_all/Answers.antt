@@ -1,4 +1,4 @@
-use Rattle.std.proofs.Common.{◌≡◌, ◌<◌, length, ◌⊎◌, inl, inr, sym, ap, subst, ◌∙◌, slice_get, Some, arith}
+use Rattle.std.proofs.Common.{inl, inr, sym, ap, subst, ◌∙◌, slice_get, arith}
 use Rattle.ev_node.specs.Cell.{CellParts, IsKept}
 use Rattle.ev_node.proofs.Places.{split, below-found, placed, one-value}
 use Rattle.ev_node.proofs.finish.tell_all.Goals as goal

@@ -1,4 +1,4 @@
-use Rattle.std.proofs.Common.{◌≡◌, ◌<◌, ◌≤◌, length, slice_get, Some, get_or, sym, ap, subst, ◌∙◌, arith}
+use Rattle.std.proofs.Common.{◌≡◌, slice_get, Some, get_or, subst, arith}
 use Rattle.ev_node.proofs.Places.{found}
 use Rattle.ev_node.proofs.Emptied.{as-many-links, all-tried}
 use Rattle.ev_node.proofs.finish.walk_links.Goals as goal

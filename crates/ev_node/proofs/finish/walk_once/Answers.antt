@@ -1,4 +1,4 @@
-use Rattle.std.proofs.Common.{◌≡◌, ℕ, ◌+◌, ◌<◌, ◌⊎◌, inl, inr, true, false, sym, ap, subst, ◌∙◌}
+use Rattle.std.proofs.Common.{◌≡◌, inl, inr, true, false, sym, subst, ◌∙◌}
 use Rattle.ev_node.specs.Together.{IsCellDone, sights}
 use Rattle.ev_node.proofs.Places.{split}
 use Rattle.ev_node.proofs.finish.walk_once.Goals as goal

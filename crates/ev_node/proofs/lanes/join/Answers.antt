@@ -1,4 +1,4 @@
-use Rattle.std.proofs.Common.{◌≡◌, ◌-◌, ◌<◌, ◌++◌, ◌∷◌, [], ap, sym, ◌∙◌, length, set, arith}
+use Rattle.std.proofs.Common.{◌-◌, ◌++◌, ◌∷◌, [], ap, ◌∙◌, set, arith}
 use Rattle.ev_node.specs.Lanes.{with_link}
 use Rattle.ev_node.proofs.Rows.{set-with, long-set}
 use Rattle.ev_node.proofs.lanes.join.Goals as goal

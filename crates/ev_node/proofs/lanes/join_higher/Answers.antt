@@ -1,7 +1,5 @@
-use Rattle.std.proofs.Common.{◌≡◌, true, false, ◌++◌, ◌∷◌, [], ◌+◌, ◌<◌, suc, map, ap, sym, subst, ◌∙◌, arith, add-one}
+use Rattle.std.proofs.Common.{◌≡◌, true, false, sym, subst, ◌∙◌, arith, add-one}
 use Rattle.ev_sets.specs.Sets.{Has}
-use Rattle.ev_tree.specs.Tree.{links_of}
-use Rattle.ev_node.specs.Lanes.{AreLanes}
 use Rattle.ev_node.proofs.Rows.{lanes-begun, lanes-ended, lanes-skipped, lanes-joined}
 use Rattle.ev_node.proofs.lanes.join_higher.Goals as goal
 use Rattle.ev_node.proofs.lanes.join_higher.Goals.{then-is_among+in_ok-join, else-is_among}

@@ -1,4 +1,4 @@
-use Rattle.std.proofs.Common.{◌≡◌, ◌<◌, suc, map, sym, subst, arith, add-one}
+use Rattle.std.proofs.Common.{map, subst, arith}
 use Rattle.ev_node.specs.Lanes.{AreNone}
 use Rattle.ev_node.proofs.Rows.{lanes-first, lanes-last}
 use Rattle.ev_node.proofs.lanes.lanes_of.Goals as goal

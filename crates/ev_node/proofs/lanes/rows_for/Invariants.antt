@@ -1,4 +1,4 @@
-use Rattle.std.proofs.Common.{◌≡◌, map}
+use Rattle.std.proofs.Common.{map}
 use Rattle.ev_node.specs.Lanes.{AreNone}
 use Rattle.ev_node.proofs.lanes.rows_for.Given as goal
 

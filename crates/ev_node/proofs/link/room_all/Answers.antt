@@ -1,6 +1,5 @@
-use Rattle.std.proofs.Common.{◌<◌, refl, arith}
-use Rattle.ev_lane.specs.Lane.{spare}
-use Rattle.ev_node.specs.Links.{IsRoomed, IsSameLink}
+use Rattle.std.proofs.Common.{arith}
+use Rattle.ev_node.specs.Links.{IsRoomed}
 use Rattle.ev_node.proofs.Walks.{partly-more, partly-end, partly-stop, both-map, both-each}
 use Rattle.ev_node.proofs.Unmoved.{roomed-refl}
 use Rattle.ev_node.proofs.link.room_all.Goals as goal

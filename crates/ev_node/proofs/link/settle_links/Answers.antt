@@ -1,4 +1,4 @@
-use Rattle.std.proofs.Common.{◌≡◌, refl, sym, subst}
+use Rattle.std.proofs.Common.{refl, subst}
 use mathlib.Core.List.{IsPrefix}
 use Rattle.ev_lane.specs.Lane.{coming_list}
 use Rattle.ev_node.specs.declared.link.Link.{Link}

@@ -1,4 +1,4 @@
-use Rattle.std.proofs.Common.{◌≡◌, ◌↔◌, IsTrue, List, ℕ, sym, ap, subst, ◌∙◌}
+use Rattle.std.proofs.Common.{◌↔◌, IsTrue, List, ℕ, ap, subst, ◌∙◌}
 use Rattle.ev_sets.specs.Sets.{Has}
 use Rattle.ev_tree.specs.Tree.{Topology, links_of}
 use Rattle.ev_node.proofs.Among.{any_has}

@@ -1,4 +1,4 @@
-use Rattle.std.proofs.Common.{◌≡◌, ◌≤◌, ◌<◌, ◌+◌, IsTrue, suc, length, slice_get, Some, sym, ap, subst, ◌∙◌, arith}
+use Rattle.std.proofs.Common.{suc, length, slice_get, refl, sym, ap, subst, ◌∙◌, arith}
 use Rattle.ev_sets.specs.Sets.{Has}
 use Rattle.ev_model.specs.Parts.{ClientParts, NetParts}
 use Rattle.ev_server.specs.Clients.{numbers_of}
@@ -33,11 +33,14 @@ loop-place-preserved c place client lt e h =
     (ap (λ (z : NetParts). slice_get z.clients c.loop-place.place) (sym c.net.view_is) ∙ index-at c.net.inside.clients.items c.loop-place.place c.index.result.now (omega (arith, c.len-place-end.ensures, c.loop-place-test.true)) c.index.ensures)
     c.loop-place.invariant
     (λ q. elim c.else-index-server.branch [
-      | else-index-server-via-then-index-server+else-not-is_past w ↦ subst (λ k. IsPast c.args.phase k c.args.core.now.clients) (omega arith) (w.is_past.ensures w.if-not-is_past.false)
+      | else-index-server-via-then-index-server+else-not-is_past w ↦ subst (λ k. IsPast c.args.phase k c.args.core.now.clients) (omega arith) (w.is_past.ensures.0 w.if-not-is_past.false)
       | else-index-server-via-else-index-server w ↦ absurd (w.if-index-server.false (ap (λ (z : ClientParts). z.home) c.behind-net.view_is ∙ q))
     ])
     place client (omega (arith, lt)) e h
 
 pub returns : goal.returns
-returns c t = all-past c.args.net.now c.args.server c.args.phase c.loop-place.place c.args.core.now.clients c.requires.clients
-    (let n = ap (λ (z : NetParts). length z.clients) c.net.view_is in omega (arith, n, c.len-place-end.ensures, c.loop-place-test.false)) c.loop-place.invariant
+returns c = (
+  λ t. all-past c.args.net.now c.args.server c.args.phase c.loop-place.place c.args.core.now.clients c.requires.clients
+      (let n = ap (λ (z : NetParts). length z.clients) c.net.view_is in omega (arith, n, c.len-place-end.ensures, c.loop-place-test.false)) c.loop-place.invariant,
+  λ none. refl,
+)

@@ -1,4 +1,4 @@
-use Rattle.std.proofs.Common.{◌≡◌, ◌<◌, length, map, get_or, slice_get, Some, ◌++◌, refl, sym, ap, subst, ◌∙◌, arith}
+use Rattle.std.proofs.Common.{map, get_or, slice_get, sym, ap, subst, ◌∙◌, arith}
 use Rattle.ev_node.specs.Links.{IsNextAt}
 use Rattle.ev_node.specs.Together.{sight}
 use Rattle.ev_node.proofs.Places.{one-value}

@@ -1,4 +1,4 @@
-use Rattle.std.proofs.Common.{ℕ, length}
+use Rattle.std.proofs.Common.{length}
 use Rattle.ev_node.proofs.starting.end_all.Given as goal
 
 abbrev pub invariant-loop-one : goal.invariant-loop-one

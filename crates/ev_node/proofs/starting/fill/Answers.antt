@@ -1,12 +1,8 @@
-use Rattle.std.proofs.Common.{◌≡◌, ◌<◌, ◌≤◌, ◌+◌, ◌∷◌, ◌++◌, [], ℕ, suc, List, length, map, set, Some, slice_get, refl, sym, ap, subst, ◌∙◌, arith, add-one, vec_capacity}
+use Rattle.std.proofs.Common.{◌≡◌, ◌≤◌, length, map, Some, slice_get, sym, ap, subst, ◌∙◌, arith, add-one}
 use Rattle.std.proofs.lemmas.List.{length-map}
-use Rattle.ev_sets.specs.Sets.{Has}
-use Rattle.ev_tree.specs.Tree.{links_of}
-use Rattle.ev_model.specs.Nets.{first_tree, servers_in, topology_at}
-use Rattle.ev_node.specs.declared.link.Link.{Link}
 use Rattle.ev_node.proofs.Rows.{long-set}
 use Rattle.ev_node.proofs.Trees.{counts}
-use Rattle.ev_node.proofs.Filled.{one-more, all-started, row-server, row-is, rest-set, none-yet}
+use Rattle.ev_node.proofs.Filled.{one-more, all-started, row-server, row-is, rest-set}
 use Rattle.ev_node.proofs.starting.fill.Goals as goal
 
 pub start_one-requires-clause-among : goal.start_one-requires-clause-among

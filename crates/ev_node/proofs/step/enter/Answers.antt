@@ -1,6 +1,5 @@
-use Rattle.std.proofs.Common.{◌≡◌, ◌≤◌, ◌++◌, ◌∷◌, [], ℕ, List, ap, refl, length, map, arith, ◌∙◌}
+use Rattle.std.proofs.Common.{arith}
 use Rattle.std.proofs.lemmas.List.{length-map}
-use Rattle.ev_model.specs.Parts.{entry_parts}
 use Rattle.ev_node.proofs.Orders.{no-longer}
 use Rattle.ev_node.proofs.step.enter.Goals as goal
 

@@ -1,4 +1,4 @@
-use Rattle.std.proofs.Common.{◌≡◌, subst}
+use Rattle.std.proofs.Common.{subst}
 use Rattle.ev_node.specs.Links.{IsUnmoved}
 use Rattle.ev_node.proofs.Places.{set-unmoved, looked-at}
 use Rattle.ev_node.proofs.taking.look_at.Goals as goal

@@ -1,5 +1,5 @@
-use Rattle.std.proofs.Common.{◌≡◌, ◌++◌, sym, ap, subst, ◌∙◌}
-use Rattle.ev_versions.specs.Ends.{staged, published}
+use Rattle.std.proofs.Common.{◌++◌, sym, ap, subst, ◌∙◌}
+use Rattle.ev_versions.specs.Ends.{published}
 use Rattle.ev_versions.specs.Pairs.{pairs_after}
 use Rattle.ev_node.specs.Served.{IsTableOf}
 use Rattle.ev_node.specs.Versions.{AreTouched}

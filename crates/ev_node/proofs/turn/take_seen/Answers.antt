@@ -1,19 +1,15 @@
-use Rattle.std.proofs.Common.{arith, ◌≡◌, max, ◌++◌, ◌≤◌, ◌<◌, ◌^◌, ◌∷◌, [], length, map, refl, sym, ap, subst, ◌∙◌}
+use Rattle.std.proofs.Common.{arith, max, ◌++◌, ◌<◌, ◌∷◌, [], length, map, refl, sym, ap, subst, ◌∙◌}
 use Rattle.std.proofs.lemmas.Grind.{common_steps}
 use Rattle.ev_sets.specs.Sets.{Has}
 use Rattle.ev_sets.specs.Numbers.{IsDistinct}
-use Rattle.ev_run.specs.Machine.{Takes, Stamped}
-use Rattle.ev_routing.specs.Server.{Message}
-use Rattle.ev_theory.specs.Real.{real}
+use Rattle.ev_run.specs.Machine.{Takes}
 use Rattle.ev_lane.specs.Lane.{coming_list}
 use Rattle.ev_model.specs.declared.turn.Act.TheVariants as acts
 use Rattle.ev_model.specs.Parts.{entry_parts}
 use Rattle.ev_model.specs.Meaning.{message_of}
 use Rattle.ev_node.specs.Links.{Both, IsUnmoved, IsTaken}
-use Rattle.ev_node.specs.Turns.{IsTurn}
-use Rattle.ev_node.proofs.Hands.{names}
 use Rattle.ev_node.proofs.Places.{has-name, one-value}
-use Rattle.ev_node.proofs.Unmoved.{unmoved-roomed, unmoved-all}
+use Rattle.ev_node.proofs.Unmoved.{unmoved-roomed}
 use Rattle.ev_node.proofs.Turning.{Found, found-roomed, some-first, still, held-still, held-after, took, took-links, room-taken, spare-taken, names-taken, distinct-left, neighbours-left, long-left, as-long, sends-texts, sends-in-order, on_err}
 use Rattle.ev_node.proofs.Sooner.{taking-from, has-seen}
 use Rattle.ev_node.proofs.turn.take_seen.Goals as goal

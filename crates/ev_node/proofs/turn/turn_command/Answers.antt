@@ -1,5 +1,4 @@
-use Rattle.std.proofs.Common.{◌≡◌, ◌++◌, ◌≤◌, ◌<◌, ◌^◌, ◌∷◌, [], length, map, refl, sym, ap, subst, ◌∙◌, arith}
-use Rattle.ev_sets.specs.Numbers.{IsDistinct}
+use Rattle.std.proofs.Common.{◌++◌, ◌∷◌, [], map, refl, sym, ap, ◌∙◌, arith}
 use Rattle.ev_run.specs.Machine.{Does}
 use Rattle.ev_routing.specs.Step.{NextCommand}
 use Rattle.ev_model.specs.declared.turn.Act.TheVariants as acts

@@ -1,4 +1,4 @@
-use Rattle.std.proofs.Common.{arith, ◌≡◌, refl}
+use Rattle.std.proofs.Common.{arith, refl}
 use Rattle.std.proofs.lemmas.Grind.{common_steps}
 use Rattle.ev_node.specs.Turns.{message_seen}
 use Rattle.ev_node.proofs.Sooner.{looked-some, looked-seen, still-before, taking-before}

@@ -1,4 +1,4 @@
-use Rattle.std.proofs.Common.{◌≡◌, true, false, ◌++◌, ◌≤◌, ◌<◌, ◌^◌, ◌∷◌, [], length, map, refl, sym, ap, subst, ◌∙◌, arith}
+use Rattle.std.proofs.Common.{◌≡◌, true, false, ◌++◌, ◌<◌, ◌^◌, ◌∷◌, [], length, map, refl, sym, ap, subst, ◌∙◌, arith}
 use Rattle.ev_sets.specs.Numbers.{IsDistinct}
 use Rattle.ev_lane.specs.Lane.{put_list}
 use Rattle.ev_run.specs.Machine.{Does}

@@ -1,4 +1,4 @@
-use Rattle.std.proofs.Common.{IsTrue, ◌↔◌, ◌≡◌, sym, ◌∙◌}
+use Rattle.std.proofs.Common.{sym, ◌∙◌}
 use Rattle.ev_node.proofs.Handed.{one_pair}
 use Rattle.ev_node.proofs.version.are_of_one_pair.Goals as goal
 

@@ -1,4 +1,4 @@
-use Rattle.std.proofs.Common.{◌≡◌, sym, subst, arith}
+use Rattle.std.proofs.Common.{sym, subst, arith}
 use Rattle.ev_sets.specs.Sets.{Has}
 use Rattle.ev_node.proofs.Handed.{has_at}
 use Rattle.ev_node.proofs.version.is_touched.Goals as goal

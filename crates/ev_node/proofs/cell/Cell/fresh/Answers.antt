@@ -1,15 +1,12 @@
-use Rattle.std.proofs.Common.{◌≡◌, refl, sym, ap, subst, ◌∙◌}
-use Rattle.ev_node.specs.declared.link.Link.{Link}
-use Rattle.ev_node.specs.Cell.{IsCellOf}
+use Rattle.std.proofs.Common.{refl, sym, ap, subst, ◌≡◌, ◌∙◌}
 use Rattle.ev_versions.specs.Ends.{IsViewerOf}
-use Rattle.ev_tree.specs.Tree.{links_of}
 use Rattle.ev_node.proofs.Fresh.{kept-fresh, opening-stands}
 use Rattle.ev_node.proofs.cell.Cell.fresh.Goals as goal
 
 pub invariant_of-result : goal.invariant_of-result
 invariant_of-result c =
-    kept-fresh c.args.net.now c.args.core c.args.links.items c.requires.state c.requires.clock c.requires.new _ _ c.new-2.result.items c.requires.sound c.of.ensures c.requires.server refl refl c.of-2.ensures (ap (λ l. l.items) c.of-3.ensures)
-    refl refl c.requires.publisher.0 c.requires.publisher.1 c.new.ensures.items (subst (IsViewerOf c.args.publisher) (sym c.of-4.ensures) c.requires.viewer) c.requires.names c.new-2.ensures.items
+    kept-fresh c.args.net.now c.args.core c.args.links.items c.requires.state c.requires.clock c.requires.new _ _ c.new-journal.result.items c.requires.sound c.of.ensures c.requires.server refl refl (ap (λ l. l.items) c.of-2.ensures ∙ c.new-journal.ensures.items) c.of-3.ensures (ap (λ l. l.items) c.of-4.ensures)
+    refl refl c.requires.publisher.0 c.requires.publisher.1 c.new.ensures.items (subst (IsViewerOf c.args.publisher) (sym c.of-5.ensures) c.requires.viewer) c.requires.names c.new-journal.ensures.items
 
 pub returns-clause-fresh : goal.returns-clause-fresh
 returns-clause-fresh c = record {
@@ -17,10 +14,11 @@ returns-clause-fresh c = record {
   server_is = refl;
   phase = refl;
   entries = refl;
-  core = c.of-2.ensures;
-  lanes = c.of-3.ensures;
+  before = ap (λ l. l.items) c.of-2.ensures ∙ c.new-journal.ensures.items;
+  core = c.of-3.ensures;
+  lanes = c.of-4.ensures;
   links_are = refl;
   clock = c.requires.clock;
-  journal = c.new-2.ensures.items;
+  journal = c.new-journal.ensures.items;
   opening = opening-stands c.args.net.now c.args.core c.args.links.items c.requires.state c.requires.clock c.requires.new c.args.server;
 }

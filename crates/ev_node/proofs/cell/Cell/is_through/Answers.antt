@@ -1,4 +1,4 @@
-use Rattle.std.proofs.Common.{◌≡◌, sym, ap, subst, ◌∙◌}
+use Rattle.std.proofs.Common.{sym, ap, ◌∙◌}
 use Rattle.ev_model.specs.Nets.{clients_of}
 use Rattle.ev_node.proofs.Keeping.{some-server, replayed}
 use Rattle.ev_node.proofs.cell.Cell.is_through.Goals as goal

@@ -1,4 +1,4 @@
-use Rattle.std.proofs.Common.{◌≡◌, ◌↔◌, ◌==◌, IsTrue, true, sym, ap, subst, ◌∙◌}
+use Rattle.std.proofs.Common.{◌≡◌, ◌↔◌, ◌==◌, IsTrue, true, sym, subst}
 use Rattle.ev_theory.specs.Real.{real}
 use Rattle.ev_phases.specs.Trees.{is_one_tree}
 use Rattle.ev_model.specs.Nets.{phased_net}

@@ -1,10 +1,10 @@
-use Rattle.std.proofs.Common.{◌≡◌, refl, sym, subst}
+use Rattle.std.proofs.Common.{refl, sym, subst}
 use Rattle.ev_sets.specs.Sets.{Has}
 use Rattle.ev_node.specs.declared.what.What.TheVariants.{Take}
 use Rattle.ev_node.specs.Cell.{CellParts}
 use Rattle.ev_node.specs.Asked.{Suits}
 use Rattle.ev_node.proofs.Keeping.{suits-held}
-use Rattle.ev_node.proofs.Lookings.{still-looked, kept-looked}
+use Rattle.ev_node.proofs.Lookings.{kept-looked}
 use Rattle.ev_node.proofs.cell.Cell.look.Goals as goal
 
 pub look_from-requires : goal.look_from-requires

@@ -1,4 +1,4 @@
-use Rattle.std.proofs.Common.{◌≡◌, ◌<◌, length, get_or, sym, subst, ap}
+use Rattle.std.proofs.Common.{◌<◌, length, sym, subst}
 use Rattle.ev_node.specs.Cell.{CellParts}
 use Rattle.ev_node.specs.Links.{IsNeighbour}
 use Rattle.ev_node.proofs.Places.{read-neighbour}

@@ -1,7 +1,6 @@
-use Rattle.std.proofs.Common.{◌≡◌, ℕ, sym, subst, ◌∙◌}
+use Rattle.std.proofs.Common.{ℕ, subst}
 use Rattle.std.specs.Option.{IfSome, IfNone}
 use Rattle.ev_node.specs.Cell.{CellParts}
-use Rattle.ev_node.specs.declared.link.Link.{Link}
 use Rattle.ev_node.specs.Links.{IsNeighbour}
 use Rattle.ev_node.proofs.cell.Cell.place_of.Goals as goal
 

@@ -1,11 +1,8 @@
-use Rattle.std.proofs.Common.{◌≡◌, refl, sym, ap, subst, ◌∙◌}
+use Rattle.std.proofs.Common.{ap, ◌∙◌}
 use Rattle.ev_server.specs.Core.{CoreParts}
-use Rattle.ev_node.specs.declared.what.What.TheVariants.{Command, Version}
-use Rattle.ev_node.specs.Cell.{CellParts}
-use Rattle.ev_node.specs.Asked.{Suits}
-use Rattle.ev_node.specs.Turns.{HasCommand}
+use Rattle.ev_node.specs.declared.what.What.TheVariants.{Version}
 use Rattle.ev_node.specs.Together.{sight}
-use Rattle.ev_node.proofs.Keeping.{some-server, suits-held, kept-asked}
+use Rattle.ev_node.proofs.Keeping.{some-server, kept-asked}
 use Rattle.ev_node.proofs.Walkers.{sight-still, idle-is}
 use Rattle.ev_node.proofs.cell.Cell.publish_staged.Goals as goal
 

@@ -1,5 +1,5 @@
-use Rattle.std.proofs.Common.{◌≡◌, ◌<◌, length, refl, sym, ap, subst, ◌∙◌}
-use Rattle.ev_node.specs.Cell.{CellParts, cell_parts}
+use Rattle.std.proofs.Common.{refl, sym, ap, subst, ◌∙◌}
+use Rattle.ev_node.specs.Cell.{CellParts}
 use Rattle.ev_node.specs.Links.{At, IsOneLane, IsNextAt}
 use Rattle.ev_node.specs.Together.{sight, links_of}
 use Rattle.ev_node.proofs.Places.{below-found, lane-at}

@@ -1,6 +1,6 @@
-use Rattle.std.proofs.Common.{◌≡◌, refl, sym, ap, subst, ◌∙◌}
+use Rattle.std.proofs.Common.{sym, ap, subst, ◌∙◌}
 use Rattle.ev_server.specs.Core.{CoreParts}
-use Rattle.ev_node.specs.declared.what.What.TheVariants.{Command, Version}
+use Rattle.ev_node.specs.declared.what.What.TheVariants.{Command}
 use Rattle.ev_node.specs.Cell.{CellParts}
 use Rattle.ev_node.specs.Asked.{Suits}
 use Rattle.ev_node.specs.Turns.{HasCommand}

@@ -1,5 +1,5 @@
-use Rattle.std.proofs.Common.{◌≡◌, false, refl, sym, ap, subst, ◌∙◌}
-use Rattle.std.specs.Prelude.{IfOk, IsErrOf}
+use Rattle.std.proofs.Common.{◌≡◌, false, ap, subst, ◌∙◌}
+use Rattle.std.specs.Prelude.{IfOk}
 use Rattle.ev_node.specs.Cell.{CellParts, cell_parts}
 use Rattle.ev_node.specs.Links.{Both, IsSameLink, HasMissed}
 use Rattle.ev_node.specs.Together.{sight}

@@ -1,4 +1,4 @@
-use Rattle.std.proofs.Common.{◌≡◌, ◌≤◌, length, sym, ap, subst, ◌∙◌}
+use Rattle.std.proofs.Common.{sym, ap, subst, ◌∙◌}
 use Rattle.ev_sets.specs.Sets.{Has}
 use Rattle.ev_model.specs.Nets.{clients_of}
 use Rattle.ev_node.specs.declared.held.Root.{Root}

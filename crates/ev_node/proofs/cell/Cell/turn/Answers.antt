@@ -1,4 +1,4 @@
-use Rattle.std.proofs.Common.{◌≡◌, sym, subst}
+use Rattle.std.proofs.Common.{sym, subst}
 use Rattle.ev_node.specs.Cell.{CellParts}
 use Rattle.ev_node.specs.Asked.{Suits}
 use Rattle.ev_node.proofs.Keeping.{some-server, suits-held, kept-asked}

@@ -1,4 +1,4 @@
-use Rattle.std.proofs.Common.{◌≡◌, sym, subst}
+use Rattle.std.proofs.Common.{sym, subst}
 use Rattle.ev_node.specs.Cell.{CellParts}
 use Rattle.std.specs.Prelude.{IfOk}
 use Rattle.ev_node.specs.Asked.{Suits}

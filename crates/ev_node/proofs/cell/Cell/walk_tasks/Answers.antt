@@ -1,4 +1,4 @@
-use Rattle.std.proofs.Common.{◌≡◌, ap, ◌∙◌}
+use Rattle.std.proofs.Common.{ap, ◌∙◌}
 use Rattle.ev_node.specs.Together.{Sight}
 use Rattle.ev_node.proofs.cell.Cell.walk_tasks.Goals as goal
 

@@ -1,5 +1,4 @@
-use Rattle.std.proofs.Common.{◌≡◌, ◌<◌, length, subst, arith}
-use Rattle.ev_wire.specs.declared.sent.Sent.{Sent}
+use Rattle.std.proofs.Common.{subst, arith}
 use Rattle.ev_frame.specs.Frame.{HasMessage}
 use Rattle.ev_node.proofs.Hands.{first-text}
 use Rattle.ev_node.proofs.link.Link.put_first.Goals as goal

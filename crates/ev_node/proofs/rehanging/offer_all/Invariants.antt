@@ -1,0 +1,12 @@
+use Rattle.std.proofs.Common.{◌≡◌, ◌++◌, take}
+use Rattle.ev_versions.specs.Ends.{staged, published, IsSamePublisher}
+use Rattle.ev_node.specs.Relinking.{additions}
+use Rattle.ev_node.proofs.rehanging.offer_all.Given as goal
+
+abbrev pub invariant-loop-link : goal.invariant-loop-link
+invariant-loop-link l = record {
+  same : IsSamePublisher l.initial.publisher l.publisher;
+  shown : published l.publisher ≡ published l.initial.publisher;
+  kept : staged l.publisher ≡ published l.publisher ++ l.handed.items;
+  more : l.handed.items ≡ l.initial.handed.items ++ additions (take l.link-index l.given);
+}

@@ -1,0 +1,86 @@
+//! A change of tree between two phases, over all cells of a net.
+ghost use Rattle.std.specs.Prelude.{◌≡◌, ◌<◌, ℕ, Some, slice_get, IsTrue};
+ghost use Rattle.ev_model.specs.Sound.{IsSound};
+ghost use Rattle.ev_node.specs.Cell.{CellParts, HasNoneBelow};
+ghost use Rattle.ev_node.specs.Entered.{AreThrough};
+ghost use Rattle.ev_node.specs.Together.{AreTogether, roots};
+
+use crate::documents::line_then_star;
+use crate::hand::says;
+use crate::together::{cells_in, end_all};
+use ev_model::{Act, Net};
+use ev_node::{Cell, enter_next, finish_phase};
+use std::alloc::Global;
+use std::rt::HostRuntime;
+use std::sync::Wait;
+use std::test::Fail;
+
+/// Whether no client has a command of a phase below this one left.
+fn all_through(cells: &[Cell<'_>], phase: u32) -> bool
+    ensures { IsTrue result → AreThrough phase cells.now }
+{
+    for cell in cells {
+        if !cell.is_through(phase) {
+            return false;
+        }
+    }
+    true
+}
+
+/// Whether the journals are those of the row: what is published in phase 1 takes the new link, straight to the subscriber's server.
+fn is_row(cells: &[Cell<'_>]) -> bool {
+    if cells.len() != 3 {
+        return false;
+    }
+    let one = cells[0].journal();
+    let two = cells[1].journal();
+    let three = cells[2].journal();
+    one.len() == 3
+        && says(&one[0], 1, 1, Act::Command(1), &[2])
+        && says(&one[1], 2, 1, Act::Version, &[])
+        && says(&one[2], 6, 1, Act::Take(3), &[])
+        && two.len() == 2
+        && says(&two[0], 2, 2, Act::Take(1), &[3])
+        && says(&two[1], 3, 2, Act::Version, &[])
+        && three.len() == 3
+        && says(&three[0], 3, 3, Act::Take(2), &[])
+        && says(&three[1], 4, 3, Act::Version, &[])
+        && says(&three[2], 5, 3, Act::Command(2), &[1])
+}
+
+/// Two phases, with a change of tree between them.
+fn two_phases<R: Wait>(
+    alloc: Global,
+    rt: &R,
+    net: &Net,
+    cells: &mut [Cell<'_>],
+) -> Result<bool, Fail>
+    requires sound { IsSound net.now }
+    requires together { AreTogether net.now 0 (roots cells.old) }
+{
+    match finish_phase(rt, cells) {
+        Ok(()) => (),
+        Err(_) => return Err(Fail::new("a fault")),
+    }
+    if !all_through(cells, 1) {
+        return Ok(false);
+    }
+    enter_next(alloc, rt, net, cells, 0, 1)?;
+    match finish_phase(rt, cells) {
+        Ok(()) => Ok(is_row(cells) && all_through(cells, 2)),
+        Err(_) => Err(Fail::new("a fault")),
+    }
+}
+
+#[test]
+fn what_is_published_after_a_change_of_tree_takes_the_new_link(
+    rt: HostRuntime,
+) -> Result<(), Fail> {
+    let alloc = rt.alloc();
+    let net = line_then_star(alloc)?;
+    let mut cells = cells_in(alloc, &rt, &net)?;
+    let told = two_phases(alloc, &rt, &net, &mut cells);
+    end_all(&rt, cells);
+    assert!(rt; told?);
+    Ok(())
+}
