@@ -1,0 +1,4 @@
+pub mod Going
+pub mod Opening
+pub mod Closing
+pub mod Sessions

@@ -1,0 +1,86 @@
+-- The cells of a net from phase to phase of a run.
+use Rattle.std.specs.Prelude.{◌≡◌, ◌<◌, ◌⊎◌, ℕ, List, length, map, Some, slice_get}
+use Rattle.std.specs.List.{range_with_len}
+use Rattle.ev_run.specs.Journals.{Cell}
+use Rattle.ev_phases.specs.Trees.{JournalEntry}
+use Rattle.ev_phases.specs.Cells.{IsBetween}
+use Rattle.ev_theory.specs.Real.{real}
+use Rattle.ev_model.specs.Parts.{NetParts, EntryParts}
+use Rattle.ev_model.specs.Nets.{phased_net}
+use Rattle.ev_model.specs.Sound.{IsSound}
+use Rattle.ev_merge.specs.Merging.{IsMergeOf, journals_in}
+use Rattle.ev_net.specs.Network.{IsLegal, IsDrainedBy, moment_by, refused_by, received_by}
+use Rattle.ev_net.specs.Kept.{AreServers}
+use Rattle.ev_node.specs.Cell.{CellParts, IsKept, machine_in}
+use Rattle.ev_node.specs.Coming.{HaveCommand}
+use Rattle.ev_node.specs.Entered.{StandFor, IsEntered, state_of}
+use Rattle.ev_node.specs.Together.{AreTogether, AreBegun, IsFinished, roots}
+use Rattle.ev_course.specs.declared.ran.Ran.{Ran}
+
+-- the journals of all servers
+abbrev pub journals_by : List CellParts → List (List EntryParts)
+journals_by cells = map (λ cell. cell.journal) cells
+
+-- a cell has done nothing since it entered its phase
+pub record IsAtStart (cell : CellParts) : Type 0 where
+  pub core : cell.root.core.value ≡ cell.held.core
+  pub links : cell.root.links.value ≡ cell.held.links
+  pub before : cell.root.before.value.items ≡ cell.journal
+  pub entries : cell.root.entries ≡ length cell.journal
+
+abbrev pub AreAtStart : List CellParts → Type 0
+AreAtStart cells = (k : ℕ) (cell : CellParts) → slice_get cells k ≡ Some cell → IsAtStart cell
+
+-- THE CELLS STAND BETWEEN TWO PHASES: the entries of all journals are a legal run from the opening to the state that the cells stand for, at which all
+-- links are empty, nothing is staged, and all commands of the phases below the next are taken; the next is a later one, or nothing was done
+pub record StandBetween (net : NetParts) (last next : ℕ) (cells : List CellParts) : Type 0 where
+  pub ends : ℕ → Cell (machine_in net last)
+  pub stand : StandFor net last cells ends
+  pub sofar : List JournalEntry
+  pub between : IsBetween real (phased_net net) (state_of net last ends) last next sofar (journals_in (journals_by cells))
+  pub phase : (last < next) ⊎ ((last ≡ next) × AreAtStart cells)
+
+-- each keeps what its type says
+abbrev pub AreKept : List CellParts → Type 0
+AreKept cells = (k : ℕ) (cell : CellParts) → slice_get cells k ≡ Some cell → IsKept cell.root.net.value cell.root cell.journal cell.held
+
+-- all cells of a net are in hand, in one phase
+pub record AreInHand (net : NetParts) (phase : ℕ) (cells : List CellParts) : Type 0 where
+  pub sound : IsSound net
+  pub together : AreTogether net phase (roots cells)
+  pub kept : AreKept cells
+
+-- A PHASE IS DONE: cells that stood before it, one with a command of it, have entered it, and it is ended with all of them in hand
+pub record IsPhaseDone (net : NetParts) (last phase : ℕ) (old started now : List CellParts) : Type 0 where
+  pub hand : AreInHand net last old
+  pub stood : StandBetween net last phase old
+  pub some : HaveCommand old phase
+  pub enters : IsEntered net last phase (state_of net last stood.ends) started
+  pub journals : journals_by started ≡ journals_by old
+  pub starts : AreAtStart started
+  pub roots_stay : roots now ≡ roots started
+  pub kept : AreKept now
+  pub finished : (begun : ℕ → Cell (machine_in net phase)) → AreBegun net phase now begun → IsFinished net phase now begun
+
+-- the cells' cores are those of the servers at the end of a journal, on the tree of some phase
+pub record IsEndOf (net : NetParts) (cells : List CellParts) (journal : List EntryParts) : Type 0 where
+  pub sound : IsSound net
+  pub phase : ℕ
+  pub cores : AreServers net phase (moment_by net journal).state (map (λ cell. cell.held.core) cells)
+
+-- something of each client of a net, in the order of the net
+abbrev pub of_clients : {A : Type 0} → NetParts → (ℕ → A) → List A
+of_clients net f = map f (range_with_len 1 (length net.clients))
+
+-- THE WHOLE RUN: the merge of all journals is a legal run of the net, and at its end all commands are taken, all links are empty and nothing is staged
+pub record IsWholeMerge (net : NetParts) (cells : List CellParts) (merged : List EntryParts) : Type 0 where
+  pub merge : IsMergeOf (journals_by cells) merged
+  pub legal : IsLegal net merged
+  pub drained : IsDrainedBy net merged
+  pub ends : IsEndOf net cells merged
+
+-- what a whole run left: its journal, by stamp and then by server, and what each client has by its end
+pub record IsRanBy (net : NetParts) (cells : List CellParts) (ran : Ran) : Type 0 where
+  pub whole : IsWholeMerge net cells ran.journal.items
+  pub refused : ran.refused.items ≡ of_clients net (refused_by net ran.journal.items)
+  pub received : ran.received.items ≡ of_clients net (received_by net ran.journal.items)

@@ -1,0 +1,41 @@
+//! The cells of a net from phase to phase.
+ghost use Rattle.std.specs.Prelude.{ℕ, suc, List, map};
+ghost use Rattle.ev_model.specs.Parts.{NetParts, EntryParts};
+ghost use Rattle.ev_model.specs.Nets.{phases_of};
+ghost use Rattle.ev_model.specs.Sound.{IsSound};
+ghost use Rattle.ev_merge.specs.Merging.{AreJournals, IsMergeOf};
+ghost use Rattle.ev_node.specs.declared.starting.Started.{Started};
+ghost use Rattle.ev_node.specs.Cell.{CellParts};
+ghost use Rattle.ev_node.specs.Coming.{HaveCommand};
+ghost use Rattle.ev_node.specs.Entered.{AreThrough, AreCalm};
+ghost use Rattle.ev_node.specs.Started.{AreStarted};
+ghost use Rattle.ev_course.specs.Course.{StandBetween, IsPhaseDone, AreInHand, IsWholeMerge, journals_by};
+
+/// Cells before their first step stand between no phase and the first.
+pub fn opens()
+    ensures { (net : NetParts) (started : List Started) → AreStarted net started → StandBetween net 0 0 (map (λ s. s.cell) started) }
+{}
+
+/// Where cells stand between two phases nothing is staged.
+pub fn calm()
+    ensures { (net : NetParts) (last next : ℕ) (cells : List CellParts) → AreInHand net last cells → StandBetween net last next cells → AreCalm cells }
+{}
+
+/// Cells that stand before a phase stand before that of the next command.
+pub fn stand_later()
+    ensures { (net : NetParts) (last next later : ℕ) (cells : List CellParts) → AreInHand net last cells → StandBetween net last next cells
+        → HaveCommand cells later → AreThrough later cells → StandBetween net last later cells }
+{}
+
+/// Cells that stand before a phase, enter it and end it stand between it and the next.
+pub fn phase_done()
+    ensures { (net : NetParts) (last phase : ℕ) (old started now : List CellParts) → IsPhaseDone net last phase old started now
+        → StandBetween net phase (suc phase) now }
+{}
+
+/// The journals of cells that stand between two phases have a merge; where no command is left, that is a whole run.
+pub fn whole_run()
+    ensures journals { (net : NetParts) (last next : ℕ) (cells : List CellParts) → StandBetween net last next cells → AreJournals (journals_by cells) }
+    ensures whole { (net : NetParts) (last next : ℕ) (cells : List CellParts) (merged : List EntryParts) → AreInHand net last cells
+        → StandBetween net last next cells → AreThrough (phases_of net) cells → IsMergeOf (journals_by cells) merged → IsWholeMerge net cells merged }
+{}
