@@ -1,0 +1,5 @@
+pub mod Lists
+pub mod Counted
+pub mod Waiting
+pub mod Trying
+pub mod Later

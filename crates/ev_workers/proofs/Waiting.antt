@@ -1,0 +1,68 @@
+-- Who has a command left, of the clients of a cell in hand.
+use Rattle.std.proofs.Common.{◌≡◌, inl, inr, ◌<◌, ◌≤◌, ℕ, zero, suc, List, [], ◌∷◌, length, get_or, Option, Some, None, IfNone, slice_get, refl, sym, ap, subst, ◌∙◌, arith}
+use Rattle.std.proofs.lemmas.Bool.Decides.{nat_tests}
+use Rattle.ev_sets.specs.Sets.{Has}
+use Rattle.ev_tree.specs.Tree.{Topology, IsServer, links_of}
+use Rattle.ev_wire.specs.declared.command.Command.{Command as WireCommand}
+use Rattle.ev_model.specs.Parts.{NetParts, EntryParts}
+use Rattle.ev_model.specs.Nets.{clients_of, topology_at}
+use Rattle.ev_session.specs.Session.{SessionParts}
+use Rattle.ev_server.specs.Core.{CoreParts}
+use Rattle.ev_server.specs.Clients.{numbers_of}
+use Rattle.ev_node.specs.declared.held.Held.{Held}
+use Rattle.ev_node.specs.declared.held.Root.{Root}
+use Rattle.ev_node.specs.declared.what.What.TheVariants.{Command}
+use Rattle.ev_node.specs.Asked.{Suits}
+use Rattle.ev_node.specs.Cell.{IsKept, IsPast}
+use Rattle.ev_node.proofs.Housed.{at-home, all-past}
+use Rattle.ev_node.proofs.Keeping.{replayed, some-server, suits-held}
+use Rattle.ev_node.proofs.Phased.{past-by, past-none}
+use Rattle.ev_node.proofs.Trees.{server-known}
+use Rattle.ev_workers.specs.Journals.{HasCommands}
+use Rattle.ev_workers.proofs.Counted.{has-commands}
+
+module _ (root : Root) (journal : List EntryParts) (held : Held) (kept : IsKept root.net.value root journal held) where
+  -- who lives there has a session in hand
+  pub lives-here : (core : CoreParts) (client : ℕ) → core ≡ held.core → Suits (Command client) root → Has client (numbers_of core.clients)
+  lives-here core client e suits = subst (λ (z : CoreParts). Has client (numbers_of z.clients)) (sym e) (suits-held root.net.value root journal held kept (Command client) suits refl)
+
+  -- whose next command is of a later phase doesn't wait, nor who has none
+  pub later-past : (core : CoreParts) (client : ℕ) → core ≡ held.core → (s : SessionParts) → Has s core.clients → s.client ≡ client → (own : ℕ × WireCommand) → slice_get s.script s.taken ≡ Some own → root.phase < own.0
+      → IsPast (suc root.phase) client held.core.clients
+  later-past core client e s has is own at later =
+      past-by held.core client (suc root.phase) (some-server root.net.value root journal held kept) s (subst (λ (z : CoreParts). Has s z.clients) e has) is own at (grind (arith, nat_tests, later))
+
+  pub none-past : (core : CoreParts) (client : ℕ) → core ≡ held.core → (s : SessionParts) → Has s core.clients → s.client ≡ client → (s.taken < length s.script → ⊥) → IsPast (suc root.phase) client held.core.clients
+  none-past core client e s has is none =
+      past-none held.core client (suc root.phase) (some-server root.net.value root journal held kept) s (subst (λ (z : CoreParts). Has s z.clients) e has) is none
+
+  -- where no client of the server waits, the journal has every command
+  pub none-waits : (end : ℕ) → length root.net.value.clients < end → ((client : ℕ) → 1 ≤ client → client < end → Suits (Command client) root → IsPast (suc root.phase) client held.core.clients) → HasCommands root.phase root journal
+  none-waits end beyond past =
+      has-commands root.net.value root journal held kept
+      (all-past root.net.value root.server (suc root.phase) (length root.net.value.clients) held.core.clients
+      (ap (clients_of root.net.value) (sym kept.number) ∙ (replayed root.net.value root journal held kept).stands.state.clients) (omega arith)
+      (λ place client lt e h. past (suc place) (omega arith) (omega (arith, lt, beyond)) (at-home root.net.value root.server place client e h)))
+
+  -- the tree of the cell's phase has its server
+  pub server-there : (net : NetParts) (server phase : ℕ) (tree : Topology) → root.net.value ≡ net → root.server ≡ server → phase ≡ root.phase → tree ≡ topology_at net phase → IsServer tree server
+  server-there net server phase tree e f p t =
+      subst (λ (z : Topology). IsServer z server) (sym (t ∙ ap (topology_at net) p ∙ sym (ap (λ n. topology_at n root.phase) e)))
+      (subst (IsServer (topology_at root.net.value root.phase)) f (server-known root.net.value root journal held kept))
+
+  -- the row of a server's neighbours
+  pub row-there : (net : NetParts) (server phase : ℕ) (tree : Topology) (row : List ℕ) → root.net.value ≡ net → root.server ≡ server → phase ≡ root.phase → tree ≡ topology_at net phase → row ≡ links_of tree server
+      → row ≡ links_of (topology_at root.net.value root.phase) root.server
+  row-there net server phase tree row e f p t r =
+      r ∙ ap (λ z. links_of z server) t ∙ ap (λ z. links_of (topology_at net z) server) p ∙ ap (λ z. links_of (topology_at z root.phase) server) (sym e) ∙ ap (λ z. links_of (topology_at root.net.value root.phase) z) (sym f)
+
+-- what is read at a place is there
+pub has-get : (xs : List ℕ) (k other : ℕ) → k < length xs → Has (get_or xs k other) xs
+has-get [] k other lt = absurd (omega (arith, lt))
+has-get (x ∷ xs) zero other lt = inl refl
+has-get (x ∷ xs) (suc k) other lt = inr (has-get xs k other (omega (arith, lt)))
+
+-- what follows where there is nothing
+pub if-none : {A P Q : Type 0} (o : Option A) → IfNone o P → (P → Q) → IfNone o Q
+if-none None p f = f p
+if-none (Some x) p f = tt

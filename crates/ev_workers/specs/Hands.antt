@@ -1,0 +1,60 @@
+-- What a worker has in its hands.
+use Rattle.std.specs.Prelude.{◌≡◌, ℕ, false, List}
+use mathlib.Core.List.{IsPrefix}
+use Rattle.ev_turnlock.specs.declared.lock.Pass.{Pass}
+use Rattle.ev_turnlock.specs.declared.lock.TurnLock.{TurnLock}
+use Rattle.ev_turnlock.specs.Passes.{IsPassOf, IsSamePass, first_value, has_in_hand, seen_by}
+use Rattle.ev_model.specs.Parts.{NetParts, EntryParts}
+use Rattle.ev_versions.specs.declared.viewer.Viewer.{Viewer}
+use Rattle.ev_versions.specs.Ends.{IsSameViewer}
+use Rattle.ev_node.specs.declared.held.Root.{Root}
+use Rattle.ev_node.specs.declared.what.What.TheVariants.{Command, Take}
+use Rattle.ev_node.specs.Asked.{Suits}
+use Rattle.ev_node.specs.Cell.{CellParts}
+use Rattle.ev_workers.specs.declared.hands.Hands.{Hands}
+use Rattle.ev_workers.specs.declared.tried.Picked.{Picked}
+use Rattle.ev_workers.specs.declared.tried.Picked.TheVariants.{Done, Taken, Ahead}
+use Rattle.ev_workers.specs.declared.tried.Looked.{Looked}
+use Rattle.ev_workers.specs.declared.tried.Looked.TheVariants as looks
+use Rattle.ev_workers.specs.Journals.{HasCommands}
+
+abbrev pub CellLock : Type 0
+CellLock = TurnLock CellParts Root EntryParts
+
+-- what stays of the cell in a lock
+abbrev pub lock_root : CellLock → Root
+lock_root lock = (first_value lock).root
+
+-- a lock is for the cell of this server of the net in this phase
+pub record IsLockFor (net : NetParts) (server phase : ℕ) (lock : CellLock) : Type 0 where
+  pub net_is : (lock_root lock).net.value ≡ net
+  pub server_is : (lock_root lock).server ≡ server
+  pub phase_is : (lock_root lock).phase ≡ phase
+
+-- a pass of a lock with nothing in hand, and a viewer of its cell's publisher
+pub record AreFree (lock : CellLock) (pass : Pass EntryParts Root) (viewer : Viewer) : Type 0 where
+  pub own : IsPassOf (λ (c : CellParts). c.root) lock pass
+  pub free : has_in_hand pass ≡ false
+  pub viewer_is : IsSameViewer (lock_root lock).viewer.value viewer
+
+-- the same of a worker's hands
+abbrev pub AreHands : CellLock → Hands → Type 0
+AreHands lock hands = AreFree lock hands.pass hands.viewer
+
+-- the same hands later: the pass has seen at least what it had seen
+pub record AreLater (old new : Hands) : Type 0 where
+  pub same : IsSamePass old.pass new.pass
+  pub seen : IsPrefix (seen_by old.pass) (seen_by new.pass)
+  pub viewer : IsSameViewer old.viewer new.viewer
+
+-- what was picked: who has the next command lives there, and nothing was picked only where the journal has every command
+abbrev pub IsPicked : Picked → Root → List EntryParts → Type 0
+IsPicked Done root journal = HasCommands root.phase root journal
+IsPicked (Taken client turned) root journal = Unit {0}
+IsPicked (Ahead client notice) root journal = Suits (Command client) root
+
+-- what was looked at: who sent the notice is a neighbour
+abbrev pub IsLooked : Looked → Root → Type 0
+IsLooked (looks.Taken from turned) root = Unit {0}
+IsLooked (looks.Ahead from notice) root = Suits (Take from) root
+IsLooked (looks.Version turned) root = Unit {0}

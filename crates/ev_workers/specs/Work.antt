@@ -1,0 +1,39 @@
+-- What a worker promises.
+use Rattle.std.specs.Prelude.{◌≡◌, false, List, Option, Some, None}
+use mathlib.Core.List.{IsPrefix}
+use Rattle.ev_outside.specs.declared.gate.Worker.{Worker}
+use Rattle.ev_outside.specs.declared.gate.Worker.TheVariants.{Commands, Links}
+use Rattle.ev_turnlock.specs.declared.lock.Pass.{Pass}
+use Rattle.ev_turnlock.specs.Rule.{view_in}
+use Rattle.ev_turnlock.specs.Passes.{IsSamePass, has_in_hand, seen_by}
+use Rattle.ev_model.specs.Parts.{EntryParts}
+use Rattle.ev_server.specs.declared.stepped.StepFault.{StepFault}
+use Rattle.ev_server.specs.declared.stepped.StepFault.TheVariants.{NoMemory, Worn}
+use Rattle.ev_versions.specs.declared.viewer.Viewer.{Viewer}
+use Rattle.ev_versions.specs.Ends.{IsSameViewer}
+use Rattle.ev_node.specs.declared.held.Root.{Root}
+use Rattle.ev_workers.specs.declared.ended.Ended.{Ended}
+use Rattle.ev_workers.specs.Journals.{HasCommands, IsWornBy}
+
+-- the root that a pass knows
+abbrev pub pass_root : Pass EntryParts Root → Option Root
+pass_root pass = (view_in pass.badge.views).root
+
+-- HOW A WORKER ENDS: one for commands without a fault once the journal has every command, or where no stamp is left; one for links as it likes, but
+-- not for want of stamps
+abbrev pub EndsWith : Worker → Root → List EntryParts → Option StepFault → Type 0
+EndsWith Commands root journal None = HasCommands root.phase root journal
+EndsWith Commands root journal (Some NoMemory) = Unit {0}
+EndsWith Commands root journal (Some (Worn stamp)) = IsWornBy stamp root journal
+EndsWith Links root journal None = Unit {0}
+EndsWith Links root journal (Some NoMemory) = Unit {0}
+EndsWith Links root journal (Some (Worn stamp)) = ⊥
+
+-- WHAT A WORKER GIVES BACK: the pass that it was given, with nothing in hand, which has seen at least what it had seen; a viewer of the same publisher;
+-- and it ends as it may
+pub record Keeps (worker : Worker) (given : Pass EntryParts Root) (viewer : Viewer) (back : Ended) : Type 0 where
+  pub same : IsSamePass given back.pass
+  pub free : has_in_hand back.pass ≡ false
+  pub seen : IsPrefix (seen_by given) (seen_by back.pass)
+  pub viewer_is : IsSameViewer viewer back.viewer
+  pub ends : (root : Root) → pass_root given ≡ Some root → EndsWith worker root (seen_by back.pass) back.fault

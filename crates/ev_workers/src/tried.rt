@@ -1,0 +1,25 @@
+//! What came of one try with the cell in hand.
+use ev_node::Turned;
+use ev_notice::Notice;
+
+/// What the worker for commands did with the cell in hand.
+#[derive(Drop)]
+pub(crate) enum Picked {
+    /// Nothing: no command is left.
+    Done,
+    /// It took the next command of this client.
+    Taken(u32, Turned),
+    /// Nothing yet: the next command of this client publishes this notice, which is to be matched ahead.
+    Ahead(u32, Notice),
+}
+
+/// What the worker for links did with the cell in hand.
+#[derive(Drop)]
+pub(crate) enum Looked {
+    /// It tried a taking from this neighbour.
+    Taken(u32, Turned),
+    /// Nothing yet: this neighbour's next message is this notice, which is to be matched ahead.
+    Ahead(u32, Notice),
+    /// It tried a version.
+    Version(Turned),
+}
