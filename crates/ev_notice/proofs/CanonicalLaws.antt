@@ -193,8 +193,8 @@ deduped (x ∷ xs) ys h (true ∷ bs, q, l, r, e) =
     e ∙ ap (λ z. x ∷ z) (kept x bs xs q (omega arith) n) ∙ sym (climbs-canonical x xs (climbs (x ∷ xs) h))
 deduped (x ∷ xs) ys h (false ∷ bs, q, l, r, e) = let f = r.1.0 in absurd cc
 
-pub canonical_rising : (xs ys : List ConstraintParts) → ys ≡ canonical xs → IsRising ys
-canonical_rising xs ys e = subst IsRising (sym e) (rises xs)
+pub rising : (xs ys : List ConstraintParts) → ys ≡ canonical xs → IsRising ys
+rising xs ys e = subst IsRising (sym e) (rises xs)
 
 pub canonical_some : (xs ys : List ConstraintParts) → ys ≡ canonical xs → 0 < length xs → 0 < length ys
 canonical_some [] ys e l = absurd (omega arith)

@@ -55,7 +55,8 @@ pub fn one_tree_runs()
         → IsRun (routing_machine ranges net) (opening ranges net) 0 entries end last
         → IsRunTo ranges (on_one_tree ranges net) (opening_moment ranges (on_one_tree ranges net)) (map (entry_off ranges net) entries)
         (record { state = off ranges net end; phase = last }) }
-    ensures walk { (net : Net ranges) (phases : ℕ) → phased_walk ranges (on_one_tree ranges net) phases ≡ map (entry_off ranges net) (walk ranges net phases) }
+    ensures walk { (net : Net ranges) (phases : ℕ)
+        → phased_walk ranges (on_one_tree ranges net) phases ≡ map (entry_off ranges net) (walk ranges net phases) }
     ensures trace { (net : Net ranges) (entries : List (NetEntry ranges net))
         → phased_trace ranges (on_one_tree ranges net) (map (entry_off ranges net) entries) ≡ trace ranges net entries }
 {}
@@ -75,7 +76,8 @@ pub fn narrow_range_stays()
     ensures far { held ranges wide_and_narrow (walk ranges wide_and_narrow 1) 3 2 ≡ Any ∷ [] }
 {}
 
-/// The withdrawal and the notice meet at the middle server: it sends the change on, and then routes the notice by its older version. Server 1 has its new version by then.
+/// The withdrawal and the notice meet at the middle server: it sends the change on, and then routes the notice by its older version. Server 1 has its
+/// new version by then.
 pub fn withdrawal_meets_notice()
     ensures trace { trace ranges withdrawn_wide (replay ranges withdrawn_wide (all_know ∷ both_set_out ∷ [])) ≡
         wide_travels ++ (
