@@ -26,6 +26,6 @@ module _ {T : Type 0} where
     where
       go : Looks x y (Some b) → (t : Option T) → IfSome t (λ f. (taken_list z ≡ taken_list y ++ f ∷ []) × (misses z ≡ misses y)) → IfSome t (λ f. IsPrefix (coming_list y) (f ∷ coming_list z))
           → IfNone t (Misses y z × (taken_list z ≡ taken_list y) × (rest_list z ≡ [])) → SameOut x z × (taken_list z ≡ taken_list x ++ b.now ∷ [])
-      go l None taken next nothing = absurd (not-empty b.now (coming_list y) l.4.0 nothing.0.1)
+      go l None taken next nothing = absurd (not-empty b.now (coming_list y) l.told.first nothing.0.none_comes)
       go l (Some f) taken next nothing =
-          (same-out x y z l.0 same, taken.0 ∙ ap (λ (l : List T). l ++ f ∷ []) l.1 ∙ ap (λ (f : T). taken_list x ++ f ∷ []) (same-first b.now f (coming_list y) (coming_list z) l.4.0 next))
+          (same-out x y z l.same same, taken.0 ∙ ap (λ (l : List T). l ++ f ∷ []) l.taken ∙ ap (λ (f : T). taken_list x ++ f ∷ []) (same-first b.now f (coming_list y) (coming_list z) l.told.first next))

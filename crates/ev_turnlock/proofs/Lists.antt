@@ -81,4 +81,4 @@ module _ {I R : Type 0} where
   total_two f (x ∷ xs) (suc i) (suc j) v w e h n = omega (arith, total_two f xs i j v w e h (λ s. n (ap suc s)))
 
   pub fits_more : (r : R) (front back : List I) (u : View I R) → IsPrefix back front → Fits r back u → Fits r front u
-  fits_more r front back u p f = (f.0, begins_trans front back u.seen p f.1, each_trans front back u.joined p f.2)
+  fits_more r front back u p f = record { knows = f.knows; saw = begins_trans front back u.seen p f.saw; joined_saw = each_trans front back u.joined p f.joined_saw }

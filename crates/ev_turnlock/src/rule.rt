@@ -45,7 +45,7 @@ pub struct LayBack;
 impl<T: Standing> Play<Option<T>, View<T::Item, T::Root>> for LayBack {
     ghost use Rattle.ev_turnlock.specs.Rule.{Laid};
 
-    ghost then = { λ _ m _ n. Laid m n };
+    ghost then = { λ _ before _ after. Laid before after };
 }
 
 /// The empty slot is taken again.
@@ -54,7 +54,7 @@ pub struct PickUp;
 impl<T: Standing> Play<Option<T>, View<T::Item, T::Root>> for PickUp {
     ghost use Rattle.ev_turnlock.specs.Rule.{Lifted};
 
-    ghost then = { λ _ m _ n. Lifted m n };
+    ghost then = { λ _ before _ after. Lifted before after };
 }
 
 /// The slot goes back with the value.
@@ -63,7 +63,7 @@ pub struct Put;
 impl<T: Standing> Play<Option<T>, View<T::Item, T::Root>> for Put {
     ghost use Rattle.ev_turnlock.specs.Rule.{PutBack};
 
-    ghost then = { λ _. PutBack T.list };
+    ghost then = { λ _ before _ after. PutBack T.list before after };
 }
 
 /// A pass is split off at the making.

@@ -64,19 +64,19 @@ pub unreachable-requires : goal.unreachable-requires
 unreachable-requires g c = let key = c.args.self.table.shared.key in let i = c.loop-pass.invariant in let all = c.loop-pass.all in
     let whole : all.me.0.parts ≡ key.passes = omega (arith, i.parts, c.in_default.ensures.cases.0) in
     let t = closes g.T.Standing.root g.T.Standing.list (g.T.Standing.root key.value.value) key.passes all.id all.me.0 i.free whole _ _ c.take-slot.result c.take-slot.ensures.value c.close_with-closed.ensures.values.2 in
-    c.in_default-slot.not-Some t.0 t.1
+    c.in_default-slot.not-Some t.value t.is
 
 pub returns-clause-root : goal.returns-clause-root
 returns-clause-root g c = let key = c.args.self.table.shared.key in let i = c.loop-pass.invariant in let all = c.loop-pass.all in
     let whole : all.me.0.parts ≡ key.passes = omega (arith, i.parts, c.in_default.ensures.cases.0) in
     let t = closes g.T.Standing.root g.T.Standing.list (g.T.Standing.root key.value.value) key.passes all.id all.me.0 i.free whole _ _ c.take-slot.result c.take-slot.ensures.value c.close_with-closed.ensures.values.2 in
-    ap g.T.Standing.root (ap (λ o. unwrap_or o c.in-Some-slot.value) (sym c.in-Some-slot.is ∙ t.1)) ∙ t.2
+    ap g.T.Standing.root (ap (λ o. unwrap_or o c.in-Some-slot.value) (sym c.in-Some-slot.is ∙ t.is)) ∙ t.has_root
 
 pub returns-clause-list : goal.returns-clause-list
 returns-clause-list g c = let key = c.args.self.table.shared.key in let i = c.loop-pass.invariant in let all = c.loop-pass.all in
     let whole : all.me.0.parts ≡ key.passes = omega (arith, i.parts, c.in_default.ensures.cases.0) in
     let t = closes g.T.Standing.root g.T.Standing.list (g.T.Standing.root key.value.value) key.passes all.id all.me.0 i.free whole _ _ c.take-slot.result c.take-slot.ensures.value c.close_with-closed.ensures.values.2 in
-    let e = ap (λ o. unwrap_or o c.in-Some-slot.value) (sym c.in-Some-slot.is ∙ t.1) in
+    let e = ap (λ o. unwrap_or o c.in-Some-slot.value) (sym c.in-Some-slot.is ∙ t.is) in
     let xs = g.T.Standing.list c.in-Some-slot.value in
-    i.known xs (subst (λ y. IsPrefix all.me.0.seen (g.T.Standing.list y)) (sym e) t.3) (subst (λ y. EachBegins (g.T.Standing.list y) all.me.0.joined) (sym e) t.4)
+    i.known xs (subst (λ y. IsPrefix all.me.0.seen (g.T.Standing.list y)) (sym e) t.saw) (subst (λ y. EachBegins (g.T.Standing.list y) all.me.0.joined) (sym e) t.joined_saw)
     (λ k d h. absurd (omega (arith, h, c.loop-pass.passes.ok.0, c.in_default.ensures.cases.0)))

@@ -28,7 +28,8 @@ store-requires-2 g c = let lock = c.args.self.now in let key = lock.table.shared
     let live : 0 < v.parts = omega (arith, one) in
     let held : v.hand ≡ true = ap (λ w. w.hand) (sym vw) ∙ c.requires.held in
     let now = c.exchange-hole.new.seat in let x = c.args.value in
-    let is : now.me ≡ (lifted v, (0, Some x) ∷ []) = c.exchange-hole.ensures.3 ∙ ap (λ m. (m.0, (0, Some x) ∷ rest m.1)) c.store.ensures.2 ∙ ap (λ l. (lifted v, (0, Some x) ∷ l)) e.3 in (
+    let is : now.me ≡ (lifted v, (0, Some x) ∷ []) = c.exchange-hole.ensures.3 ∙ ap (λ w. (w, (0, Some x) ∷ rest c.store.new.seat.me.1)) c.store.ensures.2.view
+    ∙ ap (λ l. (lifted v, (0, Some x) ∷ rest l)) c.store.ensures.2.slots ∙ ap (λ l. (lifted v, (0, Some x) ∷ l)) e.3 in (
       c.exchange-hole.ensures.0 ∙ c.store.ensures.0 ∙ table,
       search rules,
       rw lock.sized.1 (put_keeps root list r key.passes now.id (lifted v) now.me x is held known c.requires.root (subst (λ w. IsPrefix w.seen (list x)) vw c.requires.list)),

@@ -25,8 +25,8 @@ exchange-value-requires g c = let lock = c.args.self.now in let key = lock.table
     let known : v.root ≡ Some r = ap (λ w. w.root) (sym vw) ∙ c.requires.own.1 in
     let one : v.parts ≡ 1 = ap (λ w. w.parts) (sym vw) ∙ pass.whole in
     let live : 0 < v.parts = omega (arith, one) in
-    let t = c.swap.ensures.2.0 c.if-swap-ne0.false in
-    (c.swap.ensures.0 ∙ table, (Some t.0, ap (λ m. m.1) t.1 ∙ ap (λ l. (0, Some t.0) ∷ rest l) (sym (ap (λ m. m.1) t.1))))
+    let t = c.swap.ensures.2.at_home c.if-swap-ne0.false in
+    (c.swap.ensures.0 ∙ table, (Some t.value, t.slots ∙ ap (λ l. (0, Some t.value) ∷ rest l) (sym t.slots)))
 
 pub store-requires : goal.store-requires
 store-requires g c = let lock = c.args.self.now in let key = lock.table.shared.key in let root = g.T.Standing.root in let list = g.T.Standing.list in let r = root key.value.value in
@@ -37,6 +37,6 @@ store-requires g c = let lock = c.args.self.now in let key = lock.table.shared.k
     let known : v.root ≡ Some r = ap (λ w. w.root) (sym vw) ∙ c.requires.own.1 in
     let one : v.parts ≡ 1 = ap (λ w. w.parts) (sym vw) ∙ pass.whole in
     let live : 0 < v.parts = omega (arith, one) in
-    let t = c.swap.ensures.2.0 c.if-swap-ne0.false in let now = c.exchange-value.new.seat in
-    let is : now.me ≡ (took v (list t.0), (0, None) ∷ []) = c.exchange-value.ensures.3 ∙ ap (λ m. (m.0, (0, None) ∷ rest m.1)) t.1 ∙ ap (λ l. (took v (list t.0), (0, None) ∷ l)) e.3 in
-    (c.exchange-value.ensures.0 ∙ c.swap.ensures.0 ∙ table, search rules, rw lock.sized.1 (lay_keeps root list r key.passes now.id (took v (list t.0)) now.me is refl known live))
+    let t = c.swap.ensures.2.at_home c.if-swap-ne0.false in let now = c.exchange-value.new.seat in
+    let is : now.me ≡ (took v (list t.value), (0, None) ∷ []) = c.exchange-value.ensures.3 ∙ ap (λ w. (w, (0, None) ∷ rest c.swap.new.seat.me.1)) t.view ∙ ap (λ l. (took v (list t.value), (0, None) ∷ rest l)) t.slots ∙ ap (λ l. (took v (list t.value), (0, None) ∷ l)) e.3 in
+    (c.exchange-value.ensures.0 ∙ c.swap.ensures.0 ∙ table, search rules, rw lock.sized.1 (lay_keeps root list r key.passes now.id (took v (list t.value)) now.me is refl known live))
