@@ -60,7 +60,7 @@ fn two_phases<R: Wait>(
 {
     match finish_phase(rt, cells) {
         Ok(()) => (),
-        Err(_) => return Err(Fail::new("a fault")),
+        Err(fault) => return Err(Fail::from(fault)),
     }
     if !all_through(cells, 1) {
         return Ok(false);
@@ -68,7 +68,7 @@ fn two_phases<R: Wait>(
     enter_next(alloc, rt, net, cells, 0, 1)?;
     match finish_phase(rt, cells) {
         Ok(()) => Ok(is_row(cells) && all_through(cells, 2)),
-        Err(_) => Err(Fail::new("a fault")),
+        Err(fault) => Err(Fail::from(fault)),
     }
 }
 

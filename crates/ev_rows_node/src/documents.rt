@@ -26,7 +26,7 @@ fn net_of(alloc: Global, document: &str) -> Result<Net, Fail>
     net_is_sound();
     match read_net(alloc, document.as_bytes()) {
         Ok(net) => Ok(net),
-        Err(_) => Err(Fail::new("the document is refused")),
+        Err(fault) => Err(Fail::from(fault)),
     }
 }
 

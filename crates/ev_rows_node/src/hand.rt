@@ -24,7 +24,7 @@ fn step<R: Wait>(rt: &R, cell: &mut Cell<'_>, what: What) -> Result<Turned, Fail
     }
     match cell.turn(rt, what) {
         Ok(turned) => Ok(turned),
-        Err(_) => Err(Fail::new("a fault")),
+        Err(fault) => Err(Fail::from(fault)),
     }
 }
 
@@ -48,7 +48,7 @@ fn take_ahead<R: Wait>(
     let ahead = match_ahead(alloc, rt, &mut one.links, &notice, &mut scratch)?;
     match one.cell.turn_ahead(rt, what, &mut one.links, &ahead) {
         Ok(turned) => Ok(turned),
-        Err(_) => Err(Fail::new("a fault")),
+        Err(fault) => Err(Fail::from(fault)),
     }
 }
 
@@ -194,7 +194,8 @@ fn is_worn<R: Wait>(rt: &R, cell: &mut Cell<'_>) -> Result<bool, Fail> {
     }
     match cell.turn(rt, What::Command(1)) {
         Err(StepFault::Worn(stamp)) => Ok(stamp == last && cell.journal().is_empty()),
-        _ => Ok(false),
+        Err(fault) => Err(Fail::from(fault)),
+        Ok(_) => Ok(false),
     }
 }
 

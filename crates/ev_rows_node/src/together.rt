@@ -43,9 +43,7 @@ pub fn end_all<R: Wait>(rt: &R, mut cells: Vec<Cell<'_>>) {
 fn is_finished<R: Wait>(rt: &R, cells: &mut [Cell<'_>]) -> Result<bool, Fail>
     requires { (net : NetParts) × AreTogether net 0 (roots cells.old) }
 {
-    if finish_phase(rt, cells).is_err() {
-        return Err(Fail::new("a fault"));
-    }
+    finish_phase(rt, cells)?;
     for cell in cells {
         if cell.journal().len() != 2 || !cell.is_through(1) || !cell.core().staged().is_empty() {
             return Ok(false);

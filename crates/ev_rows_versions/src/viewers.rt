@@ -128,7 +128,8 @@ fn a_thousand_matches_beside_a_hundred_publications(rt: HostRuntime) -> Result<(
     );
     let count = publisher.count();
     publisher.end(&rt);
-    assert!(rt; matched == Ok(true) && published.is_ok() && count == 100);
+    published?;
+    assert!(rt; matched? && count == 100);
     Ok(())
 }
 
