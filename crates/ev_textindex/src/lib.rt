@@ -2,6 +2,7 @@
 #![tactic(auto)]
 
 mod bytes;
+mod counted;
 mod edge;
 mod ends_parts;
 mod groups;
@@ -15,6 +16,7 @@ mod plain;
 mod row;
 mod rows;
 mod shelf;
+mod short;
 mod walks;
 
 pub use index::TextIndex;

@@ -2,7 +2,7 @@ use Rattle.std.proofs.Common.{◌≡◌, ◌∙◌, ap, sym, true, [], arith}
 use Rattle.std.proofs.lemmas.Bool.Decides.{nat_tests}
 use Rattle.ev_index.specs.Pairs.{tally}
 use Rattle.ev_textindex.proofs.Idle.{none-counted}
-use Rattle.ev_textindex.proofs.shelf.Shelf.is_empty.Goals as goal
+use Rattle.ev_textindex.proofs.counted.Counted.is_empty.Goals as goal
 
 pub returns : goal.returns
 returns c =
