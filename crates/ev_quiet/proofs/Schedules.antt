@@ -1,5 +1,5 @@
 -- Turns of a schedule: those that are made, and the first that is not permitted.
-use Rattle.std.proofs.Common.{◌≡◌, ℕ, inl, inr, List, [], ◌∷◌, ◌++◌, Some, refl, sym, ap, ◌∙◌, subst}
+use Rattle.std.proofs.Common.{◌≡◌, ℕ, inl, inr, true, List, [], ◌∷◌, ◌++◌, Some, refl, sym, ap, ◌∙◌, subst}
 use Rattle.ev_phases.specs.Trees.{JournalEntry}
 use Rattle.ev_phases.specs.Moments.{Moment}
 use Rattle.ev_phases.specs.Turns.{turn_phase, entry_made}
@@ -19,7 +19,8 @@ use Rattle.ev_net.specs.declared.replaying.ReplayFault.TheVariants as told
 use Rattle.ev_input.specs.declared.fault.Fault.{Fault}
 use Rattle.ev_input.specs.declared.fault.Fault.TheVariants.{BadTurn}
 use Rattle.ev_quiet.specs.declared.words.Schedule.{Schedule}
-use Rattle.ev_quiet.specs.declared.words.Schedule.TheVariants.{Walk, Replay}
+use Rattle.ev_quiet.specs.declared.words.Schedule.TheVariants.{Walk, Replay, Threads}
+use Rattle.ev_quiet.specs.Words.{is_quiet}
 use Rattle.ev_quiet.specs.Runs.{turns_first, GoesBy}
 use Rattle.ev_quiet.specs.Faults.{StopsAtLine}
 use Rattle.ev_quiet.specs.Ran.{IsThrough}
@@ -97,26 +98,27 @@ told-turn (told.BadTurn l) line kind e = (cc, cc)
 told-turn told.NoMemory line kind e = absurd cc
 
 -- a journal goes by its schedule
-pub goes-by : (schedule : Schedule) (net : NetParts) (turned made : List EntryParts) → AreMade net [] (turns_first schedule net) turned → journal_of made ≡ walk_after net turned
+pub goes-by : (schedule : Schedule) → is_quiet schedule ≡ true → (net : NetParts) (turned made : List EntryParts) → AreMade net [] (turns_first schedule net) turned → journal_of made ≡ walk_after net turned
     → GoesBy schedule net (turned ++ made)
-goes-by Walk net turned made first walk =
+goes-by Walk quiet net turned made first walk =
     subst (λ z. journal_of (z ++ made) ≡ walk_after net []) first (subst (λ z. journal_of made ≡ walk_after net z) (sym first) walk)
-goes-by Replay net turned made first walk = record { turned = turned; walked = made; whole = refl; made = first; walk = walk }
+goes-by Threads quiet net turned made first walk = absurd cc
+goes-by Replay quiet net turned made first walk = record { turned = turned; walked = made; whole = refl; made = first; walk = walk }
 
-walked-on : (schedule : Schedule) (net : NetParts) (mid end : NetworkParts) → mid.net ≡ net → AreMade net [] (turns_first schedule net) mid.journal → IsWalked mid end
+walked-on : (schedule : Schedule) → is_quiet schedule ≡ true → (net : NetParts) (mid end : NetworkParts) → mid.net ≡ net → AreMade net [] (turns_first schedule net) mid.journal → IsWalked mid end
     → IsThrough schedule net end
-walked-on schedule net mid end e made w =
+walked-on schedule quiet net mid end e made w =
     subst (IsThrough schedule net) (sym w.later) (record {
       same = e;
       permitted = (mid.journal, made);
-      goes_by = goes-by schedule net mid.journal w.made made (subst (λ n. journal_of w.made ≡ walk_after n mid.journal) e w.walk);
+      goes_by = goes-by schedule quiet net mid.journal w.made made (subst (λ n. journal_of w.made ≡ walk_after n mid.journal) e w.walk);
       drained = subst (λ n. IsDrainedBy n (mid.journal ++ w.made)) e w.drained;
     })
 
 -- a network that made its turns and then the walk is through
-pub through : (schedule : Schedule) (net : NetParts) (start mid end : NetworkParts) (turns : List (ℕ × Turn)) → start ≡ network_parts net [] → turns ≡ turns_first schedule net
+pub through : (schedule : Schedule) → is_quiet schedule ≡ true → (net : NetParts) (start mid end : NetworkParts) (turns : List (ℕ × Turn)) → start ≡ network_parts net [] → turns ≡ turns_first schedule net
     → AreReplayed turns start mid → IsWalked mid end → IsThrough schedule net end
-through schedule net start mid end turns e f r w =
+through schedule quiet net start mid end turns e f r w =
     let s : AreReplayed (turns_first schedule net) (network_parts net []) mid =
     subst (λ z. AreReplayed z (network_parts net []) mid) f (subst (λ z. AreReplayed turns z mid) e r) in
-    walked-on schedule net mid end s.net s.made w
+    walked-on schedule quiet net mid end s.net s.made w

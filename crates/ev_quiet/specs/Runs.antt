@@ -1,6 +1,7 @@
 -- The run that is wanted of a document: its turns, and what the clients have by its end.
-use Rattle.std.specs.Prelude.{◌≡◌, ℕ, ◌≤◌, List, [], ◌++◌, length, map}
+use Rattle.std.specs.Prelude.{◌≡◌, ◌⊎◌, ℕ, ◌≤◌, ◌<◌, List, [], ◌∷◌, ◌++◌, length, map}
 use Rattle.std.specs.List.{range_with_len}
+use Rattle.ev_sets.specs.Sets.{Has}
 use Rattle.ev_wire.specs.declared.delivery.Delivery.{Delivery}
 use Rattle.ev_model.specs.declared.turn.Turn.{Turn}
 use Rattle.ev_model.specs.Parts.{NetParts, EntryParts}
@@ -9,12 +10,13 @@ use Rattle.ev_net.specs.Network.{refused_by, received_by}
 use Rattle.ev_net.specs.Turns.{AreMade}
 use Rattle.ev_net.specs.Walked.{walk_after}
 use Rattle.ev_quiet.specs.declared.words.Schedule.{Schedule}
-use Rattle.ev_quiet.specs.declared.words.Schedule.TheVariants.{Walk, Replay}
+use Rattle.ev_quiet.specs.declared.words.Schedule.TheVariants.{Walk, Replay, Threads}
 
 -- the turns that are made before the walk: for `replay` those of the document's schedule
 abbrev pub turns_first : Schedule → NetParts → List (ℕ × Turn)
 turns_first Walk net = []
 turns_first Replay net = net.schedule
+turns_first Threads net = []
 
 -- turns one after the other, and then the walk to its end
 pub record GoesOn (first : List (ℕ × Turn)) (net : NetParts) (journal : List EntryParts) : Type 0 where
@@ -24,10 +26,19 @@ pub record GoesOn (first : List (ℕ × Turn)) (net : NetParts) (journal : List 
   pub made : AreMade net [] first turned
   pub walk : journal_of walked ≡ walk_after net turned
 
--- THE JOURNAL GOES BY THE SCHEDULE: for `walk` it is the walk, for `replay` the document's turns and then the walk
+-- each entry stands before all of later stamps, and of the same stamp before those of greater servers
+abbrev pub IsByStamp : List EntryParts → Type 0
+IsByStamp [] = Unit {0}
+IsByStamp (entry ∷ entries) =
+    ((other : EntryParts) → Has other entries → (entry.stamp < other.stamp) ⊎ ((entry.stamp ≡ other.stamp) × (entry.server < other.server)))
+    × IsByStamp entries
+
+-- THE JOURNAL GOES BY THE SCHEDULE: for `walk` it is the walk, for `replay` the document's turns and then the walk; for `run` it is in the order of stamps
+-- and servers, whatever turns the threads made
 abbrev pub GoesBy : Schedule → NetParts → List EntryParts → Type 0
 GoesBy Walk net journal = journal_of journal ≡ walk_after net []
 GoesBy Replay net journal = GoesOn net.schedule net journal
+GoesBy Threads net journal = IsByStamp journal
 
 -- a client of the net
 abbrev pub IsClient : NetParts → ℕ → Type 0

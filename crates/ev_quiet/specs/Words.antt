@@ -1,11 +1,11 @@
 -- What the words of the command line ask for.
-use Rattle.std.specs.Prelude.{ℕ, ◌^◌, Bool, true, false, not, ◌&&◌, nat_lt, nat_le, if◌then◌else◌, Option, Some, None}
+use Rattle.std.specs.Prelude.{◌≡◌, ℕ, ◌^◌, Bool, true, false, not, ◌&&◌, nat_lt, nat_le, if◌then◌else◌, Option, Some, None}
 use Rattle.std.specs.Prelude.{List, [], ◌∷◌, length, take, drop, codes}
 use Rattle.std.specs.Option.{option_map, option_and_then}
 use Rattle.std.specs.Str.{bytes_eq}
 use Rattle.ev_input.specs.Words.{number_from}
 use Rattle.ev_quiet.specs.declared.words.Schedule.{Schedule}
-use Rattle.ev_quiet.specs.declared.words.Schedule.TheVariants.{Walk, Replay}
+use Rattle.ev_quiet.specs.declared.words.Schedule.TheVariants.{Walk, Replay, Threads}
 use Rattle.ev_quiet.specs.declared.words.Shown.{Shown}
 use Rattle.ev_quiet.specs.declared.words.Query.{Query}
 use Rattle.ev_quiet.specs.declared.words.Query.TheVariants.{Run, Flood, Check}
@@ -80,7 +80,28 @@ wanted_by [] = None
 wanted_by (word ∷ words) =
     if bytes_eq word (codes "walk") then run_by Walk words
     else if bytes_eq word (codes "replay") then run_by Replay words
+    else if bytes_eq word (codes "run") then run_by Threads words
     else if bytes_eq word (codes "flood") then alone Flood words
     else if bytes_eq word (codes "check") then alone Check words
     else if bytes_eq word (codes "gen") then generate_by words
     else None
+
+-- whether the runs of a schedule are made on one thread
+abbrev pub is_quiet : Schedule → Bool
+is_quiet Walk = true
+is_quiet Replay = true
+is_quiet Threads = false
+
+-- WORDS ARE NONE OF `run`: no run with threads is asked for
+abbrev pub IsQuietQuery : Query → Type 0
+IsQuietQuery (Run schedule shown) = is_quiet schedule ≡ true
+IsQuietQuery Flood = Unit {0}
+IsQuietQuery Check = Unit {0}
+
+abbrev pub IsQuietWish : Wanted → Type 0
+IsQuietWish (Document query) = IsQuietQuery query
+IsQuietWish (Generate seed summary) = Unit {0}
+
+abbrev pub AreNoneOfRun : Option Wanted → Type 0
+AreNoneOfRun None = Unit {0}
+AreNoneOfRun (Some wanted) = IsQuietWish wanted

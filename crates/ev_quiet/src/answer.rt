@@ -3,6 +3,7 @@ ghost use Rattle.std.specs.Prelude.{◌≡◌, ◌≤◌, ◌⊎◌, ℕ, true, 
 ghost use Rattle.std.specs.Io.KnownBytes.{IsAtEnd};
 ghost use Rattle.ev_outside.specs.Cause.{Rose};
 ghost use Rattle.ev_outside.specs.Whole.{Gave};
+ghost use Rattle.ev_quiet.specs.Words.{IsQuietQuery, IsQuietWish};
 ghost use Rattle.ev_quiet.specs.Answers.{IsPrintedBy, reads_document, HasFaultFor, TellsRefusedFor, CanAnswerFor};
 
 use crate::generated::of_seed;
@@ -16,6 +17,7 @@ use std::alloc::Global;
 
 // What is wanted of the document that the source gives.
 fn of_source<S: Source>(alloc: Global, query: Query, source: &mut S) -> Result<Printed, Refusal>
+    requires { IsQuietQuery query }
     ensures printed { IfOk result (λ p. IsPrintedBy (Wanted.Document query) (S.left source.old) p.text p.journal) }
     ensures end { OnOk result (IsAtEnd (S.left source.new)) }
     ensures sure { OnOk result (S.faults source.new ≡ S.faults source.old) }
@@ -36,6 +38,7 @@ fn of_source<S: Source>(alloc: Global, query: Query, source: &mut S) -> Result<P
 
 /// What is wanted, or why nothing is written.
 pub fn answer<S: Source>(alloc: Global, wanted: Wanted, source: &mut S) -> Result<Printed, Refusal>
+    requires { IsQuietWish wanted }
     ensures printed { IfOk result (λ p. IsPrintedBy wanted (S.left source.old) p.text p.journal) }
     ensures end { OnOk result (reads_document wanted ≡ true → IsAtEnd (S.left source.new)) }
     ensures sure { OnOk result (S.faults source.new ≡ S.faults source.old) }

@@ -17,5 +17,12 @@ mod text;
 mod top;
 mod words;
 
+pub use law::promise;
+pub use printed::Printed;
+pub use ran::Ran;
+pub use reading::{document, net};
+pub use refusal::Refusal;
 pub use status::{Status, fault_text};
+pub use text::printed_run;
 pub use top::{Outcome, quiet};
+pub use words::{Query, Schedule, Shown, Wanted, is_quiet, read_words};

@@ -1,5 +1,5 @@
 //! What is printed of a document.
-ghost use Rattle.std.specs.Prelude.{◌≡◌, ◌⊎◌, ℕ, [], IfOk, IsOk, IsErrOf};
+ghost use Rattle.std.specs.Prelude.{◌≡◌, ◌⊎◌, ℕ, true, [], IfOk, IsOk, IsErrOf};
 ghost use Rattle.std.specs.Io.KnownBytes.{Appends};
 ghost use Rattle.ev_outside.specs.Cause.{Rose};
 ghost use Rattle.ev_outside.specs.Whole.{AppendsPart};
@@ -7,6 +7,7 @@ ghost use Rattle.ev_outside.specs.Pending.{outlet, Went};
 ghost use Rattle.ev_model.specs.Sound.{IsSound};
 ghost use Rattle.ev_input.specs.declared.fault.Fault.TheVariants.{BadTurn};
 ghost use Rattle.ev_quiet.specs.Runs.{turns_first};
+ghost use Rattle.ev_quiet.specs.Words.{is_quiet, IsQuietQuery};
 ghost use Rattle.ev_quiet.specs.Ran.{IsShown};
 ghost use Rattle.ev_quiet.specs.Showing.{given_text};
 ghost use Rattle.ev_quiet.specs.Faults.{ArePermitted, StopsAtLine, IsAtFault, MustBeRefused, CanBeDone};
@@ -115,7 +116,8 @@ impl Printed {
 
 // The run of a net.
 fn shown(alloc: Global, net: Net, schedule: Schedule, shown: Shown) -> Result<Printed, Refusal>
-    requires { IsSound net }
+    requires sound { IsSound net }
+    requires quiet { is_quiet schedule ≡ true }
     ensures shown { IfOk result (λ p. IsShown schedule shown net p.text p.journal) }
     ensures permitted { IfOk result (λ p. ArePermitted net (turns_first schedule net)) }
     ensures bad { (line : ℕ) (kind : Fault) → IsErrOf result (Refusal.BadInput line kind)
@@ -128,6 +130,7 @@ fn shown(alloc: Global, net: Net, schedule: Schedule, shown: Shown) -> Result<Pr
 
 // The run of a document.
 fn run(alloc: Global, bytes: &[u8], schedule: Schedule, options: Shown) -> Result<Printed, Refusal>
+    requires { is_quiet schedule ≡ true }
     ensures printed { IfOk result (λ p. IsPrintedOf (Query.Run schedule options) bytes.now p.text p.journal) }
     ensures bad { (line : ℕ) (kind : Fault) → IsErrOf result (Refusal.BadInput line kind) → IsAtFault (Query.Run schedule options) bytes.now line kind }
     ensures refused { (line : ℕ) (kind : Fault) → MustBeRefused (Query.Run schedule options) bytes.now line kind
@@ -171,6 +174,7 @@ fn check(alloc: Global, bytes: &[u8]) -> Result<Printed, Refusal>
 
 /// What is wanted of a document, or its fault.
 pub fn of_document(alloc: Global, query: Query, bytes: &[u8]) -> Result<Printed, Refusal>
+    requires { IsQuietQuery query }
     ensures printed { IfOk result (λ p. IsPrintedOf query bytes.now p.text p.journal) }
     ensures bad { (line : ℕ) (kind : Fault) → IsErrOf result (Refusal.BadInput line kind) → IsAtFault query bytes.now line kind }
     ensures refused { (line : ℕ) (kind : Fault) → MustBeRefused query bytes.now line kind

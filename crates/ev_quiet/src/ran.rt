@@ -1,9 +1,10 @@
 //! Runs of a network, and what they leave.
-ghost use Rattle.std.specs.Prelude.{◌≡◌, ◌≤◌, ℕ, [], length, IfOk, IsErrOf};
+ghost use Rattle.std.specs.Prelude.{◌≡◌, ◌≤◌, ℕ, true, [], length, IfOk, IsErrOf};
 ghost use Rattle.ev_model.specs.Sound.{IsSound};
 ghost use Rattle.ev_net.specs.Network.{IsLegal, refused_by, received_by};
 ghost use Rattle.ev_quiet.specs.Runs.{turns_first, of_clients};
 ghost use Rattle.ev_quiet.specs.Ran.{IsRan, IsThrough};
+ghost use Rattle.ev_quiet.specs.Words.{is_quiet};
 ghost use Rattle.ev_quiet.specs.Faults.{StopsAtLine};
 
 use crate::refusal::Refusal;
@@ -33,12 +34,14 @@ fn turns_first(net: &Net, schedule: Schedule) -> &[(u32, Turn)]
     match schedule {
         Schedule::Walk => &[],
         Schedule::Replay => &net.schedule,
+        Schedule::Threads => &[],
     }
 }
 
 // The network after the turns of a schedule and the walk.
 fn through<'a>(alloc: Global, net: &'a Net, schedule: Schedule) -> Result<Network<'a>, Refusal>
-    requires { IsSound net.now }
+    requires sound { IsSound net.now }
+    requires quiet { is_quiet schedule ≡ true }
     ensures through { IfOk result (λ network. IsThrough schedule net.now network) }
     ensures bad { (line : ℕ) (kind : Fault) → IsErrOf result (Refusal.BadInput line kind)
         → (kind ≡ Fault.BadTurn) × StopsAtLine net.now [] (turns_first schedule net.now) line }
@@ -99,9 +102,10 @@ fn clients(net: &Net) -> u32
     net.clients.len() as u32
 }
 
-/// The run of a net by the turns of a schedule and the walk.
+/// The run of a net on one thread, by the turns of a schedule and the walk.
 pub fn make_run(alloc: Global, net: &Net, schedule: Schedule) -> Result<Ran, Refusal>
-    requires { IsSound net.now }
+    requires sound { IsSound net.now }
+    requires quiet { is_quiet schedule ≡ true }
     ensures ran { IfOk result (λ ran. IsRan schedule net.now ran) }
     ensures bad { (line : ℕ) (kind : Fault) → IsErrOf result (Refusal.BadInput line kind)
         → (kind ≡ Fault.BadTurn) × StopsAtLine net.now [] (turns_first schedule net.now) line }

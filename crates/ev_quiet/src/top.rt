@@ -3,7 +3,7 @@ ghost use Rattle.std.specs.Prelude.{◌≡◌, ◌≢◌, ◌≤◌, ◌⊎◌, 
 ghost use Rattle.std.specs.Io.KnownBytes.{IsAtEnd, Appends};
 ghost use Rattle.ev_outside.specs.Cause.{Rose};
 ghost use Rattle.ev_outside.specs.Whole.{Gave, AppendsPart};
-ghost use Rattle.ev_quiet.specs.Words.{wanted_by};
+ghost use Rattle.ev_quiet.specs.Words.{wanted_by, AreNoneOfRun, IsQuietWish};
 ghost use Rattle.ev_quiet.specs.Answers.{Prints, PrintsPart, reads, HasFault, TellsRefused, CanAnswer};
 
 use crate::answer::answer;
@@ -25,32 +25,40 @@ pub struct Outcome {
     pub journal: Vec<Entry>,
 }
 
-fn ended(alloc: Global, status: Status) -> Outcome
-    ensures status { result.status ≡ status }
-    ensures journal { result.journal.items ≡ [] }
-{
-    Outcome {
-        status,
-        journal: Vec::new(alloc),
-    }
-}
+impl Outcome {
+    ghost use Rattle.std.specs.Prelude.{◌≡◌, ◌≢◌, ◌⊎◌, []};
+    ghost use Rattle.std.specs.Io.KnownBytes.{Appends};
+    ghost use Rattle.ev_outside.specs.Cause.{Rose};
+    ghost use Rattle.ev_outside.specs.Whole.{AppendsPart};
 
-// Writes a text.
-fn written<K: Sink>(alloc: Global, printed: Printed, sink: &mut K) -> Outcome
-    ensures done { result.status ≡ Status.Done → Appends (K.written sink.old) (K.written sink.new) printed.text }
-    ensures sure { result.status ≡ Status.Done → K.faults sink.new ≡ K.faults sink.old }
-    ensures journal { result.status ≡ Status.Done → result.journal.items ≡ printed.journal }
-    ensures part { result.status ≡ Status.WriteFault → AppendsPart (K.written sink.old) (K.written sink.new) printed.text }
-    ensures write_fault { result.status ≡ Status.WriteFault → Rose (K.faults sink.old) (K.faults sink.new) }
-    ensures empty { result.status ≢ Status.Done → result.journal.items ≡ [] }
-    ensures ends { (result.status ≡ Status.Done) ⊎ (result.status ≡ Status.WriteFault) }
-{
-    match printed.write(sink) {
-        Ok(journal) => Outcome {
-            status: Status::Done,
-            journal,
-        },
-        Err(_) => ended(alloc, Status::WriteFault),
+    /// The outcome of what is not done.
+    pub fn ended(alloc: Global, status: Status) -> Outcome
+        ensures status { result.status ≡ status }
+        ensures journal { result.journal.items ≡ [] }
+    {
+        Outcome {
+            status,
+            journal: Vec::new(alloc),
+        }
+    }
+
+    /// Writes what is printed, and gives the journal where all of it is written.
+    pub fn written<K: Sink>(alloc: Global, printed: Printed, sink: &mut K) -> Outcome
+        ensures done { result.status ≡ Status.Done → Appends (K.written sink.old) (K.written sink.new) printed.text }
+        ensures sure { result.status ≡ Status.Done → K.faults sink.new ≡ K.faults sink.old }
+        ensures journal { result.status ≡ Status.Done → result.journal.items ≡ printed.journal }
+        ensures part { result.status ≡ Status.WriteFault → AppendsPart (K.written sink.old) (K.written sink.new) printed.text }
+        ensures write_fault { result.status ≡ Status.WriteFault → Rose (K.faults sink.old) (K.faults sink.new) }
+        ensures empty { result.status ≢ Status.Done → result.journal.items ≡ [] }
+        ensures ends { (result.status ≡ Status.Done) ⊎ (result.status ≡ Status.WriteFault) }
+    {
+        match printed.write(sink) {
+            Ok(journal) => Outcome {
+                status: Status::Done,
+                journal,
+            },
+            Err(_) => Outcome::ended(alloc, Status::WriteFault),
+        }
     }
 }
 
@@ -61,6 +69,7 @@ fn carry_out<S: Source, K: Sink>(
     source: &mut S,
     sink: &mut K,
 ) -> Outcome
+    requires { IsQuietWish wanted }
     ensures printed { result.status ≡ Status.Done
         → Prints (Some wanted) (S.left source.old) result.journal.items (K.written sink.old) (K.written sink.new) }
     ensures read { result.status ≡ Status.Done → reads (Some wanted) ≡ true → IsAtEnd (S.left source.new) }
@@ -84,13 +93,14 @@ fn carry_out<S: Source, K: Sink>(
         → (result.status ≡ Status.Done) ⊎ (result.status ≡ Status.NoMemory) }
 {
     match answer(alloc, wanted, source) {
-        Ok(printed) => written(alloc, printed, sink),
-        Err(refusal) => ended(alloc, refusal.status()),
+        Ok(printed) => Outcome::written(alloc, printed, sink),
+        Err(refusal) => Outcome::ended(alloc, refusal.status()),
     }
 }
 
-/// Does what the words say, and waits for nobody. The words are read first, then the source, whose document is refused at
-/// its first fault; then the run is made, and then the text is written. All memory is taken before the first write.
+/// Does what the words say, which are none of `run`, and waits for nobody. The words are read first, then the source, whose
+/// document is refused at its first fault; then the run is made, and then the text is written. All memory is taken before
+/// the first write.
 ///
 /// `walk` and `replay` print what each client receives in a run of the network, `flood` what flooding owes and allows it,
 /// `check` how much the document has, and `gen` the document of a seed, or the summary of its walk.
@@ -100,6 +110,7 @@ pub fn quiet<S: Source, K: Sink>(
     source: &mut S,
     sink: &mut K,
 ) -> Outcome
+    requires { AreNoneOfRun (wanted_by words.now) }
     ensures printed { result.status ≡ Status.Done
         → Prints (wanted_by words.now) (S.left source.old) result.journal.items (K.written sink.old) (K.written sink.new) }
     ensures read { result.status ≡ Status.Done → reads (wanted_by words.now) ≡ true → IsAtEnd (S.left source.new) }
@@ -124,6 +135,6 @@ pub fn quiet<S: Source, K: Sink>(
 {
     match read_words(words) {
         Some(wanted) => carry_out(alloc, wanted, source, sink),
-        None => ended(alloc, Status::Usage),
+        None => Outcome::ended(alloc, Status::Usage),
     }
 }

@@ -1,7 +1,8 @@
 //! What the words of the command line ask for.
-ghost use Rattle.std.specs.Prelude.{◌≡◌};
+ghost use Rattle.std.specs.Prelude.{◌≡◌, true};
 ghost use Rattle.std.specs.Str.{bytes_eq};
-ghost use Rattle.ev_quiet.specs.Words.{alone, asked, generate_by, is_summary, joined_seed, options, parted_seed, plain, run_by, wanted_by, with_option};
+ghost use Rattle.ev_quiet.specs.Words.{AreNoneOfRun, alone, asked, generate_by, is_summary, joined_seed, options, parted_seed};
+ghost use Rattle.ev_quiet.specs.Words.{plain, run_by, wanted_by, with_option};
 
 use crate::seed::seed;
 use ev_outside::Word;
@@ -13,6 +14,8 @@ pub enum Schedule {
     Walk,
     /// Those of the document's schedule, and then those of the walk schedule.
     Replay,
+    /// Whatever turns the threads of all servers make.
+    Threads,
 }
 
 /// How a run is shown.
@@ -177,6 +180,8 @@ pub fn read_words(words: &[Word]) -> Option<Wanted>
         run(Schedule::Walk, rest)
     } else if is_word(word, b"replay") {
         run(Schedule::Replay, rest)
+    } else if is_word(word, b"run") {
+        run(Schedule::Threads, rest)
     } else if is_word(word, b"flood") {
         alone(Query::Flood, rest)
     } else if is_word(word, b"check") {
@@ -185,5 +190,15 @@ pub fn read_words(words: &[Word]) -> Option<Wanted>
         generate(rest)
     } else {
         None
+    }
+}
+
+/// Whether the words are none of `run`, so that no threads are asked for.
+pub fn is_quiet(words: &[Word]) -> bool
+    ensures { result ≡ true → AreNoneOfRun (wanted_by words.now) }
+{
+    match read_words(words) {
+        Some(Wanted::Document(Query::Run(Schedule::Threads, _))) => false,
+        _ => true,
     }
 }

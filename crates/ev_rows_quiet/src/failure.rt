@@ -8,6 +8,8 @@ use std::io;
 pub enum Failure {
     /// Memory ran out.
     NoMemory,
+    /// The words ask for threads, which are not here.
+    Threads,
     /// The input or the output failed.
     Outside(io::Error),
 }

@@ -2,7 +2,7 @@
 use crate::failure::Failure;
 use crate::row::Row;
 use ev_outside::{MemorySink, MemorySource, Word};
-use ev_quiet::{fault_text, quiet};
+use ev_quiet::{fault_text, is_quiet, quiet};
 use std::alloc::Global;
 
 /// Room for what is written.
@@ -35,6 +35,9 @@ pub fn failing(
     write_fails: &[u64],
 ) -> Result<Tried, Failure> {
     let words = words(alloc, line)?;
+    if !is_quiet(&words) {
+        return Err(Failure::Threads);
+    }
     let mut source = MemorySource::make(document.to_vec(alloc)?, 16, read_fails.to_vec(alloc)?);
     let mut sink = MemorySink::make(alloc, 10, write_fails.to_vec(alloc)?, ROOM)?;
     let ended = quiet(alloc, &words, &mut source, &mut sink);

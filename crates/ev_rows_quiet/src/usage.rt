@@ -2,7 +2,7 @@
 use crate::row::Row;
 
 /// Words over a document that is good.
-pub const USAGE: [Row; 13] = [
+pub const USAGE: [Row; 12] = [
     Row {
         name: "An option twice",
         words: "walk --sorted --sorted",
@@ -86,14 +86,6 @@ pub const USAGE: [Row; 13] = [
     Row {
         name: "A seed that is missing",
         words: "gen --seed --summary",
-        document: "siena 1\nsemantics subscription\nservers 1\nclient c1 1\nclient c2 1\nscript c1\n\
-            subscribe x int = 7\nbarrier\nscript c2\nbarrier\npublish x int 7\npublish x int 5\n",
-        fault: "siena: usage: walk, run or replay [--sorted] [--trace]; flood; check; gen --seed N [--summary]\n",
-        text: "",
-    },
-    Row {
-        name: "A run with threads, which is not here",
-        words: "run",
         document: "siena 1\nsemantics subscription\nservers 1\nclient c1 1\nclient c2 1\nscript c1\n\
             subscribe x int = 7\nbarrier\nscript c2\nbarrier\npublish x int 7\npublish x int 5\n",
         fault: "siena: usage: walk, run or replay [--sorted] [--trace]; flood; check; gen --seed N [--summary]\n",

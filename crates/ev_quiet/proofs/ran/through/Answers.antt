@@ -17,5 +17,5 @@ returns-in_err-replay-clause-bad c = λ line kind e.
 
 pub returns-clause-through : goal.returns-clause-through
 returns-clause-through c =
-    through c.args.schedule c.args.net.now c.in_ok-network.network c.replay.new.self c.walk.new.self c.turns_first.result.now c.in_ok-network.ensures c.turns_first.ensures
+    through c.args.schedule c.requires.quiet c.args.net.now c.in_ok-network.network c.replay.new.self c.walk.new.self c.turns_first.result.now c.in_ok-network.ensures c.turns_first.ensures
     c.in_ok-replay.ensures.made c.in_ok-walk.ensures.walked
