@@ -3,3 +3,7 @@ pub mod Counted
 pub mod Waiting
 pub mod Trying
 pub mod Later
+pub mod Pairs
+pub mod Passes
+pub mod Rows
+pub mod Sends

@@ -1,3 +1,4 @@
 pub mod Journals
 pub mod Hands
 pub mod Work
+pub mod Crews

@@ -2,13 +2,20 @@
 #![tactic(auto)]
 
 mod commands;
+mod crew;
 mod desk;
 mod ended;
 mod hand;
 mod hands;
+mod hire;
+mod jobs;
 mod links;
+mod locking;
+mod phase;
 mod tried;
 mod working;
 
+pub use crew::Eyes;
 pub use ended::Ended;
+pub use phase::run_phase;
 pub use working::work;

@@ -1,0 +1,56 @@
+use Rattle.std.proofs.Common.{◌<◌, length, ap, ◌∙◌, arith}
+use Rattle.ev_node.specs.Cell.{CellParts}
+use Rattle.ev_workers.specs.Crews.{IsCrewOf}
+use Rattle.ev_workers.proofs.Pairs.{pairs-long}
+use Rattle.ev_workers.proofs.Rows.{eyes-last, place-less, roots-back, eyes-back, lock-for, lock-eyes, locked-back, same-long, eyes-long, locks-long}
+use Rattle.ev_workers.proofs.locking.+lock_all.Goals as goal
+
+pub lock_all-requires : goal.lock_all-requires
+lock_all-requires t c = (
+  (let lt : length c.pop.new.self.items < t = omega (arith, c.in-Some.ensures.cases, c.pop.new.self.ok.0, c.args.cells.now.ok.0, c.decreases) in lt),
+  (place-less c.args.cells.now.items c.pop.new.self.items c.in-Some.cell c.in-Some.ensures.items c.args.net.now c.args.phase c.requires.place, (omega (arith, c.in-Some.ensures.cases, c.pop.new.self.ok.0, c.args.cells.now.ok.0, c.requires.few), ((eyes-last c.args.cells.now.items c.pop.new.self.items c.in-Some.cell c.in-Some.ensures.items c.args.eyes.now.items c.pop-2.new.self.items c.in-Some-pop.both c.in-Some-pop.ensures.items c.requires.eyes).0, (c.requires.empty, (omega (arith, c.in-Some.ensures.cases, c.pop.new.self.ok.0, c.args.cells.now.ok.0, c.requires.room.0), omega (arith, c.in-Some.ensures.cases, c.pop.new.self.ok.0, c.args.cells.now.ok.0, c.requires.room.1)))))),
+)
+
+pub push_reserved-requires-then-not-lock_all : goal.push_reserved-requires-then-not-lock_all
+push_reserved-requires-then-not-lock_all t c =
+    let s = same-long c.lock_all.new.cells.items c.pop.new.self.items c.if-not-lock_all.ensures.cells.0 in
+    omega (arith, s, c.lock_all.new.cells.ok.0, c.pop.new.self.ok.0, c.lock_all.ensures.capacity.0, c.pop.ensures.capacity, c.in-Some.ensures.cases, c.args.cells.now.ok.1)
+
+pub push_reserved-requires-then-not-lock_all-2 : goal.push_reserved-requires-then-not-lock_all-2
+push_reserved-requires-then-not-lock_all-2 t c =
+    let s = eyes-long c.pop.new.self.items c.lock_all.new.eyes.items c.if-not-lock_all.ensures.cells.1 in
+    let r = eyes-long c.args.cells.now.items c.args.eyes.now.items c.requires.eyes in
+    omega (arith, s, r, c.lock_all.new.eyes.ok.0, c.pop.new.self.ok.0, c.args.cells.now.ok.0, c.lock_all.ensures.capacity.1, c.pop-2.ensures.capacity, c.in-Some.ensures.cases, c.args.eyes.now.ok.0, c.args.eyes.now.ok.1)
+
+pub returns-then-not-lock_all-clause-cells : goal.returns-then-not-lock_all-clause-cells
+returns-then-not-lock_all-clause-cells t c = (
+  roots-back c.args.cells.now.items c.pop.new.self.items c.in-Some.cell c.in-Some.ensures.items c.lock_all.new.cells.items _ c.close.result c.push_reserved-then-not-lock_all.ensures.items c.if-not-lock_all.ensures.cells.0
+      (c.close.ensures.root ∙ ap (λ (z : CellParts). z.root) c.in-Ok.ensures.lock.0),
+  eyes-back c.args.cells.now.items c.pop.new.self.items c.in-Some.cell c.in-Some.ensures.items c.lock_all.new.eyes.items _ c.in-Some-pop.both c.push_reserved-then-not-lock_all-2.ensures.items c.if-not-lock_all.ensures.cells.1
+      (eyes-last c.args.cells.now.items c.pop.new.self.items c.in-Some.cell c.in-Some.ensures.items c.args.eyes.now.items c.pop-2.new.self.items c.in-Some-pop.both c.in-Some-pop.ensures.items c.requires.eyes).1,
+)
+
+pub crew_of-requires-clause-lock : goal.crew_of-requires-clause-lock
+crew_of-requires-clause-lock t c =
+    lock-for c.args.cells.now.items c.pop.new.self.items c.in-Some.cell c.in-Some.ensures.items c.args.net.now c.args.phase c.len.result c.in-Ok.made.0 c.in-Ok.ensures.lock.0 c.requires.place (c.len.ensures ∙ c.pop.new.self.ok.0)
+
+pub crew_of-requires-clause-eyes : goal.crew_of-requires-clause-eyes
+crew_of-requires-clause-eyes t c =
+    lock-eyes c.args.cells.now.items c.pop.new.self.items c.in-Some.cell c.in-Some.ensures.items c.in-Ok.made.0 c.in-Some-pop.both c.in-Ok.ensures.lock.0
+    (eyes-last c.args.cells.now.items c.pop.new.self.items c.in-Some.cell c.in-Some.ensures.items c.args.eyes.now.items c.pop-2.new.self.items c.in-Some-pop.both c.in-Some-pop.ensures.items c.requires.eyes).1
+
+pub push_reserved-requires-2 : goal.push_reserved-requires-2
+push_reserved-requires-2 t c =
+    let s = pairs-long (IsCrewOf c.args.net.now c.args.phase) c.lock_all.new.locks.items c.lock_all.new.crews.items c.if-not-lock_all.ensures.locked.0 in
+    let m = locks-long c.lock_all.new.locks.items c.pop.new.self.items c.if-not-lock_all.ensures.locked.1 in
+    omega (arith, s, m, c.lock_all.new.crews.ok.0, c.pop.new.self.ok.0, c.args.cells.now.ok.0, c.in-Some.ensures.cases, c.lock_all.ensures.room.1, c.requires.room.1)
+
+pub push_reserved-requires-3 : goal.push_reserved-requires-3
+push_reserved-requires-3 t c =
+    let m = locks-long c.lock_all.new.locks.items c.pop.new.self.items c.if-not-lock_all.ensures.locked.1 in
+    omega (arith, m, c.lock_all.new.locks.ok.0, c.pop.new.self.ok.0, c.args.cells.now.ok.0, c.in-Some.ensures.cases, c.lock_all.ensures.room.0, c.requires.room.0)
+
+pub returns-clause-locked : goal.returns-clause-locked
+returns-clause-locked t c =
+    locked-back c.args.cells.now.items c.pop.new.self.items c.in-Some.cell c.in-Some.ensures.items c.args.net.now c.args.phase c.lock_all.new.locks.items _ c.lock_all.new.crews.items _ c.in-Ok.made.0 c.crew_of.result c.push_reserved-3.ensures.items
+    c.push_reserved-2.ensures.items c.if-not-lock_all.ensures.locked.0 c.crew_of.ensures c.if-not-lock_all.ensures.locked.1 c.in-Ok.ensures.lock.0

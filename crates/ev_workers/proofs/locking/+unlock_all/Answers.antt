@@ -1,0 +1,41 @@
+use Rattle.std.proofs.Common.{◌<◌, length, sym, subst, arith}
+use Rattle.ev_node.specs.declared.held.Root.{Root}
+use Rattle.ev_workers.specs.Crews.{AreBackAt, AreEyesOf, IsSpareOf}
+use Rattle.ev_workers.proofs.Rows.{beside-last, eyes-back, eyes-long, locks-long}
+use Rattle.ev_workers.proofs.locking.+unlock_all.Goals as goal
+
+pub unlock-cell-requires-clause-spare : goal.unlock-cell-requires-clause-spare
+unlock-cell-requires-clause-spare t c =
+    (beside-last (IsSpareOf c.args.net.now c.args.phase) c.args.locks.now.items c.pop.new.self.items c.in-Some.lock c.args.spares.items c.pop-2.new.self.items c.in-Some-pop.spare c.in-Some.ensures.items c.in-Some-pop.ensures.items c.requires.spares).1
+
+pub unlock-cell-requires-clause-back : goal.unlock-cell-requires-clause-back
+unlock-cell-requires-clause-back t c =
+    (beside-last AreBackAt c.args.locks.now.items c.pop.new.self.items c.in-Some.lock c.args.done.items c.pop-3.new.self.items c.in-Some-pop-2.both c.in-Some.ensures.items c.in-Some-pop-2.ensures.items c.requires.back).1
+
+pub unlock_all-rest-requires : goal.unlock_all-rest-requires
+unlock_all-rest-requires t c = (
+  (let lt : length c.pop.new.self.items < t = omega (arith, c.in-Some.ensures.cases, c.pop.new.self.ok.0, c.args.locks.now.ok.0, c.decreases) in lt),
+  (
+    (beside-last (IsSpareOf c.args.net.now c.args.phase) c.args.locks.now.items c.pop.new.self.items c.in-Some.lock c.args.spares.items c.pop-2.new.self.items c.in-Some-pop.spare c.in-Some.ensures.items c.in-Some-pop.ensures.items c.requires.spares).0,
+    (
+      (beside-last AreBackAt c.args.locks.now.items c.pop.new.self.items c.in-Some.lock c.args.done.items c.pop-3.new.self.items c.in-Some-pop-2.both c.in-Some.ensures.items c.in-Some-pop-2.ensures.items c.requires.back).0,
+      (c.requires.empty, (omega (arith, c.in-Some.ensures.cases, c.pop.new.self.ok.0, c.args.locks.now.ok.0, c.requires.room.0), omega (arith, c.in-Some.ensures.cases, c.pop.new.self.ok.0, c.args.locks.now.ok.0, c.requires.room.1))),
+    ),
+  ),
+)
+
+pub push_reserved-requires-2 : goal.push_reserved-requires-2
+push_reserved-requires-2 t c =
+    let s = eyes-long c.unlock_all-rest.new.cells.items c.unlock_all-rest.new.eyes.items c.unlock_all-rest.ensures.eyes in
+    let m = locks-long c.pop.new.self.items c.unlock_all-rest.new.cells.items (sym c.unlock_all-rest.ensures.roots) in
+    omega (arith, s, m, c.unlock_all-rest.new.eyes.ok.0, c.pop.new.self.ok.0, c.args.locks.now.ok.0, c.in-Some.ensures.cases, c.unlock_all-rest.ensures.capacity.1, c.requires.room.1)
+
+pub returns-then-rest-clause-eyes : goal.returns-then-rest-clause-eyes
+returns-then-rest-clause-eyes t c =
+    eyes-back c.push_reserved.new.self.items c.unlock_all-rest.new.cells.items c.unlock-cell.result.0 c.push_reserved.ensures.items c.unlock_all-rest.new.eyes.items _ c.unlock-cell.result.1 c.push_reserved-2.ensures.items c.unlock_all-rest.ensures.eyes
+    (subst (λ (z : Root). AreEyesOf z c.unlock-cell.result.1) (sym c.unlock-cell.ensures.root) c.unlock-cell.ensures.eyes)
+
+pub returns-else-rest-clause-eyes : goal.returns-else-rest-clause-eyes
+returns-else-rest-clause-eyes t c =
+    eyes-back c.push_reserved.new.self.items c.unlock_all-rest.new.cells.items c.unlock-cell.result.0 c.push_reserved.ensures.items c.unlock_all-rest.new.eyes.items _ c.unlock-cell.result.1 c.push_reserved-2.ensures.items c.unlock_all-rest.ensures.eyes
+    (subst (λ (z : Root). AreEyesOf z c.unlock-cell.result.1) (sym c.unlock-cell.ensures.root) c.unlock-cell.ensures.eyes)

@@ -1,0 +1,36 @@
+use Rattle.std.proofs.Common.{List, subst, ◌∙◌, arith}
+use denote.Param.Send.{sendable, param_send}
+use Rattle.ev_outside.specs.declared.gate.Worker.{Worker}
+use Rattle.ev_turnlock.specs.declared.lock.Pass.{Pass}
+use Rattle.ev_model.specs.Parts.{EntryParts}
+use Rattle.ev_versions.specs.declared.viewer.Viewer.{Viewer}
+use Rattle.ev_node.specs.declared.held.Root.{Root}
+use Rattle.ev_workers.specs.declared.ended.Ended.{Ended}
+use Rattle.ev_workers.specs.Crews.{AreBackAt, Pairwise}
+use Rattle.ev_workers.specs.Hands.{CellLock, AreFree}
+use Rattle.ev_workers.specs.Work.{Keeps}
+use Rattle.ev_workers.proofs.Pairs.{pairs-over}
+use Rattle.ev_workers.proofs.Rows.{eyes-long, locks-long}
+use Rattle.ev_workers.proofs.Sends.{hire_send}
+use Rattle.ev_workers.proofs.phase.run_phase.Goals as goal
+
+-- what a worker gives back is as free as what it was given
+free-back : (lock : CellLock) (pass : Pass EntryParts Root) (viewer : Viewer) (worker : Worker) (ended : Ended) → AreFree lock pass viewer → Keeps worker pass viewer ended → AreFree lock ended.pass ended.viewer
+free-back lock pass viewer worker ended f k = record { own = (k.same.0 ∙ f.own.0, k.same.1 ∙ f.own.1); free = k.free; viewer_is = k.viewer_is ∙ f.viewer_is }
+
+pub run_all-done-requires-send-J : goal.run_all-done-requires-send-J
+run_all-done-requires-send-J g c κs within = let b = c.type_bounds.sync-R in let d = c.type_bounds.sync-G in search (sendable, param_send, hire_send) depth 20
+
+pub unlock_all-enough-requires-clause-back : goal.unlock_all-enough-requires-clause-back
+unlock_all-enough-requires-clause-back g c =
+    subst (λ (z : List CellLock). Pairwise AreBackAt z c.run_all-done.result.items) c.deref.ensures.value
+    (pairs-over _ _ AreBackAt (λ lock jobs done p q. (free-back lock _ _ _ _ p.0 q.0, free-back lock _ _ _ _ p.1 q.1))
+    c.deref.result.now c.hire_all.new.jobs.items c.run_all-done.result.items c.hire_all.ensures.hired c.run_all-done.ensures.kept)
+
+pub unlock_all-enough-requires-clause-room : goal.unlock_all-enough-requires-clause-room
+unlock_all-enough-requires-clause-room g c =
+    let m = locks-long c.lock_all.new.locks.items c.args.cells.now.items c.if-not-lock_all.ensures.locked.1 in
+    let r = eyes-long c.args.cells.now.items c.args.eyes.now.items c.requires.eyes in (
+      omega (arith, m, c.args.cells.now.ok.0, c.args.cells.now.ok.1, c.lock_all.ensures.capacity.0),
+      omega (arith, m, r, c.args.eyes.now.ok.0, c.args.eyes.now.ok.1, c.lock_all.ensures.capacity.1),
+    )

@@ -1,0 +1,59 @@
+-- The workers of a phase: a crew for each lock.
+use Rattle.std.specs.Prelude.{◌≡◌, ◌≤◌, ℕ, suc, false, List, [], ◌∷◌, All, length, Some, slice_get, vec_capacity}
+use Rattle.ev_turnlock.specs.declared.lock.Pass.{Pass}
+use Rattle.ev_turnlock.specs.Passes.{IsPassOf, has_in_hand, pass_count}
+use Rattle.ev_model.specs.Parts.{NetParts, EntryParts}
+use Rattle.ev_versions.specs.Ends.{IsSameViewer}
+use Rattle.ev_node.specs.declared.held.Root.{Root}
+use Rattle.ev_node.specs.Cell.{CellParts}
+use Rattle.ev_workers.specs.declared.crew.Crew.{Crew}
+use Rattle.ev_workers.specs.declared.crew.Spare.{Spare}
+use Rattle.ev_workers.specs.declared.crew.Eyes.{Eyes}
+use Rattle.ev_workers.specs.declared.ended.Ended.{Ended}
+use Rattle.ev_workers.specs.declared.jobs.Both.{Both}
+use Rattle.ev_workers.specs.Hands.{CellLock, AreFree, IsLockFor}
+
+-- lists of one length whose members fit, each the one at its place
+abbrev pub Pairwise : {A B : Type 0} → (A → B → Type 0) → List A → List B → Type 0
+Pairwise R [] [] = Unit {0}
+Pairwise R [] (y ∷ ys) = ⊥
+Pairwise R (x ∷ xs) [] = ⊥
+Pairwise R (x ∷ xs) (y ∷ ys) = R x y × Pairwise R xs ys
+
+-- a pass of a lock with nothing in hand
+abbrev pub IsFreePass : CellLock → Pass EntryParts Root → Type 0
+IsFreePass lock pass = IsPassOf (λ (c : CellParts). c.root) lock pass × (has_in_hand pass ≡ false)
+
+-- what stays of the three passes of the lock of a server in a phase of the net: one with nothing in hand, with room for all
+pub record IsSpareOf (net : NetParts) (phase : ℕ) (lock : CellLock) (spare : Spare) : Type 0 where
+  pub lock_for : IsLockFor net spare.server phase lock
+  pub count : pass_count lock ≡ 3
+  pub one : length spare.passes.items ≡ 1
+  pub room : 3 ≤ vec_capacity spare.passes
+  pub own : All (IsFreePass lock) spare.passes.items
+
+-- the crew of a lock: each worker has a pass with nothing in hand, and a viewer of its cell's publisher
+pub record IsCrewOf (net : NetParts) (phase : ℕ) (lock : CellLock) (crew : Crew) : Type 0 where
+  pub spare_of : IsSpareOf net phase lock crew.spare
+  pub commands : AreFree lock crew.commands.pass crew.commands.viewer
+  pub links : AreFree lock crew.links.pass crew.links.viewer
+
+abbrev pub AreCrews : NetParts → ℕ → List CellLock → List Crew → Type 0
+AreCrews net phase locks crews = Pairwise (IsCrewOf net phase) locks crews
+
+-- what both workers of a lock gave back
+abbrev pub AreBackAt : CellLock → Both Ended → Type 0
+AreBackAt lock done = AreFree lock done.commands.pass done.commands.viewer × AreFree lock done.links.pass done.links.viewer
+
+-- both workers of a server keep what their jobs do
+abbrev pub BothKeep : {Job : Type 0} → (Job → Ended → Type 0) → Both Job → Both Ended → Type 0
+BothKeep keeps jobs done = keeps jobs.commands done.commands × keeps jobs.links done.links
+
+-- two viewers of the publisher that a root names
+abbrev pub AreEyesOf : Root → Eyes → Type 0
+AreEyesOf root eyes = IsSameViewer root.viewer.value eyes.commands × IsSameViewer root.viewer.value eyes.links
+
+-- the roots are those of the servers 1, 2 and so on of the net in a phase
+abbrev pub AreInPlace : NetParts → ℕ → List Root → Type 0
+AreInPlace net phase roots = (k : ℕ) (root : Root) → slice_get roots k ≡ Some root
+    → (root.net.value ≡ net) × (root.server ≡ suc k) × (root.phase ≡ phase)

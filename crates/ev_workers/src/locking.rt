@@ -1,0 +1,166 @@
+//! Cells in their locks, and out of them.
+ghost use Rattle.std.specs.Prelude.{◌≡◌, ◌≤◌, ◌<◌, [], All, length, map, MatchBool, vec_capacity, ◌^◌};
+ghost use Rattle.ev_turnlock.specs.Passes.{pass_count};
+ghost use Rattle.ev_node.specs.Together.{roots};
+ghost use Rattle.ev_workers.specs.Crews.{AreBackAt, AreCrews, AreEyesOf, AreInPlace, IsCrewOf, IsFreePass, IsSpareOf, Pairwise};
+ghost use Rattle.ev_workers.specs.Hands.{IsLockFor, lock_root};
+
+use crate::crew::{Crew, Eyes, Seat, Spare};
+use crate::ended::Ended;
+use crate::jobs::Both;
+use ev_model::{Entry, Net};
+use ev_node::{Cell, Root};
+use ev_server::StepFault;
+use ev_turnlock::{Pass, TurnLock};
+use std::alloc::Global;
+
+/// The crew of a lock with its three passes.
+fn crew_of(
+    net: &Net,
+    phase: u32,
+    server: u32,
+    lock: &TurnLock<Cell<'_>>,
+    mut passes: Vec<Pass<Entry, Root>>,
+    eyes: Eyes,
+) -> Crew
+    requires lock { IsLockFor net.now server phase lock.now }
+    requires passes { All (IsFreePass lock.now) passes.items }
+    requires three { (length passes.items ≡ 3) × (pass_count lock.now ≡ 3) }
+    requires eyes { AreEyesOf (lock_root lock.now) eyes }
+    ensures { IsCrewOf net.now phase lock.now result }
+{
+    let (_net, _phase, _lock) = (net, phase, lock);
+    let Some(links) = passes.pop() else {
+        unreachable!()
+    };
+    let Some(commands) = passes.pop() else {
+        unreachable!()
+    };
+    Crew {
+        spare: Spare { server, passes },
+        commands: Seat {
+            pass: commands,
+            viewer: eyes.commands,
+        },
+        links: Seat {
+            pass: links,
+            viewer: eyes.links,
+        },
+    }
+}
+
+/// Takes a cell out of its lock after its workers.
+fn unlock<'a>(
+    net: &Net,
+    phase: u32,
+    lock: TurnLock<Cell<'a>>,
+    spare: Spare,
+    done: Both<Ended>,
+) -> (Cell<'a>, Eyes)
+    requires spare { IsSpareOf net.now phase lock spare }
+    requires back { AreBackAt lock done }
+    ensures root { result.0.root ≡ lock_root lock.entry }
+    ensures eyes { AreEyesOf (lock_root lock.entry) result.1 }
+{
+    let (_net, _phase) = (net, phase);
+    let Spare {
+        server: _,
+        mut passes,
+    } = spare;
+    let Both { commands, links } = done;
+    passes.push_reserved(commands.pass);
+    passes.push_reserved(links.pass);
+    let eyes = Eyes {
+        commands: commands.viewer,
+        links: links.viewer,
+    };
+    (lock.close(passes), eyes)
+}
+
+/// Whether a worker met no want of memory.
+fn had_memory(ended: &Ended) -> bool {
+    match &ended.fault {
+        Some(StepFault::NoMemory) => false,
+        _ => true,
+    }
+}
+
+/// Puts the last cells into locks first, each with a crew, and answers whether there was memory. Where there was none all
+/// cells are out of their locks again.
+pub(crate) fn lock_all<'a>(
+    alloc: Global,
+    net: &Net,
+    phase: u32,
+    cells: &mut Vec<Cell<'a>>,
+    eyes: &mut Vec<Eyes>,
+    locks: &mut Vec<TurnLock<Cell<'a>>>,
+    crews: &mut Vec<Crew>,
+) -> bool
+    requires place { AreInPlace net.now phase (roots cells.old.items) }
+    requires few { length cells.old.items < 2 ^ 32 }
+    requires eyes { Pairwise AreEyesOf (roots cells.old.items) eyes.old.items }
+    requires empty { (locks.old.items ≡ []) × (crews.old.items ≡ []) }
+    requires room { (length cells.old.items ≤ vec_capacity locks.old) × (length cells.old.items ≤ vec_capacity crews.old) }
+    ensures locked { MatchBool result (AreCrews net.now phase locks.new.items crews.new.items × (map lock_root locks.new.items ≡ roots cells.old.items))
+        ((locks.new.items ≡ []) × (crews.new.items ≡ [])) }
+    ensures cells { MatchBool result ((cells.new.items ≡ []) × (eyes.new.items ≡ []))
+        ((roots cells.new.items ≡ roots cells.old.items) × Pairwise AreEyesOf (roots cells.old.items) eyes.new.items) }
+    ensures capacity { (vec_capacity cells.new ≡ vec_capacity cells.old) × (vec_capacity eyes.new ≡ vec_capacity eyes.old) }
+    ensures room { (vec_capacity locks.new ≡ vec_capacity locks.old) × (vec_capacity crews.new ≡ vec_capacity crews.old) }
+{
+    let Some(cell) = cells.pop() else { return true };
+    let Some(both) = eyes.pop() else {
+        unreachable!()
+    };
+    let server = cells.len() as u32 + 1;
+    let (lock, passes) = match TurnLock::make(alloc, cell, 3) {
+        Ok(made) => made,
+        Err(cell) => {
+            cells.push_reserved(cell);
+            eyes.push_reserved(both);
+            return false;
+        }
+    };
+    if !lock_all(alloc, net, phase, cells, eyes, locks, crews) {
+        cells.push_reserved(lock.close(passes));
+        eyes.push_reserved(both);
+        return false;
+    }
+    crews.push_reserved(crew_of(net, phase, server, &lock, passes, both));
+    locks.push_reserved(lock);
+    true
+}
+
+/// Takes all cells out of their locks, in the same order, and answers whether no worker met want of memory.
+pub(crate) fn unlock_all<'a>(
+    net: &Net,
+    phase: u32,
+    locks: &mut Vec<TurnLock<Cell<'a>>>,
+    mut spares: Vec<Spare>,
+    mut done: Vec<Both<Ended>>,
+    cells: &mut Vec<Cell<'a>>,
+    eyes: &mut Vec<Eyes>,
+) -> bool
+    requires spares { Pairwise (IsSpareOf net.now phase) locks.old.items spares.items }
+    requires back { Pairwise AreBackAt locks.old.items done.items }
+    requires empty { (cells.old.items ≡ []) × (eyes.old.items ≡ []) }
+    requires room { (length locks.old.items ≤ vec_capacity cells.old) × (length locks.old.items ≤ vec_capacity eyes.old) }
+    ensures empty { locks.new.items ≡ [] }
+    ensures roots { roots cells.new.items ≡ map lock_root locks.old.items }
+    ensures eyes { Pairwise AreEyesOf (roots cells.new.items) eyes.new.items }
+    ensures capacity { (vec_capacity cells.new ≡ vec_capacity cells.old) × (vec_capacity eyes.new ≡ vec_capacity eyes.old) }
+{
+    let Some(lock) = locks.pop() else { return true };
+    let Some(spare) = spares.pop() else {
+        unreachable!()
+    };
+    let Some(both) = done.pop() else {
+        unreachable!()
+    };
+    let here = had_memory(&both.commands) && had_memory(&both.links);
+    let (cell, viewers) = unlock(net, phase, lock, spare, both);
+    let rest = unlock_all(net, phase, locks, spares, done, cells, eyes);
+    cells.push_reserved(cell);
+    eyes.push_reserved(viewers);
+    rest && here
+}

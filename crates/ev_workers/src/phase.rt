@@ -1,0 +1,60 @@
+//! The workers of all servers in one phase.
+ghost use Rattle.std.specs.Prelude.{◌≡◌, ◌<◌, ◌^◌, length};
+ghost use Rattle.ev_node.specs.Together.{roots};
+ghost use Rattle.ev_workers.specs.Crews.{AreEyesOf, AreInPlace, Pairwise};
+
+use crate::crew::Eyes;
+use crate::hire::{Site, hire_all};
+use crate::jobs::run_all;
+use crate::locking::{lock_all, unlock_all};
+use ev_memory::NoMemory;
+use ev_model::Net;
+use ev_node::Cell;
+use ev_outside::Gate;
+use std::alloc::Global;
+use std::sync::Wait;
+use std::thread::Threads;
+
+/// The workers of all servers in the phase that the cells are in: two at each cell, in threads of a scope. Where no thread can
+/// be had a worker is run here. After the joins all cells are back, with their roots as before, whatever a worker met.
+pub fn run_phase<'a, R: Threads + Wait + Sync, G: Gate + Sync>(
+    alloc: Global,
+    rt: &R,
+    net: &Net,
+    gate: &G,
+    phase: u32,
+    cells: &mut Vec<Cell<'a>>,
+    eyes: &mut Vec<Eyes>,
+) -> Result<(), NoMemory>
+    requires place { AreInPlace net.now phase (roots cells.old.items) }
+    requires few { length cells.old.items < 2 ^ 32 }
+    requires eyes { Pairwise AreEyesOf (roots cells.old.items) eyes.old.items }
+    ensures roots { roots cells.new.items ≡ roots cells.old.items }
+    ensures eyes { Pairwise AreEyesOf (roots cells.new.items) eyes.new.items }
+{
+    let count = cells.len();
+    let mut spares = Vec::with_capacity(alloc, count)?;
+    let done = Vec::with_capacity(alloc, count)?;
+    let mut crews = Vec::with_capacity(alloc, count)?;
+    let mut locks = Vec::with_capacity(alloc, count)?;
+    let Ok(mut jobs) = Vec::with_capacity(alloc, count) else {
+        locks.destroy_empty();
+        return Err(NoMemory);
+    };
+    if !lock_all(alloc, net, phase, cells, eyes, &mut locks, &mut crews) {
+        locks.destroy_empty();
+        return Err(NoMemory);
+    }
+    let site = Site {
+        rt,
+        alloc,
+        net,
+        phase,
+        gate,
+    };
+    hire_all(&site, &locks, crews, &mut jobs, &mut spares);
+    let done = run_all(rt, jobs, done);
+    let enough = unlock_all(net, phase, &mut locks, spares, done, cells, eyes);
+    locks.destroy_empty();
+    if enough { Ok(()) } else { Err(NoMemory) }
+}
