@@ -2,8 +2,9 @@
 //! flooding owes it, or how much the document has.
 #![tactic(auto)]
 
-use ev_outside::{StdSink, StdSource, Word};
-use ev_quiet::{Status, fault_text, quiet};
+use ev_outside::{NoGate, StdSink, StdSource, Word};
+use ev_quiet::{Status, fault_text};
+use ev_siena::siena;
 use std::alloc::Global;
 use std::env::Args;
 use std::io::ErrorKind;
@@ -37,7 +38,7 @@ fn main(rt: HostRuntime) -> ExitCode {
     let mut source = StdSource::make(rt.stdin());
     let mut sink = StdSink::make(rt.stdout());
     let status = match words(&rt) {
-        Ok(words) => quiet(rt.alloc(), &words, &mut source, &mut sink).status,
+        Ok(words) => siena(rt.alloc(), &rt, &words, &mut source, &mut sink, &NoGate).status,
         Err(status) => status,
     };
     if let Ok(text) = fault_text(rt.alloc(), &status) {

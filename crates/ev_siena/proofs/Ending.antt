@@ -1,0 +1,33 @@
+-- A phase that is entered and ended leaves a team between two phases.
+use Rattle.std.proofs.Common.{◌≡◌, ℕ, suc, List, sym, subst}
+use Rattle.ev_run.specs.Journals.{Cell}
+use Rattle.ev_model.specs.Parts.{NetParts}
+use Rattle.ev_node.specs.Cell.{CellParts, machine_in}
+use Rattle.ev_node.specs.Coming.{HaveCommand}
+use Rattle.ev_node.specs.Together.{AreBegun, AreTogether, IsFinished, roots}
+use Rattle.ev_course.specs.Course.{AreInHand, AreKept, IsPhaseDone, StandBetween}
+use Rattle.ev_workers.specs.declared.crew.Eyes.{Eyes}
+use Rattle.ev_workers.specs.Crews.{AreEyesOf, Pairwise}
+use Rattle.ev_siena.specs.Teams.{HaveStarted, IsTeam}
+
+pub phase-ended : (net : NetParts) (last phase : ℕ) (old started now : List CellParts) (eyes : List Eyes) → AreInHand net last old → HaveStarted net last phase old started → HaveCommand old phase
+    → roots now ≡ roots started → AreKept now → ((begun : ℕ → Cell (machine_in net phase)) → AreBegun net phase now begun → IsFinished net phase now begun) → Pairwise AreEyesOf (roots now) eyes
+    → (IsPhaseDone net last phase old started now → StandBetween net phase (suc phase) now) → IsTeam net phase now eyes
+phase-ended net last phase old started now eyes hand have some stay kept finished looks done = record {
+  between = record {
+    next = suc phase;
+    stand = done (record {
+      hand = hand;
+      stood = have.stood;
+      some = some;
+      enters = have.enters;
+      journals = have.journals;
+      starts = have.starts;
+      roots_stay = stay;
+      kept = kept;
+      finished = finished;
+    });
+    hand = record { sound = hand.sound; together = subst (AreTogether net phase) (sym stay) have.together; kept = kept };
+  };
+  eyes_of = looks;
+}

@@ -1,0 +1,4 @@
+pub mod Entering
+pub mod Ending
+pub mod Ordered
+pub mod Parting

@@ -1,0 +1,21 @@
+use Rattle.std.specs.Prelude.{Result, Ok, Err, IfOk}
+use Rattle.ev_course.specs.Course.{IsRanBy, journals_by}
+use Rattle.ev_siena.specs.Runs.{IsThreaded}
+use Rattle.ev_siena.proofs.Ordered.{by-stamp}
+use Rattle.ev_siena.proofs.run.ran.Goals as goal
+
+if-ok : {T E : Type 0} (r : Result T E) (P Q : T → Type 0) → ((x : T) → P x → Q x) → IfOk r P → IfOk r Q
+if-ok (Ok x) P Q f p = f x p
+if-ok (Err e) P Q f p = tt
+
+pub returns : goal.returns
+returns g c =
+    if-ok c.collect.result (IsRanBy c.args.net.now c.deref.result.now) (IsThreaded c.args.net.now)
+    (λ ran r. record {
+      legal = r.whole.legal;
+      drained = r.whole.drained;
+      order = by-stamp c.args.net.now (journals_by c.deref.result.now) ran.journal.items r.whole.merge;
+      refused = r.refused;
+      received = r.received;
+    })
+    c.collect.ensures

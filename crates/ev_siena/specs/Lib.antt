@@ -1,0 +1,3 @@
+pub mod Teams
+pub mod Runs
+pub mod Wishes

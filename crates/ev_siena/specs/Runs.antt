@@ -1,0 +1,15 @@
+-- What a run with threads leaves.
+use Rattle.std.specs.Prelude.{◌≡◌}
+use Rattle.ev_model.specs.Parts.{NetParts}
+use Rattle.ev_net.specs.Network.{IsLegal, IsDrainedBy, refused_by, received_by}
+use Rattle.ev_course.specs.declared.ran.Ran.{Ran}
+use Rattle.ev_course.specs.Course.{of_clients}
+use Rattle.ev_quiet.specs.Runs.{IsByStamp}
+
+-- THE RUN WITH THREADS: its journal, in the order of stamps and servers, is a legal run of the net with a drained end, and each client has what it has by then
+pub record IsThreaded (net : NetParts) (ran : Ran) : Type 0 where
+  pub legal : IsLegal net ran.journal.items
+  pub drained : IsDrainedBy net ran.journal.items
+  pub order : IsByStamp ran.journal.items
+  pub refused : ran.refused.items ≡ of_clients net (refused_by net ran.journal.items)
+  pub received : ran.received.items ≡ of_clients net (received_by net ran.journal.items)

@@ -1,0 +1,12 @@
+//! The program: from the words of a command line and the bytes of a source to the bytes of a sink, with two threads a server
+//! where `run` is asked for.
+#![tactic(auto)]
+
+mod phases;
+mod run;
+mod team;
+mod threaded;
+mod top;
+
+pub use run::run_net;
+pub use top::siena;

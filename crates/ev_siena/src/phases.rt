@@ -1,0 +1,107 @@
+//! A run phase by phase.
+ghost use Rattle.std.specs.Prelude.{◌≡◌, ℕ, OnOk};
+ghost use Rattle.ev_run.specs.Journals.{Cell as RunCell};
+ghost use Rattle.ev_model.specs.Nets.{phases_of};
+ghost use Rattle.ev_model.specs.Parts.{NetParts};
+ghost use Rattle.ev_model.specs.Sound.{IsSound};
+ghost use Rattle.ev_course.specs.Course.{AreInHand, AreKept, StandBetween};
+ghost use Rattle.ev_node.specs.Cell.{machine_in};
+ghost use Rattle.ev_node.specs.Coming.{HaveCommand};
+ghost use Rattle.ev_node.specs.Entered.{AreThrough};
+ghost use Rattle.ev_node.specs.Together.{AreBegun, AreTogether, IsFinished, roots};
+ghost use Rattle.ev_siena.specs.Teams.{AreBetween, HaveStarted, IsTeam};
+
+use crate::team::tell_all;
+use ev_course::law::{calm, phase_done, stand_later};
+use ev_memory::NoMemory;
+use ev_model::Net;
+use ev_node::{Cell, enter_next, finish_phase, next_phase};
+use ev_outside::Gate;
+use ev_workers::{Eyes, run_phase};
+use std::alloc::Global;
+use std::sync::Wait;
+use std::thread::Threads;
+
+/// The cells enter a phase; where it is the one that they are in nothing was done in it.
+fn enter<R: Wait>(
+    alloc: Global,
+    rt: &R,
+    net: &Net,
+    cells: &mut Vec<Cell<'_>>,
+    last: u32,
+    phase: u32,
+) -> Result<(), NoMemory>
+    requires hand { AreInHand net.now last cells.old.items }
+    requires stand { StandBetween net.now last phase cells.old.items }
+    requires through { AreThrough phase cells.old.items }
+    ensures { OnOk result (HaveStarted net.now last phase cells.old.items cells.new.items) }
+{
+    calm();
+    if last == phase {
+        return Ok(());
+    }
+    enter_next(alloc, rt, net, cells, last, phase)
+}
+
+/// Makes the rest of the phase that the cells are in. No stamp reaches its bound; that it might would be told as want of memory.
+fn end_phase<R: Wait>(rt: &R, cells: &mut Vec<Cell<'_>>) -> Result<(), NoMemory>
+    requires { (net : NetParts) × (phase : ℕ) × AreTogether net phase (roots cells.old.items) }
+    ensures roots { roots cells.new.items ≡ roots cells.old.items }
+    ensures kept { AreKept cells.new.items }
+    ensures finished { OnOk result ((net : NetParts) (phase : ℕ) → AreTogether net phase (roots cells.old.items)
+        → (begun : ℕ → RunCell (machine_in net phase)) → AreBegun net phase cells.new.items begun → IsFinished net phase cells.new.items begun) }
+{
+    let answer = finish_phase(rt, cells);
+    tell_all(cells);
+    match answer {
+        Ok(()) => Ok(()),
+        Err(_) => Err(NoMemory),
+    }
+}
+
+/// The cells enter the phase of the next command, workers take its commands and messages, and what they leave is done.
+fn one_phase<R: Threads + Wait + Sync, G: Gate + Sync>(
+    alloc: Global,
+    rt: &R,
+    net: &Net,
+    gate: &G,
+    cells: &mut Vec<Cell<'_>>,
+    eyes: &mut Vec<Eyes>,
+    last: u32,
+    phase: u32,
+) -> Result<(), NoMemory>
+    requires team { IsTeam net.now last cells.old.items eyes.old.items }
+    requires through { AreThrough phase cells.old.items }
+    requires command { HaveCommand cells.old.items phase }
+    ensures { OnOk result (IsTeam net.now phase cells.new.items eyes.new.items) }
+{
+    stand_later();
+    phase_done();
+    enter(alloc, rt, net, cells, last, phase)?;
+    run_phase(alloc, rt, net, gate, phase, cells, eyes)?;
+    end_phase(rt, cells)
+}
+
+/// Phase by phase, until no command is left.
+pub(crate) fn run_phases<R: Threads + Wait + Sync, G: Gate + Sync>(
+    alloc: Global,
+    rt: &R,
+    net: &Net,
+    gate: &G,
+    cells: &mut Vec<Cell<'_>>,
+    eyes: &mut Vec<Eyes>,
+) -> Result<(), NoMemory>
+    requires { IsTeam net.now 0 cells.old.items eyes.old.items }
+    ensures between { OnOk result ((last : ℕ) × AreBetween net.now last cells.new.items) }
+    ensures through { OnOk result (AreThrough (phases_of net.now) cells.new.items) }
+{
+    let mut last = 0;
+    for _ in rt.forever() {
+        let Some(phase) = next_phase(cells) else {
+            return Ok(());
+        };
+        one_phase(alloc, rt, net, gate, cells, eyes, last, phase)?;
+        last = phase;
+    }
+    unreachable!()
+}

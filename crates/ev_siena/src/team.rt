@@ -1,0 +1,89 @@
+//! The cells of all servers, with the viewers of their workers.
+ghost use Rattle.std.specs.Prelude.{◌≡◌, ◌≤◌, [], length, map, vec_capacity};
+ghost use Rattle.ev_course.specs.Course.{AreKept};
+ghost use Rattle.ev_node.specs.Together.{roots};
+ghost use Rattle.ev_workers.specs.Crews.{AreEyesOf, Pairwise};
+ghost use Rattle.ev_siena.specs.Teams.{HaveEyes};
+
+use ev_course::law::opens;
+use ev_memory::NoMemory;
+use ev_model::Net;
+use ev_node::{Cell, Started, start};
+use ev_workers::Eyes;
+use std::alloc::Global;
+use std::sync::Wait;
+
+/// The cells of all servers, and the viewers of the workers of each.
+pub(crate) struct Team<'a> {
+    pub(crate) cells: Vec<Cell<'a>>,
+    pub(crate) eyes: Vec<Eyes>,
+}
+
+/// Puts the cells and their viewers apart.
+fn part<'a>(mut started: Vec<Started<'a>>, cells: &mut Vec<Cell<'a>>, eyes: &mut Vec<Eyes>)
+    requires eyes { HaveEyes started.items }
+    requires empty { (cells.old.items ≡ []) × (eyes.old.items ≡ []) }
+    requires room { (length started.items ≤ vec_capacity cells.old) × (length started.items ≤ vec_capacity eyes.old) }
+    ensures cells { cells.new.items ≡ map (λ s. s.cell) started.entry.items }
+    ensures eyes { Pairwise AreEyesOf (roots cells.new.items) eyes.new.items }
+{
+    while !started.is_empty() {
+        let Started {
+            cell,
+            commands,
+            links,
+        } = started.remove(0);
+        cells.push_reserved(cell);
+        eyes.push_reserved(Eyes { commands, links });
+    }
+    started.destroy_empty();
+}
+
+/// Each cell keeps what its type says.
+pub(crate) fn tell_all(cells: &[Cell<'_>])
+    ensures { AreKept cells.now }
+{
+    for cell in cells {
+        cell.tells();
+    }
+}
+
+impl<'a> Team<'a> {
+    ghost use Rattle.std.specs.Prelude.{◌≡◌, IfOk};
+    ghost use Rattle.ev_model.specs.Sound.{IsSound};
+    ghost use Rattle.ev_siena.specs.Teams.{IsTeam};
+
+    /// The team of a net before its first step.
+    pub(crate) fn make<R: Wait>(alloc: Global, rt: &R, net: &'a Net) -> Result<Team<'a>, NoMemory>
+        requires { IsSound net.now }
+        ensures { IfOk result (λ team. IsTeam net.now 0 team.cells.items team.eyes.items) }
+    {
+        opens();
+        let count = net.tree(0).servers() as usize;
+        let mut eyes = Vec::with_capacity(alloc, count)?;
+        let mut cells = Vec::with_capacity(alloc, count)?;
+        match start(alloc, rt, net) {
+            Ok(started) => {
+                part(started, &mut cells, &mut eyes);
+                tell_all(&cells);
+                Ok(Team { cells, eyes })
+            }
+            Err(fault) => {
+                cells.destroy_empty();
+                Err(fault)
+            }
+        }
+    }
+
+    /// Ends the cells.
+    pub(crate) fn end<R: Wait>(self, rt: &R) {
+        let Team {
+            mut cells,
+            eyes: _eyes,
+        } = self;
+        while let Some(cell) = cells.pop() {
+            cell.end(rt);
+        }
+        cells.destroy_empty();
+    }
+}
