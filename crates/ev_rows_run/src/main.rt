@@ -1,0 +1,31 @@
+//! Runs documents with two threads a server, free and held at gates, and prints of each whether what it wrote is as wanted.
+#![tactic(auto)]
+
+mod audit;
+mod documents;
+mod failure;
+mod generated;
+mod meeting;
+mod moving;
+mod orders;
+mod overtaken;
+mod relayed;
+mod row;
+mod runs;
+mod starts;
+mod tried;
+mod waiting;
+
+use failure::Failure;
+
+fn main(rt: HostRuntime) -> Result<(), Failure> {
+    let alloc = rt.alloc();
+    tried::print_rows(&rt, alloc, &runs::RUNS)?;
+    meeting::print_meeting(&rt, alloc)?;
+    overtaken::print_overtaken(&rt, alloc)?;
+    relayed::print_relayed(&rt, alloc)?;
+    orders::print_orders(&rt, alloc)?;
+    moving::print_moving(&rt, alloc)?;
+    starts::print_starts(&rt, alloc)?;
+    generated::print_generated(&rt, alloc)
+}

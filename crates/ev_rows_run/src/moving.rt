@@ -1,0 +1,43 @@
+//! Runs whose outcome may move, and their audits.
+use crate::audit::is_audited;
+use crate::documents::{DOCUMENTS, Document};
+use crate::failure::Failure;
+use crate::tried::free;
+use std::alloc::Global;
+use std::sync::Wait;
+use std::thread::Threads;
+
+/// How often each document is run.
+const RUNS: u32 = 20;
+
+/// How many runs of a document were done, and of how many of them the audit went well.
+fn try_document<R: Threads + Wait + Sync>(
+    rt: &R,
+    alloc: Global,
+    document: &Document,
+) -> Result<(u32, u32), Failure> {
+    let mut runs = 0u32;
+    let mut audits = 0u32;
+    for _ in 0..RUNS {
+        let came = free(rt, alloc, "run", document.text.as_bytes())?;
+        if came.fault.is_empty() {
+            runs = runs.saturating_add(1);
+        }
+        if is_audited(alloc, document.text.as_bytes(), &came)? {
+            audits = audits.saturating_add(1);
+        }
+    }
+    Ok((runs, audits))
+}
+
+/// Prints of each document how often it was run, and how many audits went well.
+pub fn print_moving<R: Print + Threads + Wait + Sync>(
+    rt: &R,
+    alloc: Global,
+) -> Result<(), Failure> {
+    for document in &DOCUMENTS {
+        let (runs, audits) = try_document(rt, alloc, document)?;
+        println!(rt; "{}: {runs} runs, {audits} audits", document.name)?;
+    }
+    Ok(())
+}
