@@ -1,10 +1,10 @@
--- With all cells in hand and nothing left to do the phase is ended, and their journals have a merge.
-use Rattle.std.proofs.Common.{◌≡◌, ℕ, zero, suc, ◌-◌, ◌<◌, ◌≤◌, nat_le, true, ◌&&◌, List, [], ◌∷◌, ◌⊎◌, inl, inr, length, map, Option, Some, None, slice_get, refl, sym, ap, subst, ◌∙◌, arith}
+-- With all cells in hand their journals have a merge, and where nothing is left to do the phase is ended.
+use Rattle.std.proofs.Common.{◌≡◌, ℕ, zero, suc, ◌-◌, ◌<◌, ◌≤◌, nat_le, true, ◌&&◌, List, [], ◌∷◌, ◌++◌, ◌⊎◌, inl, inr, length, map, Option, Some, None, slice_get, refl, sym, ap, subst, ◌∙◌, arith}
 use Rattle.std.proofs.lemmas.Bool.Decides.{nat_tests}
 use Rattle.ev_sets.specs.Sets.{Has}
 use Rattle.ev_sets.specs.Numbers.{IsDistinct}
 use Rattle.ev_run.specs.Machine.{Machine, Entry, Input, Does, Takes, Stamped, next_stamp}
-use Rattle.ev_run.specs.Journals.{Cell, IsReplay, IsJournal, IsMerge, IsPrefix, cell_after}
+use Rattle.ev_run.specs.Journals.{Cell, IsReplay, IsJournal, IsMerge, IsPhaseInHand, IsPrefix, cell_after}
 use Rattle.ev_run.proofs.Exists.{merge-some}
 use Rattle.ev_run.proofs.Lists.{Same, Is, Not, compare, prefix-self}
 use Rattle.ev_routing.specs.Net.{Net, PhasedCommand}
@@ -24,9 +24,11 @@ use Rattle.ev_node.specs.Links.{IsNeighbour, put_for, taken_from}
 use Rattle.ev_node.specs.Served.{framed}
 use Rattle.ev_node.specs.Cell.{CellParts, IsCellOf, IsDue, AreReadable, machine_in}
 use Rattle.ev_node.specs.Together.{AreTogether, AreBegun, AreDone, IsFinished, HasNoCommand, entries_in, journals, links_of, of_server, roots, sight, sights}
+use Rattle.ev_node.specs.InHand.{AreAllInHand, AreInOrder}
 use Rattle.ev_node.proofs.Places.{one-value, below-found}
 use Rattle.ev_node.proofs.Due.{DueAt, due-state, session-of, script-of, done-of, map-get}
 use Rattle.ev_node.proofs.Framing.{frames-one}
+use Rattle.ev_node.proofs.Settled.{frames-begin}
 use Rattle.ev_node.proofs.Gathered.{IsKeptCell, map-found, found-within, one-suc, there-or-not, neighbour-then, root-at, number-at, count-cells, among, numbered, back}
 
 -- the servers up to n
@@ -147,7 +149,7 @@ module _ (net : Net real) (core : CoreParts) (state : ServerState real) (stands 
   pub is-through : all_through real net state (suc phase) (net.clients core.server) ≡ true
   is-through = through-all net state phase (net.clients core.server) left-above
 
-module _ (net : NetParts) (phase : ℕ) (cells : List CellParts) (together : AreTogether net phase (roots cells)) (done : AreDone (sights cells)) (kept : (k : ℕ) (cell : CellParts) → slice_get cells k ≡ Some cell → IsKeptCell cell)
+module _ (net : NetParts) (phase : ℕ) (cells : List CellParts) (together : AreTogether net phase (roots cells)) (kept : (k : ℕ) (cell : CellParts) → slice_get cells k ≡ Some cell → IsKeptCell cell)
     (begun : ℕ → Cell (machine_in net phase)) (is : AreBegun net phase cells begun) where
   abbrev here : Net real
   here = net_at real (phased_net net) phase
@@ -246,42 +248,6 @@ module _ (net : NetParts) (phase : ℕ) (cells : List CellParts) (together : Are
       let b = back net phase cells together k p u cell e (kept k cell e) n f.0 f.1 (kept (u - 1) f.0 f.1) in
       (u - 1, f.0, omega (arith, one), f.1, (b.0, subst (λ s. IsNeighbour b.0 s f.0.held.links.items) (number-at net phase cells together k cell e) b.1))
 
-  -- all that was put is taken
-  same-frames : (a b : ℕ) → taken-in b a ≡ put-in a b
-  same-frames a b = go (look a) (look b)
-    where
-      put-none : (i : ℕ) (ha : CellParts) → a ≡ suc i → slice_get cells i ≡ Some ha → ((p : ℕ) → IsNeighbour p b ha.held.links.items → ⊥) → put-in a b ≡ []
-      put-none i ha ea fa without = ap (λ s. put-in s b) ea ∙ put-here i ha fa b ∙ at (place-or-none b ha.held.links.items)
-        where
-          at : ((p : ℕ) × IsNeighbour p b ha.held.links.items) ⊎ (((p : ℕ) → IsNeighbour p b ha.held.links.items → ⊥) × (put_for ha.held.links.items b ≡ []) × (taken_from ha.held.links.items b ≡ [])) → put_for ha.held.links.items b ≡ []
-          at (inl n) = absurd (without n.0 n.1)
-          at (inr n) = n.1
-
-      go : ((i : ℕ) × (ha : CellParts) × (a ≡ suc i) × (slice_get cells i ≡ Some ha)) ⊎ (((k : ℕ) → a ≡ suc k → k < length cells → ⊥) × ((link : ℕ) → put-in a link ≡ []) × ((link : ℕ) → taken-in a link ≡ []))
-          → ((k : ℕ) × (hb : CellParts) × (b ≡ suc k) × (slice_get cells k ≡ Some hb)) ⊎ (((k : ℕ) → b ≡ suc k → k < length cells → ⊥) × ((link : ℕ) → put-in b link ≡ []) × ((link : ℕ) → taken-in b link ≡ [])) → taken-in b a ≡ put-in a b
-      go (inr na) (inr nb) = nb.2 a ∙ sym (na.1 b)
-      go (inl (i, ha, ea, fa)) (inr nb) = nb.2 a ∙ sym (put-none i ha ea fa (λ p n. let o = neighbour i ha p b fa n in nb.0 o.0 o.2 (below-found o.0 cells o.1 o.3)))
-      go na (inl (k, hb, eb, fb)) = ap (λ s. taken-in s a) eb ∙ taken-here k hb fb a ∙ at na (place-or-none a hb.held.links.items)
-        where
-          at : ((i : ℕ) × (ha : CellParts) × (a ≡ suc i) × (slice_get cells i ≡ Some ha)) ⊎ (((k : ℕ) → a ≡ suc k → k < length cells → ⊥) × ((link : ℕ) → put-in a link ≡ []) × ((link : ℕ) → taken-in a link ≡ []))
-              → ((p : ℕ) × IsNeighbour p a hb.held.links.items) ⊎ (((p : ℕ) → IsNeighbour p a hb.held.links.items → ⊥) × (put_for hb.held.links.items a ≡ []) × (taken_from hb.held.links.items a ≡ [])) → taken_from hb.held.links.items a ≡ put-in a b
-          at (inr na) (inr n) = n.2 ∙ sym (na.1 b)
-          at (inl (i, ha, ea, fa)) (inr n) = n.2 ∙ sym (put-none i ha ea fa (λ p m.
-              let o = neighbour i ha p b fa m in
-              let j : o.0 ≡ k = one-suc o.0 k (sym o.2 ∙ eb) in
-              let same : o.1 ≡ hb = one-value o.1 hb (sym o.3 ∙ ap (λ n. slice_get cells n) j ∙ fb) in
-              n.0 o.4.0 (subst (λ s. IsNeighbour o.4.0 s hb.held.links.items) (sym ea) (subst (λ (c : CellParts). IsNeighbour o.4.0 (suc i) c.held.links.items) same o.4.1))))
-          at na (inl n) =
-              let o = neighbour k hb n.0 a fb n.1 in
-              let y = neighbour-then hb n.0 a (kept k hb fb) n.1 in
-              let lt : k < length (sights cells) = below-found k (sights cells) (sight hb) (map-found sight k cells hb fb) in
-              let up = (done k lt).taken n.0 (sight hb) (sight o.1) y.0 o.0 (map-found sight k cells hb fb) y.1 (map-found sight o.0 cells o.1 o.3) (y.2 ∙ o.2) in
-              ap (λ u. taken_from hb.held.links.items u) (sym y.2) ∙ up ∙ ap (λ s. put_for o.1.held.links.items s) (number-at net phase cells together k hb fb ∙ sym eb) ∙ sym (ap (λ s. put-in s b) o.2 ∙ put-here o.0 o.1 o.3 b)
-
-  equal : (a b : ℕ) → (ends b).took a ≡ (ends a).put b
-  unfolding ends
-  equal a b = frames-one ((ends b).took a) ((ends a).put b) ((piece b).took_readable a) ((piece a).put_readable b) (sym ((piece b).took a) ∙ same-frames a b ∙ (piece a).put b)
-
   lines-none : (t : ℕ) → (Has t (upto (length cells)) → ⊥) → lines-of t ≡ []
   lines-none zero n = refl
   lines-none (suc k) n = go (there-or-not cells k)
@@ -301,47 +267,122 @@ module _ (net : NetParts) (phase : ℕ) (cells : List CellParts) (together : Are
   unfolding ends
   merge = journals-merge (machine_in net phase) (length cells) lines-of (λ t. (replay-journal (machine_in net phase) phase t (begun t) (lines-of t) (ends t) (piece t).replay).1) lines-none
 
-  -- what is seen of a cell that is done
-  calm-at : (k : ℕ) (cell : CellParts) → slice_get cells k ≡ Some cell → cell.held.core.staged ≡ []
-  calm-at k cell e =
-      let f = map-found sight k cells cell e in
-      (done k (below-found k (sights cells) (sight cell) f)).calm (sight cell) f
-
-  through-at : (k : ℕ) (cell : CellParts) → slice_get cells k ≡ Some cell → HasNoCommand cell.held.core phase
-  through-at k cell e =
-      let f = map-found sight k cells cell e in
-      subst (λ p. HasNoCommand cell.held.core p) (together.phases k cell.root (root-at net phase cells together k cell e)) ((done k (below-found k (sights cells) (sight cell) f)).through (sight cell) f)
-
   core-number : (k : ℕ) (cell : CellParts) → slice_get cells k ≡ Some cell → cell.held.core.server ≡ suc k
   core-number k cell e = (kept k cell e).number ∙ number-at net phase cells together k cell e
 
-  pub finished : IsFinished net phase cells begun
+  -- the phase is in hand, where what each took is the beginning of what was put
+  phase-in-hand : ((a b : ℕ) → IsPrefix ((ends b).took a) ((ends a).put b)) → IsPhaseInHand (machine_in net phase) phase begun lines-of merge.0 ends
   unfolding ends
-  finished = record {
-    ends = ends;
-    merged = merge.0;
-    in_hand = record {
-      merge = merge.1;
-      replay = λ s. (piece s).replay;
-      took = λ a b. subst (λ l. IsPrefix l ((ends a).put b)) (sym (equal a b)) (prefix-self ((ends a).put b));
-    };
-    ended = record {
-      quiet = record {
-        empty = λ a b. ap (λ (l : List (Stamped (Message real))). length l) (equal a b);
-        calm = λ s h.
+  phase-in-hand took = record { merge = merge.1; replay = λ s. (piece s).replay; took = took }
+
+  module _ (order : AreInOrder (sights cells)) where
+    none-taken : (xs ys : List FrameParts) → xs ≡ [] → IsPrefix xs ys
+    none-taken xs ys e = (ys, ap (λ l. l ++ ys) e)
+
+    -- what is taken is the beginning of what was put
+    begin-frames : (a b : ℕ) → IsPrefix (taken-in b a) (put-in a b)
+    begin-frames a b = go (look b)
+      where
+        go : ((k : ℕ) × (hb : CellParts) × (b ≡ suc k) × (slice_get cells k ≡ Some hb)) ⊎ (((k : ℕ) → b ≡ suc k → k < length cells → ⊥) × ((link : ℕ) → put-in b link ≡ []) × ((link : ℕ) → taken-in b link ≡ [])) → IsPrefix (taken-in b a) (put-in a b)
+        go (inr nb) = none-taken (taken-in b a) (put-in a b) (nb.2 a)
+        go (inl (k, hb, eb, fb)) = subst (λ l. IsPrefix l (put-in a b)) (sym (ap (λ s. taken-in s a) eb ∙ taken-here k hb fb a)) (at (place-or-none a hb.held.links.items))
+          where
+            at : ((p : ℕ) × IsNeighbour p a hb.held.links.items) ⊎ (((p : ℕ) → IsNeighbour p a hb.held.links.items → ⊥) × (put_for hb.held.links.items a ≡ []) × (taken_from hb.held.links.items a ≡ [])) → IsPrefix (taken_from hb.held.links.items a) (put-in a b)
+            at (inr n) = none-taken (taken_from hb.held.links.items a) (put-in a b) n.2
+            at (inl n) =
+                let o = neighbour k hb n.0 a fb n.1 in
+                let y = neighbour-then hb n.0 a (kept k hb fb) n.1 in
+                let lt : k < length (sights cells) = below-found k (sights cells) (sight hb) (map-found sight k cells hb fb) in
+                let up = order k n.0 lt (sight hb) (sight o.1) y.0 o.0 (map-found sight k cells hb fb) y.1 (map-found sight o.0 cells o.1 o.3) (y.2 ∙ o.2) in
+                let put : put_for o.1.held.links.items hb.root.server ≡ put-in a b = ap (λ s. put_for o.1.held.links.items s) (number-at net phase cells together k hb fb ∙ sym eb) ∙ sym (ap (λ s. put-in s b) o.2 ∙ put-here o.0 o.1 o.3 b) in
+                subst (λ u. IsPrefix (taken_from hb.held.links.items u) (put-in a b)) y.2 (subst (λ l. IsPrefix (taken_from hb.held.links.items y.0.neighbour) l) put up)
+
+    begins : (a b : ℕ) → IsPrefix ((ends b).took a) ((ends a).put b)
+    unfolding ends
+    begins a b = frames-begin ((ends b).took a) ((ends a).put b) ((piece b).took_readable a) ((piece a).put_readable b)
+        (subst (λ l. IsPrefix l (map framed ((ends a).put b))) ((piece b).took a) (subst (λ l. IsPrefix (taken-in b a) l) ((piece a).put b) (begin-frames a b)))
+
+    pub all-in-hand : AreAllInHand net phase cells begun
+    unfolding ends
+    all-in-hand = record {
+      ends = ends;
+      merged = merge.0;
+      in_hand = phase-in-hand begins;
+      stand = λ k cell e. (piece (suc k)).stands k cell refl e;
+      others = λ s beyond. (piece s).other beyond;
+    }
+
+  module _ (done : AreDone (sights cells)) where
+    -- all that was put is taken
+    same-frames : (a b : ℕ) → taken-in b a ≡ put-in a b
+    same-frames a b = go (look a) (look b)
+      where
+        put-none : (i : ℕ) (ha : CellParts) → a ≡ suc i → slice_get cells i ≡ Some ha → ((p : ℕ) → IsNeighbour p b ha.held.links.items → ⊥) → put-in a b ≡ []
+        put-none i ha ea fa without = ap (λ s. put-in s b) ea ∙ put-here i ha fa b ∙ at (place-or-none b ha.held.links.items)
+          where
+            at : ((p : ℕ) × IsNeighbour p b ha.held.links.items) ⊎ (((p : ℕ) → IsNeighbour p b ha.held.links.items → ⊥) × (put_for ha.held.links.items b ≡ []) × (taken_from ha.held.links.items b ≡ [])) → put_for ha.held.links.items b ≡ []
+            at (inl n) = absurd (without n.0 n.1)
+            at (inr n) = n.1
+
+        go : ((i : ℕ) × (ha : CellParts) × (a ≡ suc i) × (slice_get cells i ≡ Some ha)) ⊎ (((k : ℕ) → a ≡ suc k → k < length cells → ⊥) × ((link : ℕ) → put-in a link ≡ []) × ((link : ℕ) → taken-in a link ≡ []))
+            → ((k : ℕ) × (hb : CellParts) × (b ≡ suc k) × (slice_get cells k ≡ Some hb)) ⊎ (((k : ℕ) → b ≡ suc k → k < length cells → ⊥) × ((link : ℕ) → put-in b link ≡ []) × ((link : ℕ) → taken-in b link ≡ [])) → taken-in b a ≡ put-in a b
+        go (inr na) (inr nb) = nb.2 a ∙ sym (na.1 b)
+        go (inl (i, ha, ea, fa)) (inr nb) = nb.2 a ∙ sym (put-none i ha ea fa (λ p n. let o = neighbour i ha p b fa n in nb.0 o.0 o.2 (below-found o.0 cells o.1 o.3)))
+        go na (inl (k, hb, eb, fb)) = ap (λ s. taken-in s a) eb ∙ taken-here k hb fb a ∙ at na (place-or-none a hb.held.links.items)
+          where
+            at : ((i : ℕ) × (ha : CellParts) × (a ≡ suc i) × (slice_get cells i ≡ Some ha)) ⊎ (((k : ℕ) → a ≡ suc k → k < length cells → ⊥) × ((link : ℕ) → put-in a link ≡ []) × ((link : ℕ) → taken-in a link ≡ []))
+                → ((p : ℕ) × IsNeighbour p a hb.held.links.items) ⊎ (((p : ℕ) → IsNeighbour p a hb.held.links.items → ⊥) × (put_for hb.held.links.items a ≡ []) × (taken_from hb.held.links.items a ≡ [])) → taken_from hb.held.links.items a ≡ put-in a b
+            at (inr na) (inr n) = n.2 ∙ sym (na.1 b)
+            at (inl (i, ha, ea, fa)) (inr n) = n.2 ∙ sym (put-none i ha ea fa (λ p m.
+                let o = neighbour i ha p b fa m in
+                let j : o.0 ≡ k = one-suc o.0 k (sym o.2 ∙ eb) in
+                let same : o.1 ≡ hb = one-value o.1 hb (sym o.3 ∙ ap (λ n. slice_get cells n) j ∙ fb) in
+                n.0 o.4.0 (subst (λ s. IsNeighbour o.4.0 s hb.held.links.items) (sym ea) (subst (λ (c : CellParts). IsNeighbour o.4.0 (suc i) c.held.links.items) same o.4.1))))
+            at na (inl n) =
+                let o = neighbour k hb n.0 a fb n.1 in
+                let y = neighbour-then hb n.0 a (kept k hb fb) n.1 in
+                let lt : k < length (sights cells) = below-found k (sights cells) (sight hb) (map-found sight k cells hb fb) in
+                let up = (done k lt).taken n.0 (sight hb) (sight o.1) y.0 o.0 (map-found sight k cells hb fb) y.1 (map-found sight o.0 cells o.1 o.3) (y.2 ∙ o.2) in
+                ap (λ u. taken_from hb.held.links.items u) (sym y.2) ∙ up ∙ ap (λ s. put_for o.1.held.links.items s) (number-at net phase cells together k hb fb ∙ sym eb) ∙ sym (ap (λ s. put-in s b) o.2 ∙ put-here o.0 o.1 o.3 b)
+
+    equal : (a b : ℕ) → (ends b).took a ≡ (ends a).put b
+    unfolding ends
+    equal a b = frames-one ((ends b).took a) ((ends a).put b) ((piece b).took_readable a) ((piece a).put_readable b) (sym ((piece b).took a) ∙ same-frames a b ∙ (piece a).put b)
+
+    -- what is seen of a cell that is done
+    calm-at : (k : ℕ) (cell : CellParts) → slice_get cells k ≡ Some cell → cell.held.core.staged ≡ []
+    calm-at k cell e =
+        let f = map-found sight k cells cell e in
+        (done k (below-found k (sights cells) (sight cell) f)).calm (sight cell) f
+
+    through-at : (k : ℕ) (cell : CellParts) → slice_get cells k ≡ Some cell → HasNoCommand cell.held.core phase
+    through-at k cell e =
+        let f = map-found sight k cells cell e in
+        subst (λ p. HasNoCommand cell.held.core p) (together.phases k cell.root (root-at net phase cells together k cell e)) ((done k (below-found k (sights cells) (sight cell) f)).through (sight cell) f)
+
+    pub finished : IsFinished net phase cells begun
+    unfolding ends
+    finished = record {
+      ends = ends;
+      merged = merge.0;
+      in_hand = phase-in-hand (λ a b. subst (λ l. IsPrefix l ((ends a).put b)) (sym (equal a b)) (prefix-self ((ends a).put b)));
+      ended = record {
+        quiet = record {
+          empty = λ a b. ap (λ (l : List (Stamped (Message real))). length l) (equal a b);
+          calm = λ s h.
+              let o = server-of s h in
+              (stands-at s o.0 o.1 o.2 o.3).state.staged ∙ ap (λ l. is_some_there l) (calm-at o.0 o.1 o.3);
+        };
+        through = λ s h.
             let o = server-of s h in
-            (stands-at s o.0 o.1 o.2 o.3).state.staged ∙ ap (λ l. is_some_there l) (calm-at o.0 o.1 o.3);
+            let st = (stands-at s o.0 o.1 o.2 o.3).state in
+            subst (λ n. all_through real here (ends s).state (suc phase) (here.clients n) ≡ true) (core-number o.0 o.1 o.3 ∙ sym o.2)
+            (is-through here o.1.held.core (ends s).state st phase
+            (due-state here o.1.held.core (ends s).state st phase (subst (λ p. IsDue p o.1.held.core.clients) (together.phases o.0 o.1.root (root-at net phase cells together o.0 o.1 o.3)) (kept o.0 o.1 o.3).due)) (through-at o.0 o.1 o.3));
       };
-      through = λ s h.
-          let o = server-of s h in
-          let st = (stands-at s o.0 o.1 o.2 o.3).state in
-          subst (λ n. all_through real here (ends s).state (suc phase) (here.clients n) ≡ true) (core-number o.0 o.1 o.3 ∙ sym o.2)
-          (is-through here o.1.held.core (ends s).state st phase
-          (due-state here o.1.held.core (ends s).state st phase (subst (λ p. IsDue p o.1.held.core.clients) (together.phases o.0 o.1.root (root-at net phase cells together o.0 o.1 o.3)) (kept o.0 o.1 o.3).due)) (through-at o.0 o.1 o.3));
-    };
-    stand = λ k cell e. (piece (suc k)).stands k cell refl e;
-    others = λ s beyond. (piece s).other beyond;
-  }
-    where
-      stands-at : (s k : ℕ) (cell : CellParts) → s ≡ suc k → slice_get cells k ≡ Some cell → IsCellOf net phase cell.held.core cell.held.links.items (ends s)
-      stands-at s k cell q e = (piece s).stands k cell q e
+      stand = λ k cell e. (piece (suc k)).stands k cell refl e;
+      others = λ s beyond. (piece s).other beyond;
+    }
+      where
+        stands-at : (s k : ℕ) (cell : CellParts) → s ≡ suc k → slice_get cells k ≡ Some cell → IsCellOf net phase cell.held.core cell.held.links.items (ends s)
+        stands-at s k cell q e = (piece s).stands k cell q e

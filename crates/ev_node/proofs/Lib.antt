@@ -43,3 +43,4 @@ pub mod Uniting
 pub mod Rehung
 pub mod Onward
 pub mod Nexts
+pub mod Settled

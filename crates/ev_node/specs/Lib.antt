@@ -12,3 +12,4 @@ pub mod Entered
 pub mod Coming
 pub mod Started
 pub mod Relinking
+pub mod InHand

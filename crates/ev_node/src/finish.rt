@@ -7,6 +7,7 @@ ghost use Rattle.ev_node.specs.declared.held.Root.{Root as RootParts};
 ghost use Rattle.ev_node.specs.Cell.{CellParts, IsKept, machine_in};
 ghost use Rattle.ev_node.specs.Links.{At, IsNextAt, IsOneLane, IsSettled};
 ghost use Rattle.ev_node.specs.Together.{AreTogether, AreBegun, AreDone, IsCellDone, IsFinished, IsLaneOf, IsTakenUp, IsWornSomewhere, links_of, roots, sights};
+ghost use Rattle.ev_node.specs.InHand.{AreAllInHand, AreInOrder, IsTakenInOrder};
 
 use crate::cell::Cell;
 use crate::settling::settle_two;
@@ -167,10 +168,39 @@ pub(crate) fn tell_all(cells: &[Cell<'_>])
     }
 }
 
-/// Makes the rest of the phase: all commands that are left, server by server, and then rounds, in which each server takes
-/// from each neighbour and publishes what is staged, until one makes nothing. Then all lanes are empty, nothing is staged,
-/// and no command of the phase is left. After a fault the steps that were made stand.
-pub fn finish_phase<R: Wait>(rt: &R, cells: &mut [Cell<'_>]) -> Result<(), StepFault>
+/// Brings all that was put for one server, and not taken, to its taking ends.
+fn settle_one(cells: &mut [Cell<'_>], k: usize) -> Result<(), NoMemory>
+    requires k { k < length cells.old }
+    requires together { (net : NetParts) × (phase : ℕ) × AreTogether net phase (roots cells.old) }
+    ensures sights { sights cells.new ≡ sights cells.old }
+    ensures order { OnOk result ((p : ℕ) → IsTakenInOrder (sights cells.new) k p) }
+{
+    let mine = &cells[k];
+    mine.tells();
+    for from in 0..mine.neighbours() {
+        let (giver, to) = giver_of(cells, k, from);
+        settle_at(cells, giver, to, k, from)?;
+        cells[giver].tells();
+        cells[k].tells();
+    }
+    Ok(())
+}
+
+/// Brings all that was put, and not taken, to the taking ends of all lanes. Then what each server took of a neighbour is
+/// the beginning of what that put for it.
+fn settle_all(cells: &mut [Cell<'_>]) -> Result<(), NoMemory>
+    requires { (net : NetParts) × (phase : ℕ) × AreTogether net phase (roots cells.old) }
+    ensures sights { sights cells.new ≡ sights cells.old }
+    ensures order { OnOk result (AreInOrder (sights cells.new)) }
+{
+    for k in 0..cells.len() {
+        settle_one(cells, k)?;
+    }
+    Ok(())
+}
+
+/// Makes the rest of the phase, up to a fault.
+fn walk_phase<R: Wait>(rt: &R, cells: &mut [Cell<'_>]) -> Result<(), StepFault>
     requires together { (net : NetParts) × (phase : ℕ) × AreTogether net phase (roots cells.old) }
     ensures roots { roots cells.new ≡ roots cells.old }
     ensures done { OnOk result (AreDone (sights cells.new)) }
@@ -182,4 +212,28 @@ pub fn finish_phase<R: Wait>(rt: &R, cells: &mut [Cell<'_>]) -> Result<(), StepF
     walk_rest(rt, cells)?;
     tell_all(cells);
     Ok(())
+}
+
+/// Makes the rest of the phase: all commands that are left, server by server, and then rounds, in which each server takes
+/// from each neighbour and publishes what is staged, until one makes nothing. Then all lanes are empty, nothing is staged,
+/// and no command of the phase is left. After a fault the steps that were made stand; where no stamp is left, all that was put is
+/// brought to the taking ends, so that all cells are in hand.
+pub fn finish_phase<R: Wait>(rt: &R, cells: &mut [Cell<'_>]) -> Result<(), StepFault>
+    requires together { (net : NetParts) × (phase : ℕ) × AreTogether net phase (roots cells.old) }
+    ensures roots { roots cells.new ≡ roots cells.old }
+    ensures done { OnOk result (AreDone (sights cells.new)) }
+    ensures finished { OnOk result ((net : NetParts) (phase : ℕ) → AreTogether net phase (roots cells.old)
+        → (begun : ℕ → Begun (machine_in net phase)) → AreBegun net phase cells.new begun → IsFinished net phase cells.new begun) }
+    ensures worn { (s : ℕ) → IsErrOf result (StepFault.Worn s) → IsWornSomewhere s (sights cells.new) }
+    ensures hand { (s : ℕ) → IsErrOf result (StepFault.Worn s) → (net : NetParts) (phase : ℕ) → AreTogether net phase (roots cells.old)
+        → (begun : ℕ → Begun (machine_in net phase)) → AreBegun net phase cells.new begun → AreAllInHand net phase cells.new begun }
+{
+    match walk_phase(rt, cells) {
+        Err(StepFault::Worn(stamp)) => {
+            settle_all(cells)?;
+            tell_all(cells);
+            Err(StepFault::Worn(stamp))
+        }
+        answer => answer,
+    }
 }

@@ -1,11 +1,19 @@
-use Rattle.std.proofs.Common.{◌∙◌, sym, subst}
-use Rattle.ev_node.specs.Together.{AreTogether}
-use Rattle.ev_node.proofs.InHand.{finished}
+use Rattle.std.proofs.Common.{◌∙◌, sym, subst, arith}
+use Rattle.std.proofs.lemmas.Grind.{common_steps}
+use Rattle.ev_node.specs.Together.{AreTogether, IsWornSomewhere}
+use Rattle.ev_node.proofs.Emptied.{same-roots}
+use Rattle.ev_node.proofs.InHand.{all-in-hand}
 use Rattle.ev_node.proofs.finish.finish_phase.Goals as goal
 
-pub walk_rest-requires : goal.walk_rest-requires
-walk_rest-requires g c = (c.requires.together.0, c.requires.together.1, subst (AreTogether c.requires.together.0 c.requires.together.1) (sym c.walk_commands.ensures.roots) c.requires.together.2)
+pub returns-in_err-settle_all-in-Err-Worn-clause-roots : goal.returns-in_err-settle_all-in-Err-Worn-clause-roots
+returns-in_err-settle_all-in-Err-Worn-clause-roots g c = same-roots _ _ c.settle_all.ensures.sights ∙ c.walk_phase.ensures.roots
 
-pub returns-clause-finished : goal.returns-clause-finished
-returns-clause-finished g c net phase together begun is =
-    finished net phase c.walk_rest.new.cells (subst (AreTogether net phase) (sym (c.walk_rest.ensures.roots ∙ c.walk_commands.ensures.roots)) together) c.in_ok-walk_rest.ensures.done c.tell_all.ensures begun is
+pub returns-in_ok-settle_all-in-Err-Worn-clause-roots : goal.returns-in_ok-settle_all-in-Err-Worn-clause-roots
+returns-in_ok-settle_all-in-Err-Worn-clause-roots g c = same-roots _ _ c.settle_all.ensures.sights ∙ c.walk_phase.ensures.roots
+
+pub returns-in_ok-settle_all-in-Err-Worn-clause-worn : goal.returns-in_ok-settle_all-in-Err-Worn-clause-worn
+returns-in_ok-settle_all-in-Err-Worn-clause-worn g c s e = subst (λ l. IsWornSomewhere s l) (sym c.settle_all.ensures.sights) (c.in-Err-Worn.ensures.worn s (grind (arith, common_steps, e, c.in-Err-Worn.field-0-is)))
+
+pub returns-in_ok-settle_all-in-Err-Worn-clause-hand : goal.returns-in_ok-settle_all-in-Err-Worn-clause-hand
+returns-in_ok-settle_all-in-Err-Worn-clause-hand g c s e net phase together begun is =
+    all-in-hand net phase c.settle_all.new.cells (subst (AreTogether net phase) (sym (same-roots _ _ c.settle_all.ensures.sights ∙ c.walk_phase.ensures.roots)) together) c.tell_all.ensures begun is c.in_ok-settle_all-in-Err-Worn.ensures.order

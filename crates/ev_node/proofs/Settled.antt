@@ -1,0 +1,85 @@
+-- What was taken of settled lanes is the beginning of what was put.
+use Rattle.std.proofs.Common.{◌≡◌, ℕ, suc, ◌<◌, ◌≤◌, List, [], ◌∷◌, ◌++◌, length, map, Some, slice_get, inl, inr, refl, sym, ap, subst, ◌∙◌, arith}
+use Rattle.ev_run.specs.Machine.{Stamped}
+use Rattle.ev_run.specs.Journals.{IsPrefix}
+use Rattle.ev_routing.specs.Server.{Message}
+use Rattle.ev_theory.specs.Real.{real}
+use Rattle.ev_lane.specs.Lane.{put_list, taken_list, rest_list}
+use Rattle.ev_frame.specs.Frame.{FrameParts}
+use Rattle.ev_node.specs.declared.held.Root.{Root}
+use Rattle.ev_node.specs.declared.link.Link.{Link}
+use Rattle.ev_node.specs.Links.{At, IsSettled, IsNeighbour, IsSameLink, put_for, taken_from}
+use Rattle.ev_node.specs.Served.{framed}
+use Rattle.ev_node.specs.Cell.{CellParts, AreReadable}
+use Rattle.ev_node.specs.Together.{Sight, IsLaneOf, sight, sights, roots, links_of}
+use Rattle.ev_node.specs.InHand.{IsTakenInOrder}
+use Rattle.ev_node.proofs.Places.{one-value, both-before, below-found}
+use Rattle.ev_node.proofs.Framing.{frames-one}
+use Rattle.ev_node.proofs.Gathered.{IsKeptCell, found-map, map-found, one-suc}
+use Rattle.ev_node.proofs.Emptied.{found-put, found-taken, distinct-kept, takes-now}
+
+-- the beginning of some frames is that of some messages
+pub frames-begin : (ms ns : List (Stamped (Message real))) → AreReadable ms → AreReadable ns → IsPrefix (map framed ms) (map framed ns) → IsPrefix ms ns
+frames-begin [] ns ra rb p = (ns, refl)
+frames-begin (a ∷ ms) [] ra rb p = absurd (let e : framed a ∷ (map framed ms ++ p.0) ≡ [] = p.1 in cc)
+frames-begin (a ∷ ms) (b ∷ ns) ra rb p =
+    let q = first-of (framed a) (framed b) (map framed ms ++ p.0) (map framed ns) p.1 in
+    let r = frames-begin ms ns (λ m h. ra m (inr h)) (λ m h. rb m (inr h)) (p.0, q.1) in
+    let one : a ∷ [] ≡ b ∷ [] = frames-one (a ∷ []) (b ∷ []) (λ m h. elim h [ inl e ↦ ra m (inl e) | inr n ↦ absurd n ]) (λ m h. elim h [ inl e ↦ rb m (inl e) | inr n ↦ absurd n ]) (ap (λ f. f ∷ []) q.0) in
+    (r.0, ap (λ l. l ++ (ms ++ r.0)) one ∙ ap (λ l. b ∷ l) r.1)
+  where
+    first-of : (x y : FrameParts) (xs ys : List FrameParts) → x ∷ xs ≡ y ∷ ys → (x ≡ y) × (xs ≡ ys)
+    first-of x y xs ys e = (cc, cc)
+
+-- after it was settled, what is taken is the beginning of what was put
+begins : (a b : CellParts) (to from u : ℕ) → IsKeptCell a → IsKeptCell b → At IsSettled to a.held.links.items from b.held.links.items → IsNeighbour to b.root.server (links_of a.root) → IsNeighbour from u (links_of b.root) → IsPrefix ((sight b).took u) ((sight a).put b.root.server)
+begins a b to from u ka kb (x, y, ex, ey, s) gives takes =
+    let x0 = both-before IsSameLink to (links_of a.root) a.held.links.items x ka.links ex in
+    let y0 = both-before IsSameLink from (links_of b.root) b.held.links.items y kb.links ey in
+    let nx : x.neighbour ≡ b.root.server = x0.2.neighbour ∙ ap (λ (w : Link). w.neighbour) (one-value x0.0 gives.0 (sym x0.1 ∙ gives.1)) ∙ gives.2 in
+    let ny : y.neighbour ≡ u = y0.2.neighbour ∙ ap (λ (w : Link). w.neighbour) (one-value y0.0 takes.0 (sym y0.1 ∙ takes.1)) ∙ takes.2 in
+    let took : taken_from b.held.links.items u ≡ taken_list y.leave = ap (λ n. taken_from b.held.links.items n) (sym ny) ∙ found-taken from b.held.links.items y ey (distinct-kept b kb) in
+    let put : put_list x.enter ≡ put_for a.held.links.items b.root.server = sym (found-put to a.held.links.items x ex (distinct-kept a ka)) ∙ ap (λ n. put_for a.held.links.items n) nx in
+    (rest_list y.leave, ap (λ l. l ++ rest_list y.leave) took ∙ s.all ∙ put)
+
+taken-in-order : (cells : List CellParts) (a b : CellParts) (giver to taker from : ℕ) → slice_get cells giver ≡ Some a → slice_get cells taker ≡ Some b → IsKeptCell a → IsKeptCell b
+    → At IsSettled to a.held.links.items from b.held.links.items → IsNeighbour to b.root.server (links_of a.root) → IsNeighbour from (suc giver) (links_of b.root) → IsTakenInOrder (sights cells) taker from
+taken-in-order cells a b giver to taker from at-a at-b ka kb settled gives takes s t y i es ey et name =
+    let sb : s ≡ sight b = one-value s (sight b) (sym es ∙ map-found sight taker cells b at-b) in
+    let yn : y ≡ takes.0 = one-value y takes.0 (sym ey ∙ ap (λ (w : Sight). slice_get (links_of w.root) from) sb ∙ takes.1) in
+    let ny : y.neighbour ≡ suc giver = ap (λ (w : Link). w.neighbour) yn ∙ takes.2 in
+    let ig : i ≡ giver = one-suc i giver (sym name ∙ ny) in
+    let ta : t ≡ sight a = one-value t (sight a) (sym et ∙ ap (λ n. slice_get (sights cells) n) ig ∙ map-found sight giver cells a at-a) in
+    subst (λ (w : Sight). IsPrefix (w.took y.neighbour) (t.put w.root.server)) (sym sb)
+    (subst (λ n. IsPrefix ((sight b).took n) (t.put b.root.server)) (sym ny) (subst (λ (w : Sight). IsPrefix ((sight b).took (suc giver)) (w.put b.root.server)) (sym ta) (begins a b to from (suc giver) ka kb settled gives takes)))
+
+module _ (old mid : List CellParts) (giver to taker from : ℕ) (lane : IsLaneOf old giver to taker from) (seen : sights mid ≡ sights old) where
+  -- what a cell had as the phase began is the same after the settling
+  before : (k : ℕ) (b : CellParts) → slice_get mid k ≡ Some b → (a : CellParts) × (slice_get old k ≡ Some a) × (a.root ≡ b.root)
+  before k b e =
+      let f = found-map sight k old (sight b) (ap (λ l. slice_get l k) (sym seen) ∙ map-found sight k mid b e) in
+      (f.0, f.1, ap (λ (s : Sight). s.root) f.2)
+
+  gives-now : (a b : CellParts) → slice_get mid giver ≡ Some a → slice_get mid taker ≡ Some b → IsNeighbour to b.root.server (links_of a.root)
+  gives-now a b p q =
+      let a' = before giver a p in
+      let b' = before taker b q in
+      subst (λ (r : Root). IsNeighbour to r.server (links_of a.root)) b'.2 (subst (λ (r : Root). IsNeighbour to b'.0.root.server (links_of r)) a'.2 (lane.gives a'.0 b'.0 a'.1 b'.1))
+
+  -- what is taken after the settling is the beginning of what was put
+  pub settle-order : (x y : CellParts) → slice_get mid giver ≡ Some x → slice_get mid taker ≡ Some y → IsKeptCell x → IsKeptCell y
+      → (a b : CellParts) × (slice_get mid giver ≡ Some a) × (slice_get mid taker ≡ Some b) × At IsSettled to a.held.links.items from b.held.links.items → IsTakenInOrder (sights mid) taker from
+  settle-order x y ex ey kx ky (a, b, ea, eb, settled) =
+      let by : b ≡ y = one-value b y (sym eb ∙ ey) in
+      let ax : a ≡ x = one-value a x (sym ea ∙ ex) in
+      let settled' : At IsSettled to x.held.links.items from y.held.links.items = subst (λ (w : CellParts). At IsSettled to w.held.links.items from y.held.links.items) ax (subst (λ (w : CellParts). At IsSettled to a.held.links.items from w.held.links.items) by settled) in
+      taken-in-order mid x y giver to taker from ex ey kx ky settled' (gives-now x y ex ey) (takes-now old mid giver to taker from lane seen y ey)
+
+-- so many places were settled
+pub all-settled : (cells : List CellParts) (k n : ℕ) → ((b : Root) → slice_get (roots cells) k ≡ Some b → length (links_of b) ≤ n) → ((p : ℕ) → p < n → IsTakenInOrder (sights cells) k p) → (p : ℕ) → IsTakenInOrder (sights cells) k p
+all-settled cells k n few tried p s t y i es ey et name =
+    let f = found-map sight k cells s es in
+    let root : slice_get (roots cells) k ≡ Some s.root = map-found (λ (w : CellParts). w.root) k cells f.0 f.1 ∙ ap (λ (w : Sight). Some w.root) f.2 in
+    let le : length (links_of s.root) ≤ n = few s.root root in
+    let lt : p < length (links_of s.root) = below-found p (links_of s.root) y ey in
+    tried p (omega (arith, le, lt)) s t y i es ey et name
