@@ -24,7 +24,7 @@ use Rattle.ev_server.specs.Core.{CoreParts, IsServerState}
 use Rattle.ev_server.specs.Clients.{numbers_of}
 use Rattle.ev_node.specs.declared.held.Root.{Root}
 use Rattle.ev_node.specs.Cell.{CellParts, IsCellOf, machine_in}
-use Rattle.ev_node.specs.Entered.{state_of}
+use Rattle.ev_node.specs.Entered.{IsEntered, state_of}
 use Rattle.ev_node.specs.Together.{AreBegun, IsFinished, roots, entries_in, journals}
 use Rattle.ev_node.specs.Turns.{HasCommand}
 use Rattle.ev_node.proofs.Places.{one-value}
@@ -83,6 +83,28 @@ command-at net core state client phase stands h =
       n.2,
     )
 
+-- cells that entered a phase, and those cells later
+module _ (net : NetParts) (last phase : ℕ) (end : State real) (started now : List CellParts) (enters : IsEntered net last phase end started) (roots_stay : roots now ≡ roots started) where
+  -- a cell now was one as it entered, with the same root
+  first-cell : (k : ℕ) (cell : CellParts) → slice_get now k ≡ Some cell → (first : CellParts) × (slice_get started k ≡ Some first) × (first.root ≡ cell.root)
+  first-cell k cell e = found-map (λ (c : CellParts). c.root) k started cell.root (ap (λ l. slice_get l k) (sym roots_stay) ∙ map-found (λ (c : CellParts). c.root) k now cell e)
+
+  same-many : length now ≡ length started
+  same-many = sym (len now) ∙ ap (λ (l : List Root). length l) roots_stay ∙ len started
+    where
+      len : (cells : List CellParts) → length (roots cells) ≡ length cells
+      len [] = refl
+      len (c ∷ cells) = ap suc (len cells)
+
+  -- they began as the state that was entered
+  pub are-begun : AreBegun net phase now enters.begun
+  are-begun = record {
+    stand = λ k cell e.
+        let f = first-cell k cell e in
+        subst (λ (r : Root). IsCellOf net phase r.core.value r.links.value.items (enters.begun (suc k))) f.2 (enters.stand.stand k f.0 f.1);
+    others = λ server beyond link. enters.stand.others server (λ k q lt. beyond k q (subst (λ n. k < n) (sym same-many) lt)) link;
+  }
+
 module _ (net : NetParts) (last phase : ℕ) (old started now : List CellParts) (done : IsPhaseDone net last phase old started now) where
   abbrev here : Net real
   here = net_at real (phased_net net) phase
@@ -99,28 +121,14 @@ module _ (net : NetParts) (last phase : ℕ) (old started now : List CellParts) 
   abbrev begun : ℕ → Cell (machine_in net phase)
   begun = done.enters.begun
 
-  -- a cell now was one as it entered, with the same root
   then-cell : (k : ℕ) (cell : CellParts) → slice_get now k ≡ Some cell → (first : CellParts) × (slice_get started k ≡ Some first) × (first.root ≡ cell.root)
-  then-cell k cell e = found-map (λ (c : CellParts). c.root) k started cell.root (ap (λ l. slice_get l k) (sym done.roots_stay) ∙ map-found (λ (c : CellParts). c.root) k now cell e)
+  then-cell = first-cell net last phase (state_of net last done.stood.ends) started now done.enters done.roots_stay
 
-  as-many : length now ≡ length started
-  as-many = sym (len now) ∙ ap (λ (l : List Root). length l) done.roots_stay ∙ len started
-    where
-      len : (cells : List CellParts) → length (roots cells) ≡ length cells
-      len [] = refl
-      len (c ∷ cells) = ap suc (len cells)
-
-  -- they began as the state that was entered
-  are-begun : AreBegun net phase now begun
-  are-begun = record {
-    stand = λ k cell e.
-        let f = then-cell k cell e in
-        subst (λ (r : Root). IsCellOf net phase r.core.value r.links.value.items (begun (suc k))) f.2 (done.enters.stand.stand k f.0 f.1);
-    others = λ server beyond link. done.enters.stand.others server (λ k q lt. beyond k q (subst (λ n. k < n) (sym as-many) lt)) link;
-  }
+  are-begun-now : AreBegun net phase now begun
+  are-begun-now = are-begun net last phase (state_of net last done.stood.ends) started now done.enters done.roots_stay
 
   abbrev ended : IsFinished net phase now begun
-  ended = done.finished begun are-begun
+  ended = done.finished begun are-begun-now
 
   -- what the journal of a cell was before
   journal-before : (k : ℕ) (cell : CellParts) → slice_get now k ≡ Some cell → (before : CellParts) × (slice_get old k ≡ Some before) × (take cell.root.entries cell.journal ≡ before.journal)
@@ -137,7 +145,7 @@ module _ (net : NetParts) (last phase : ℕ) (old started now : List CellParts) 
       ∙ ap (λ l. journal_of before.journal ++ l) (sym (on-off here (journal_of (drop cell.root.entries cell.journal))))
 
   old-many : length now ≡ length old
-  old-many = as-many ∙ sym (len started) ∙ ap (λ (l : List (List EntryParts)). length l) done.journals ∙ len old
+  old-many = same-many net last phase (state_of net last done.stood.ends) started now done.enters done.roots_stay ∙ sym (len started) ∙ ap (λ (l : List (List EntryParts)). length l) done.journals ∙ len old
     where
       len : (cells : List CellParts) → length (journals_by cells) ≡ length cells
       len [] = refl
@@ -227,7 +235,7 @@ module _ (net : NetParts) (last phase : ℕ) (old started now : List CellParts) 
     ends = ended.ends;
     stand = record {
       stand = ended.stand;
-      others = λ server beyond link. let b = are-begun.others server beyond link in let s = ended.others server beyond in
+      others = λ server beyond link. let b = are-begun-now.others server beyond link in let s = ended.others server beyond in
           (ap (λ (c : Cell (machine_in net phase)). c.put link) s ∙ b.0, ap (λ (c : Cell (machine_in net phase)). c.took link) s ∙ b.1);
     };
     sofar = entries_after real (phased_net net) phase-done;

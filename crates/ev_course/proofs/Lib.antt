@@ -2,3 +2,4 @@ pub mod Going
 pub mod Opening
 pub mod Closing
 pub mod Sessions
+pub mod Reached

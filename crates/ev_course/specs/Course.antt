@@ -15,6 +15,7 @@ use Rattle.ev_node.specs.Cell.{CellParts, IsKept, machine_in}
 use Rattle.ev_node.specs.Coming.{HaveCommand}
 use Rattle.ev_node.specs.Entered.{StandFor, IsEntered, state_of}
 use Rattle.ev_node.specs.Together.{AreTogether, AreBegun, IsFinished, roots}
+use Rattle.ev_node.specs.InHand.{AreAllInHand}
 use Rattle.ev_course.specs.declared.ran.Ran.{Ran}
 
 -- the journals of all servers
@@ -49,6 +50,14 @@ pub record AreInHand (net : NetParts) (phase : ℕ) (cells : List CellParts) : T
   pub sound : IsSound net
   pub together : AreTogether net phase (roots cells)
   pub kept : AreKept cells
+
+-- A PHASE HAS BEGUN: cells that stood before it have entered it, and all of them are in hand
+pub record IsPhaseBegun (net : NetParts) (last phase : ℕ) (old started now : List CellParts) : Type 0 where
+  pub hand : AreInHand net last old
+  pub stood : StandBetween net last phase old
+  pub enters : IsEntered net last phase (state_of net last stood.ends) started
+  pub roots_stay : roots now ≡ roots started
+  pub reached : (begun : ℕ → Cell (machine_in net phase)) → AreBegun net phase now begun → AreAllInHand net phase now begun
 
 -- A PHASE IS DONE: cells that stood before it, one with a command of it, have entered it, and it is ended with all of them in hand
 pub record IsPhaseDone (net : NetParts) (last phase : ℕ) (old started now : List CellParts) : Type 0 where

@@ -9,7 +9,8 @@ ghost use Rattle.ev_node.specs.Cell.{CellParts};
 ghost use Rattle.ev_node.specs.Coming.{HaveCommand};
 ghost use Rattle.ev_node.specs.Entered.{AreThrough, AreCalm};
 ghost use Rattle.ev_node.specs.Started.{AreStarted};
-ghost use Rattle.ev_course.specs.Course.{StandBetween, IsPhaseDone, AreInHand, IsWholeMerge, journals_by};
+ghost use Rattle.ev_node.specs.Together.{IsWornSomewhere, sights};
+ghost use Rattle.ev_course.specs.Course.{StandBetween, IsPhaseBegun, IsPhaseDone, AreInHand, IsWholeMerge, journals_by};
 
 /// Cells before their first step stand between no phase and the first.
 pub fn opens()
@@ -31,6 +32,13 @@ pub fn stand_later()
 pub fn phase_done()
     ensures { (net : NetParts) (last phase : ℕ) (old started now : List CellParts) → IsPhaseDone net last phase old started now
         → StandBetween net phase (suc phase) now }
+{}
+
+/// While a phase is made with all cells in hand, no clock and no frame that was put has the last stamp: the entries so far
+/// are a run of a sound net, and by its limits no stamp of such a run comes near it.
+pub fn never_worn()
+    ensures { (net : NetParts) (last phase : ℕ) (old started now : List CellParts) → IsPhaseBegun net last phase old started now
+        → (stamp : ℕ) → IsWornSomewhere stamp (sights now) → ⊥ }
 {}
 
 /// The journals of cells that stand between two phases have a merge; where no command is left, that is a whole run.
