@@ -88,12 +88,13 @@ impl Line {
 ghost use Rattle.std.specs.Prelude.{◌≡◌, ◌++◌, [], cond, OnOk};
 ghost use Rattle.ev_numindex.specs.Lines.{ids_in};
 
-/// Appends the ids of some pairs.
+/// Appends the ids of some pairs, after room for all of them was made.
 fn append_ids(found: &mut Vec<u32>, pairs: &[(Key, u32)]) -> Result<(), NoMemory>
     ensures { OnOk result (found.new.items ≡ found.old.items ++ ids_in pairs.now) }
 {
+    found.reserve(pairs.len())?;
     for pair in pairs {
-        found.push(pair.1)?;
+        found.push_reserved(pair.1);
     }
     Ok(())
 }
