@@ -10,3 +10,4 @@ pub mod Routed
 pub mod Relinking
 pub mod Sought
 pub mod Quiet
+pub mod Unwanted

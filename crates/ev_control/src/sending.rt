@@ -51,6 +51,19 @@ fn is_met(adverts: &Stock<Ad>, offered: &[Key], filter: &Sub) -> bool
     false
 }
 
+/// Whether one of some filters is wanted on a link that offers the advertisements of these keys.
+fn some_wanted(semantics: Semantics, adverts: &Stock<Ad>, offered: &[Key], filters: &[Sub]) -> bool
+    requires { AreLive adverts.now.pool offered.now }
+    ensures { result ≡ false → (f : List ConstraintParts) → Has f filters.now → is_wanted semantics (named adverts.now.pool offered.now) f ≡ false }
+{
+    for one in filters {
+        if is_wanted(semantics, adverts, offered, one) {
+            return true;
+        }
+    }
+    false
+}
+
 /// Whether a filter is needed on a link that offers the advertisements of these keys, once the
 /// interface holds those no more that are withdrawn.
 fn is_left(
@@ -132,6 +145,54 @@ fn filter_text(
     let after = filter_row(semantics, filters, adverts, &offered, interface, link, out)?;
     let text = filters.text(&before, &after)?;
     Ok(bytes(text))
+}
+
+/// Whether no filter of a change is wanted on a link.
+fn is_idle(
+    semantics: Semantics,
+    adverts: &Stock<Ad>,
+    link: u32,
+    out: &[Sub],
+    add: &[Sub],
+) -> Result<bool, NoMemory>
+    ensures out { IfOk result (λ idle. idle ≡ true → (f : List ConstraintParts) → Has f out.now
+        → is_wanted semantics (held_without list_before link [] adverts.now.pairs) f ≡ false) }
+    ensures add { IfOk result (λ idle. idle ≡ true → (f : List ConstraintParts) → Has f add.now
+        → is_wanted semantics (held_without list_before link [] adverts.now.pairs) f ≡ false) }
+{
+    if semantics == Semantics::Subscription {
+        return Ok(false);
+    }
+    let offers = adverts.kept(link, &[])?;
+    if some_wanted(semantics, adverts, &offers, out) {
+        return Ok(false);
+    }
+    let wanted = some_wanted(semantics, adverts, &offers, add);
+    Ok(!wanted)
+}
+
+/// The same text. Where no filter of the change is wanted on the link none is due, and no set is asked for.
+fn due_text(
+    semantics: Semantics,
+    filters: &Stock<Sub>,
+    adverts: &Stock<Ad>,
+    interface: u32,
+    link: u32,
+    out: &[Sub],
+    add: &[Sub],
+) -> Result<Option<Bytes>, NoMemory>
+    ensures change { IfOk result (λ text. text_to link text
+        ≡ map (sent_to link) (filters_turn semantics interface link (held_without list_before link [] adverts.now.pairs)
+        (held_without list_before link [] adverts.now.pairs) out.now add.now filters.now.pairs)) }
+    ensures text { OnOk result (HaveTexts (filters_turn semantics interface link (held_without list_before link [] adverts.now.pairs)
+        (held_without list_before link [] adverts.now.pairs) out.now add.now filters.now.pairs)) }
+{
+    let idle = is_idle(semantics, adverts, link, out, add)?;
+    if idle {
+        return Ok(None);
+    }
+    let text = filter_text(semantics, filters, adverts, interface, link, out, add)?;
+    Ok(text)
 }
 
 /// The text, if one is due, of the message of filters to a link whose advertisements change.
@@ -279,7 +340,7 @@ pub(crate) fn filter_texts(
         if !differ_for(&differences, *link) {
             continue;
         }
-        let text = filter_text(semantics, filters, adverts, interface, *link, out, add)?;
+        let text = due_text(semantics, filters, adverts, interface, *link, out, add)?;
         push_text(&mut sent, *link, text)?;
     }
     Ok(sent)
