@@ -45,7 +45,7 @@ fn note_taken(
     Ok(())
 }
 
-/// The pairs whose last change takes them. The changes are gone through from the last one on.
+/// The pairs whose last change takes them, in the order of those changes, which are gone through from the last one on.
 fn withdrawn(alloc: Global, changes: &[Change]) -> Result<Vec<Pair>, NoMemory>
     ensures { IfOk result (λ pairs. (x : Held) → Contains pairs.items x ↔ IsWithdrawn changes.now x) }
 {
@@ -58,6 +58,7 @@ fn withdrawn(alloc: Global, changes: &[Change]) -> Result<Vec<Pair>, NoMemory>
         note_taken(alloc, change, last, &mut taken)?;
         left = earlier;
     }
+    taken.reverse();
     Ok(taken)
 }
 
