@@ -1,5 +1,6 @@
 -- The entry of an act: it is the one that a step tells, and it makes a step.
 use Rattle.std.proofs.Common.{◌≡◌, ℕ, ◌==◌, true, false, cond, List, [], ◌∷◌, ◌++◌, ◌⊎◌, inl, inr, slice_get, Option, Some, None, refl, sym, ap, subst, ◌∙◌, arith, eq-eqb, ne_eqb}
+use Rattle.std.proofs.lemmas.Option.{same_Some}
 use Rattle.ev_run.specs.Machine.{Machine, Input, Does, Takes, Outcome, Act, Did, Took, Stamped, Entry, unstamped, stamped, act_of, act_phase, receivers, entry_of}
 use Rattle.ev_run.specs.Network.{NetworkState, IsAvailable, IsStep, network_after, taking_of, outcome_of, outcome_at, outs_of, after_outcome, after_input, turn, entry_given, entry_from, entry_at}
 use Rattle.ev_run.specs.Runs.{IsPermitted, raised, IsQuiet, IsThrough, IsReady, IsRun, MachineLaws}
@@ -9,9 +10,6 @@ use Rattle.ev_run.proofs.Lists.{Same, Is, Not, compare}
 use Rattle.ev_run.proofs.Turn.{step-turn}
 use Rattle.ev_run.proofs.Fixed.{ready-once}
 use Rattle.ev_run.proofs.Phases.{get-end}
-
-unsome : {X : Type 0} {a b : X} → Some a ≡ Some b → a ≡ b
-unsome e = cc
 
 module _ (m : Machine) where
   -- the entry of a step is that of its server's act
@@ -37,7 +35,7 @@ module _ (m : Machine) where
       → (e.server ≡ t) × (e.act ≡ act_of m d) × IsStep m w e (after_outcome m w t d o)
   given-entered w t d e given None f g = absurd cc
   given-entered w t d e given (Some r) f g =
-      subst (λ (z : Entry m). (z.server ≡ t) × (z.act ≡ act_of m d) × IsStep m w z (network_after m w t d r)) (unsome g) (refl, refl, (d, r, f, refl, given, refl))
+      subst (λ (z : Entry m). (z.server ≡ t) × (z.act ≡ act_of m d) × IsStep m w z (network_after m w t d r)) (same_Some _ _ g) (refl, refl, (d, r, f, refl, given, refl))
 
   pub entry-step : (w : NetworkState m) (t : ℕ) (a : Act m.Task) (e : Entry m) → entry_at m w t a ≡ Some e → Entered w t a e
   entry-step w t (Did a) e f =
@@ -80,7 +78,7 @@ module _ (m : Machine) where
       let server : e.server ≡ f.server = ap (λ (z : Turn m). z.0) heads in
       let act : e.act ≡ f.act = ap (λ (z : Turn m). z.1) heads in
       let o = ready-once m w p (act_phase m e.server (w.state e.server) e.act) x x' s s' ready (subst (λ (z : Turn m). IsReady m w p (act_phase m z.0 (w.state z.0) z.1) x' s') (sym heads) ready') in
-      let e-same : e ≡ f = unsome (sym (step-entry x e v step) ∙ (ap (λ (z : Turn m). entry_at m x z.0 z.1) heads ∙ (ap (λ z. entry_at m z f.server f.act) o.0 ∙ step-entry x' f v' step'))) in
+      let e-same : e ≡ f = same_Some _ _ (sym (step-entry x e v step) ∙ (ap (λ (z : Turn m). entry_at m x z.0 z.1) heads ∙ (ap (λ z. entry_at m z f.server f.act) o.0 ∙ step-entry x' f v' step'))) in
       let v-same : v ≡ v' = sym (step-turn m x e v step) ∙ (ap (λ (z : Turn m). turn m x z.0 z.1) heads ∙ (ap (λ z. turn m z f.server f.act) o.0 ∙ step-turn m x' f v' step')) in
       ap (λ z. z ∷ es) e-same ∙ ap (λ z. f ∷ z) (by-turns v s es fs a b q r rest (subst (λ z. IsRun m z s fs b r) (sym v-same) (subst (λ z. IsRun m v' z fs b r) (sym o.1) rest')) (tails same))
     where

@@ -1,6 +1,7 @@
 -- One edge more: the labels stay those of a forest.
 use Rattle.std.proofs.Common.{◌≡◌, ℕ, zero, suc, ◌+◌, ◌<◌, ◌≤◌, ◌==◌, cond, List, [], ◌∷◌, ◌++◌, ◌⊎◌, inl, inr, length, take, get_or, slice_get, Option, Some, None, IfSome, IfNone, ◌≢◌, ◌↔◌, refl, sym, ap, subst, ◌∙◌, arith}
 use Rattle.std.proofs.lemmas.List.{take_more}
+use Rattle.std.proofs.lemmas.Option.{same_Some}
 use Rattle.ev_tree.specs.Graph.{AreJoined, AreWithin, IsEdgeWithin, IsForest, IsTree, IsApart}
 use Rattle.ev_tree.specs.Labels.{IsPartition}
 use Rattle.ev_tree.proofs.Joined.{joined-same}
@@ -18,10 +19,7 @@ own-labels n labels few own = record {
 
 -- a place in a list with one more at its end
 snoc-get : {X : Type 0} (xs : List X) (x : X) (i : ℕ) (y : X) → slice_get (xs ++ x ∷ []) i ≡ Some y → ((slice_get xs i ≡ Some y) × (take i (xs ++ x ∷ []) ≡ take i xs)) ⊎ ((x ≡ y) × (take i (xs ++ x ∷ []) ≡ xs))
-snoc-get [] x zero y e = inr (unsome e, refl)
-  where
-    unsome : {X : Type 0} {a b : X} → Some a ≡ Some b → a ≡ b
-    unsome e = cc
+snoc-get [] x zero y e = inr (same_Some _ _ e, refl)
 snoc-get [] x (suc i) y e = absurd cc
 snoc-get (z ∷ xs) x zero y e = inl (e, refl)
 snoc-get (z ∷ xs) x (suc i) y e = elim (snoc-get xs x i y e) [ inl p ↦ inl (p.0, ap (λ t. z ∷ t) p.1) | inr p ↦ inr (p.0, ap (λ t. z ∷ t) p.1) ]
@@ -96,7 +94,4 @@ pub apart_answer : (n : ℕ) (edges : List (ℕ × ℕ)) (labels : List ℕ) (an
 apart_answer n edges labels None s some p none one = (λ e. absurd cc, λ a. absurd (a.apart ((alike-tree n edges labels some p none).joined s a.from a.to)))
 apart_answer n edges labels (Some r) s some p none one =
     let found : IsApart n edges r = apart-least n edges labels r some p one.0 one.1 one.2 one.3 in
-    (λ e. let same : r ≡ s = unsome e in subst (IsApart n edges) same found, λ a. ap Some (apart-same n edges r s found a))
-  where
-    unsome : {a b : ℕ} → Some a ≡ Some b → a ≡ b
-    unsome e = cc
+    (λ e. let same : r ≡ s = same_Some _ _ e in subst (IsApart n edges) same found, λ a. ap Some (apart-same n edges r s found a))

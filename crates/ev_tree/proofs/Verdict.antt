@@ -1,6 +1,7 @@
 -- A list of edges has at most one fault, and none if it is a tree.
 use Rattle.std.proofs.Common.{◌≡◌, ℕ, zero, suc, ◌<◌, true, List, [], ◌∷◌, ◌⊎◌, ◌↔◌, inl, inr, Result, Ok, Err, take, slice_get, Some, refl, sym, ap, subst, ◌∙◌, arith}
 use Rattle.std.specs.Result.{IsErrAnd}
+use Rattle.std.proofs.lemmas.Option.{same_Some}
 use Rattle.ev_tree.specs.Graph.{has_edge, AreJoined, IsForest, IsTree, IsTwice, IsLoop, IsApart, IsCount}
 use Rattle.ev_tree.specs.Labels.{IsFault}
 use Rattle.ev_tree.specs.declared.fault.TreeFault.{TreeFault}
@@ -63,12 +64,9 @@ bad-same edges i j b c = go (order i j)
 twice-loop : (edges : List (ℕ × ℕ)) (i j : ℕ) → IsTwice edges i → IsLoop edges j → ⊥
 twice-loop edges i j t u =
     let same : i ≡ j = bad-same edges i j (bad-twice edges i t) (bad-loop edges j u) in
-    let edge : t.edge ≡ u.edge = unsome (sym t.at ∙ ap (λ k. slice_get edges k) same ∙ u.at) in
+    let edge : t.edge ≡ u.edge = same_Some _ _ (sym t.at ∙ ap (λ k. slice_get edges k) same ∙ u.at) in
     let found : has_edge (take j edges) u.edge.0 u.edge.1 ≡ true = subst (λ z. has_edge (take j edges) z.0 z.1 ≡ true) edge (subst (λ k. has_edge (take k edges) t.edge.0 t.edge.1 ≡ true) same t.same) in
     differ found u.other
-  where
-    unsome : {X : Type 0} {a b : X} → Some a ≡ Some b → a ≡ b
-    unsome e = cc
 
 pub apart-same : (n : ℕ) (edges : List (ℕ × ℕ)) (s r : ℕ) → IsApart n edges s → IsApart n edges r → s ≡ r
 apart-same n edges s r a b = go (order s r)
