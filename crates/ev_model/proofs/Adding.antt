@@ -7,7 +7,7 @@ use Rattle.ev_sets.proofs.Sets.{member-has, has-put_in, rising-put_in, rising-fi
 use Rattle.ev_routing.specs.Theory.{Theory, TheoryLaws}
 use Rattle.ev_routing.specs.Net.{Net, Command, Subscribe, Unsubscribe, Advertise, Unadvertise, Publish, PhasedCommand}
 use Rattle.ev_routing.specs.Clients.{some_pass, filters_step, filters_after, adverts_step, adverts_after, accepts, is_publish, ordinal, add_refused, refused_from}
-use Rattle.ev_routing.proofs.Listing.{pass-by, by-pass}
+use Rattle.ev_routing.proofs.Listing.{pass-by, by-pass, has-either, has-left, has-right}
 use Rattle.ev_model.specs.Adding.{own_filters_step, own_filters, own_adverts_step, own_adverts, refused_next}
 
 -- a list and a rising list with the same members
@@ -15,20 +15,6 @@ pub record IsSorted {T : Type 0} (before : T → T → Bool) (own rising : List 
   pub rises : IsRising before rising
   pub to : (x : T) → Has x own → Has x rising
   pub back : (x : T) → Has x rising → Has x own
-
-has-append : {T : Type 0} (x : T) (xs ys : List T) → Has x (xs ++ ys) → Has x xs ⊎ Has x ys
-has-append x [] ys h = inr h
-has-append x (y ∷ xs) ys (inl e) = inl (inl e)
-has-append x (y ∷ xs) ys (inr h) = elim (has-append x xs ys h) [ inl m ↦ inl (inr m) | inr m ↦ inr m ]
-
-append-left : {T : Type 0} (x : T) (xs ys : List T) → Has x xs → Has x (xs ++ ys)
-append-left x [] ys h = absurd h
-append-left x (y ∷ xs) ys (inl e) = inl e
-append-left x (y ∷ xs) ys (inr h) = inr (append-left x xs ys h)
-
-append-right : {T : Type 0} (x : T) (xs ys : List T) → Has x ys → Has x (xs ++ ys)
-append-right x [] ys h = h
-append-right x (y ∷ xs) ys h = inr (append-right x xs ys h)
 
 module _ {T : Type 0} {covers before : T → T → Bool} (laws : CoverLaws covers before) where
   none : IsSorted before [] []
@@ -48,8 +34,8 @@ module _ {T : Type 0} {covers before : T → T → Bool} (laws : CoverLaws cover
       }
       go false e = record {
         rises = rising-put_in laws x rising s.rises;
-        to = λ y h. (has-put_in laws x y rising).1 (elim (has-append y own (x ∷ []) h) [ inl m ↦ inr (s.to y m) | inr m ↦ inl (only y m) ]);
-        back = λ y h. elim (back y h) [ inl q ↦ append-right y own (x ∷ []) (inl q) | inr m ↦ append-left y own (x ∷ []) (s.back y m) ];
+        to = λ y h. (has-put_in laws x y rising).1 (elim (has-either y own (x ∷ []) h) [ inl m ↦ inr (s.to y m) | inr m ↦ inl (only y m) ]);
+        back = λ y h. elim (back y h) [ inl q ↦ has-right y own (x ∷ []) (inl q) | inr m ↦ has-left y own (x ∷ []) (s.back y m) ];
       }
         where
           only : (y : T) → Has y (x ∷ []) → y ≡ x
