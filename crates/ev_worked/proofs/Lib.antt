@@ -1,5 +1,5 @@
 pub mod Owing
 pub mod Lawful
-pub mod Nets
+pub mod LawfulNets
 pub mod Replayed
 pub mod Phased

@@ -4,7 +4,7 @@ use Rattle.ev_sets.specs.Sets.{Has}
 use Rattle.ev_routing.specs.Clients.{filters_after}
 use Rattle.ev_routing.specs.Owed.{IsMomentOfPhase, IsOwed, IsAllowed}
 use Rattle.ev_worked.specs.Ranges.{Above, Any, ranges}
-use Rattle.ev_worked.specs.Nets.{withdrawn_wide, subscribed_again}
+use Rattle.ev_worked.specs.SmallNets.{withdrawn_wide, subscribed_again}
 
 pub wide-allowed : IsAllowed ranges withdrawn_wide 1 9 1
 wide-allowed = record { index = 1; moment = record { from = omega arith; upto = omega arith }; filter = Any; listed = inl refl; matches = refl }

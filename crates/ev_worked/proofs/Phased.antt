@@ -17,10 +17,10 @@ use Rattle.ev_phases.proofs.Walks.{walk-drains}
 use Rattle.ev_phases.proofs.Star.{star-laws}
 use Rattle.ev_worked.specs.Ranges.{Any, ranges}
 use Rattle.ev_worked.specs.Trace.{Line, line, outs_to, lines_from, trace, beginning, walk}
-use Rattle.ev_worked.specs.Nets.{in_phase}
+use Rattle.ev_worked.specs.SmallNets.{in_phase}
 use Rattle.ev_worked.specs.Phased.{on_one_tree, outs_found, line_of, lines_after, phased_trace, phased_walk, line_becomes_star, subscriber_publishes}
 use Rattle.ev_worked.proofs.Lawful.{ranges-laws}
-use Rattle.ev_worked.proofs.Nets.{each, rises}
+use Rattle.ev_worked.proofs.LawfulNets.{each, rises}
 
 module _ (th : Theory) (net : Net th) where
   pub single-laws : NetLaws th net → PhasedNetLaws th (on_one_tree th net)

@@ -1,4 +1,4 @@
 pub mod Ranges
 pub mod Trace
-pub mod Nets
+pub mod SmallNets
 pub mod Phased

@@ -11,7 +11,7 @@ use Rattle.ev_phases.specs.Walk.{walk_of}
 use Rattle.ev_phases.specs.Example.{line_tree, star_tree}
 use Rattle.ev_worked.specs.Ranges.{Any, ranges}
 use Rattle.ev_worked.specs.Trace.{Line, line}
-use Rattle.ev_worked.specs.Nets.{in_phase}
+use Rattle.ev_worked.specs.SmallNets.{in_phase}
 
 module _ (theory : Theory) where
   -- a net on one tree, which all its phases have

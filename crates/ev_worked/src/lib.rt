@@ -20,8 +20,8 @@ ghost use Rattle.ev_phases.specs.Moments.{opening_moment};
 ghost use Rattle.ev_phases.specs.Runs.{IsRunTo};
 ghost use Rattle.ev_phases.specs.AtMoments.{DrainsBy};
 ghost use Rattle.ev_worked.specs.Phased.{on_one_tree, phased_trace, phased_walk, phased_given, phased_held, line_becomes_star, subscriber_publishes};
-ghost use Rattle.ev_worked.specs.Nets.{publication, wide_travels, wide_and_narrow, withdrawn_wide, all_know, both_set_out, notice_arrives};
-ghost use Rattle.ev_worked.specs.Nets.{withdrawal_known, equal_ranges, advertised_small, subscribed_again};
+ghost use Rattle.ev_worked.specs.SmallNets.{publication, wide_travels, wide_and_narrow, withdrawn_wide, all_know, both_set_out, notice_arrives};
+ghost use Rattle.ev_worked.specs.SmallNets.{withdrawal_known, equal_ranges, advertised_small, subscribed_again};
 
 /// Ranges of numbers are a theory of filters, and the nets below are nets over it, so that every law of runs holds of them.
 pub fn all_lawful()

@@ -1,5 +1,5 @@
 use Rattle.ev_worked.proofs.Lawful.{ranges-laws}
-use Rattle.ev_worked.proofs.Nets.{wide_and_narrow-lawful, withdrawn_wide-lawful, equal_ranges-lawful, advertised_small-lawful, subscribed_again-lawful}
+use Rattle.ev_worked.proofs.LawfulNets.{wide_and_narrow-lawful, withdrawn_wide-lawful, equal_ranges-lawful, advertised_small-lawful, subscribed_again-lawful}
 use Rattle.ev_worked.proofs.all_lawful.Goals as goal
 
 pub returns-clause-ranges : goal.returns-clause-ranges

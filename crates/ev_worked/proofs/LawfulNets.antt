@@ -7,7 +7,7 @@ use Rattle.ev_run.proofs.Lists.{Same, Is, Not, compare}
 use Rattle.ev_routing.specs.Net.{NetLaws, NeverFalls, PhasedCommand, Subscribe, Unsubscribe, Advertise, Publish}
 use Rattle.ev_routing.proofs.Witness.{line-laws}
 use Rattle.ev_worked.specs.Ranges.{Below, Equal, Above, AtLeast, Any, ranges}
-use Rattle.ev_worked.specs.Nets.{in_phase, pair_links, line_clients, line_of, wide_and_narrow, withdrawn_wide, equal_ranges, advertised_small, subscribed_again}
+use Rattle.ev_worked.specs.SmallNets.{in_phase, pair_links, line_clients, line_of, wide_and_narrow, withdrawn_wide, equal_ranges, advertised_small, subscribed_again}
 
 -- what holds of 1, 2, 3 and of the others holds of all
 pub each : (P : ℕ → Type 0) → P 1 → P 2 → P 3 → ((t : ℕ) → (t == 1) ≡ false → (t == 2) ≡ false → (t == 3) ≡ false → P t) → (t : ℕ) → P t
