@@ -1,5 +1,6 @@
 -- The commands of a phase, tried one after the other, are all taken.
 use Rattle.std.proofs.Common.{◌≡◌, ℕ, zero, suc, ◌+◌, ◌≤◌, ◌<◌, ◌==◌, Bool, true, false, cond, List, [], ◌∷◌, ◌⊎◌, inl, inr, length, slice_get, Option, Some, None, refl, sym, ap, subst, ◌∙◌, arith, eq-eqb}
+use Rattle.std.proofs.lemmas.Option.{same_Some}
 use Rattle.ev_sets.specs.Sets.{Has}
 use Rattle.ev_links.proofs.Numbers.{below}
 use Rattle.ev_run.specs.Machine.{Machine, at, Input, Does, Takes, Outcome, Act, Did, Stamped, act_of, act_phase, entry_of}
@@ -25,7 +26,6 @@ use Rattle.ev_routing.proofs.Listing.{has-one}
 use Rattle.ev_routing.proofs.Working.{served, works}
 use Rattle.ev_routing.proofs.Accepted.{effect-done, done-here}
 use Rattle.ev_routing.proofs.Scripts.{through-count, upto-count}
-use Rattle.ev_routing.proofs.Spreading.{unsome}
 use Rattle.ev_routing.proofs.Drained.{below-length}
 use Rattle.ev_routing.proofs.Idle.{get-none}
 
@@ -130,7 +130,7 @@ module _ (th : Theory) (net : Net th) (good : NetLaws th net) where
                 early : (j : ℕ) → commands_below th j (net.script c) ≤ taken-of s t c → y.phase < j → ⊥
                 early zero l a = omega (arith, a)
                 early (suc j) l a = omega (arith, l, upto-count th j (net.script c) (taken-of s t c) y (good.phased c) f (omega (arith, a)))
-            by (inr a) (inl b) = inl (through-count th (suc k) (net.script c) (taken-of s t c) (good.phased c) (λ x e. omega (arith, b, ap (λ (z : PhasedCommand th). z.phase) (unsome (sym f ∙ e)))))
+            by (inr a) (inl b) = inl (through-count th (suc k) (net.script c) (taken-of s t c) (good.phased c) (λ x e. omega (arith, b, ap (λ (z : PhasedCommand th). z.phase) (same_Some _ _ (sym f ∙ e)))))
             by (inr a) (inr b) = inr (one-more s walk t c here lives y f (omega (arith, a, b)))
 
     -- as many tries as the script has commands take all of the phase
