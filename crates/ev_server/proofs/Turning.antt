@@ -8,12 +8,12 @@ use Rattle.ev_sets.proofs.Roots.{Has-filter, filter-Has}
 use Rattle.ev_sets.proofs.Sets.{ext, has-union, minus-iff, member-has, has-member, rising-union, rising-minus, same_list-iff}
 use Rattle.ev_cover.specs.Laws.{sub_laws}
 use Rattle.ev_poset.proofs.Names.{Has-map, map-Has}
-use Rattle.ev_session.proofs.Settling.{has-append}
 use Rattle.ev_counting.specs.declared.change.Change.{Change}
 use Rattle.ev_counting.specs.declared.change.Change.TheVariants.{Add, Remove}
 use Rattle.ev_control.proofs.Holdings.{split}
 use Rattle.ev_server.specs.Staged.{pair_of, is_earlier, with_one, staged_with, Turns, is_some_there}
 use Rattle.ev_server.proofs.Pairs.{one-or, has-one, rising-one}
+use Rattle.ev_routing.proofs.Listing.{has-either, has-left, has-right}
 
 abbrev pub Filters : Type 0
 Filters = List (List ConstraintParts)
@@ -40,15 +40,6 @@ touched-or change (x ∷ changes) = elim (one-or change x) [
     first : pair_of change ≢ pair_of x → Untouched change changes → Untouched change (x ∷ changes)
     first n u other (inl e) = λ q. n (q ∙ ap pair_of e)
     first n u other (inr m) = u other m
-
-has-front : {T : Type 0} (x : T) (xs ys : List T) → Has x xs → Has x (xs ++ ys)
-has-front x [] ys m = absurd m
-has-front x (y ∷ xs) ys (inl e) = inl e
-has-front x (y ∷ xs) ys (inr m) = inr (has-front x xs ys m)
-
-has-back : {T : Type 0} (x : T) (xs ys : List T) → Has x ys → Has x (xs ++ ys)
-has-back x [] ys m = m
-has-back x (y ∷ xs) ys m = inr (has-back x xs ys m)
 
 -- what stands among the staged changes after some more
 with-has : (changes staged : List Change) → IsRising is_earlier staged → AgreesWithin changes → (c : Change) → Has c (staged_with changes staged) → Has c changes ⊎ (Has c staged × Untouched c changes)
@@ -103,7 +94,7 @@ module _ (interface : ℕ) (held out add : Filters) where
     adds : (f : List ConstraintParts) → c ≡ Add interface f → Has f add → (Has f held → ⊥) → Made c
 
   made-is : (c : Change) → Has c made → Made c
-  made-is c m = elim (has-append c gone come m) [
+  made-is c m = elim (has-either c gone come m) [
     | inl k ↦
         let r = Has-map (Remove interface) (filter (λ f. member list_before f held) out) c k in
         let p = filter-Has (λ f. member list_before f held) r.0 out r.1 in
@@ -115,7 +106,7 @@ module _ (interface : ℕ) (held out add : Filters) where
   ]
 
   removed : (f : List ConstraintParts) → Has f out → Has f held → Has (Remove interface f) made
-  removed f o h = has-front (Remove interface f) gone come (map-Has (Remove interface) (filter (λ f. member list_before f held) out) f (Remove interface f) (Has-filter (λ f. member list_before f held) f out o (has-member sub_laws f held h)) refl)
+  removed f o h = has-left (Remove interface f) gone come (map-Has (Remove interface) (filter (λ f. member list_before f held) out) f (Remove interface f) (Has-filter (λ f. member list_before f held) f out o (has-member sub_laws f held h)) refl)
 
   absent : (f : List ConstraintParts) → (Has f held → ⊥) → not (member list_before f held) ≡ true
   absent f n = go (member list_before f held) refl
@@ -125,7 +116,7 @@ module _ (interface : ℕ) (held out add : Filters) where
       go false e = refl
 
   added : (f : List ConstraintParts) → Has f add → (Has f held → ⊥) → Has (Add interface f) made
-  added f a n = has-back (Add interface f) gone come (map-Has (Add interface) (filter (λ f. not (member list_before f held)) add) f (Add interface f) (Has-filter (λ f. not (member list_before f held)) f add a (absent f n)) refl)
+  added f a n = has-right (Add interface f) gone come (map-Has (Add interface) (filter (λ f. not (member list_before f held)) add) f (Add interface f) (Has-filter (λ f. not (member list_before f held)) f add a (absent f n)) refl)
 
   item-of : (c d : Change) → c ≡ d → (pair_of c).item ≡ (pair_of d).item
   item-of c d e = ap (λ z. (pair_of z).item) e

@@ -1,26 +1,26 @@
 -- A client's lists after one more command.
 use Rattle.std.proofs.Common.{◌≡◌, ℕ, zero, suc, ◌+◌, Bool, true, false, cond, List, [], ◌∷◌, ◌++◌, take, slice_get, map, Some, refl, sym, ap, subst, ◌∙◌, arith}
+use Rattle.std.proofs.lemmas.Option.{same_Some}
 use Rattle.ev_routing.specs.Theory.{Theory}
 use Rattle.ev_routing.specs.Net.{Net, Command, Subscribe, Unsubscribe, Advertise, Unadvertise, Publish, PhasedCommand}
 use Rattle.ev_routing.specs.Clients.{is_publish, ordinal, adverts_step, adverts_after, accepts, add_refused, refused_from}
-use Rattle.ev_routing.proofs.Spreading.{unsome}
 use Rattle.ev_model.specs.Adding.{own_filters_step, own_filters, own_adverts_step, own_adverts}
 
 -- a member of a list that is seen by a function
 pub get-map : {A B : Type 0} (f : A → B) (xs : List A) (j : ℕ) (x : A) → slice_get xs j ≡ Some x → slice_get (map f xs) j ≡ Some (f x)
 get-map f [] j x e = absurd cc
-get-map f (y ∷ xs) zero x e = ap (λ z. Some (f z)) (unsome e)
+get-map f (y ∷ xs) zero x e = ap (λ z. Some (f z)) (same_Some _ _ e)
 get-map f (y ∷ xs) (suc j) x e = get-map f xs j x e
 
 module _ (th : Theory) where
   pub filters-next : (cs : List (PhasedCommand th)) (fs : List th.Filter) (j : ℕ) (x : PhasedCommand th) → slice_get cs j ≡ Some x → own_filters th fs (take (suc j) cs) ≡ own_filters_step th (own_filters th fs (take j cs)) x.command
   filters-next [] fs j x e = absurd cc
-  filters-next (c ∷ cs) fs zero x e = ap (λ (z : PhasedCommand th). own_filters_step th fs z.command) (unsome e)
+  filters-next (c ∷ cs) fs zero x e = ap (λ (z : PhasedCommand th). own_filters_step th fs z.command) (same_Some _ _ e)
   filters-next (c ∷ cs) fs (suc j) x e = filters-next cs (own_filters_step th fs c.command) j x e
 
   pub adverts-next : (cs : List (PhasedCommand th)) (fs : List th.Advert) (j : ℕ) (x : PhasedCommand th) → slice_get cs j ≡ Some x → own_adverts th fs (take (suc j) cs) ≡ own_adverts_step th (own_adverts th fs (take j cs)) x.command
   adverts-next [] fs j x e = absurd cc
-  adverts-next (c ∷ cs) fs zero x e = ap (λ (z : PhasedCommand th). own_adverts_step th fs z.command) (unsome e)
+  adverts-next (c ∷ cs) fs zero x e = ap (λ (z : PhasedCommand th). own_adverts_step th fs z.command) (same_Some _ _ e)
   adverts-next (c ∷ cs) fs (suc j) x e = adverts-next cs (own_adverts_step th fs c.command) j x e
 
   swap : (p q : Bool) (n : ℕ) → cond p (suc (cond q (suc n) n)) (cond q (suc n) n) ≡ cond q (suc (cond p (suc n) n)) (cond p (suc n) n)
@@ -31,7 +31,7 @@ module _ (th : Theory) where
 
   pub ordinal-next : (cs : List (PhasedCommand th)) (j : ℕ) (x : PhasedCommand th) → slice_get cs j ≡ Some x → ordinal th (take (suc j) cs) ≡ cond (is_publish th x.command) (suc (ordinal th (take j cs))) (ordinal th (take j cs))
   ordinal-next [] j x e = absurd cc
-  ordinal-next (c ∷ cs) zero x e = ap (λ (z : PhasedCommand th). cond (is_publish th z.command) 1 0) (unsome e)
+  ordinal-next (c ∷ cs) zero x e = ap (λ (z : PhasedCommand th). cond (is_publish th z.command) 1 0) (same_Some _ _ e)
   ordinal-next (c ∷ cs) (suc j) x e = ap (λ n. cond (is_publish th c.command) (suc n) n) (ordinal-next cs j x e) ∙ swap (is_publish th c.command) (is_publish th x.command) (ordinal th (take j cs))
 
   module _ (net : Net th) where
@@ -55,7 +55,7 @@ module _ (th : Theory) where
 
     pub refused-next : (cs : List (PhasedCommand th)) (ads : List th.Advert) (o j : ℕ) (x : PhasedCommand th) → slice_get cs j ≡ Some x → refused_from th net ads o (take (suc j) cs) ≡ refused_from th net ads o (take j cs) ++ add_refused th net (adverts_after th ads (take j cs)) (o + ordinal th (take j cs)) x.command []
     refused-next [] ads o j x e = absurd cc
-    refused-next (c ∷ cs) ads o zero x e = ap (λ (z : PhasedCommand th). add_refused th net ads o z.command []) (unsome e) ∙ ap (λ n. add_refused th net ads n x.command []) (omega arith)
+    refused-next (c ∷ cs) ads o zero x e = ap (λ (z : PhasedCommand th). add_refused th net ads o z.command []) (same_Some _ _ e) ∙ ap (λ n. add_refused th net ads n x.command []) (omega arith)
     refused-next (c ∷ cs) ads o (suc j) x e =
         let o' : ℕ = cond (is_publish th c.command) (suc o) o in
         let ads' : List th.Advert = adverts_step th ads c.command in

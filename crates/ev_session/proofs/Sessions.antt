@@ -1,13 +1,13 @@
 -- What a session keeps is kept by its calls.
 use Rattle.std.proofs.Common.{◌≡◌, ℕ, zero, suc, ◌≤◌, ◌<◌, Bool, true, false, cond, List, [], ◌∷◌, ◌++◌, length, map, take, slice_get, get_or, Option, Some, None, refl, sym, ap, ap₂, subst, ◌∙◌, arith}
 use Rattle.std.specs.Int.{IsInRange}
+use Rattle.std.proofs.lemmas.Option.{same_Some}
 use Rattle.ev_wire.specs.declared.command.Command.{Command}
 use Rattle.ev_wire.specs.declared.command.Command.TheVariants as commands
 use Rattle.ev_wire.specs.declared.delivery.Delivery.{Delivery}
 use Rattle.ev_routing.specs.Theory.{Theory}
 use Rattle.ev_routing.specs.Net.{PhasedCommand}
 use Rattle.ev_routing.specs.Clients.{is_publish, ordinal, adverts_after, accepts, add_refused}
-use Rattle.ev_routing.proofs.Spreading.{unsome}
 use Rattle.ev_theory.specs.Real.{real, real_laws}
 use Rattle.ev_model.specs.Meaning.{command_of, phased_command}
 use Rattle.ev_model.specs.Adding.{own_filters_step, own_adverts_step}
@@ -112,7 +112,7 @@ module _ (s : SessionParts) (fs xs : Owned) (rs : List ℕ) (p : ℕ) (kept : Is
         where
           bad : Some plan ≡ None → ⊥
           bad q = cc
-      go (Some step) w = (step, w, unsome (sym e ∙ planned-is step w))
+      go (Some step) w = (step, w, same_Some _ _ (sym e ∙ planned-is step w))
 
   pub adds-few : (plan : Planned) → next_plan s ≡ Some plan → AddsFew plan
   adds-few plan e = let w = command-of-plan plan e in subst AddsFew (sym w.2) (plan-few s.client s.semantics fs xs p w.0.1)

@@ -4,20 +4,7 @@ use Rattle.ev_sets.specs.Laws.{CoverLaws}
 use Rattle.ev_sets.specs.Sets.{Has, member, minus, IsRising, union, set_of}
 use Rattle.ev_sets.proofs.Roots.{Has-filter, filter-Has}
 use Rattle.ev_sets.proofs.Sets.{member-has, has-member, ext, rising-union, rising-minus, rising-set_of, has-set_of, has-union, minus-iff}
-
-pub has-append : {T : Type 0} (x : T) (xs ys : List T) → Has x (xs ++ ys) → Has x xs ⊎ Has x ys
-has-append x [] ys h = inr h
-has-append x (y ∷ xs) ys (inl e) = inl (inl e)
-has-append x (y ∷ xs) ys (inr h) = elim (has-append x xs ys h) [ inl m ↦ inl (inr m) | inr m ↦ inr m ]
-
-pub append-left : {T : Type 0} (x : T) (xs ys : List T) → Has x xs → Has x (xs ++ ys)
-append-left x [] ys h = absurd h
-append-left x (y ∷ xs) ys (inl e) = inl e
-append-left x (y ∷ xs) ys (inr h) = inr (append-left x xs ys h)
-
-append-right : {T : Type 0} (x : T) (xs ys : List T) → Has x ys → Has x (xs ++ ys)
-append-right x [] ys h = h
-append-right x (y ∷ xs) ys h = inr (append-right x xs ys h)
+use Rattle.ev_routing.proofs.Listing.{has-either, has-left}
 
 pub filter-same : {T : Type 0} (p q : T → Bool) (xs : List T) → ((x : T) → Has x xs → p x ≡ q x) → filter p xs ≡ filter q xs
 filter-same p q [] f = refl
@@ -60,13 +47,13 @@ module _ {T : Type 0} {covers before : T → T → Bool} (laws : CoverLaws cover
     stands x h = go (q x) refl
       where
         gone : q x ≡ false → Has x next → ⊥
-        gone e m = elim (has-append x (filter q now) added m) [ inl k ↦ bad (sym e ∙ (filter-Has q x now k).1) | inr k ↦ new x k h ]
+        gone e m = elim (has-either x (filter q now) added m) [ inl k ↦ bad (sym e ∙ (filter-Has q x now k).1) | inr k ↦ new x k h ]
           where
             bad : false ≡ true → ⊥
             bad w = cc
 
         go : (b : Bool) → q x ≡ b → member before x next ≡ q x
-        go true e = has-member laws x next (append-left x (filter q now) added (Has-filter q x now h e)) ∙ sym e
+        go true e = has-member laws x next (has-left x (filter q now) added (Has-filter q x now h e)) ∙ sym e
         go false e = absent x next (gone e) ∙ sym e
 
     -- what goes

@@ -1,5 +1,6 @@
 -- A planned change turns the set that a server holds of a client into the next one, and what is refused depends on the semantics alone.
 use Rattle.std.proofs.Common.{◌≡◌, ℕ, suc, Bool, true, false, cond, not, ◌||◌, List, [], ◌∷◌, slice_get, Option, Some, None, refl, sym, ap, ap₂, subst, ◌∙◌}
+use Rattle.std.proofs.lemmas.Option.{same_Some}
 use Rattle.ev_constraint.specs.Constraint.{ConstraintParts}
 use Rattle.ev_notice.specs.Before.{list_before}
 use Rattle.ev_cover.specs.Laws.{sub_laws, ad_laws}
@@ -11,7 +12,6 @@ use Rattle.ev_wire.specs.declared.semantics.Semantics.{Semantics}
 use Rattle.ev_routing.specs.Theory.{Theory}
 use Rattle.ev_routing.specs.Net.{Net, PhasedCommand, Command as RunCommand, Subscribe, Unsubscribe, Advertise, Unadvertise, Publish}
 use Rattle.ev_routing.specs.Clients.{some_pass, accepts, add_refused, refused_from, adverts_step, is_publish, filters_after, adverts_after}
-use Rattle.ev_routing.proofs.Spreading.{unsome}
 use Rattle.ev_theory.specs.Real.{real, real_laws}
 use Rattle.ev_model.proofs.Adding.{filters-sorted, adverts-sorted}
 use Rattle.ev_session.specs.declared.planned.Planned.{Planned}
@@ -90,11 +90,11 @@ module _ (s : SessionParts) where
 
   subs-in : (o : Option (ℕ × Command)) (out add : Owned) → plan_in s o ≡ Some (plans.Subs out add) → (out ≡ minus list_before (filters_at s s.taken) (filters_at s (suc s.taken))) × (add ≡ minus list_before (filters_at s (suc s.taken)) (filters_at s s.taken))
   subs-in None out add e = absurd cc
-  subs-in (Some step) out add e = subs-by step.1 out add (unsome e)
+  subs-in (Some step) out add e = subs-by step.1 out add (same_Some _ _ e)
 
   advs-in : (o : Option (ℕ × Command)) (out add : Owned) → plan_in s o ≡ Some (plans.Advs out add) → (out ≡ minus list_before (adverts_at s s.taken) (adverts_at s (suc s.taken))) × (add ≡ minus list_before (adverts_at s (suc s.taken)) (adverts_at s s.taken))
   advs-in None out add e = absurd cc
-  advs-in (Some step) out add e = advs-by step.1 out add (unsome e)
+  advs-in (Some step) out add e = advs-by step.1 out add (same_Some _ _ e)
 
   pub filters-turn : (out add : Owned) → next_plan s ≡ Some (plans.Subs out add) → union list_before add (minus list_before (filters_after real [] (first_commands s s.taken)) out) ≡ filters_after real [] (first_commands s (suc s.taken))
   filters-turn out add e =
