@@ -7,13 +7,13 @@ use Rattle.std.specs.List.{Contains}
 use Rattle.std.specs.List.Sorted.{IsPermutation}
 use Rattle.std.proofs.lemmas.Cmp.{tied_itself}
 use Rattle.std.proofs.lemmas.List.Sorted.{Contains-permutation, IsPermutation-sym}
+use Rattle.std.proofs.lemmas.Option.{same_Some}
 use Rattle.ev_constraint.specs.Constraint.{ConstraintParts}
 use Rattle.ev_notice.specs.Canonical.{canonical}
 use Rattle.ev_notice.specs.Notice.{Attribute, AreRising}
 use Rattle.ev_notice.proofs.Lists.{Has}
 use Rattle.ev_wire.specs.declared.command.Command.{Command}
 use Rattle.ev_wire.specs.declared.command.Command.TheVariants as commands
-use Rattle.ev_wire.proofs.Options.{some_in}
 use Rattle.ev_script.specs.declared.form.Given.{Given}
 use Rattle.ev_script.specs.declared.form.Part.{Part}
 use Rattle.ev_script.specs.declared.verb.Verb.{Verb}
@@ -101,5 +101,5 @@ form_once (publish attributes) c d h k =
 
 pub command_once : (version : ℕ) (line : List ℕ) (c d : Command) → IsCommandOf version line c → IsCommandOf version line d → c ≡ d
 command_once version line c d h k =
-    let same_form : k.0 ≡ h.0 = some_in k.0 h.0 (sym k.1 ∙ h.1) in
+    let same_form : k.0 ≡ h.0 = same_Some k.0 h.0 (sym k.1 ∙ h.1) in
     form_once h.0 c d h.3 (subst (λ (f : Form). Spells f d) same_form k.3)

@@ -5,6 +5,7 @@ use Rattle.std.specs.declared.option.Option.{Option}
 use Rattle.std.specs.Str.{bytes_eq}
 use Rattle.std.proofs.lemmas.List.{append-nil}
 use Rattle.std.proofs.lemmas.Bool.Decides.{nat_tests}
+use Rattle.std.proofs.lemmas.Option.{same_Some}
 use Rattle.ev_constraint.proofs.BytesLemmas.{bytes_eq-tells}
 use Rattle.ev_constraint.proofs.FaultLaws.{fault_none}
 use Rattle.ev_values.specs.Name.{IsName}
@@ -30,7 +31,7 @@ use Rattle.ev_wire.specs.Words.{word_at, space_at, head_at}
 use Rattle.ev_wire.specs.Values.{value_at}
 use Rattle.ev_wire.specs.Items.{items_at}
 use Rattle.ev_wire.specs.Filters.{op_named, op_at, some_at, operand_at, made, constraint_at, settled, list_at, list_of}
-use Rattle.ev_wire.proofs.Options.{bind_some, some_in, pair_in, choose, tested, none_not, whole_is}
+use Rattle.ev_wire.proofs.Options.{bind_some, pair_in, choose, tested, none_not, whole_is}
 use Rattle.ev_wire.proofs.WordLaws.{IsStopped, word_again, word_spelled, space_spelled, head_again, head_spelled}
 use Rattle.ev_wire.proofs.ValueLaws.{value_again, value_spelled}
 use Rattle.ev_wire.proofs.ItemsLaws.{IsEnd, items_again, items_spelled}
@@ -49,7 +50,7 @@ op_again ops.Suffix tail s = rw (word_again [] (op_word ops.Suffix) tail refl s)
 op_again ops.Contains tail s = rw (word_again [] (op_word ops.Contains) tail refl s) refl
 
 op_found : (w text : List ℕ) (o p : Op) (others : Option Op) → (bytes_eq w text ≡ true) × (Some o ≡ Some p) → text ≡ op_word o → w ≡ op_word p
-op_found w text o p others a t = bytes_eq-tells w text a.0 ∙ t ∙ ap op_word (some_in o p a.1)
+op_found w text o p others a t = bytes_eq-tells w text a.0 ∙ t ∙ ap op_word (same_Some o p a.1)
 
 op_is : (w : List ℕ) (p : Op) → op_named w ≡ Some p → w ≡ op_word p
 op_is w p e = elim (choose (bytes_eq w (codes "any")) _ _ _ e) [

@@ -3,6 +3,7 @@ use Rattle.std.proofs.Common.{◌≡◌, ℕ, true, refl, sym, ap, subst, ◌∙
 use Rattle.std.specs.Prelude.{Some, None, codes}
 use Rattle.std.specs.Fmt.{decimal}
 use Rattle.std.specs.Str.{bytes_eq}
+use Rattle.std.proofs.lemmas.Option.{same_Some}
 use Rattle.ev_constraint.proofs.BytesLemmas.{bytes_eq-tells}
 use Rattle.ev_notice.specs.Notice.{Attribute, IsNotice}
 use Rattle.ev_wire.specs.declared.id.Id.{Id}
@@ -17,7 +18,7 @@ use Rattle.ev_notice.specs.Before.{list_before}
 use Rattle.ev_wire.specs.Filters.{list_at}
 use Rattle.ev_wire.specs.Changes.{both_at, is_change, changed, change_of}
 use Rattle.ev_wire.specs.Messages.{Lists, lists_of, id_at, notice_message_of, as_subs, as_advs, tagged_of, message_of}
-use Rattle.ev_wire.proofs.Options.{bind_some, some_in, pair_in, choose, tested, none_not, whole_is}
+use Rattle.ev_wire.proofs.Options.{bind_some, pair_in, choose, tested, none_not, whole_is}
 use Rattle.ev_wire.proofs.WordLaws.{IsStopped, word_again, word_spelled, space_spelled, number_again, number_spelled}
 use Rattle.ev_wire.proofs.NoticeLaws.{notice_again, notice_found}
 use Rattle.ev_wire.proofs.ChangeLaws.{both_again, both_spelled}
@@ -86,7 +87,7 @@ notice_message_spelled bytes m e =
     let two = id_spelled r.0.1 i.0.0 i.0.1 i.1 in
     let three = space_spelled i.0.1 s.0.1 s.0.0 s.1 in
     let four = notice_found s.0.1 n.0 n.1 in
-    subst (IsMessageText (codes "notice" ++ bytes)) (some_in (messages.Notice i.0.0 n.0) m n.2)
+    subst (IsMessageText (codes "notice" ++ bytes)) (same_Some (messages.Notice i.0.0 n.0) m n.2)
     (record { sound = four.notice; sendable = two.0; text = told bytes i.0.0 r.0.1 i.0.1 s.0.1 n.0 one two.1 three four.text })
   where
     told : (bytes : List ℕ) (id : Id) (a b c : List ℕ) (n : List Attribute) → bytes ≡ 32 ∷ a → a ≡ decimal id.publisher ++ 32 ∷ (decimal id.ordinal ++ b) → b ≡ 32 ∷ c → c ≡ notice_text n → codes "notice" ++ bytes ≡ codes "notice " ++ id_text id ++ 32 ∷ notice_text n
@@ -105,14 +106,14 @@ unfolding message_text
 subs_spelled bytes m e =
     let l = bind_some (lists_of 16 bytes) as_subs m e in
     let s = lists_spelled 16 bytes l.0 l.1 in
-    subst (IsMessageText (codes "subs" ++ bytes)) (some_in (messages.Subs l.0.0 l.0.1) m l.2) (record { sound = s.0; sendable = s.1; text = ap (λ (z : List ℕ). codes "subs" ++ z) s.2 })
+    subst (IsMessageText (codes "subs" ++ bytes)) (same_Some (messages.Subs l.0.0 l.0.1) m l.2) (record { sound = s.0; sendable = s.1; text = ap (λ (z : List ℕ). codes "subs" ++ z) s.2 })
 
 advs_spelled : (bytes : List ℕ) (m : Message) → (lists_of 64 bytes >>= as_advs) ≡ Some m → IsMessageText (codes "advs" ++ bytes) m
 unfolding message_text
 advs_spelled bytes m e =
     let l = bind_some (lists_of 64 bytes) as_advs m e in
     let s = lists_spelled 64 bytes l.0 l.1 in
-    subst (IsMessageText (codes "advs" ++ bytes)) (some_in (messages.Advs l.0.0 l.0.1) m l.2) (record { sound = s.0; sendable = s.1; text = ap (λ (z : List ℕ). codes "advs" ++ z) s.2 })
+    subst (IsMessageText (codes "advs" ++ bytes)) (same_Some (messages.Advs l.0.0 l.0.1) m l.2) (record { sound = s.0; sendable = s.1; text = ap (λ (z : List ℕ). codes "advs" ++ z) s.2 })
 
 pub message_found : (bytes : List ℕ) (m : Message) → message_of bytes ≡ Some m → IsMessageText bytes m
 unfolding message_of

@@ -4,6 +4,7 @@ use Rattle.std.specs.Prelude.{Some, None, IsErrOf}
 use Rattle.std.specs.declared.option.Option.{Option}
 use Rattle.std.specs.declared.result.Result.{Result}
 use Rattle.std.specs.declared.result.Result.TheVariants.{Ok, Err}
+use Rattle.std.proofs.lemmas.Option.{same_Some}
 use Rattle.ev_wire.specs.declared.fault.WireFault.{WireFault}
 use Rattle.ev_wire.specs.declared.fault.WireFault.TheVariants as faults
 use Rattle.ev_wire.specs.Reading.{◌>>=◌, Gives, whole}
@@ -12,11 +13,8 @@ pub bind_some : {A B : Type 0} (r : Option A) (f : A → Option B) (y : B) → (
 bind_some None f y e = absurd cc
 bind_some (Some x) f y e = (x, refl, e)
 
-pub some_in : {A : Type 0} (x y : A) → Some x ≡ Some y → x ≡ y
-some_in x y e = cc
-
 pub pair_in : {A B : Type 0} (x : A) (r : B) (y : A) (s : B) → ◌≡◌ {A = Option (A × B)} (Some (x, r)) (Some (y, s)) → (x ≡ y) × (r ≡ s)
-pair_in {A = A} {B = B} x r y s e = let p : ◌≡◌ {A = A × B} (x, r) (y, s) = some_in (x, r) (y, s) e in (ap (λ (z : A × B). z.0) p, ap (λ (z : A × B). z.1) p)
+pair_in {A = A} {B = B} x r y s e = let p : ◌≡◌ {A = A × B} (x, r) (y, s) = same_Some (x, r) (y, s) e in (ap (λ (z : A × B). z.0) p, ap (λ (z : A × B). z.1) p)
 
 pub choose : {A : Type 0} (p : Bool) (x y r : A) → cond p x y ≡ r → ((p ≡ true) × (x ≡ r)) ⊎ ((p ≡ false) × (y ≡ r))
 choose true x y r e = inl (refl, e)
@@ -24,7 +22,7 @@ choose false x y r e = inr (refl, e)
 
 -- what passes a test
 pub tested : {A : Type 0} (p : Bool) (x y : A) → cond p (Some x) None ≡ Some y → (p ≡ true) × (x ≡ y)
-tested true x y e = (refl, some_in x y e)
+tested true x y e = (refl, same_Some x y e)
 tested false x y e = absurd cc
 
 pub none_not : {A B : Type 0} (y : A) → ◌≡◌ {A = Option A} None (Some y) → B
@@ -33,7 +31,7 @@ none_not y e = absurd cc
 -- what was read whole was read, and nothing follows
 pub whole_is : {A : Type 0} (r : Option (A × List ℕ)) (x : A) → whole r ≡ Some x → r ≡ Some (x, [])
 whole_is None x e = none_not x e
-whole_is (Some (y, [])) x e = rw (some_in y x e) refl
+whole_is (Some (y, [])) x e = rw (same_Some y x e) refl
 whole_is (Some (y, b ∷ rest)) x e = none_not x e
 
 -- bytes that are outside are read as nothing

@@ -1,5 +1,6 @@
 -- One text a value, one value a text.
 use Rattle.std.proofs.Common.{◌≡◌, ℕ, List, sym, ap, ◌∙◌}
+use Rattle.std.proofs.lemmas.Option.{same_Some}
 use Rattle.ev_constraint.specs.Constraint.{ConstraintParts}
 use Rattle.ev_notice.specs.Notice.{Attribute}
 use Rattle.ev_wire.specs.declared.message.Message.{Message}
@@ -9,19 +10,18 @@ use Rattle.ev_wire.specs.MessageText.{IsMessageText}
 use Rattle.ev_wire.specs.Notices.{notice_of}
 use Rattle.ev_wire.specs.Filters.{list_of}
 use Rattle.ev_wire.specs.Messages.{message_of}
-use Rattle.ev_wire.proofs.Options.{some_in}
 use Rattle.ev_wire.proofs.NoticeLaws.{notice_again}
 use Rattle.ev_wire.proofs.FilterLaws.{text_again}
 use Rattle.ev_wire.proofs.MessageLaws.{message_again}
 
 pub notice_value : (bytes : List ℕ) (m n : List Attribute) → IsNoticeText bytes m → IsNoticeText bytes n → m ≡ n
-notice_value bytes m n a b = some_in m n (sym (notice_again m a.notice) ∙ ap notice_of (sym a.text ∙ b.text) ∙ notice_again n b.notice)
+notice_value bytes m n a b = same_Some m n (sym (notice_again m a.notice) ∙ ap notice_of (sym a.text ∙ b.text) ∙ notice_again n b.notice)
 
 pub list_value : (most : ℕ) (bytes : List ℕ) (f g : List ConstraintParts) → IsListText most bytes f → IsListText most bytes g → f ≡ g
-list_value most bytes f g a b = some_in f g (sym (text_again most f a.whole) ∙ ap (list_of most) (sym a.text ∙ b.text) ∙ text_again most g b.whole)
+list_value most bytes f g a b = same_Some f g (sym (text_again most f a.whole) ∙ ap (list_of most) (sym a.text ∙ b.text) ∙ text_again most g b.whole)
 
 pub message_value : (bytes : List ℕ) (m n : Message) → IsMessageText bytes m → IsMessageText bytes n → m ≡ n
-message_value bytes m n a b = some_in m n (sym (message_again m a.sound a.sendable) ∙ ap message_of (sym a.text ∙ b.text) ∙ message_again n b.sound b.sendable)
+message_value bytes m n a b = same_Some m n (sym (message_again m a.sound a.sendable) ∙ ap message_of (sym a.text ∙ b.text) ∙ message_again n b.sound b.sendable)
 
 pub notice_once : (n : List Attribute) (a b : List ℕ) → IsNoticeText a n → IsNoticeText b n → a ≡ b
 notice_once n a b x y = x.text ∙ sym y.text

@@ -3,6 +3,7 @@ use Rattle.std.proofs.Common.{◌≡◌, ℕ, Bool, true, false, refl, sym, ap, 
 use Rattle.std.specs.Prelude.{Some, codes}
 use Rattle.std.specs.Fmt.{decimal, signed_decimal}
 use Rattle.std.specs.Str.{bytes_eq}
+use Rattle.std.proofs.lemmas.Option.{same_Some}
 use Rattle.ev_constraint.proofs.BytesLemmas.{bytes_eq-tells}
 use Rattle.ev_values.specs.Name.{IsName}
 use Rattle.ev_values.specs.Value.{IsValue, kind_of}
@@ -16,7 +17,7 @@ use Rattle.ev_wire.specs.NoticeText.{attribute_text}
 use Rattle.ev_wire.specs.Reading.{◌>>=◌}
 use Rattle.ev_wire.specs.Words.{word_at, space_at, head_at, int_of, time_of}
 use Rattle.ev_wire.specs.Values.{text_at, truth_named, value_at, attribute_at}
-use Rattle.ev_wire.proofs.Options.{bind_some, some_in, pair_in, choose, none_not}
+use Rattle.ev_wire.proofs.Options.{bind_some, pair_in, choose, none_not}
 use Rattle.ev_wire.proofs.StringLaws.{text_again, text_spelled}
 use Rattle.ev_wire.proofs.IntLaws.{int_again, int_spelled}
 use Rattle.ev_wire.proofs.TimeLaws.{time_again, time_spelled}
@@ -36,9 +37,9 @@ value_again (values.Time n) tail is s = rw (word_again [] (decimal n) tail (time
 
 truth_is : (w : List ℕ) (b : Bool) → truth_named w ≡ Some b → w ≡ truth_word b
 truth_is w b e = elim (choose (bytes_eq w (codes "true")) _ _ _ e) [
-  | inl a ↦ bytes_eq-tells w (codes "true") a.0 ∙ ap truth_word (some_in true b a.1)
+  | inl a ↦ bytes_eq-tells w (codes "true") a.0 ∙ ap truth_word (same_Some true b a.1)
   | inr c ↦ elim (choose (bytes_eq w (codes "false")) _ _ _ c.1) [
-    | inl a ↦ bytes_eq-tells w (codes "false") a.0 ∙ ap truth_word (some_in false b a.1)
+    | inl a ↦ bytes_eq-tells w (codes "false") a.0 ∙ ap truth_word (same_Some false b a.1)
     | inr d ↦ none_not b d.1
   ]
 ]

@@ -10,6 +10,7 @@ use Rattle.std.specs.Str.Parse.{AllDigits}
 use Rattle.std.proofs.lemmas.List.{append-nil}
 use Rattle.std.proofs.lemmas.Fmt.{decimal_is_IsNumeral}
 use Rattle.std.proofs.lemmas.Bool.Decides.{nat_tests}
+use Rattle.std.proofs.lemmas.Option.{same_Some}
 use Rattle.ev_constraint.proofs.BytesLemmas.{bytes_eq-tells}
 use Rattle.ev_values.specs.Name.{IsName, is_letter, is_other_name_byte, are_name_bytes, is_name}
 use Rattle.ev_values.proofs.NameTests.{name_tested, tested_name}
@@ -19,7 +20,7 @@ use Rattle.ev_notice.proofs.Lists.{both}
 use Rattle.ev_wire.specs.ValueText.{kind_word}
 use Rattle.ev_wire.specs.Reading.{◌>>=◌}
 use Rattle.ev_wire.specs.Words.{is_stop, word_at, space_at, name_at, kind_named, kind_at, head_at, int_of, counted, number_at}
-use Rattle.ev_wire.proofs.Options.{bind_some, some_in, pair_in, choose, tested, none_not}
+use Rattle.ev_wire.proofs.Options.{bind_some, pair_in, choose, tested, none_not}
 use Rattle.ev_wire.proofs.IntLaws.{int_again, int_spelled}
 
 -- nothing, or a byte that ends a word
@@ -98,13 +99,13 @@ kind_again kinds.Time tail s = rw (word_again [] (kind_word kinds.Time) tail ref
 
 kind_is : (w : List ℕ) (k : Kind) → kind_named w ≡ Some k → w ≡ kind_word k
 kind_is w k e = elim (choose (bytes_eq w (codes "bool")) _ _ _ e) [
-  | inl a ↦ bytes_eq-tells w (codes "bool") a.0 ∙ ap kind_word (some_in kinds.Bool k a.1)
+  | inl a ↦ bytes_eq-tells w (codes "bool") a.0 ∙ ap kind_word (same_Some kinds.Bool k a.1)
   | inr b ↦ elim (choose (bytes_eq w (codes "int")) _ _ _ b.1) [
-    | inl a ↦ bytes_eq-tells w (codes "int") a.0 ∙ ap kind_word (some_in kinds.Int k a.1)
+    | inl a ↦ bytes_eq-tells w (codes "int") a.0 ∙ ap kind_word (same_Some kinds.Int k a.1)
     | inr c ↦ elim (choose (bytes_eq w (codes "str")) _ _ _ c.1) [
-      | inl a ↦ bytes_eq-tells w (codes "str") a.0 ∙ ap kind_word (some_in kinds.Str k a.1)
+      | inl a ↦ bytes_eq-tells w (codes "str") a.0 ∙ ap kind_word (same_Some kinds.Str k a.1)
       | inr d ↦ elim (choose (bytes_eq w (codes "time")) _ _ _ d.1) [
-        | inl a ↦ bytes_eq-tells w (codes "time") a.0 ∙ ap kind_word (some_in kinds.Time k a.1)
+        | inl a ↦ bytes_eq-tells w (codes "time") a.0 ∙ ap kind_word (same_Some kinds.Time k a.1)
         | inr f ↦ none_not k f.1
       ]
     ]
