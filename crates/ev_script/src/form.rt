@@ -1,6 +1,5 @@
 //! The form of a command, read from its tokens.
 ghost use Rattle.std.specs.Prelude.{◌≡◌, ◌<◌, [], length, IfOk};
-ghost use Rattle.ev_constraint.specs.Faults.{has_op};
 ghost use Rattle.ev_script.specs.Form.{attribute_in, constraint_in, given_in, head_in, kind_by, more_in, op_in, operand_in, part_of, parts_in, word_in};
 ghost use Rattle.ev_script.specs.Reading.{Gives, Reads};
 
@@ -10,7 +9,7 @@ use crate::part::CommandPart;
 use crate::time::time_given;
 use crate::token::Token;
 use crate::tokens::Tokens;
-use ev_constraint::{BadConstraint, Constraint, Op};
+use ev_constraint::{BadConstraint, Constraint, Op, has_op};
 use ev_values::{Kind, Name, Value, is_name};
 use ev_wire::{kind_named, op_named, truth_named};
 use std::alloc::Global;
@@ -42,17 +41,6 @@ fn kind_by(version: u32, word: &[u8]) -> Option<Kind>
     match kind_named(word) {
         Some(Kind::Time) if version < 2 => None,
         kind => kind,
-    }
-}
-
-fn has_op(kind: Kind, op: Op) -> bool
-    ensures { result ≡ has_op kind op }
-{
-    match (kind, op) {
-        (_, Op::Any | Op::Eq | Op::Ne) => true,
-        (Kind::Bool, _) => false,
-        (Kind::Int | Kind::Time, Op::Contains | Op::Prefix | Op::Suffix) => false,
-        _ => true,
     }
 }
 
