@@ -2,6 +2,7 @@
 use Rattle.std.proofs.Common.{◌≡◌, ◌⊎◌, inl, inr, ℕ, zero, suc, ◌≤◌, ◌<◌, ◌==◌, ◌&&◌, cond, Bool, true, false, nat_le, List, [], ◌∷◌, ◌++◌, length, map, take, drop, Some, None, slice_get, slice_index_or, refl, sym, ap, subst, ◌∙◌, arith}
 use Rattle.std.proofs.lemmas.Bool.Decides.{nat_tests}
 use Rattle.std.proofs.lemmas.List.{map-append, take-append-drop}
+use Rattle.std.proofs.lemmas.Option.{same_Some}
 use Rattle.ev_sets.specs.Sets.{Has}
 use Rattle.ev_run.specs.Journals.{Cell, IsReplay, entries_of}
 use Rattle.ev_run.proofs.Lists.{fun-ext}
@@ -27,7 +28,6 @@ use Rattle.ev_node.specs.Cell.{CellParts, IsCellOf, machine_in}
 use Rattle.ev_node.specs.Entered.{IsEntered, state_of}
 use Rattle.ev_node.specs.Together.{AreBegun, IsFinished, roots, entries_in, journals}
 use Rattle.ev_node.specs.Turns.{HasCommand}
-use Rattle.ev_node.proofs.Places.{one-value}
 use Rattle.ev_node.proofs.Gathered.{map-found, found-map, there-or-not}
 use Rattle.ev_node.proofs.Due.{next-of-phase}
 use Rattle.ev_course.specs.Course.{StandBetween, IsPhaseDone, journals_by}
@@ -39,7 +39,7 @@ on-off net (e ∷ entries) = ap (λ l. e ∷ l) (on-off net entries)
 
 pub at-found : {X : Type 0} (xs : List X) (k : ℕ) (x none : X) → slice_get xs k ≡ Some x → slice_index_or xs k none ≡ x
 at-found [] k x none e = absurd cc
-at-found (y ∷ xs) zero x none e = one-value y x e
+at-found (y ∷ xs) zero x none e = same_Some y x e
 at-found (y ∷ xs) (suc k) x none e = at-found xs k x none e
 
 pub at-none : {X : Type 0} (xs : List X) (k : ℕ) (none : X) → slice_get xs k ≡ None → slice_index_or xs k none ≡ none

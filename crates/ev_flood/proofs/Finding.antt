@@ -6,7 +6,7 @@ use Rattle.std.proofs.lemmas.List.Sorted.{searched, Contains-permutation, IsPerm
 use Rattle.std.specs.Ordering.{nat_cmp}
 use Rattle.std.proofs.lemmas.Bool.{cases_order}
 use Rattle.std.proofs.lemmas.List.{get_or_default}
-use Rattle.std.proofs.lemmas.Option.{slice_get-get_or}
+use Rattle.std.proofs.lemmas.Option.{slice_get-get_or, same_Some}
 use Rattle.std.proofs.lemmas.Bool.Decides.{nat_tests}
 use Rattle.std.proofs.lemmas.Map.Views.{any-filter_same}
 use Rattle.std.proofs.lemmas.List.Kept.{AllPairs-from_increasing, IsStrictlyIncreasing-filter}
@@ -50,12 +50,9 @@ pub contains-has : {X : Type 0} (x : X) (xs : List X) → Contains xs x → Has 
 contains-has x [] h = absurd (omega (arith, h.1))
 contains-has x (y ∷ ys) h = elim (parts y x ys h) [ inl e ↦ inl (sym e) | inr m ↦ inr (contains-has x ys m) ]
 
-pub some_is : {X : Type 0} {a b : X} → Some a ≡ Some b → a ≡ b
-some_is e = cc
-
 pub set_same : {X : Type 0} (xs : List X) (k : ℕ) (v w : X) → slice_get (slice_set xs k v) k ≡ Some w → w ≡ v
 set_same [] k v w e = absurd cc
-set_same (x ∷ xs) zero v w e = sym (some_is e)
+set_same (x ∷ xs) zero v w e = sym (same_Some _ _ e)
 set_same (x ∷ xs) (suc k) v w e = set_same xs k v w e
 
 pub set_other : {X : Type 0} (xs : List X) (j k : ℕ) (v : X) → (j ≡ k → ⊥) → slice_get (slice_set xs k v) j ≡ slice_get xs j
@@ -100,7 +97,7 @@ pub shown_none : AreShown [] [] []
 shown_none = record { at_every = λ place list e. absurd cc; at_some = λ place list e. absurd cc }
 
 last : {X : Type 0} (xs : List X) (x : X) (k : ℕ) (m : X) → slice_get (xs ++ x ∷ []) k ≡ Some m → (slice_get xs k ≡ Some m) ⊎ (m ≡ x)
-last [] x zero m b = inr (sym (some_is b))
+last [] x zero m b = inr (sym (same_Some _ _ b))
 last [] x (suc k) m b = absurd cc
 last (y ∷ ys) x zero m b = inl b
 last (y ∷ ys) x (suc k) m b = last ys x k m b
@@ -148,7 +145,7 @@ upto_next place phase clients lists client list at of s q c l below has set = el
   | inl e ↦
       let mine : slice_get clients place ≡ Some c = subst (λ z. slice_get clients z ≡ Some c) e has in
       let it : l ≡ list = set_same lists place list l (subst (λ z. slice_get (slice_set lists place list) z ≡ Some l) e set) in
-      subst (λ (z : PhaseFilters). AreOf phase c.script z) (sym it) (subst (λ (z : ClientParts). AreOf phase z.script list) (some_is (sym at ∙ mine)) of)
+      subst (λ (z : PhaseFilters). AreOf phase c.script z) (sym it) (subst (λ (z : ClientParts). AreOf phase z.script list) (same_Some _ _ (sym at ∙ mine)) of)
   | inr n ↦ s q c l (strict q place (omega (arith, below)) n) has (sym (set_other lists q place list n) ∙ set)
 ]
 
@@ -265,7 +262,7 @@ meets clients tables p passing met v t same a b e = record {
 -- publications by phase
 pub ordered_has : (m : ℕ) (ps : List Publication) (k : ℕ) (p : Publication) → slice_get ps k ≡ Some p → Has (p.phase, m + k) (ordered_from m ps)
 ordered_has m [] k p e = absurd cc
-ordered_has m (q ∷ ps) zero p e = inl (ap (λ (z : Publication). (z.phase, m + 0)) (sym (some_is e)) ∙ ap (λ z. (q.phase, z)) (zeroth m))
+ordered_has m (q ∷ ps) zero p e = inl (ap (λ (z : Publication). (z.phase, m + 0)) (sym (same_Some _ _ e)) ∙ ap (λ z. (q.phase, z)) (zeroth m))
   where
     zeroth : (m : ℕ) → m + 0 ≡ m
     zeroth m = omega arith
@@ -286,7 +283,7 @@ pub met_next : (clients : List ClientParts) (publications : List Publication) (m
 met_next clients publications mets order j at p met e has meet before x h q m mine set = elim (same_or x.1 at.1) [
   | inl s ↦
       let it : m ≡ met = set_same mets at.1 met m (subst (λ z. slice_get (slice_set mets at.1 met) z ≡ Some m) s set) in
-      let of : q ≡ p = some_is (sym mine ∙ ap (slice_get publications) s ∙ has) in
+      let of : q ≡ p = same_Some _ _ (sym mine ∙ ap (slice_get publications) s ∙ has) in
       subst (λ (z : Met). Meets clients q z) (sym it) (subst (λ (z : Publication). Meets clients z met) (sym of) meet)
   | inr n ↦ elim (earlier x h) [
     | inl b ↦ before x b q m mine (sym (set_other mets x.1 at.1 met n) ∙ set)

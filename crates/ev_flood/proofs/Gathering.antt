@@ -4,7 +4,7 @@ use Rattle.std.specs.declared.alloc.Global.{Global}
 use Rattle.std.specs.List.Sorted.{IsStrictlyIncreasing}
 use Rattle.std.proofs.lemmas.Bool.Decides.{nat_tests}
 use Rattle.std.proofs.lemmas.List.Kept.{AllPairs-from_increasing}
-use Rattle.std.proofs.lemmas.Option.{get_or_from_slice_get}
+use Rattle.std.proofs.lemmas.Option.{get_or_from_slice_get, same_Some}
 use Rattle.ev_sets.specs.Sets.{Has}
 use Rattle.ev_routing.proofs.Listing.{take-one, append-none}
 use Rattle.ev_model.specs.Parts.{ClientParts}
@@ -16,7 +16,7 @@ use Rattle.ev_flood.specs.Publications.{is_met, with_row, rows_of, all_rows_of}
 use Rattle.ev_flood.specs.Tables.{is_found, Meets}
 use Rattle.ev_flood.specs.Rows.{rows_at, once, rows_by, HaveRows}
 use Rattle.ev_flood.proofs.Pruning.{some_either}
-use Rattle.ev_flood.proofs.Finding.{some_is, found_has}
+use Rattle.ev_flood.proofs.Finding.{found_has}
 use Rattle.ev_flood.proofs.Showing.{clash, drop_get}
 
 -- the rows at one place change
@@ -34,7 +34,7 @@ set_apart (r ∷ all) (suc place) (suc i) rows n = set_apart all place i rows (�
 
 rows_read : (all : List (Vec OwedRow Global)) (place : ℕ) (rows : Vec OwedRow Global) → slice_get all place ≡ Some rows → rows_at all place ≡ rows.items
 rows_read [] place rows e = absurd cc
-rows_read (r ∷ all) zero rows e = ap (λ (z : Vec OwedRow Global). z.items) (some_is e)
+rows_read (r ∷ all) zero rows e = ap (λ (z : Vec OwedRow Global). z.items) (same_Some _ _ e)
 rows_read (r ∷ all) (suc place) rows e = rows_read all place rows e
 
 eq_is : (y q : ℕ) → nat_eq y q ≡ true → y ≡ q

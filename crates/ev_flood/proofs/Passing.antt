@@ -1,5 +1,6 @@
 -- Tests over lists with the same members, and joined lists that rise.
 use Rattle.std.proofs.Common.{◌≡◌, ℕ, zero, suc, Bool, true, false, not, ◌&&◌, ◌||◌, inl, inr, List, [], ◌∷◌, ◌++◌, map, slice_get, Some, refl, sym}
+use Rattle.std.proofs.lemmas.Option.{same_Some}
 use Rattle.ev_sets.specs.Sets.{Has, IsRising}
 use Rattle.ev_routing.specs.Clients.{some_pass}
 use Rattle.ev_routing.proofs.Listing.{pass-by, by-pass, has-either}
@@ -42,8 +43,5 @@ rising_append before (x ∷ xs) ys p q f = (
 pub map_get : {A B : Type 0} (f : A → B) (xs : List A) (place : ℕ) (y : B) → slice_get (map f xs) place ≡ Some y
     → (x : A) × (slice_get xs place ≡ Some x) × (y ≡ f x)
 map_get f [] place y e = absurd cc
-map_get f (x ∷ xs) zero y e = (x, refl, first e)
-  where
-    first : {B : Type 0} {a b : B} → Some a ≡ Some b → b ≡ a
-    first e = cc
+map_get f (x ∷ xs) zero y e = (x, refl, sym (same_Some _ _ e))
 map_get f (x ∷ xs) (suc place) y e = map_get f xs place y e

@@ -1,6 +1,7 @@
 -- The accepted publications and the refused ordinals of a script are those of the runs.
 use Rattle.std.proofs.Common.{◌≡◌, ℕ, zero, suc, ◌+◌, ◌<◌, ◌≤◌, Bool, true, false, cond, not, ◌||◌, ◌⊎◌, inl, inr, List, [], ◌∷◌, take, slice_get, Some, refl, sym, ap, subst, ◌∙◌, arith}
 use Rattle.std.proofs.lemmas.Bool.Decides.{nat_tests}
+use Rattle.std.proofs.lemmas.Option.{same_Some}
 use Rattle.ev_sets.specs.Sets.{Has, IsRising}
 use Rattle.ev_notice.specs.Notice.{Attribute}
 use Rattle.ev_routing.specs.Net.{Net, PhasedCommand, Publish}
@@ -140,9 +141,6 @@ publish_back (commands.Publish m) n e = ap commands.Publish (same m n e)
     same : (m n : List Attribute) → command_of (commands.Publish m) ≡ Publish n → m ≡ n
     same m n e = cc
 
-unsome : {T : Type 0} {a b : T} → Some a ≡ Some b → a ≡ b
-unsome e = cc
-
 pub accepted_has : (semantics : Semantics) (q : ℕ) (script steps : Script) (xs ys : Owned) → Same xs ys → (o i phase : ℕ) (n : List Attribute) (r : ℕ)
     → slice_get (ps steps) i ≡ Some (publish_at phase n) → o + ordinal real (take (suc i) (ps steps)) ≡ r
     → is_free semantics (adverts_after real ys (take i (ps steps))) n ≡ true
@@ -156,10 +154,10 @@ accepted_has semantics q script (s ∷ steps) xs ys same o zero phase n r at cou
     rest = accepted_from semantics q script (advert_step xs s.1) (ordinal_step o s.1) steps
 
     is : s.1 ≡ commands.Publish n
-    is = publish_back s.1 n (ap (λ (z : PhasedCommand real). z.command) (unsome at))
+    is = publish_back s.1 n (ap (λ (z : PhasedCommand real). z.command) (same_Some _ _ at))
 
     one : s.0 ≡ phase
-    one = ap (λ (z : PhasedCommand real). z.phase) (unsome at)
+    one = ap (λ (z : PhasedCommand real). z.phase) (same_Some _ _ at)
 
     two : o + 1 ≡ r
     two = sym (one_counted s.1 n o is) ∙ counted

@@ -1,6 +1,7 @@
 -- The publications of all clients, and the rows of one.
 use Rattle.std.proofs.Common.{◌≡◌, ℕ, zero, suc, ◌+◌, ◌<◌, ◌≤◌, Bool, true, false, cond, ◌&&◌, ◌⊎◌, inl, inr, List, [], ◌∷◌, slice_get, Some, refl, sym, ap, subst, ◌∙◌, arith}
 use Rattle.std.proofs.lemmas.Bool.Decides.{nat_tests}
+use Rattle.std.proofs.lemmas.Option.{same_Some}
 use Rattle.ev_sets.specs.Sets.{Has, IsRising}
 use Rattle.ev_routing.proofs.Listing.{has-left, has-right, has-either}
 use Rattle.ev_wire.specs.declared.semantics.Semantics.{Semantics}
@@ -47,10 +48,7 @@ of_client semantics [] m place client p e h = absurd cc
 of_client semantics (c ∷ cs) m zero client p e h =
     has-left p (accepted_from semantics m c.script [] 0 c.script) (accepted_of semantics (m + 1) cs)
     (subst (λ z. Has p (accepted_from semantics z c.script [] 0 c.script)) (sym (plus_zero m))
-    (subst (λ (z : ClientParts). Has p (accepted_from semantics (m + 0) z.script [] 0 z.script)) (sym (one e)) h))
-  where
-    one : {T : Type 0} {a b : T} → Some a ≡ Some b → a ≡ b
-    one e = cc
+    (subst (λ (z : ClientParts). Has p (accepted_from semantics (m + 0) z.script [] 0 z.script)) (sym (same_Some _ _ e)) h))
 of_client semantics (c ∷ cs) m (suc place) client p e h =
     has-right p (accepted_from semantics m c.script [] 0 c.script) (accepted_of semantics (m + 1) cs)
     (of_client semantics cs (m + 1) place client p e

@@ -1,6 +1,7 @@
 -- A client's filters in a table go from old ones to new ones.
 use Rattle.std.proofs.Common.{◌≡◌, ℕ, zero, suc, ◌+◌, ◌-◌, ◌≤◌, Bool, true, false, ◌⊎◌, inl, inr, List, [], ◌∷◌, ◌++◌, length, take, drop, slice_get, Some, refl, sym, ap, subst, ◌∙◌, arith}
 use Rattle.std.specs.List.{Contains}
+use Rattle.std.proofs.lemmas.Option.{same_Some}
 use Rattle.ev_sets.specs.Sets.{Has}
 use Rattle.ev_constraint.specs.Constraint.{ConstraintParts}
 use Rattle.ev_routing.proofs.Listing.{has-left, has-right, has-either, take-one, get-has}
@@ -8,15 +9,12 @@ use Rattle.ev_counting.specs.Table.{Held, IsAdded, IsTaken}
 use Rattle.ev_flood.specs.Held.{Owned}
 use Rattle.ev_flood.specs.Shown.{Shows, IsLeft, IsLeaving, IsEntered, IsBrought}
 
-some_is : {X : Type 0} {a b : X} → Some a ≡ Some b → a ≡ b
-some_is e = cc
-
 next : (k : ℕ) → suc k ≡ k + 1
 next k = omega arith
 
 drop_suc : {X : Type 0} (xs : List X) (k : ℕ) (x : X) → slice_get xs k ≡ Some x → drop k xs ≡ x ∷ drop (suc k) xs
 drop_suc [] k x e = absurd cc
-drop_suc (y ∷ ys) zero x e = ap (λ z. z ∷ ys) (some_is e)
+drop_suc (y ∷ ys) zero x e = ap (λ z. z ∷ ys) (same_Some _ _ e)
 drop_suc (y ∷ ys) (suc k) x e = drop_suc ys k x e
 
 pub drop_get : {X : Type 0} (xs : List X) (k : ℕ) (x : X) → slice_get xs k ≡ Some x → drop k xs ≡ x ∷ drop (k + 1) xs

@@ -1,7 +1,7 @@
 -- The turns of a legal run, made again: they are permitted, and make its entries.
 use Rattle.std.proofs.Common.{◌≡◌, ℕ, zero, suc, ◌+◌, ◌<◌, ◌≤◌, ◌==◌, Bool, true, false, cond, ◌&&◌, List, [], ◌∷◌, ◌++◌, length, map, get_or, take, drop, slice_get, Option, Some, None, refl, sym, ap, subst, ◌∙◌, arith, eqb-true, length-append}
 use Rattle.std.proofs.lemmas.List.{map-append, length-map, length-take-le, take_more, take-append-drop}
-use Rattle.std.proofs.lemmas.Option.{slice_get-get_or}
+use Rattle.std.proofs.lemmas.Option.{slice_get-get_or, same_Some}
 use Rattle.std.proofs.Math.Seq.{take-length}
 use Rattle.ev_sets.proofs.Roots.{filter-Has}
 use Rattle.ev_notice.proofs.Lists.{both}
@@ -76,10 +76,7 @@ turn-home net x server acts.Version entry e = refl
 permitted-once : (net : NetParts) (m : Moment real (phased_net net)) (turn : Turn) (one other : JournalEntry) (next after : Moment real (phased_net net)) → IsPermittedTurn real (phased_net net) m turn one next
     → IsPermittedTurn real (phased_net net) m turn other after → one ≡ other
 permitted-once net m turn one other next after x y =
-    unsome (sym x.possible ∙ (ap (λ z. entry_made real (phased_net net) z turn) (sym (found-is real (phased_net net) m (turn_phase real (phased_net net) m turn) x.found x.ready) ∙ found-is real (phased_net net) m (turn_phase real (phased_net net) m turn) y.found y.ready) ∙ y.possible))
-  where
-    unsome : {a b : JournalEntry} → Some a ≡ Some b → a ≡ b
-    unsome e = cc
+    same_Some _ _ (sym x.possible ∙ (ap (λ z. entry_made real (phased_net net) z turn) (sym (found-is real (phased_net net) m (turn_phase real (phased_net net) m turn) x.found x.ready) ∙ found-is real (phased_net net) m (turn_phase real (phased_net net) m turn) y.found y.ready) ∙ y.possible))
 
 -- the moment after a beginning of a journal
 begin-is : (net : NetParts) (journal : List EntryParts) (n : ℕ) → n ≤ length journal → moment_by net (take n journal) ≡ moment_of real (phased_net net) (journal_of journal) n
@@ -91,10 +88,7 @@ begin-is net journal n less =
 
 slice-map : {X Y : Type 0} (f : X → Y) (xs : List X) (i : ℕ) (x : X) → slice_get xs i ≡ Some x → slice_get (map f xs) i ≡ Some (f x)
 slice-map f [] i x e = absurd cc
-slice-map f (y ∷ xs) zero x e = ap Some (ap f (unsome e))
-  where
-    unsome : {X : Type 0} {a b : X} → Some a ≡ Some b → a ≡ b
-    unsome e = cc
+slice-map f (y ∷ xs) zero x e = ap Some (ap f (same_Some _ _ e))
 slice-map f (y ∷ xs) (suc i) x e = slice-map f xs i x e
 
 -- an entry of a legal run, made again after those before it

@@ -1,7 +1,7 @@
 -- The beginning of a phase and its taking back, at all servers.
 use Rattle.std.proofs.Common.{◌≡◌, ◌⊎◌, inl, inr, ℕ, zero, suc, max, ◌+◌, ◌-◌, ◌<◌, ◌≤◌, true, false, List, [], ◌∷◌, length, Some, None, slice_get, Vec, Global, refl, sym, ap, subst, ◌∙◌, arith, get_or}
 use Rattle.std.specs.List.{range_with_len}
-use Rattle.std.proofs.lemmas.Option.{slice_get_cases, slice_get_within}
+use Rattle.std.proofs.lemmas.Option.{slice_get_cases, slice_get_within, same_Some}
 use Rattle.ev_sets.specs.Sets.{Has}
 use Rattle.ev_constraint.specs.Constraint.{ConstraintParts}
 use Rattle.ev_tree.proofs.Servers.{server-in}
@@ -31,10 +31,7 @@ use Rattle.ev_net.proofs.Owned.{client_interfaces, holds-own, fits}
 -- members of lists by their places
 
 pub one-there : {X : Type 0} (xs : List X) (i : ℕ) (x y : X) → slice_get xs i ≡ Some x → slice_get xs i ≡ Some y → x ≡ y
-one-there xs i x y e f = unsome (sym e ∙ f)
-  where
-    unsome : Some x ≡ Some y → x ≡ y
-    unsome q = cc
+one-there xs i x y e f = same_Some _ _ (sym e ∙ f)
 
 pub there : {X : Type 0} (xs : List X) (i : ℕ) → i < length xs → (x : X) × (slice_get xs i ≡ Some x)
 there {X} xs i l = go ((slice_get_cases xs i).1)

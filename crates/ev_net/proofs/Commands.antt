@@ -1,6 +1,7 @@
 -- The turn of a client's next command within a phase.
 use Rattle.std.proofs.Common.{◌≡◌, ℕ, ◌==◌, Bool, true, false, cond, not, ◌&&◌, [], ◌∷◌, slice_get, Option, Some, None, Result, Ok, Err, IfOk, OnOk, OnErr, refl, sym, ap, subst, ◌∙◌, eq-eqb, eqb-true, ne_eqb}
 use Rattle.std.specs.Option.{option_eq}
+use Rattle.std.proofs.lemmas.Option.{same_Some}
 use lib.Dec.{eqb}
 use Rattle.ev_run.specs.Machine.{Does}
 use Rattle.ev_run.specs.Network.{entry_given}
@@ -29,10 +30,7 @@ use Rattle.ev_net.proofs.Tries.{turn-tries}
 -- a next command of the phase is of the phase
 pub own-phase : (net : NetParts) (o : Option (PhasedCommand real)) (phase q r : ℕ) → phase_in o ≡ Some phase → is_of_phase (machine_at real (phased_net net) q) phase (phase_of real (net_at real (phased_net net) r) o) ≡ true
 own-phase net None phase q r e = absurd cc
-own-phase net (Some command) phase q r e = eq-eqb command.phase phase (unsome e)
-  where
-    unsome : {a b : ℕ} → Some a ≡ Some b → a ≡ b
-    unsome e = cc
+own-phase net (Some command) phase q r e = eq-eqb command.phase phase (same_Some _ _ e)
 
 -- the entry of a next command, by whether the client lives there and by its command
 abbrev entry_by : (net : NetParts) → Moment real (phased_net net) → ℕ → Bool → Option (PhasedCommand real) → Option JournalEntry

@@ -1,5 +1,6 @@
 -- What a step leaves published: a version publishes what is held, and no other step changes it.
 use Rattle.std.proofs.Common.{◌≡◌, ℕ, Bool, true, false, cond, List, [], slice_get, take, suc, ◌+◌, Option, Some, None, refl, sym, ap, subst, ◌∙◌}
+use Rattle.std.proofs.lemmas.Option.{same_Some}
 use Rattle.ev_sets.specs.Sets.{Has}
 use Rattle.ev_run.specs.Machine.{Input, Does, Takes, Outcome}
 use Rattle.ev_routing.specs.Net.{Net, PhasedCommand, Command, Subscribe, Unsubscribe, Advertise, Unadvertise, Publish}
@@ -8,7 +9,6 @@ use Rattle.ev_routing.specs.Clients.{adverts_after, accepts, ordinal}
 use Rattle.ev_routing.specs.Step.{Task, NextCommand, Version, Work, SetsFilters, SetsAdverts, Routes, ShowsVersion, Nothing, effect, command_work, message_work, next_work, work_of}
 use Rattle.ev_routing.proofs.Listing.{has-one}
 use Rattle.ev_routing.proofs.Laws.{one-has, cond-some}
-use Rattle.ev_routing.proofs.Spreading.{unsome}
 use Rattle.ev_routing.proofs.Working.{Served, served}
 use Rattle.ev_theory.specs.Real.{real}
 use Rattle.ev_wire.specs.declared.sent.Sent.{Sent}
@@ -89,7 +89,7 @@ module _ (net : Net real) where
                   where
                     at : (o : Option (PhasedCommand real)) → next_work real net client (state.done client) o ≡ Some work → IsNoVersion work
                     at None f = absurd cc
-                    at (Some x) f = subst IsNoVersion (unsome f) (command-none client (state.done client) x.command)
+                    at (Some x) f = subst IsNoVersion (same_Some _ _ f) (command-none client (state.done client) x.command)
 
     pub kept_by_taking : (from : ℕ) (m : Message real) → IsStep net state (Takes from m) core next sent → next.server ≡ core.server → (i : ℕ) → published_from next i ≡ published_from core i
     kept_by_taking from m step same = kept-by (Takes from m) step same (published-stays (served real net core.server state (Takes from m) step.outcome step.step))
@@ -98,7 +98,7 @@ module _ (net : Net real) where
         published-stays s = ap (λ (z : Outcome (ServerState real) (Message real)). z.state.published) s.made ∙ keeps core.server s.from s.work (plain-work s.work s.is) ∙ s.counts.published
           where
             plain-work : (work : Work real) → work_of real net core.server state (Takes from m) ≡ Some work → IsNoVersion work
-            plain-work work e = subst IsNoVersion (unsome (cond-some (is_among core.server net.servers) (is_among from (net.links core.server)) (Some (message_work real net state from m)) work e).2) (message-none state from m)
+            plain-work work e = subst IsNoVersion (same_Some _ _ (cond-some (is_among core.server net.servers) (is_among from (net.links core.server)) (Some (message_work real net state from m)) work e).2) (message-none state from m)
 
     -- a version publishes what is held
     pub held_by_version : IsStep net state (Does Version) core next sent → next.server ≡ core.server → (i : ℕ) → published_from next i ≡ subs core.control i
@@ -107,4 +107,4 @@ module _ (net : Net real) where
         (λ i n. next-apart (Does Version) step same i n ∙ sym (stands.control.subs_apart i n))
       where
         shown : step.outcome.state.published ≡ state.subs
-        shown = ap (λ (z : Outcome (ServerState real) (Message real)). z.state.published) (sym (unsome (cond-some (is_among core.server net.servers) state.staged (Some (effect real net core.server state ShowsVersion)) step.outcome step.step).2))
+        shown = ap (λ (z : Outcome (ServerState real) (Message real)). z.state.published) (sym (same_Some _ _ (cond-some (is_among core.server net.servers) state.staged (Some (effect real net core.server state ShowsVersion)) step.outcome step.step).2))

@@ -1,6 +1,7 @@
 -- After a step its messages lie last on the links of its server, and they are what is told of its entry.
 use Rattle.std.proofs.Common.{◌≡◌, ℕ, zero, suc, ◌-◌, ◌≤◌, List, [], ◌∷◌, ◌++◌, inl, inr, length, map, drop, slice_get, Some, refl, sym, ap, subst, ◌∙◌, arith, length-append}
 use Rattle.std.proofs.lemmas.List.{length-map, map-append}
+use Rattle.std.proofs.lemmas.Option.{same_Some}
 use Rattle.ev_sets.specs.Sets.{Has}
 use Rattle.ev_tree.specs.Hops.{side_size}
 use Rattle.ev_run.specs.Machine.{Input, Outcome, Stamped, Entry, stamped, unstamped, act_of as machine_act}
@@ -150,13 +151,9 @@ module _ (net : NetParts) (phase : ℕ) (servers : Servers) (kept : IsNetwork ne
       let near : Has to (net-then.links entry.server) = subst (λ z. Has z (net-then.links entry.server)) (sym s.2) (texts-to messages (net-then.links entry.server) s.0 s.1) in
       (laws.small to entry.server (laws.tree.both entry.server to near), laws.small entry.server to near)
 
--- the last member of a list
-unsome : {T : Type 0} {a b : T} → Some a ≡ Some b → a ≡ b
-unsome e = cc
-
 split-last : {T : Type 0} (xs : List T) (x : T) → slice_get xs (length xs - 1) ≡ Some x → (before : List T) × (xs ≡ before ++ x ∷ [])
 split-last [] x e = absurd cc
-split-last (y ∷ []) x e = ([], ap (λ z. z ∷ []) (unsome e))
+split-last (y ∷ []) x e = ([], ap (λ z. z ∷ []) (same_Some _ _ e))
 split-last (y ∷ z ∷ xs) x e =
     let n : length (y ∷ z ∷ xs) - 1 ≡ suc (length (z ∷ xs) - 1) = omega arith in
     let r = split-last (z ∷ xs) x (subst (λ k. slice_get (y ∷ z ∷ xs) k ≡ Some x) n e) in
@@ -166,7 +163,7 @@ last-is : {T : Type 0} (xs : List T) (x : T) → slice_get xs (length xs - 1) �
 last-is xs x e before y is =
     let sum = length-append before (y ∷ []) in
     let n : length xs - 1 ≡ length before = omega (arith, sum, ap length is) in
-    unsome (sym e ∙ (ap (slice_get xs) n ∙ (ap (λ z. slice_get z (length before)) is ∙ get-after before y [])))
+    same_Some _ _ (sym e ∙ (ap (slice_get xs) n ∙ (ap (λ z. slice_get z (length before)) is ∙ get-after before y [])))
 
 -- of the last entry of a network's journal
 module _ (servers : Servers) (x : EntryParts) (server : ℕ) (outs : List ℕ) (here : slice_get servers.journal (length servers.journal - 1) ≡ Some x) (server-is : x.server ≡ server) (outs-are : x.outs ≡ outs) where

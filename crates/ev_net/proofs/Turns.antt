@@ -1,5 +1,6 @@
 -- Turns tried one after the other within a phase, over any net: what they make over a list and its parts, and that what is tried is what is permitted.
 use Rattle.std.proofs.Common.{◌≡◌, ℕ, zero, suc, Bool, true, false, cond, List, [], ◌∷◌, ◌++◌, length, Option, Some, None, refl, sym, ap, subst, ◌∙◌}
+use Rattle.std.proofs.lemmas.Option.{same_Some}
 use Rattle.ev_run.specs.Machine.{act_phase}
 use Rattle.ev_run.specs.Network.{entry_at}
 use Rattle.ev_run.specs.Walk.{with_default, is_of_phase, repeated}
@@ -66,12 +67,9 @@ module _ (th : Theory) (net : PhasedNet th) where
   tells : (w : Moment th net) (t : Turn) (e : JournalEntry) → entry_made th net w t ≡ Some e → (e.server ≡ t.0) × (e.act ≡ t.1)
   tells w t e f = go (entry_at (machine_at th net w.phase) (at_phase th net w.phase w.state) t.0 t.1) refl f
     where
-      unsome : {a b : JournalEntry} → Some a ≡ Some b → a ≡ b
-      unsome q = cc
-
       go : (o : Option (NetEntry th (net_at th net w.phase))) → entry_at (machine_at th net w.phase) (at_phase th net w.phase w.state) t.0 t.1 ≡ o → off_maybe th (net_at th net w.phase) o ≡ Some e → (e.server ≡ t.0) × (e.act ≡ t.1)
       go None g h = absurd cc
-      go (Some x) g h = subst (λ (z : JournalEntry). (z.server ≡ t.0) × (z.act ≡ t.1)) (unsome h) (y.server, y.act)
+      go (Some x) g h = subst (λ (z : JournalEntry). (z.server ≡ t.0) × (z.act ≡ t.1)) (same_Some _ _ h) (y.server, y.act)
         where
           y : Entered (machine_at th net w.phase) (at_phase th net w.phase w.state) t.0 t.1 x
           y = entry-step (machine_at th net w.phase) (at_phase th net w.phase w.state) t.0 t.1 x g

@@ -1,6 +1,7 @@
 -- The walk phase by phase, from a legal run on.
 use Rattle.std.proofs.Common.{◌≡◌, ℕ, suc, ◌+◌, ◌-◌, ◌<◌, ◌≤◌, List, [], ◌∷◌, ◌++◌, length, slice_get, Option, Some, None, Result, Ok, Err, OnOk, OnErr, refl, sym, ap, subst, ◌∙◌, arith, add-one}
 use Rattle.std.proofs.lemmas.List.{append-nil, append_assoc, map-append}
+use Rattle.std.proofs.lemmas.Option.{same_Some}
 use Rattle.ev_links.proofs.Numbers.{Same, Is, Not, compare}
 use Rattle.ev_run.specs.Machine.{Act, Did, Took, act_phase}
 use Rattle.ev_routing.specs.Theory.{Theory}
@@ -29,12 +30,10 @@ use Rattle.ev_net.proofs.Turns.{run-first}
 use Rattle.ev_net.proofs.Tries.{moment-made, nothing-made}
 
 module _ (th : Theory) (net : PhasedNet th) (bound : ℕ) (some : 0 < bound) (low : AllBelow th net bound) where
-  unsome : {a b : ℕ} → Some a ≡ Some b → a ≡ b
-  unsome e = cc
 
   next-low : (client : ℕ) (k : ℕ) (o : Option (PhasedCommand th)) (n q : ℕ) → slice_get (net.script client) n ≡ o → phase_of th (net_at th net q) o ≡ Some k → k < bound
-  next-low client k None n q e f = subst (λ z. z < bound) (unsome f) some
-  next-low client k (Some command) n q e f = subst (λ z. z < bound) (unsome f) (low client command (get-has (net.script client) n command e))
+  next-low client k None n q e f = subst (λ z. z < bound) (same_Some _ _ f) some
+  next-low client k (Some command) n q e f = subst (λ z. z < bound) (same_Some _ _ f) (low client command (get-has (net.script client) n command e))
 
   act-low : (p server : ℕ) (s : State th) (act : Act Task) (k : ℕ) → act_phase (machine_at th net p) server (s.state server) act ≡ Some k → k < bound
   act-low p server s (Did (NextCommand client)) k f = next-low client k (slice_get (net.script client) ((s.state server).done client)) ((s.state server).done client) p refl f

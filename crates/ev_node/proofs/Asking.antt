@@ -1,6 +1,7 @@
 -- What is answered to what is asked.
 use Rattle.std.proofs.Common.{◌≡◌, ℕ, Bool, true, false, List, sym, ap, subst, ◌∙◌}
 use Rattle.std.specs.Prelude.{Result, Ok, Err, IfOk, OnErr, IsErrOf}
+use Rattle.std.proofs.lemmas.Option.{same_Some}
 use Rattle.ev_sets.specs.Sets.{Has}
 use Rattle.ev_run.specs.Machine.{Does, Takes, Stamped}
 use Rattle.ev_routing.specs.Server.{Message}
@@ -22,7 +23,7 @@ use Rattle.ev_node.specs.Cell.{IsHeld}
 use Rattle.ev_node.specs.Turns.{IsTurn, IsStill, IsTaking, IsTakingFrom, IsVersion, IsWornAt, message_seen}
 use Rattle.ev_node.specs.Asked.{Answers, IsMade, IsWorn, SuitsHeld}
 use Rattle.ev_node.specs.Ahead.{AnswersAhead, IsTakingAhead}
-use Rattle.ev_node.proofs.Places.{both-behind, one-value}
+use Rattle.ev_node.proofs.Places.{both-behind}
 use Rattle.ev_node.proofs.Gathered.{named-place}
 use Rattle.ev_node.proofs.Aheads.{version-routes, carried-notice, notice-carried}
 
@@ -39,7 +40,7 @@ place-of held from is suits = named-place held.links.items from (subst (Has from
 module _ (phase place from : ℕ) (old new : Held) (before after : List EntryParts) (named : IsNeighbour place from old.links.items) where
   -- a taking from a place is one from its neighbour
   turn-from : (m : Stamped (Message real)) → IsTakingFrom phase place m old new before after → IsTurn phase (Takes from m) (acts.Take from) old new before after
-  turn-from m t = subst (λ n. IsTurn phase (Takes n m) (acts.Take n) old new before after) (ap (λ (l : Link). l.neighbour) (one-value t.link named.0 (sym t.there ∙ named.1)) ∙ named.2) t.turn
+  turn-from m t = subst (λ n. IsTurn phase (Takes n m) (acts.Take n) old new before after) (ap (λ (l : Link). l.neighbour) (same_Some t.link named.0 (sym t.there ∙ named.1)) ∙ named.2) t.turn
 
   abbrev made-from : (m : Stamped (Message real)) → IsTakingFrom phase place m old new before after → IsMade phase (Take from) old new before after
   made-from m t = record { input = Takes from m; turn = turn-from m t; busy = (place, named, t.seen) }

@@ -1,6 +1,7 @@
 -- The earlier of two phases, and what is from it on.
 use Rattle.std.specs.Prelude.{IfSome, IfNone}
 use Rattle.std.proofs.Common.{◌≡◌, ◌⊎◌, inl, inr, ℕ, zero, suc, ◌<◌, ◌≤◌, List, [], ◌∷◌, length, Option, Some, None, slice_get, refl, sym, ap, subst, ◌∙◌, arith}
+use Rattle.std.proofs.lemmas.Option.{same_Some}
 use Rattle.ev_sets.specs.Sets.{Has}
 use Rattle.ev_wire.specs.declared.command.Command.{Command}
 use Rattle.ev_model.specs.Parts.{ClientParts, NetParts}
@@ -13,7 +14,6 @@ use Rattle.ev_node.specs.Entered.{AreThrough}
 use Rattle.ev_node.specs.Turns.{HasCommand}
 use Rattle.ev_node.specs.Coming.{IsNoLater, IsFrom, AreFrom, IsOfSome, HaveCommand}
 use Rattle.ev_node.proofs.Housed.{all-past}
-use Rattle.ev_node.proofs.Places.{one-value}
 
 past-less : (low high client : ℕ) (sessions : List SessionParts) → low ≤ high → IsPast high client sessions → IsPast low client sessions
 past-less low high client sessions le past s c h is e = let x = past s c h is e in omega (arith, x, le)
@@ -51,7 +51,7 @@ from-more P net server n client at before here place c lt e h = go (less-or plac
 
     go : (place < n) ⊎ (place ≡ n) → P place
     go (inl l) = before place c l e h
-    go (inr q) = subst P (sym q) (here (ap (λ (w : ClientParts). w.home) (one-value client c (sym at ∙ ap (slice_get net.clients) (sym q) ∙ e)) ∙ h))
+    go (inr q) = subst P (sym q) (here (ap (λ (w : ClientParts). w.home) (same_Some client c (sym at ∙ ap (slice_get net.clients) (sym q) ∙ e)) ∙ h))
 
 pub some-either : (core : CoreParts) (r a b : Option ℕ) → (r ≡ a) ⊎ (r ≡ b) → IsOfSome a core → IsOfSome b core → IsOfSome r core
 some-either core r a b (inl e) x y = subst (λ o. IsOfSome o core) (sym e) x
@@ -98,7 +98,7 @@ servers-more n cells cell old next new at before some one other either from own 
 
     go : (k : ℕ) (c : CellParts) → slice_get cells k ≡ Some c → (k < n) ⊎ (k ≡ n) → AreFrom new c.held.core.clients
     go k c e (inl l) = are-earlier new old c.held.core.clients one (before k c l e)
-    go k c e (inr q) = subst (λ (x : CellParts). AreFrom new x.held.core.clients) (one-value cell c (sym at ∙ ap (slice_get cells) (sym q) ∙ e)) (are-earlier new next cell.held.core.clients other from)
+    go k c e (inr q) = subst (λ (x : CellParts). AreFrom new x.held.core.clients) (same_Some cell c (sym at ∙ ap (slice_get cells) (sym q) ∙ e)) (are-earlier new next cell.held.core.clients other from)
 
     have : (o : Option ℕ) → IsOfSome o cell.held.core → IfSome o (HaveCommand cells)
     have None h = tt

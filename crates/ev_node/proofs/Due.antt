@@ -1,5 +1,6 @@
 -- No lower command is left and none of a higher phase is taken: this goes on through each step.
 use Rattle.std.proofs.Common.{◌≡◌, ℕ, zero, suc, ◌≤◌, ◌<◌, ◌==◌, cond, List, [], ◌∷◌, ◌⊎◌, inl, inr, map, Some, slice_get, refl, sym, ap, subst, ◌∙◌, arith}
+use Rattle.std.proofs.lemmas.Option.{same_Some}
 use Rattle.ev_sets.specs.Sets.{Has}
 use Rattle.ev_run.specs.Machine.{Input, Does, Takes, Outcome}
 use Rattle.ev_run.proofs.Lists.{Same, Is, Not, compare}
@@ -83,13 +84,10 @@ done-kept net server state Nothing = refl
 below-or-last : (k n : ℕ) → k < suc n → (k < n) ⊎ (k ≡ n)
 below-or-last k n lt = grind arith
 
-same-command : (x y : PhasedCommand real) → Some x ≡ Some y → x ≡ y
-same-command x y e = cc
-
 -- a later command of a script is of no lower phase
 next-phase : (cs : List (PhasedCommand real)) (k : ℕ) (a b : PhasedCommand real) → NeverFalls real cs → slice_get cs k ≡ Some a → slice_get cs (suc k) ≡ Some b → a.phase ≤ b.phase
 next-phase [] k a b n e f = absurd cc
-next-phase (x ∷ cs) zero a b n e f = subst (λ (z : PhasedCommand real). z.phase ≤ b.phase) (same-command x a e) (n.0 b (get-has cs 0 b f))
+next-phase (x ∷ cs) zero a b n e f = subst (λ (z : PhasedCommand real). z.phase ≤ b.phase) (same_Some x a e) (n.0 b (get-has cs 0 b f))
 next-phase (x ∷ cs) (suc k) a b n e f = next-phase cs k a b n.1 e f
 
 module _ (net : Net real) (server : ℕ) (state : ServerState real) (phase : ℕ) where
@@ -125,7 +123,7 @@ module _ (net : Net real) (server : ℕ) (state : ServerState real) (phase : ℕ
           at-own p (inl l) = at-first.taken x k c h l f
           at-own p (inr w) =
               let g : slice_get (net.script client) (state.done client) ≡ Some c = subst (λ z. slice_get (net.script z) (state.done z) ≡ Some c) p (subst (λ n. slice_get (net.script x) n ≡ Some c) w f) in
-              let s : c ≡ own.0 = same-command c own.0 (sym g ∙ own.1) in
+              let s : c ≡ own.0 = same_Some c own.0 (sym g ∙ own.1) in
               let r : c.phase ≡ phase = ap (λ (z : PhasedCommand real). z.phase) s ∙ own.2 in
               omega (arith, r)
 

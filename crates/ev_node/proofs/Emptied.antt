@@ -2,6 +2,7 @@
 use Rattle.std.proofs.Common.{◌≡◌, ℕ, zero, suc, ◌<◌, ◌≤◌, false, Bool, List, [], ◌∷◌, ◌++◌, length, map, get_or, set, Some, slice_get, inl, refl, sym, ap, subst, ◌∙◌, arith, ne_eqb, eq-eqb}
 use Rattle.std.specs.Prelude.{Result, Ok, Err, IfOk}
 use Rattle.std.proofs.lemmas.List.{length-map}
+use Rattle.std.proofs.lemmas.Option.{same_Some}
 use Rattle.ev_sets.specs.Sets.{Has}
 use Rattle.ev_sets.specs.Numbers.{IsDistinct}
 use Rattle.ev_run.proofs.Lists.{append-nothing}
@@ -13,7 +14,7 @@ use Rattle.ev_node.specs.Links.{Both, At, IsOneLane, IsSettled, IsNeighbour, IsS
 use Rattle.ev_node.specs.Cell.{CellParts}
 use Rattle.ev_node.specs.Together.{Sight, IsLaneOf, IsTakenUp, IsCellDone, HasNoCommand, IsWornSomewhere, sight, sights, roots, links_of}
 use Rattle.ev_server.specs.Step.{last_stamp}
-use Rattle.ev_node.proofs.Places.{found, set-found, one-value, both-before, both-behind, found-name, below-found}
+use Rattle.ev_node.proofs.Places.{found, set-found, both-before, both-behind, found-name, below-found}
 use Rattle.ev_node.proofs.Splits.{map-set}
 use Rattle.ev_node.proofs.Hands.{names}
 use Rattle.ev_node.proofs.Turning.{some-apart}
@@ -22,12 +23,12 @@ use Rattle.ev_node.proofs.Gathered.{IsKeptCell, found-map, map-found, one-suc}
 
 pub found-put : (n : ℕ) (xs : List Link) (x : Link) → slice_get xs n ≡ Some x → IsDistinct (names xs) → put_for xs x.neighbour ≡ put_list x.enter
 found-put n [] x e d = absurd cc
-found-put zero (y ∷ xs) x e d = let q : y ≡ x = one-value y x e in rw (eq-eqb y.neighbour x.neighbour (ap (λ (w : Link). w.neighbour) q)) (ap (λ (w : Link). put_list w.enter) q)
+found-put zero (y ∷ xs) x e d = let q : y ≡ x = same_Some y x e in rw (eq-eqb y.neighbour x.neighbour (ap (λ (w : Link). w.neighbour) q)) (ap (λ (w : Link). put_list w.enter) q)
 found-put (suc n) (y ∷ xs) x e d = rw (ne_eqb y.neighbour x.neighbour (λ q. d.0 (subst (λ k. Has k (names xs)) (sym q) (found-name n xs x e)))) (found-put n xs x e d.1)
 
 pub found-taken : (n : ℕ) (xs : List Link) (x : Link) → slice_get xs n ≡ Some x → IsDistinct (names xs) → taken_from xs x.neighbour ≡ taken_list x.leave
 found-taken n [] x e d = absurd cc
-found-taken zero (y ∷ xs) x e d = let q : y ≡ x = one-value y x e in rw (eq-eqb y.neighbour x.neighbour (ap (λ (w : Link). w.neighbour) q)) (ap (λ (w : Link). taken_list w.leave) q)
+found-taken zero (y ∷ xs) x e d = let q : y ≡ x = same_Some y x e in rw (eq-eqb y.neighbour x.neighbour (ap (λ (w : Link). w.neighbour) q)) (ap (λ (w : Link). taken_list w.leave) q)
 found-taken (suc n) (y ∷ xs) x e d = rw (ne_eqb y.neighbour x.neighbour (λ q. d.0 (subst (λ k. Has k (names xs)) (sym q) (found-name n xs x e)))) (found-taken n xs x e d.1)
 
 -- a cell's neighbours differ
@@ -43,18 +44,18 @@ emptied a b later to from u ka kb (x, y, ex, ey, s) same missed gives takes =
     let all : taken_list y.leave ≡ put_list x.enter = sym (append-nothing (taken_list y.leave)) ∙ ap (λ l. taken_list y.leave ++ l) (sym nothing) ∙ s.all in
     let x0 = both-before IsSameLink to (links_of a.root) a.held.links.items x ka.links ex in
     let y0 = both-before IsSameLink from (links_of b.root) b.held.links.items y kb.links ey in
-    let nx : x.neighbour ≡ b.root.server = x0.2.neighbour ∙ ap (λ (w : Link). w.neighbour) (one-value x0.0 gives.0 (sym x0.1 ∙ gives.1)) ∙ gives.2 in
-    let ny : y.neighbour ≡ u = y0.2.neighbour ∙ ap (λ (w : Link). w.neighbour) (one-value y0.0 takes.0 (sym y0.1 ∙ takes.1)) ∙ takes.2 in
+    let nx : x.neighbour ≡ b.root.server = x0.2.neighbour ∙ ap (λ (w : Link). w.neighbour) (same_Some x0.0 gives.0 (sym x0.1 ∙ gives.1)) ∙ gives.2 in
+    let ny : y.neighbour ≡ u = y0.2.neighbour ∙ ap (λ (w : Link). w.neighbour) (same_Some y0.0 takes.0 (sym y0.1 ∙ takes.1)) ∙ takes.2 in
     ap (λ n. taken_from b.held.links.items n) (sym ny) ∙ found-taken from b.held.links.items y ey (distinct-kept b kb) ∙ all ∙ sym (found-put to a.held.links.items x ex (distinct-kept a ka)) ∙ ap (λ n. put_for a.held.links.items n) nx
 
 pub taken-up : (cells : List CellParts) (a b : CellParts) (later : List Link) (giver to taker from : ℕ) → slice_get cells giver ≡ Some a → slice_get cells taker ≡ Some b → IsKeptCell a → IsKeptCell b
     → At IsSettled to a.held.links.items from b.held.links.items → Both IsSameLink b.held.links.items later → HasMissed from b.held.links.items later → IsNeighbour to b.root.server (links_of a.root) → IsNeighbour from (suc giver) (links_of b.root) → IsTakenUp (sights cells) taker from
 taken-up cells a b later giver to taker from at-a at-b ka kb settled same missed gives takes s t y i es ey et name =
-    let sb : s ≡ sight b = one-value s (sight b) (sym es ∙ map-found sight taker cells b at-b) in
-    let yn : y ≡ takes.0 = one-value y takes.0 (sym ey ∙ ap (λ (w : Sight). slice_get (links_of w.root) from) sb ∙ takes.1) in
+    let sb : s ≡ sight b = same_Some s (sight b) (sym es ∙ map-found sight taker cells b at-b) in
+    let yn : y ≡ takes.0 = same_Some y takes.0 (sym ey ∙ ap (λ (w : Sight). slice_get (links_of w.root) from) sb ∙ takes.1) in
     let ny : y.neighbour ≡ suc giver = ap (λ (w : Link). w.neighbour) yn ∙ takes.2 in
     let ig : i ≡ giver = one-suc i giver (sym name ∙ ny) in
-    let ta : t ≡ sight a = one-value t (sight a) (sym et ∙ ap (λ n. slice_get (sights cells) n) ig ∙ map-found sight giver cells a at-a) in
+    let ta : t ≡ sight a = same_Some t (sight a) (sym et ∙ ap (λ n. slice_get (sights cells) n) ig ∙ map-found sight giver cells a at-a) in
     ap (λ (w : Sight). w.took y.neighbour) sb ∙ ap (λ n. (sight b).took n) ny ∙ emptied a b later to from (suc giver) ka kb settled same missed gives takes ∙ ap (λ n. (sight a).put n) (ap (λ (w : Sight). w.root.server) (sym sb)) ∙ ap (λ (w : Sight). w.put s.root.server) (sym ta)
 
 pub roots-seen : (cells : List CellParts) → map (λ (s : Sight). s.root) (sights cells) ≡ roots cells
@@ -104,9 +105,9 @@ module _ (old mid : List CellParts) (giver to taker from : ℕ) (lane : IsLaneOf
   take-idle x y d z (Err e) lt ex ey kx ky s t = tt
   take-idle x y d z (Ok made) lt ex ey kx ky (a, b', ea, eb, settled) idle = λ q.
       let t = idle q in
-      let yd : get_or mid taker d ≡ y = one-value (get_or mid taker d) y (sym (found mid taker d lt) ∙ ey) in
-      let by : b' ≡ y = one-value b' y (sym eb ∙ ey) in
-      let ax : a ≡ x = one-value a x (sym ea ∙ ex) in
+      let yd : get_or mid taker d ≡ y = same_Some (get_or mid taker d) y (sym (found mid taker d lt) ∙ ey) in
+      let by : b' ≡ y = same_Some b' y (sym eb ∙ ey) in
+      let ax : a ≡ x = same_Some a x (sym ea ∙ ex) in
       let still : sights (set mid taker z) ≡ sights mid = map-set sight mid taker d z lt t.0 in
       let settled' : At IsSettled to x.held.links.items from y.held.links.items = subst (λ (w : CellParts). At IsSettled to w.held.links.items from y.held.links.items) ax (subst (λ (w : CellParts). At IsSettled to a.held.links.items from w.held.links.items) by settled) in
       let up = taken-up mid x y z.held.links.items giver to taker from ex ey kx ky settled' (subst (λ (w : CellParts). Both IsSameLink w.held.links.items z.held.links.items) yd t.1) (subst (λ (w : CellParts). HasMissed from w.held.links.items z.held.links.items) yd t.2) (gives-now x y ex ey) (takes-now y ey) in
@@ -114,7 +115,7 @@ module _ (old mid : List CellParts) (giver to taker from : ℕ) (lane : IsLaneOf
 
 -- the neighbours are as many as in the phase's beginning
 pub as-many-links : (cells : List CellParts) (k : ℕ) (h : CellParts) → slice_get cells k ≡ Some h → IsKeptCell h → (b : Root) → slice_get (roots cells) k ≡ Some b → length (links_of b) ≡ length h.held.links.items
-as-many-links cells k h at kept b e = ap (λ (r : Root). length (links_of r)) (one-value b h.root (sym e ∙ map-found (λ (w : CellParts). w.root) k cells h at)) ∙ same-links (links_of h.root) h.held.links.items kept.links
+as-many-links cells k h at kept b e = ap (λ (r : Root). length (links_of r)) (same_Some b h.root (sym e ∙ map-found (λ (w : CellParts). w.root) k cells h at)) ∙ same-links (links_of h.root) h.held.links.items kept.links
 
 -- all places of the neighbours were tried
 pub all-tried : (cells : List CellParts) (k n : ℕ) → ((b : Root) → slice_get (roots cells) k ≡ Some b → length (links_of b) ≤ n) → ((p : ℕ) → p < n → IsTakenUp (sights cells) k p) → (p : ℕ) → IsTakenUp (sights cells) k p
@@ -129,7 +130,7 @@ pub cell-done : (old mid : List CellParts) (k : ℕ) (d z : CellParts) → k < l
     → (sights (set mid k z) ≡ sights old) × IsCellDone (sights (set mid k z)) k
 cell-done old mid k d z lt seen taken same calm through =
     let still : sights (set mid k z) ≡ sights mid = map-set sight mid k d z lt same in
-    let this : (s : Sight) → slice_get (sights (set mid k z)) k ≡ Some s → sight z ≡ s = λ s e. one-value (sight z) s (sym (map-found sight k (set mid k z) z (set-found mid k z lt)) ∙ e) in (
+    let this : (s : Sight) → slice_get (sights (set mid k z)) k ≡ Some s → sight z ≡ s = λ s e. same_Some (sight z) s (sym (map-found sight k (set mid k z) z (set-found mid k z lt)) ∙ e) in (
       still ∙ seen,
       record {
         taken = λ p. subst (λ l. IsTakenUp l k p) (sym still) (taken p);

@@ -1,6 +1,7 @@
 -- The cells of a net are started one by one.
 use Rattle.std.proofs.Common.{◌≡◌, ◌⊎◌, inl, inr, true, false, ℕ, zero, suc, ◌+◌, ◌<◌, ◌≤◌, List, [], ◌∷◌, ◌++◌, length, map, get_or, set, Some, slice_get, refl, sym, ap, subst, ◌∙◌, arith}
 use Rattle.std.proofs.lemmas.List.{length-append, length-map}
+use Rattle.std.proofs.lemmas.Option.{same_Some}
 use Rattle.ev_sets.specs.Sets.{Has}
 use Rattle.ev_tree.proofs.Servers.{in-server}
 use Rattle.ev_model.specs.Parts.{NetParts}
@@ -17,7 +18,7 @@ use Rattle.ev_node.specs.Started.{IsStarted, AreStarted}
 use Rattle.ev_node.specs.Cell.{CellParts}
 use Rattle.ev_node.specs.Together.{links_of}
 use Rattle.ev_node.specs.Entered.{AreCalm}
-use Rattle.ev_node.proofs.Places.{found, one-value}
+use Rattle.ev_node.proofs.Places.{found}
 use Rattle.ev_node.proofs.Gathered.{map-found, found-map, found-within}
 
 -- the first n cells over these rows
@@ -32,7 +33,7 @@ none-yet net rows started e = record {
 }
 
 pub get-last : {X : Type 0} (xs : List X) (x y : X) (k : ℕ) → slice_get (xs ++ x ∷ []) k ≡ Some y → (slice_get xs k ≡ Some y) ⊎ ((k ≡ length xs) × (y ≡ x))
-get-last [] x y zero e = inr (refl, one-value y x (sym e))
+get-last [] x y zero e = inr (refl, same_Some y x (sym e))
 get-last [] x y (suc k) e = absurd cc
 get-last (z ∷ xs) x y zero e = inl e
 get-last (z ∷ xs) x y (suc k) e = elim (get-last xs x y k e) [ inl a ↦ inl a | inr b ↦ inr (ap suc b.0, b.1) ]
@@ -105,7 +106,7 @@ row-is f rows first place d lt lt' rest =
     let x = found-within first place lt in
     let e = map-found f place first x.0 x.1 in
     let g : slice_get (map f rows) place ≡ Some (f (get_or rows place d)) = map-found f place rows (get_or rows place d) (found rows place d lt') in
-    e ∙ ap (λ z. Some z) (one-value (f x.0) (f (get_or rows place d)) (sym (rest place (f x.0) (omega arith) e) ∙ g))
+    e ∙ ap (λ z. Some z) (same_Some (f x.0) (f (get_or rows place d)) (sym (rest place (f x.0) (omega arith) e) ∙ g))
 
 pub few-rows : (net : NetParts) (rows : List (List Link)) → IsSound net → length rows ≡ (first_tree net.trees).count → length rows ≤ 64
 few-rows net rows sound e = let l = few-servers net.trees sound.trees in omega (arith, e, l)

@@ -1,6 +1,7 @@
 -- Cells together: where a lane comes from.
 use Rattle.std.proofs.Common.{◌≡◌, ◌⊎◌, inl, inr, ℕ, zero, suc, ◌-◌, ◌<◌, ◌≤◌, List, [], ◌∷◌, length, map, Some, None, slice_get, refl, sym, ap, subst, ◌∙◌, arith}
 use Rattle.std.proofs.lemmas.List.{length-map}
+use Rattle.std.proofs.lemmas.Option.{same_Some}
 use Rattle.ev_sets.specs.Sets.{Has}
 use Rattle.ev_tree.proofs.Servers.{server-in}
 use Rattle.ev_routing.specs.Net.{Net, NetLaws}
@@ -14,18 +15,18 @@ use Rattle.ev_node.specs.Links.{At, IsOneLane, IsNeighbour, IsSameLink}
 use Rattle.ev_node.specs.Cell.{CellParts, IsKept}
 use Rattle.ev_node.specs.Together.{AreTogether, IsLaneOf, roots, links_of}
 use Rattle.ev_node.proofs.Hands.{names}
-use Rattle.ev_node.proofs.Places.{one-value, both-before, both-behind, found-name}
+use Rattle.ev_node.proofs.Places.{both-before, both-behind, found-name}
 use Rattle.ev_node.proofs.Keeping.{laws_at, replayed}
 
 module _ {X Y : Type 0} (f : X → Y) where
   pub map-found : (n : ℕ) (xs : List X) (x : X) → slice_get xs n ≡ Some x → slice_get (map f xs) n ≡ Some (f x)
   map-found n [] x e = absurd cc
-  map-found zero (y ∷ xs) x e = ap (λ z. Some (f z)) (one-value y x e)
+  map-found zero (y ∷ xs) x e = ap (λ z. Some (f z)) (same_Some y x e)
   map-found (suc n) (y ∷ xs) x e = map-found n xs x e
 
   pub found-map : (n : ℕ) (xs : List X) (y : Y) → slice_get (map f xs) n ≡ Some y → (x : X) × (slice_get xs n ≡ Some x) × (f x ≡ y)
   found-map n [] y e = absurd cc
-  found-map zero (x ∷ xs) y e = (x, refl, one-value (f x) y e)
+  found-map zero (x ∷ xs) y e = (x, refl, same_Some (f x) y e)
   found-map (suc n) (x ∷ xs) y e = found-map n xs y e
 
 pub one-suc : (a b : ℕ) → suc a ≡ suc b → a ≡ b
@@ -135,7 +136,7 @@ module _ (net : NetParts) (phase : ℕ) (cells : List CellParts) (together : Are
           record {
             within = among;
             apart = apart;
-            lane = λ a b e q. subst (λ (a : CellParts). At IsOneLane to (links_of a.root) p (links_of b.root)) (one-value theirs a (sym there ∙ e)) (subst (λ (b : CellParts). At IsOneLane to (links_of theirs.root) p (links_of b.root)) (one-value mine b (sym at ∙ q)) one);
-            gives = λ a b e q. subst (λ (a : CellParts). IsNeighbour to b.root.server (links_of a.root)) (one-value theirs a (sym there ∙ e)) (subst (λ (b : CellParts). IsNeighbour to b.root.server (links_of theirs.root)) (one-value mine b (sym at ∙ q)) x);
-            takes = λ b q. subst (λ (b : CellParts). IsNeighbour p (suc (u - 1)) (links_of b.root)) (one-value mine b (sym at ∙ q)) (subst (λ n. IsNeighbour p n (links_of mine.root)) up y);
+            lane = λ a b e q. subst (λ (a : CellParts). At IsOneLane to (links_of a.root) p (links_of b.root)) (same_Some theirs a (sym there ∙ e)) (subst (λ (b : CellParts). At IsOneLane to (links_of theirs.root) p (links_of b.root)) (same_Some mine b (sym at ∙ q)) one);
+            gives = λ a b e q. subst (λ (a : CellParts). IsNeighbour to b.root.server (links_of a.root)) (same_Some theirs a (sym there ∙ e)) (subst (λ (b : CellParts). IsNeighbour to b.root.server (links_of theirs.root)) (same_Some mine b (sym at ∙ q)) x);
+            takes = λ b q. subst (λ (b : CellParts). IsNeighbour p (suc (u - 1)) (links_of b.root)) (same_Some mine b (sym at ∙ q)) (subst (λ n. IsNeighbour p n (links_of mine.root)) up y);
           }

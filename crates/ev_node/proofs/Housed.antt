@@ -1,6 +1,7 @@
 -- The clients of a server by their places in a net.
 use Rattle.std.proofs.Common.{◌≡◌, ◌↔◌, IsTrue, ◌⊎◌, inl, inr, ℕ, zero, suc, ◌-◌, ◌<◌, ◌≤◌, ◌==◌, false, List, [], ◌∷◌, length, Some, slice_get, slice_index_or, refl, sym, ap, subst, ◌∙◌, arith, eqb-true, eq-eqb}
 use Rattle.std.specs.List.{range_with_len}
+use Rattle.std.proofs.lemmas.Option.{same_Some}
 use Rattle.ev_sets.specs.Sets.{Has}
 use Rattle.ev_sets.proofs.Roots.{Has-filter, filter-Has}
 use Rattle.ev_tree.proofs.Servers.{server-in, in-server}
@@ -11,7 +12,7 @@ use Rattle.ev_server.specs.Clients.{numbers_of}
 use Rattle.ev_routing.proofs.Listing.{has-map}
 use Rattle.ev_node.specs.Cell.{HasNoneBelow, IsPast}
 use Rattle.ev_node.proofs.Gathered.{found-within}
-use Rattle.ev_node.proofs.Places.{one-value, below-found}
+use Rattle.ev_node.proofs.Places.{below-found}
 
 -- who is at home at a server is one of its clients
 pub at-home : (net : NetParts) (server place : ℕ) (client : ClientParts) → slice_get net.clients place ≡ Some client → client.home ≡ server → Has (suc place) (clients_of net server)
@@ -51,7 +52,7 @@ home-iff net server n client low e =
       (λ h. (
           let a = home-at net server n h in
           let same : a.0 ≡ n - 1 = omega (arith, a.2, low) in
-          eq-eqb client.home server (ap (λ (c : ClientParts). c.home) (one-value client a.1 (sym e ∙ ap (slice_get net.clients) (sym same) ∙ a.3)) ∙ a.4))),
+          eq-eqb client.home server (ap (λ (c : ClientParts). c.home) (same_Some client a.1 (sym e ∙ ap (slice_get net.clients) (sym same) ∙ a.3)) ∙ a.4))),
     )
 
 -- no number beyond is
@@ -83,4 +84,4 @@ one-more net server phase n client sessions at before here place c lt e h = go (
     go : (place < n) ⊎ (place ≡ n) → IsPast phase (suc place) sessions
     go (inl l) = before place c l e h
     go (inr q) = subst (λ k. IsPast phase (suc k) sessions) (sym q)
-        (here (ap (λ (w : ClientParts). w.home) (one-value client c (sym at ∙ ap (slice_get net.clients) (sym q) ∙ e)) ∙ h))
+        (here (ap (λ (w : ClientParts). w.home) (same_Some client c (sym at ∙ ap (slice_get net.clients) (sym q) ∙ e)) ∙ h))

@@ -1,6 +1,7 @@
 -- With all cells in hand their journals have a merge, and where nothing is left to do the phase is ended.
 use Rattle.std.proofs.Common.{◌≡◌, ℕ, zero, suc, ◌-◌, ◌<◌, ◌≤◌, nat_le, true, ◌&&◌, List, [], ◌∷◌, ◌++◌, ◌⊎◌, inl, inr, length, map, Option, Some, None, slice_get, refl, sym, ap, subst, ◌∙◌, arith}
 use Rattle.std.proofs.lemmas.Bool.Decides.{nat_tests}
+use Rattle.std.proofs.lemmas.Option.{same_Some}
 use Rattle.ev_sets.specs.Sets.{Has}
 use Rattle.ev_sets.specs.Numbers.{IsDistinct}
 use Rattle.ev_run.specs.Machine.{Machine, Entry, Input, Does, Takes, Stamped, next_stamp}
@@ -25,7 +26,7 @@ use Rattle.ev_node.specs.Served.{framed}
 use Rattle.ev_node.specs.Cell.{CellParts, IsCellOf, IsDue, AreReadable, machine_in}
 use Rattle.ev_node.specs.Together.{AreTogether, AreBegun, AreDone, IsFinished, HasNoCommand, entries_in, journals, links_of, of_server, roots, sight, sights}
 use Rattle.ev_node.specs.InHand.{AreAllInHand, AreInOrder}
-use Rattle.ev_node.proofs.Places.{one-value, below-found}
+use Rattle.ev_node.proofs.Places.{below-found}
 use Rattle.ev_node.proofs.Due.{DueAt, due-state, session-of, script-of, done-of, map-get}
 use Rattle.ev_node.proofs.Framing.{frames-one}
 use Rattle.ev_node.proofs.Settled.{frames-begin}
@@ -56,7 +57,7 @@ module _ {X Y : Type 0} where
   -- the value of a server that is there, and of one that is not
   of-found : (f : X → Y) (none : Y) (xs : List X) (k : ℕ) (x : X) → slice_get xs k ≡ Some x → of_server none (map f xs) (suc k) ≡ f x
   of-found f none [] k x e = absurd cc
-  of-found f none (y ∷ xs) zero x e = ap f (one-value y x e)
+  of-found f none (y ∷ xs) zero x e = ap f (same_Some y x e)
   of-found f none (y ∷ xs) (suc k) x e = of-found f none xs k x e
 
   of-none : (f : X → Y) (none : Y) (xs : List X) (k : ℕ) → slice_get xs k ≡ None → of_server none (map f xs) (suc k) ≡ none
@@ -79,7 +80,7 @@ place-or-none u (x ∷ xs) = go (compare x.neighbour u) (place-or-none u xs)
     go (Not e v) (inr n) = inr (other, rw v n.1, rw v n.2)
       where
         other : (p : ℕ) → IsNeighbour p u (x ∷ xs) → ⊥
-        other zero h = e (ap (λ (w : Link). w.neighbour) (one-value x h.0 h.1) ∙ h.2)
+        other zero h = e (ap (λ (w : Link). w.neighbour) (same_Some x h.0 h.1) ∙ h.2)
         other (suc p) h = n.0 p h
 
 module _ (m : Machine) where
@@ -202,7 +203,7 @@ module _ (net : NetParts) (phase : ℕ) (cells : List CellParts) (together : Are
         took = λ link. ap (λ (f : ℕ → List FrameParts). f link) (of-found (λ (c : CellParts). λ link. taken_from c.held.links.items link) (λ (link : ℕ). []) cells k cell e) ∙ ended.stands.took link;
         put_readable = ended.stands.put_readable;
         took_readable = ended.stands.took_readable;
-        stands = λ j other q f. subst (λ (c : CellParts). IsCellOf net phase c.held.core c.held.links.items ended.end) (one-value cell other (sym e ∙ ap (λ n. slice_get cells n) (one-suc k j q) ∙ f)) ended.stands;
+        stands = λ j other q f. subst (λ (c : CellParts). IsCellOf net phase c.held.core c.held.links.items ended.end) (same_Some cell other (sym e ∙ ap (λ n. slice_get cells n) (one-suc k j q) ∙ f)) ended.stands;
         other = λ beyond. absurd (beyond k refl (below-found k cells cell e));
       }
         where
@@ -336,7 +337,7 @@ module _ (net : NetParts) (phase : ℕ) (cells : List CellParts) (together : Are
             at (inl (i, ha, ea, fa)) (inr n) = n.2 ∙ sym (put-none i ha ea fa (λ p m.
                 let o = neighbour i ha p b fa m in
                 let j : o.0 ≡ k = one-suc o.0 k (sym o.2 ∙ eb) in
-                let same : o.1 ≡ hb = one-value o.1 hb (sym o.3 ∙ ap (λ n. slice_get cells n) j ∙ fb) in
+                let same : o.1 ≡ hb = same_Some o.1 hb (sym o.3 ∙ ap (λ n. slice_get cells n) j ∙ fb) in
                 n.0 o.4.0 (subst (λ s. IsNeighbour o.4.0 s hb.held.links.items) (sym ea) (subst (λ (c : CellParts). IsNeighbour o.4.0 (suc i) c.held.links.items) same o.4.1))))
             at na (inl n) =
                 let o = neighbour k hb n.0 a fb n.1 in

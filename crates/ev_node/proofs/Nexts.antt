@@ -1,6 +1,7 @@
 -- All cells have entered a later phase: they are together in it, and stand for the state in which it is entered.
 use Rattle.std.proofs.Common.{◌≡◌, ℕ, suc, ◌+◌, ◌<◌, ◌==◌, true, false, cond, List, [], length, map, Some, slice_get, Vec, Global, refl, sym, ap, subst, ◌∙◌, arith, ne_eqb, eqb-true}
 use Rattle.std.proofs.lemmas.List.{length-map}
+use Rattle.std.proofs.lemmas.Option.{same_Some}
 use Rattle.ev_run.specs.Journals.{Cell, network_of}
 use Rattle.ev_run.specs.Runs.{greatest}
 use Rattle.ev_routing.specs.Net.{Net}
@@ -23,7 +24,7 @@ use Rattle.ev_node.specs.Cell.{CellParts, IsCellOf, HasEntered, machine_in}
 use Rattle.ev_node.specs.Together.{AreTogether, links_of as lanes_of, roots}
 use Rattle.ev_node.specs.Relinking.{CanRaise, HasMoved, HasRaised}
 use Rattle.ev_node.specs.Entered.{AreThrough, StandFor, AreEntered, greatest_clock, state_of}
-use Rattle.ev_node.proofs.Places.{one-value, below-found, both-before, lane-later}
+use Rattle.ev_node.proofs.Places.{below-found, both-before, lane-later}
 use Rattle.ev_node.proofs.Gathered.{IsKeptCell, map-found, found-map, found-within, root-at, count-cells}
 use Rattle.ev_node.proofs.Fresh.{new-put, new-taken}
 use Rattle.ev_node.proofs.Entering.{any-clock}
@@ -176,7 +177,7 @@ module _ (net : NetParts) (sound : IsSound net) (last phase : ℕ) (old new : Li
         record { old_cell = a.0; links = l.0; row = r.0; at_old = a.1; at_given = l.1; at_rows = r.1; has = moved k a.0 b l.0 r.0 a.1 e l.1 r.1 }
 
     has-entered : (k : ℕ) (a b : CellParts) → slice_get old k ≡ Some a → slice_get new k ≡ Some b → HasEntered a.root phase b
-    has-entered k a b e f = let m = mover k b f in subst (λ (c : CellParts). HasEntered c.root phase b) (one-value m.old_cell a (sym m.at_old ∙ e)) m.has.entered
+    has-entered k a b e f = let m = mover k b f in subst (λ (c : CellParts). HasEntered c.root phase b) (same_Some m.old_cell a (sym m.at_old ∙ e)) m.has.entered
 
     row-now : (k : ℕ) (row : List Link) → slice_get (map lanes_of (roots new)) k ≡ Some row → slice_get rows k ≡ Some row
     row-now k row f =

@@ -1,6 +1,7 @@
 -- All cells enter a later phase, and what they stand for then.
 use Rattle.std.proofs.Common.{◌≡◌, ◌⊎◌, inl, inr, ℕ, zero, suc, max, ◌+◌, ◌-◌, ◌≤◌, ◌<◌, nat_lt, true, false, List, [], ◌∷◌, length, map, get_or, set, Some, None, slice_get, Vec, Global, refl, sym, ap, subst, ◌∙◌, arith}
 use Rattle.std.specs.List.{range_with_len}
+use Rattle.std.proofs.lemmas.Option.{same_Some}
 use Rattle.ev_sets.specs.Sets.{Has, IsRising}
 use Rattle.ev_constraint.specs.Constraint.{ConstraintParts}
 use Rattle.ev_tree.specs.Tree.{Topology, TreeLaws, links_of}
@@ -34,7 +35,7 @@ use Rattle.ev_node.specs.Cell.{CellParts}
 use Rattle.ev_node.specs.Together.{AreTogether, AreDone, roots, sight, sights}
 use Rattle.ev_node.specs.Relinking.{IsHomeOf, CanMove}
 use Rattle.ev_node.specs.Entered.{AreCalm, IsSameCell, AreSameCells, AreThrough, greatest_clock}
-use Rattle.ev_node.proofs.Places.{found, set-found, one-value, below-found}
+use Rattle.ev_node.proofs.Places.{found, set-found, below-found}
 use Rattle.ev_node.proofs.Gathered.{IsKeptCell, map-found, found-within, there-or-not, root-at, number-at, count-cells}
 use Rattle.ev_node.proofs.Filled.{get-other}
 use Rattle.ev_node.proofs.Keeping.{replayed}
@@ -47,8 +48,8 @@ set-step {X} P Q first now n d z lt left here weaken before k a b ea eb = go (co
   where
     go : Same k n → Q k a b
     go (Is p v) =
-        let az : get_or now n d ≡ a = one-value (get_or now n d) a (sym (found now n d lt) ∙ left ∙ ap (slice_get first) (sym p) ∙ ea) in
-        let bz : z ≡ b = one-value z b (sym (set-found now n z lt) ∙ ap (slice_get (set now n z)) (sym p) ∙ eb) in
+        let az : get_or now n d ≡ a = same_Some (get_or now n d) a (sym (found now n d lt) ∙ left ∙ ap (slice_get first) (sym p) ∙ ea) in
+        let bz : z ≡ b = same_Some z b (sym (set-found now n z lt) ∙ ap (slice_get (set now n z)) (sym p) ∙ eb) in
         subst (λ j. Q j a b) (sym p) (subst (λ w. Q n w b) az (subst (λ w. Q n (get_or now n d) w) bz here))
     go (Not e v) = weaken k a b e (before k a b ea (sym (get-other now n k z e) ∙ eb))
 
@@ -77,7 +78,7 @@ calm-done cells done k cell e = let s = map-found sight k cells cell e in (done 
 
 pub below-greatest : (cells : List CellParts) (k : ℕ) (cell : CellParts) → slice_get cells k ≡ Some cell → cell.held.core.clock ≤ greatest_clock cells
 below-greatest [] k cell e = absurd cc
-below-greatest (x ∷ cells) zero cell e = let q = ap (λ (c : CellParts). c.held.core.clock) (one-value x cell e) in omega (arith, q)
+below-greatest (x ∷ cells) zero cell e = let q = ap (λ (c : CellParts). c.held.core.clock) (same_Some x cell e) in omega (arith, q)
 below-greatest (x ∷ cells) (suc k) cell e = let le = below-greatest cells k cell e in omega (arith, le)
 
 pub greatest-is : (m : Machine) (f : ℕ → ℕ) (n k : ℕ) (cells : List CellParts) → length cells ≡ k → ((place : ℕ) (cell : CellParts) → slice_get cells place ≡ Some cell → cell.held.core.clock ≡ f (n + place))
@@ -163,7 +164,7 @@ module _ (net : NetParts) (sound : IsSound net) (last phase : ℕ) (old : List C
       let s : IsServerState (net_at real (phased_net other.root.net.value) other.root.phase) other.held.core (state-at k (inl (other, f))) = (replayed other.root.net.value other.root other.journal other.held (kept k other f)).stands.state in
       let t : IsServerState (net_at real (phased_net net) other.root.phase) other.held.core (state-at k (inl (other, f))) = subst (λ n. IsServerState (net_at real (phased_net n) other.root.phase) other.held.core (state-at k (inl (other, f)))) (together.nets k other.root (root-at net last old together k other f)) s in
       let u : IsServerState before other.held.core (state-at k (inl (other, f))) = subst (λ p. IsServerState (net_at real (phased_net net) p) other.held.core (state-at k (inl (other, f)))) (together.phases k other.root (root-at net last old together k other f)) t in
-      subst (λ (c : CellParts). IsServerState before c.held.core (state-at k (inl (other, f)))) (one-value other cell (sym f ∙ e)) u
+      subst (λ (c : CellParts). IsServerState before c.held.core (state-at k (inl (other, f)))) (same_Some other cell (sym f ∙ e)) u
 
   some-stand : Stand some-state
   some-stand k cell e = some-stands k cell e (there-or-not old k)

@@ -1,6 +1,7 @@
 -- The next command of a client, and its phase.
 use Rattle.std.proofs.Common.{◌≡◌, ◌↔◌, ◌<◌, ◌≤◌, nat_le, true, ℕ, length, Some, slice_get, sym, ap, subst, ◌∙◌, arith}
 use Rattle.std.proofs.lemmas.Bool.Decides.{nat_tests}
+use Rattle.std.proofs.lemmas.Option.{same_Some}
 use Rattle.ev_sets.specs.Sets.{Has}
 use Rattle.ev_wire.specs.declared.command.Command.{Command}
 use Rattle.ev_session.specs.Session.{SessionParts}
@@ -8,7 +9,7 @@ use Rattle.ev_server.specs.Core.{CoreParts}
 use Rattle.ev_node.specs.Served.{IsSomeServer}
 use Rattle.ev_node.specs.Cell.{IsPast}
 use Rattle.ev_node.specs.Turns.{HasCommand}
-use Rattle.ev_node.proofs.Places.{one-value, below-found}
+use Rattle.ev_node.proofs.Places.{below-found}
 use Rattle.ev_node.proofs.Routes.{one-session, distinct}
 
 module _ (core : CoreParts) (client phase : ℕ) (some : IsSomeServer core) (s : SessionParts) (has : Has s core.clients) (is : s.client ≡ client) where
@@ -23,7 +24,7 @@ module _ (core : CoreParts) (client phase : ℕ) (some : IsSomeServer core) (s :
       from : HasCommand core client phase → c.0 ≡ phase
       from (t, h, q, (d, f, own)) =
           let g : slice_get s.script s.taken ≡ Some d = subst (λ (z : SessionParts). slice_get z.script z.taken ≡ Some d) (same-session t h q) f in
-          ap (λ (z : ℕ × Command). z.0) (one-value c d (sym e ∙ g)) ∙ own
+          ap (λ (z : ℕ × Command). z.0) (same_Some c d (sym e ∙ g)) ∙ own
 
   -- there is a next command
   pub left-of : HasCommand core client phase → s.taken < length s.script
@@ -33,7 +34,7 @@ module _ (core : CoreParts) (client phase : ℕ) (some : IsSomeServer core) (s :
   pub past-by : (c : ℕ × Command) → slice_get s.script s.taken ≡ Some c → nat_le phase c.0 ≡ true → IsPast phase client core.clients
   past-by c e t z d h q f =
       let g : slice_get s.script s.taken ≡ Some d = subst (λ (z : SessionParts). slice_get z.script z.taken ≡ Some d) (same-session z h q) f in
-      subst (λ (w : ℕ × Command). phase ≤ w.0) (one-value c d (sym e ∙ g)) (grind (arith, nat_tests, t))
+      subst (λ (w : ℕ × Command). phase ≤ w.0) (same_Some c d (sym e ∙ g)) (grind (arith, nat_tests, t))
 
   pub past-next : (c : ℕ × Command) → slice_get s.script s.taken ≡ Some c → IsPast phase client core.clients → nat_le phase c.0 ≡ true
   past-next c e past = let le = past s c has is e in grind (arith, nat_tests, le)

@@ -1,6 +1,7 @@
 -- One lane of a server is changed.
 use Rattle.std.proofs.Common.{◌≡◌, ℕ, zero, suc, ◌+◌, ◌<◌, ◌≤◌, List, [], ◌∷◌, ◌++◌, ◌⊎◌, inl, inr, length, get_or, set, Option, Some, slice_get, refl, sym, ap, subst, ◌∙◌, arith, append_assoc, ne_eqb, eq-eqb}
 use Rattle.std.specs.Prelude.{Result, Ok, Err, IfOk, OnOk}
+use Rattle.std.proofs.lemmas.Option.{same_Some}
 use mathlib.Core.List.{IsPrefix}
 use Rattle.ev_sets.specs.Sets.{Has}
 use Rattle.ev_sets.specs.Numbers.{IsDistinct}
@@ -26,16 +27,13 @@ module _ {X : Type 0} where
   set-found (x ∷ xs) zero z lt = refl
   set-found (x ∷ xs) (suc n) z lt = set-found xs n z (omega arith)
 
-  pub one-value : (x y : X) → Some x ≡ Some y → x ≡ y
-  one-value x y e = cc
-
 pub set-unmoved : (n : ℕ) (xs : List Link) (d z : Link) → n < length xs → IsUnmoved (get_or xs n d) z → Both IsUnmoved xs (set xs n z)
 set-unmoved n [] d z lt u = absurd (omega arith)
 set-unmoved zero (x ∷ xs) d z lt u = (u, all-unmoved xs)
 set-unmoved (suc n) (x ∷ xs) d z lt u = (unmoved-refl x, set-unmoved n xs d z (omega arith) u)
 
 pub set-missed : (n : ℕ) (xs : List Link) (d z : Link) → n < length xs → IsMissed (get_or xs n d) z → HasMissed n xs (set xs n z)
-set-missed n xs d z lt m x y p q = subst (λ (w : Link). IsMissed w y) (one-value (get_or xs n d) x (sym (found xs n d lt) ∙ p)) (subst (λ (w : Link). IsMissed (get_or xs n d) w) (one-value z y (sym (set-found xs n z lt) ∙ q)) m)
+set-missed n xs d z lt m x y p q = subst (λ (w : Link). IsMissed w y) (same_Some (get_or xs n d) x (sym (found xs n d lt) ∙ p)) (subst (λ (w : Link). IsMissed (get_or xs n d) w) (same_Some z y (sym (set-found xs n z lt) ∙ q)) m)
 
 pub has-name : (n : ℕ) (xs : List Link) (d : Link) → n < length xs → Has (get_or xs n d).neighbour (names xs)
 has-name n [] d lt = absurd (omega arith)
@@ -44,7 +42,7 @@ has-name (suc n) (x ∷ xs) d lt = inr (has-name n xs d (omega arith))
 
 pub found-name : (n : ℕ) (xs : List Link) (x : Link) → slice_get xs n ≡ Some x → Has x.neighbour (names xs)
 found-name n [] x e = absurd cc
-found-name zero (y ∷ xs) x e = inl (ap (λ (w : Link). w.neighbour) (one-value x y (sym e)))
+found-name zero (y ∷ xs) x e = inl (ap (λ (w : Link). w.neighbour) (same_Some x y (sym e)))
 found-name (suc n) (y ∷ xs) x e = inr (found-name n xs x e)
 
 other : (from : ℕ) (frame : FrameParts) (x : Link) → (x.neighbour ≡ from → ⊥) → IsTaken from frame x x
@@ -70,20 +68,20 @@ module _ {X : Type 0} (R : X → X → Type 0) where
   both-before n [] [] y b e = absurd cc
   both-before n [] (z ∷ ys) y b e = absurd b
   both-before n (x ∷ xs) [] y b e = absurd b
-  both-before zero (x ∷ xs) (z ∷ ys) y b e = (x, refl, subst (λ w. R x w) (one-value z y e) b.0)
+  both-before zero (x ∷ xs) (z ∷ ys) y b e = (x, refl, subst (λ w. R x w) (same_Some z y e) b.0)
   both-before (suc n) (x ∷ xs) (z ∷ ys) y b e = both-before n xs ys y b.1 e
 
   pub both-behind : (n : ℕ) (xs ys : List X) (x : X) → Both R xs ys → slice_get xs n ≡ Some x → (y : X) × (slice_get ys n ≡ Some y) × R x y
   both-behind n [] ys x b e = absurd cc
   both-behind n (w ∷ xs) [] x b e = absurd b
-  both-behind zero (w ∷ xs) (z ∷ ys) x b e = (z, refl, subst (λ w. R w z) (one-value w x e) b.0)
+  both-behind zero (w ∷ xs) (z ∷ ys) x b e = (z, refl, subst (λ w. R w z) (same_Some w x e) b.0)
   both-behind (suc n) (w ∷ xs) (z ∷ ys) x b e = both-behind n xs ys x b.1 e
 
 pub placed : {X : Type 0} (xs : List X) (n : ℕ) (x : X) → n < length xs → x ≡ get_or xs n x → slice_get xs n ≡ Some x
 placed xs n x lt e = found xs n x lt ∙ ap (λ w. Some w) (sym e)
 
 pub read-found : {X : Type 0} (xs : List X) (n : ℕ) (x y : X) → n < length xs → x ≡ get_or xs n x → slice_get xs n ≡ Some y → x ≡ y
-read-found xs n x y lt e f = e ∙ one-value (get_or xs n x) y (sym (found xs n x lt) ∙ f)
+read-found xs n x y lt e f = e ∙ same_Some (get_or xs n x) y (sym (found xs n x lt) ∙ f)
 
 pub missed-after : (n : ℕ) (xs ys zs : List Link) → Both IsRoomed xs ys → HasMissed n ys zs → HasMissed n xs zs
 missed-after n xs ys zs b h x z p q =
@@ -129,7 +127,7 @@ no-neighbour n k xs d lt q before p le h = go (split p n le)
   where
     go : (p < n) ⊎ (p ≡ n) → ⊥
     go (inl a) = before p a h
-    go (inr a) = q (ap (λ (w : Link). w.neighbour) (one-value (get_or xs n d) h.0 (sym (found xs n d lt) ∙ subst (λ m. slice_get xs m ≡ Some h.0) a h.1)) ∙ h.2)
+    go (inr a) = q (ap (λ (w : Link). w.neighbour) (same_Some (get_or xs n d) h.0 (sym (found xs n d lt) ∙ subst (λ m. slice_get xs m ≡ Some h.0) a h.1)) ∙ h.2)
 
 pub no-place : (k n : ℕ) (xs : List Link) → length xs ≤ n → ((p : ℕ) → p < n → IsNeighbour p k xs → ⊥) → (p : ℕ) → IsNeighbour p k xs → ⊥
 no-place k n xs le before p h = let lt = below-found p xs h.0 h.1 in before p (omega (arith, lt)) h
@@ -143,7 +141,7 @@ looked-at n xs d x z (Ok seen) lt q l = (get_or xs n d, z, found xs n d lt, set-
 pub taken-next : (n : ℕ) (xs : List Link) (d y z : Link) → n < length xs → IsDistinct (names xs) → y ≡ get_or xs n d → ((frame : FrameParts) → ComesNext frame y → IsTaken y.neighbour frame y z)
     → (frame : FrameParts) (x : Link) → slice_get xs n ≡ Some x → ComesNext frame x → Both (IsTaken x.neighbour frame) xs (set xs n z)
 taken-next n xs d y z lt dis q t frame x e next =
-    let p : x ≡ get_or xs n d = one-value x (get_or xs n d) (sym e ∙ found xs n d lt) in
+    let p : x ≡ get_or xs n d = same_Some x (get_or xs n d) (sym e ∙ found xs n d lt) in
     let w : IsTaken x.neighbour frame x z = subst (λ (v : Link). ComesNext frame v → IsTaken v.neighbour frame v z) (q ∙ sym p) (t frame) next in
     let u : IsTaken (get_or xs n d).neighbour frame (get_or xs n d) z = subst (λ (v : Link). IsTaken v.neighbour frame v z) p w in
     let k : (get_or xs n d).neighbour ≡ x.neighbour = ap (λ (v : Link). v.neighbour) (sym p) in
@@ -155,5 +153,5 @@ prefix-then xs ys zs (us, e) (vs, f) = (us ++ vs, sym (append_assoc xs us vs) �
 -- what came next at the link at a place still does
 pub next-set : (n : ℕ) (xs : List Link) (d z : Link) (frame : FrameParts) → n < length xs → IsPrefix (coming_list (get_or xs n d).leave) (coming_list z.leave) → IsNextAt n frame xs → IsNextAt n frame (set xs n z)
 next-set n xs d z frame lt p (x, e, q) =
-    let s : x ≡ get_or xs n d = one-value x (get_or xs n d) (sym e ∙ found xs n d lt) in
+    let s : x ≡ get_or xs n d = same_Some x (get_or xs n d) (sym e ∙ found xs n d lt) in
     (z, set-found xs n z lt, prefix-then (frame ∷ []) (coming_list (get_or xs n d).leave) (coming_list z.leave) (subst (λ (w : Link). IsPrefix (frame ∷ []) (coming_list w.leave)) s q) p)

@@ -2,6 +2,7 @@
 use Rattle.std.proofs.Common.{◌≡◌, ◌↔◌, ◌⊎◌, inl, inr, ℕ, zero, suc, ◌+◌, ◌-◌, ◌<◌, ◌≤◌, nat_lt, true, List, [], ◌∷◌, ◌++◌, map, length, get_or, set, Some, slice_get, refl, sym, ap, subst, ◌∙◌, arith}
 use Rattle.std.proofs.lemmas.List.{length-append}
 use Rattle.std.proofs.lemmas.Bool.Decides.{nat_tests}
+use Rattle.std.proofs.lemmas.Option.{same_Some}
 use Rattle.ev_sets.specs.Sets.{Has, IsRising}
 use Rattle.ev_tree.specs.Tree.{Topology, TreeLaws, links_of}
 use Rattle.ev_tree.proofs.Servers.{server-in}
@@ -14,9 +15,6 @@ less x y e = grind (arith, nat_tests, e)
 
 test : (x y : ℕ) → x < y → nat_lt x y ≡ true
 test x y l = grind (arith, nat_tests, l)
-
-one-value : {X : Type 0} (x y : X) → Some x ≡ Some y → x ≡ y
-one-value x y e = cc
 
 below-or-at : (k n : ℕ) → k < suc n → (k < n) ⊎ (k ≡ n)
 below-or-at k n lt = grind arith
@@ -36,7 +34,7 @@ module _ {X : Type 0} where
   end-has z (y ∷ xs) x (inr e) = inr (end-has z xs x (inr e))
 
   pub get-end : (xs : List X) (x y : X) (q : ℕ) → slice_get (xs ++ x ∷ []) q ≡ Some y → (slice_get xs q ≡ Some y) ⊎ (y ≡ x)
-  get-end [] x y zero e = inr (one-value y x (sym e))
+  get-end [] x y zero e = inr (same_Some y x (sym e))
   get-end [] x y (suc q) e = absurd cc
   get-end (z ∷ xs) x y zero e = inl e
   get-end (z ∷ xs) x y (suc q) e = get-end xs x y q e
@@ -81,7 +79,7 @@ named-end (y ∷ r) x = ap (λ l. y.neighbour ∷ l) (named-end r x)
 
 named-at : (r : List Link) (q : ℕ) (x : Link) → slice_get r q ≡ Some x → Has x.neighbour (named r)
 named-at [] q x e = absurd cc
-named-at (y ∷ r) zero x e = inl (ap (λ (w : Link). w.neighbour) (one-value x y (sym e)))
+named-at (y ∷ r) zero x e = inl (ap (λ (w : Link). w.neighbour) (same_Some x y (sym e)))
 named-at (y ∷ r) (suc q) x e = inr (named-at r q x e)
 
 long-with : (place : ℕ) (x : Link) (rows : List (List Link)) → length (with_link place x rows) ≡ length rows
@@ -113,9 +111,9 @@ IsRowWith place k x r row = ((k ≡ place) × (row ≡ r ++ x ∷ [])) ⊎ ((k �
 
 get-with : (place k : ℕ) (x : Link) (rows : List (List Link)) (row : List Link) → slice_get (with_link place x rows) k ≡ Some row → (r : List Link) × (slice_get rows k ≡ Some r) × IsRowWith place k x r row
 get-with place k x [] row e = absurd cc
-get-with zero zero x (r ∷ rows) row e = (r, refl, inl (refl, one-value row (r ++ x ∷ []) (sym e)))
+get-with zero zero x (r ∷ rows) row e = (r, refl, inl (refl, same_Some row (r ++ x ∷ []) (sym e)))
 get-with zero (suc k) x (r ∷ rows) row e = (row, e, inr ((λ q. let z : suc k ≡ 0 = q in absurd (omega (arith, z))), refl))
-get-with (suc place) zero x (r ∷ rows) row e = (r, refl, inr ((λ q. let z : 0 ≡ suc place = q in absurd (omega (arith, z))), one-value row r (sym e)))
+get-with (suc place) zero x (r ∷ rows) row e = (r, refl, inr ((λ q. let z : 0 ≡ suc place = q in absurd (omega (arith, z))), same_Some row r (sym e)))
 get-with (suc place) (suc k) x (r ∷ rows) row e = let g = get-with place k x rows row e in (g.0, g.1, later g.2)
   where
     later : {r : List Link} → IsRowWith place k x r row → IsRowWith (suc place) (suc k) x r row
@@ -221,7 +219,7 @@ module _ (tree : Topology) (laws : TreeLaws tree) where
     where
       has-row : (rs : List (List Link)) (k : ℕ) (r : List Link) → slice_get rs k ≡ Some r → Has r rs
       has-row [] k r e = absurd cc
-      has-row (x ∷ rs) zero r e = inl (one-value r x (sym e))
+      has-row (x ∷ rs) zero r e = inl (same_Some r x (sym e))
       has-row (x ∷ rs) (suc k) r e = inr (has-row rs k r e)
 
       empty : (k : ℕ) (r : List Link) → slice_get rows k ≡ Some r → r ≡ []

@@ -1,5 +1,6 @@
 -- What was taken of settled lanes is the beginning of what was put.
 use Rattle.std.proofs.Common.{◌≡◌, ℕ, suc, ◌<◌, ◌≤◌, List, [], ◌∷◌, ◌++◌, length, map, Some, slice_get, inl, inr, refl, sym, ap, subst, ◌∙◌, arith}
+use Rattle.std.proofs.lemmas.Option.{same_Some}
 use Rattle.ev_run.specs.Machine.{Stamped}
 use Rattle.ev_run.specs.Journals.{IsPrefix}
 use Rattle.ev_routing.specs.Server.{Message}
@@ -13,7 +14,7 @@ use Rattle.ev_node.specs.Served.{framed}
 use Rattle.ev_node.specs.Cell.{CellParts, AreReadable}
 use Rattle.ev_node.specs.Together.{Sight, IsLaneOf, sight, sights, roots, links_of}
 use Rattle.ev_node.specs.InHand.{IsTakenInOrder}
-use Rattle.ev_node.proofs.Places.{one-value, both-before, below-found}
+use Rattle.ev_node.proofs.Places.{both-before, below-found}
 use Rattle.ev_node.proofs.Framing.{frames-one}
 use Rattle.ev_node.proofs.Gathered.{IsKeptCell, found-map, map-found, one-suc}
 use Rattle.ev_node.proofs.Emptied.{found-put, found-taken, distinct-kept, takes-now}
@@ -36,8 +37,8 @@ begins : (a b : CellParts) (to from u : ℕ) → IsKeptCell a → IsKeptCell b �
 begins a b to from u ka kb (x, y, ex, ey, s) gives takes =
     let x0 = both-before IsSameLink to (links_of a.root) a.held.links.items x ka.links ex in
     let y0 = both-before IsSameLink from (links_of b.root) b.held.links.items y kb.links ey in
-    let nx : x.neighbour ≡ b.root.server = x0.2.neighbour ∙ ap (λ (w : Link). w.neighbour) (one-value x0.0 gives.0 (sym x0.1 ∙ gives.1)) ∙ gives.2 in
-    let ny : y.neighbour ≡ u = y0.2.neighbour ∙ ap (λ (w : Link). w.neighbour) (one-value y0.0 takes.0 (sym y0.1 ∙ takes.1)) ∙ takes.2 in
+    let nx : x.neighbour ≡ b.root.server = x0.2.neighbour ∙ ap (λ (w : Link). w.neighbour) (same_Some x0.0 gives.0 (sym x0.1 ∙ gives.1)) ∙ gives.2 in
+    let ny : y.neighbour ≡ u = y0.2.neighbour ∙ ap (λ (w : Link). w.neighbour) (same_Some y0.0 takes.0 (sym y0.1 ∙ takes.1)) ∙ takes.2 in
     let took : taken_from b.held.links.items u ≡ taken_list y.leave = ap (λ n. taken_from b.held.links.items n) (sym ny) ∙ found-taken from b.held.links.items y ey (distinct-kept b kb) in
     let put : put_list x.enter ≡ put_for a.held.links.items b.root.server = sym (found-put to a.held.links.items x ex (distinct-kept a ka)) ∙ ap (λ n. put_for a.held.links.items n) nx in
     (rest_list y.leave, ap (λ l. l ++ rest_list y.leave) took ∙ s.all ∙ put)
@@ -45,11 +46,11 @@ begins a b to from u ka kb (x, y, ex, ey, s) gives takes =
 taken-in-order : (cells : List CellParts) (a b : CellParts) (giver to taker from : ℕ) → slice_get cells giver ≡ Some a → slice_get cells taker ≡ Some b → IsKeptCell a → IsKeptCell b
     → At IsSettled to a.held.links.items from b.held.links.items → IsNeighbour to b.root.server (links_of a.root) → IsNeighbour from (suc giver) (links_of b.root) → IsTakenInOrder (sights cells) taker from
 taken-in-order cells a b giver to taker from at-a at-b ka kb settled gives takes s t y i es ey et name =
-    let sb : s ≡ sight b = one-value s (sight b) (sym es ∙ map-found sight taker cells b at-b) in
-    let yn : y ≡ takes.0 = one-value y takes.0 (sym ey ∙ ap (λ (w : Sight). slice_get (links_of w.root) from) sb ∙ takes.1) in
+    let sb : s ≡ sight b = same_Some s (sight b) (sym es ∙ map-found sight taker cells b at-b) in
+    let yn : y ≡ takes.0 = same_Some y takes.0 (sym ey ∙ ap (λ (w : Sight). slice_get (links_of w.root) from) sb ∙ takes.1) in
     let ny : y.neighbour ≡ suc giver = ap (λ (w : Link). w.neighbour) yn ∙ takes.2 in
     let ig : i ≡ giver = one-suc i giver (sym name ∙ ny) in
-    let ta : t ≡ sight a = one-value t (sight a) (sym et ∙ ap (λ n. slice_get (sights cells) n) ig ∙ map-found sight giver cells a at-a) in
+    let ta : t ≡ sight a = same_Some t (sight a) (sym et ∙ ap (λ n. slice_get (sights cells) n) ig ∙ map-found sight giver cells a at-a) in
     subst (λ (w : Sight). IsPrefix (w.took y.neighbour) (t.put w.root.server)) (sym sb)
     (subst (λ n. IsPrefix ((sight b).took n) (t.put b.root.server)) (sym ny) (subst (λ (w : Sight). IsPrefix ((sight b).took (suc giver)) (w.put b.root.server)) (sym ta) (begins a b to from (suc giver) ka kb settled gives takes)))
 
@@ -70,8 +71,8 @@ module _ (old mid : List CellParts) (giver to taker from : ℕ) (lane : IsLaneOf
   pub settle-order : (x y : CellParts) → slice_get mid giver ≡ Some x → slice_get mid taker ≡ Some y → IsKeptCell x → IsKeptCell y
       → (a b : CellParts) × (slice_get mid giver ≡ Some a) × (slice_get mid taker ≡ Some b) × At IsSettled to a.held.links.items from b.held.links.items → IsTakenInOrder (sights mid) taker from
   settle-order x y ex ey kx ky (a, b, ea, eb, settled) =
-      let by : b ≡ y = one-value b y (sym eb ∙ ey) in
-      let ax : a ≡ x = one-value a x (sym ea ∙ ex) in
+      let by : b ≡ y = same_Some b y (sym eb ∙ ey) in
+      let ax : a ≡ x = same_Some a x (sym ea ∙ ex) in
       let settled' : At IsSettled to x.held.links.items from y.held.links.items = subst (λ (w : CellParts). At IsSettled to w.held.links.items from y.held.links.items) ax (subst (λ (w : CellParts). At IsSettled to a.held.links.items from w.held.links.items) by settled) in
       taken-in-order mid x y giver to taker from ex ey kx ky settled' (gives-now x y ex ey) (takes-now old mid giver to taker from lane seen y ey)
 

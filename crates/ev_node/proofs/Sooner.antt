@@ -1,6 +1,7 @@
 -- A look before a step changes nothing of it.
 use Rattle.std.proofs.Common.{◌≡◌, ℕ, ◌∷◌, ◌++◌, [], List, map, Option, Some, None, slice_get, sym, ap, subst, ◌∙◌}
 use Rattle.std.specs.Prelude.{Result, Ok, Err, OnErr}
+use Rattle.std.proofs.lemmas.Option.{same_Some}
 use Rattle.ev_run.specs.Machine.{Takes, Stamped}
 use Rattle.ev_routing.specs.Server.{Message}
 use Rattle.ev_theory.specs.Real.{real}
@@ -24,7 +25,7 @@ use Rattle.ev_node.specs.Turns.{IsTurn, IsStill, IsOfPhase, IsTakingFrom, taken_
 use Rattle.ev_node.proofs.Walks.{both-comp}
 use Rattle.ev_node.proofs.Unmoved.{unmoved-all}
 use Rattle.ev_node.proofs.Moved.{moved-after}
-use Rattle.ev_node.proofs.Places.{both-before, both-behind, one-value}
+use Rattle.ev_node.proofs.Places.{both-before, both-behind}
 
 -- what was made room for, taken and given was seen without a miss
 pub has-seen : (place from : ℕ) (frame : FrameParts) (stamp : ℕ) (sent : List Sent) (xs ys zs ws : List Link) → Both IsRoomed xs ys → Both (IsTaken from frame) ys zs → Both (IsGiven stamp sent) zs ws → HasSeen place xs ws
@@ -32,7 +33,7 @@ has-seen place from frame stamp sent xs ys zs ws r t g x w p q =
     let y = both-behind IsRoomed place xs ys x r p in
     let z = both-behind (IsTaken from frame) place ys zs y.0 t y.1 in
     let v = both-behind (IsGiven stamp sent) place zs ws z.0 g z.1 in
-    ap (λ (l : Link). misses l.leave) (one-value w v.0 (sym q ∙ v.1)) ∙ ap (λ (l : LaneOut FrameParts). misses l) v.2.put.leave ∙ z.2.seen ∙ ap (λ (l : LaneOut FrameParts). misses l) y.2.leave
+    ap (λ (l : Link). misses l.leave) (same_Some w v.0 (sym q ∙ v.1)) ∙ ap (λ (l : LaneOut FrameParts). misses l) v.2.put.leave ∙ z.2.seen ∙ ap (λ (l : LaneOut FrameParts). misses l) y.2.leave
 
 pub seen-then : (place : ℕ) (xs ys zs : List Link) → ((x y : Link) → slice_get xs place ≡ Some x → slice_get ys place ≡ Some y → misses y.leave ≡ misses x.leave) → Both IsUnmoved xs ys → HasSeen place ys zs → HasSeen place xs zs
 seen-then place xs ys zs same u h x z p q =
@@ -49,13 +50,13 @@ pub looked-seen : (place : ℕ) (xs ys : List Link) (o : Option (ℕ × WireMess
 looked-seen place xs ys o s looked e a b p q = go (subst (IsLookedAt place xs ys) e looked)
   where
     go : IsLookedAt place xs ys (Some s) → misses b.leave ≡ misses a.leave
-    go (x, y, ex, ey, l) = ap (λ (z : Link). misses z.leave) (one-value b y (sym q ∙ ey)) ∙ l.1 ∙ ap (λ (z : Link). misses z.leave) (one-value x a (sym ex ∙ p))
+    go (x, y, ex, ey, l) = ap (λ (z : Link). misses z.leave) (same_Some b y (sym q ∙ ey)) ∙ l.1 ∙ ap (λ (z : Link). misses z.leave) (same_Some x a (sym ex ∙ p))
 
 pub looked-none : (place : ℕ) (xs ys : List Link) (o : Option (ℕ × WireMessage)) → IsLookedAt place xs ys o → o ≡ None → HasMissed place xs ys
 looked-none place xs ys o looked e a b p q = go (subst (IsLookedAt place xs ys) e looked)
   where
     go : IsLookedAt place xs ys None → IsMissed a b
-    go (x, y, ex, ey, l) = subst (λ (z : Link). IsMissed a z) (one-value y b (sym ey ∙ q)) (subst (λ (z : Link). IsMissed z y) (one-value x a (sym ex ∙ p)) l)
+    go (x, y, ex, ey, l) = subst (λ (z : Link). IsMissed a z) (same_Some y b (sym ey ∙ q)) (subst (λ (z : Link). IsMissed z y) (same_Some x a (sym ex ∙ p)) l)
 
 module _ (old mid new : Held) (before after : List EntryParts) (core : mid.core ≡ old.core) (links : Both IsUnmoved old.links.items mid.links.items) (publisher : mid.publisher ≡ old.publisher) where
   pub turn-before : (phase : ℕ) (input : StampedInput) (act : EntryAct) → IsTurn phase input act mid new before after → IsTurn phase input act old new before after

@@ -2,6 +2,7 @@
 use Rattle.std.proofs.Common.{◌≡◌, ℕ, ◌<◌, ◌≤◌, ◌^◌, List, [], ◌∷◌, ◌++◌, length, map, get_or, Option, Some, slice_get, refl, sym, ap, subst, ◌∙◌, arith}
 use Rattle.std.proofs.lemmas.List.{length-map}
 use Rattle.std.specs.Prelude.{Result, Ok, Err, OnErr}
+use Rattle.std.proofs.lemmas.Option.{same_Some}
 use mathlib.Core.List.{IsPrefix}
 use Rattle.ev_sets.specs.Sets.{Has}
 use Rattle.ev_sets.specs.Numbers.{IsDistinct}
@@ -33,7 +34,7 @@ use Rattle.ev_node.specs.Turns.{IsTurn, IsStill, IsOfPhase}
 use Rattle.ev_node.proofs.Walks.{both-map, both-each, both-comp, each-after}
 use Rattle.ev_node.proofs.Hands.{names, tos}
 use Rattle.ev_node.proofs.Going.{going-texts, going-order}
-use Rattle.ev_node.proofs.Places.{both-behind, read-found, one-value}
+use Rattle.ev_node.proofs.Places.{both-behind, read-found}
 use Rattle.ev_node.proofs.Moved.{names-same, moved-given, moved-taken, moved-after, few-after}
 
 same-of : (xs ys : List Link) → Both IsUnmoved xs ys → Both IsSameLink xs ys
@@ -185,7 +186,7 @@ found-there place xs ys zs seen s d looked is u r lt e = go (subst (IsLookedAt p
         let z = both-behind IsRoomed place ys zs y r ey in
         let w = both-behind IsUnmoved place xs ys x u ex in
         let same : d ≡ z.0 = read-found zs place d z.0 lt e z.1 in
-        let first : w.0 ≡ y = one-value w.0 y (sym w.1 ∙ ey) in
+        let first : w.0 ≡ y = same_Some w.0 y (sym w.1 ∙ ey) in
         record {
           link = x;
           found = ex;

@@ -1,5 +1,6 @@
 -- What the clients of a server have together, one client after the other.
 use Rattle.std.proofs.Common.{◌≡◌, inl, inr, ◌≤◌, ℕ, ◌+◌, List, [], ◌∷◌, ◌++◌, length, Some, slice_get, sym, ap, subst, ◌∙◌, arith}
+use Rattle.std.proofs.lemmas.Option.{same_Some}
 use Rattle.ev_sets.specs.Sets.{Has}
 use Rattle.ev_run.proofs.Lists.{Is, Not, compare}
 use Rattle.ev_constraint.specs.Constraint.{ConstraintParts}
@@ -9,7 +10,6 @@ use Rattle.ev_flow.specs.declared.home.Home.{Home}
 use Rattle.ev_node.specs.Cell.{CellParts}
 use Rattle.ev_node.specs.Relinking.{IsHomeOf, IsUnionUpTo, IsUnionBy}
 use Rattle.ev_node.proofs.Filled.{get-last}
-use Rattle.ev_node.proofs.Places.{one-value}
 
 module _ (clients : List ℕ) (sets : ℕ → List (List ConstraintParts)) where
   pub none-united : ((client : ℕ) → Has client clients → 1 ≤ client) → (xs : List (List ConstraintParts)) → xs ≡ [] → IsUnionUpTo clients sets 0 xs
@@ -53,6 +53,6 @@ home-more net cells homes new n cell home at long e here before k c h ec eh = el
   | inl a ↦ before k c h ec a
   | inr b ↦
       (let q : k ≡ n = b.0 ∙ long in
-      let same : cell ≡ c = one-value cell c (sym at ∙ ap (slice_get cells) (sym q) ∙ ec) in
+      let same : cell ≡ c = same_Some cell c (sym at ∙ ap (slice_get cells) (sym q) ∙ ec) in
       subst (λ (z : CellParts). IsHomeOf net z.root.server z.held.core h) same (subst (IsHomeOf net cell.root.server cell.held.core) (sym b.1) here))
 ]

@@ -1,5 +1,6 @@
 -- Where a frame that comes next has the last stamp, the cell that put it has it.
 use Rattle.std.proofs.Common.{◌≡◌, ◌⊎◌, inl, inr, ℕ, List, [], ◌∷◌, max, Some, slice_get, refl, sym, ap, subst, ◌∙◌, arith}
+use Rattle.std.proofs.lemmas.Option.{same_Some}
 use mathlib.Core.List.{IsPrefix}
 use Rattle.ev_sets.specs.Sets.{Has}
 use Rattle.ev_routing.proofs.Listing.{has-right}
@@ -11,7 +12,6 @@ use Rattle.ev_node.specs.Links.{At, IsSettled, IsNextAt}
 use Rattle.ev_node.specs.Cell.{CellParts}
 use Rattle.ev_node.specs.Turns.{IsWornAt}
 use Rattle.ev_node.specs.Together.{IsWornSomewhere, sight, sights}
-use Rattle.ev_node.proofs.Places.{one-value}
 use Rattle.ev_node.proofs.Gathered.{IsKeptCell, map-found}
 use Rattle.ev_node.proofs.Emptied.{found-put, distinct-kept}
 
@@ -35,11 +35,11 @@ worn-taken old new giver to taker from stamp z k seen at w (a, b, ea, eb, (x, y,
       | inl p ↦ (w.told, (taker, sight z, ap (λ l. slice_get l taker) seen ∙ map-found sight taker old z at, inl p))
       | inr q ↦
           let n = next z w.frame at (w.link, w.there, w.next) in
-          let same : n.0 ≡ b = one-value n.0 b (sym n.1 ∙ eb) in
+          let same : n.0 ≡ b = same_Some n.0 b (sym n.1 ∙ eb) in
           let m = subst (λ (h : CellParts). IsNextAt from w.frame h.held.links.items) same n.2 in
-          let link : m.0 ≡ y = one-value m.0 y (sym m.1 ∙ ey) in
+          let link : m.0 ≡ y = same_Some m.0 y (sym m.1 ∙ ey) in
           let has = put-next x y w.frame s (subst (λ (l : Link). IsPrefix (w.frame ∷ []) (coming_list l.leave)) link m.2) in
-          let is : k ≡ a = one-value k a (sym ek ∙ ea) in
+          let is : k ≡ a = same_Some k a (sym ek ∙ ea) in
           let put = found-put to a.held.links.items x ex (distinct-kept a (subst IsKeptCell is kept)) in
           (w.told, (giver, sight a, map-found sight giver new a ea, inr (x.neighbour, w.frame, subst (λ l. Has w.frame l) (sym put) has, q)))
     ]

@@ -2,6 +2,7 @@
 use Rattle.std.proofs.Common.{◌≡◌, ℕ, zero, suc, ◌+◌, ◌==◌, ◌&&◌, true, cond, List, [], ◌∷◌, map, length, slice_get, Some, refl, ap, ◌∙◌, subst, arith}
 use Rattle.std.specs.List.{range_with_len}
 use Rattle.std.proofs.lemmas.Bool.Decides.{nat_tests}
+use Rattle.std.proofs.lemmas.Option.{same_Some}
 use Rattle.ev_sets.specs.Sets.{Has}
 use Rattle.ev_sets.proofs.Roots.{Has-filter}
 use Rattle.ev_tree.proofs.Servers.{in-server}
@@ -51,13 +52,10 @@ of-publish (commands.Publish m) n e h = subst IsNotice (same m n e) h
     same : (m n : List Attribute) → command_of (commands.Publish m) ≡ Publish n → m ≡ n
     same m n e = cc
 
-unsome : {T : Type 0} {a b : T} → Some a ≡ Some b → a ≡ b
-unsome e = cc
-
 in-script : (script : List (ℕ × Command)) (i : ℕ) (c : PhasedCommand real) (n : List Attribute) → IsScriptOfNotices script → slice_get (map phased_command script) i ≡ Some c → c.command ≡ Publish n
     → IsNotice n
 in-script [] i c n h e p = absurd cc
-in-script (s ∷ script) zero c n h e p = of-publish s.1 n (ap (λ (z : PhasedCommand real). z.command) (unsome e) ∙ p) h.0
+in-script (s ∷ script) zero c n h e p = of-publish s.1 n (ap (λ (z : PhasedCommand real). z.command) (same_Some _ _ e) ∙ p) h.0
 in-script (s ∷ script) (suc i) c n h e p = in-script script i c n h.1 e p
 
 in-clients : (clients : List ClientParts) (place i : ℕ) (c : PhasedCommand real) (n : List Attribute) → AreOfNotices clients

@@ -1,5 +1,6 @@
 -- Turns of a schedule: those that are made, and the first that is not permitted.
-use Rattle.std.proofs.Common.{◌≡◌, ℕ, inl, inr, true, List, [], ◌∷◌, ◌++◌, Some, refl, sym, ap, ◌∙◌, subst}
+use Rattle.std.proofs.Common.{◌≡◌, ℕ, inl, inr, true, List, [], ◌∷◌, ◌++◌, refl, sym, ap, ◌∙◌, subst}
+use Rattle.std.proofs.lemmas.Option.{same_Some}
 use Rattle.ev_phases.specs.Trees.{JournalEntry}
 use Rattle.ev_phases.specs.Moments.{Moment}
 use Rattle.ev_phases.specs.Turns.{turn_phase, entry_made}
@@ -48,15 +49,12 @@ one-entry a b e =
     ∙ ap (λ z. entry_parts b.stamp b.server z a.outs) act
     ∙ ap (λ z. entry_parts b.stamp b.server b.act z) (ap (λ (z : JournalEntry). z.outs) e)
 
-unsome : {T : Type 0} {a b : T} → Some a ≡ Some b → a ≡ b
-unsome e = cc
-
 same-entry : (net : NetParts) (journal : List EntryParts) (turn : Turn) (a b : EntryParts) → IsEntryOf net journal turn a → IsEntryOf net journal turn b → a ≡ b
 same-entry net journal turn a b p q =
     let before = moment_by net journal in
     let own = turn_phase real (phased_net net) before (turn_of net turn) in
     let found : p.found ≡ q.found = sym (found-is real (phased_net net) before own p.found p.ready) ∙ found-is real (phased_net net) before own q.found q.ready in
-    one-entry a b (unsome (sym p.possible ∙ ap (λ (m : Moment real (phased_net net)). entry_made real (phased_net net) m (turn_of net turn)) found ∙ q.possible))
+    one-entry a b (same_Some _ _ (sym p.possible ∙ ap (λ (m : Moment real (phased_net net)). entry_made real (phased_net net) m (turn_of net turn)) found ∙ q.possible))
 
 -- turns that are all made don't stop
 pub never-stops : (net : NetParts) (journal : List EntryParts) (turns : List (ℕ × Turn)) (after : List EntryParts) (line : ℕ) → AreMade net journal turns after

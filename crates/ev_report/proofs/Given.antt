@@ -2,6 +2,7 @@
 use Rattle.std.proofs.Common.{◌≡◌, ℕ, zero, suc, ◌+◌, ◌<◌, ◌≤◌, Bool, true, false, cond, ◌&&◌, ◌==◌, inl, inr, ◌↔◌, List, [], ◌∷◌, ◌++◌, map, take, length, slice_get, slice_index_or, Option, Some, None, refl, sym, ap, subst, ◌∙◌, arith}
 use Rattle.std.specs.List.{flat_map, range_with_len}
 use Rattle.std.proofs.lemmas.Bool.Decides.{nat_tests}
+use Rattle.std.proofs.lemmas.Option.{same_Some}
 use Rattle.ev_sets.specs.Sets.{Has, IsRising}
 use Rattle.ev_sets.proofs.Roots.{Has-filter}
 use Rattle.ev_notice.specs.Notice.{Attribute}
@@ -39,14 +40,11 @@ publish_back (commands.Publish m) n e = ap commands.Publish (same m n e)
     same : (m n : List Attribute) → command_of (commands.Publish m) ≡ Publish n → m ≡ n
     same m n e = cc
 
-unsome : {T : Type 0} {a b : T} → Some a ≡ Some b → a ≡ b
-unsome e = cc
-
 counts : (script : List (ℕ × WireCommand)) (i : ℕ) (c : PhasedCommand real) (n : List Attribute) → slice_get (map phased_command script) i ≡ Some c → c.command ≡ Publish n
     → 1 ≤ ordinal real (take (suc i) (map phased_command script))
 counts [] i c n e p = absurd cc
 counts (s ∷ script) zero c n e p =
-    let is : s.1 ≡ commands.Publish n = publish_back s.1 n (ap (λ (z : PhasedCommand real). z.command) (unsome e) ∙ p) in
+    let is : s.1 ≡ commands.Publish n = publish_back s.1 n (ap (λ (z : PhasedCommand real). z.command) (same_Some _ _ e) ∙ p) in
     subst (λ z. 1 ≤ cond (is_publish real (command_of z)) (suc (ordinal real (take 0 (map phased_command script)))) (ordinal real (take 0 (map phased_command script)))) (sym is) (omega arith)
 counts (s ∷ script) (suc i) c n e p = go (is_publish real (command_of s.1)) (counts script i c n e p)
   where
@@ -62,7 +60,7 @@ later t ts (suc k) l = refl
 text_of : (script : List (ℕ × WireCommand)) (i : ℕ) (c : PhasedCommand real) (n : List Attribute) → slice_get (map phased_command script) i ≡ Some c → c.command ≡ Publish n
     → numbered (texts_of script) (ordinal real (take (suc i) (map phased_command script))) ≡ notice_text n
 text_of [] i c n e p = absurd cc
-text_of (s ∷ script) zero c n e p = go s.1 (publish_back s.1 n (ap (λ (z : PhasedCommand real). z.command) (unsome e) ∙ p))
+text_of (s ∷ script) zero c n e p = go s.1 (publish_back s.1 n (ap (λ (z : PhasedCommand real). z.command) (same_Some _ _ e) ∙ p))
   where
     go : (w : WireCommand) → w ≡ commands.Publish n
         → numbered (texts_of ((s.0, w) ∷ script)) (ordinal real (take 1 (map phased_command ((s.0, w) ∷ script)))) ≡ notice_text n
@@ -80,7 +78,7 @@ text_of (s ∷ script) (suc i) c n e p = go s.1 (text_of script i c n e p) (coun
 
 texts_get : (clients : List ClientParts) (place : ℕ) (client : ClientParts) → slice_get clients place ≡ Some client → slice_index_or (texts_in clients) place [] ≡ texts_of client.script
 texts_get [] place client e = absurd cc
-texts_get (c ∷ clients) zero client e = ap (λ (z : ClientParts). texts_of z.script) (unsome e)
+texts_get (c ∷ clients) zero client e = ap (λ (z : ClientParts). texts_of z.script) (same_Some _ _ e)
 texts_get (c ∷ clients) (suc place) client e = texts_get clients place client e
 
 -- a publisher is a client of the net, and lives at its server

@@ -2,6 +2,7 @@
 use Rattle.std.proofs.Common.{◌≡◌, ◌≢◌, inr, ℕ, zero, suc, max, ◌+◌, ◌^◌, ◌<◌, ◌≤◌, ◌==◌, nat_lt, cond, not, ◌&&◌, ◌||◌, Bool, true, false, List, [], ◌∷◌, ◌++◌, map, take, slice_get, length, IfSome, Option, Some, None, refl, sym, ap, subst, ◌∙◌, arith}
 use Rattle.std.specs.Int.{IsInRange}
 use Rattle.std.proofs.lemmas.Bool.Decides.{nat_tests}
+use Rattle.std.proofs.lemmas.Option.{same_Some}
 use Rattle.ev_constraint.specs.Constraint.{ConstraintParts}
 use Rattle.ev_notice.specs.Notice.{Attribute}
 use Rattle.ev_sets.specs.Sets.{Has, IsRising, union, minus}
@@ -44,9 +45,6 @@ use Rattle.ev_server.proofs.Sessions.{has-map, map-has}
 use Rattle.ev_server.proofs.Steps.{IsDone, flat-none}
 use Rattle.ev_server.proofs.Made.{IsOwn, own-refl, filters-own, adverts-own, own-of, IsLeft, left-of, acted}
 
-some-is : {X : Type 0} {a b : X} → Some a ≡ Some b → a ≡ b
-some-is e = cc
-
 get-some : {X : Type 0} (xs : List X) (j : ℕ) → j < length xs → (x : X) × (slice_get xs j ≡ Some x)
 get-some [] j l = absurd (omega (arith, l))
 get-some (x ∷ xs) zero l = (x, refl)
@@ -55,12 +53,12 @@ get-some (x ∷ xs) (suc j) l = get-some xs j (omega (arith, l))
 -- a client's sets after one more command
 filters-after : (cs : List (PhasedCommand real)) (fs : List real.Filter) (j : ℕ) (x : PhasedCommand real) → slice_get cs j ≡ Some x → filters_after real fs (take (suc j) cs) ≡ filters_step real (filters_after real fs (take j cs)) x.command
 filters-after [] fs j x e = absurd cc
-filters-after (y ∷ ys) fs zero x e = ap (λ z. filters_step real fs z.command) (some-is e)
+filters-after (y ∷ ys) fs zero x e = ap (λ z. filters_step real fs z.command) (same_Some _ _ e)
 filters-after (y ∷ ys) fs (suc j) x e = filters-after ys (filters_step real fs y.command) j x e
 
 adverts-after : (cs : List (PhasedCommand real)) (fs : List real.Advert) (j : ℕ) (x : PhasedCommand real) → slice_get cs j ≡ Some x → adverts_after real fs (take (suc j) cs) ≡ adverts_step real (adverts_after real fs (take j cs)) x.command
 adverts-after [] fs j x e = absurd cc
-adverts-after (y ∷ ys) fs zero x e = ap (λ z. adverts_step real fs z.command) (some-is e)
+adverts-after (y ∷ ys) fs zero x e = ap (λ z. adverts_step real fs z.command) (same_Some _ _ e)
 adverts-after (y ∷ ys) fs (suc j) x e = adverts-after ys (adverts_step real fs y.command) j x e
 
 -- the sets after a plan
@@ -116,7 +114,7 @@ module _ (s : SessionParts) where
   adverts-then phase (commands.Publish n) e = step-adverts phase (commands.Publish n) e ∙ chosen-adverts (accepts real (net_under s.semantics) (adverts_at s s.taken) n) id_then n (publishes_at s (suc s.taken))
 
   plan-is : (phase : ℕ) (command : Command) → slice_get s.script s.taken ≡ Some (phase, command) → (p : Planned) → next_plan s ≡ Some p → plan_by s command ≡ p
-  plan-is phase command e p q = some-is (sym (ap (plan_in s) e) ∙ q)
+  plan-is phase command e p q = same_Some _ _ (sym (ap (plan_in s) e) ∙ q)
 
   -- the sets after the next command, by its plan
   pub filters-planned : s.taken < length s.script → (p : Planned) → next_plan s ≡ Some p → filter_set_at s (suc s.taken) ≡ filters_by s p
@@ -484,7 +482,7 @@ module _ (s : SessionParts) where
 
   publisher-in : (o : Option (ℕ × Command)) (p : Planned) → plan_in s o ≡ Some p → publisher s.client p ≡ s.client
   publisher-in None p q = absurd cc
-  publisher-in (Some step) p q = ap (publisher s.client) (sym (some-is q)) ∙ publisher-by step.1
+  publisher-in (Some step) p q = ap (publisher s.client) (sym (same_Some _ _ q)) ∙ publisher-by step.1
 
   publishes-own : (id : Id) (n : List Attribute) → next_plan s ≡ Some (plans.Publish id n) → id.publisher ≡ s.client
   unfolding publisher
@@ -528,12 +526,12 @@ pub not-accepted : (s : SessionParts) (phase : ℕ) (command : Command) (m : Lis
 unfolding is-publication
 not-accepted s phase command m e q a id n r =
     let planned = ap (plan_in s) e ∙ ap (λ z. Some (plan_by s z)) q ∙ ap (λ b. Some (cond b (plans.Publish (record { publisher = s.client; ordinal = publishes_at s (suc s.taken) }) m) (plans.Refused (publishes_at s (suc s.taken))))) a in
-    let same : plans.Refused (publishes_at s (suc s.taken)) ≡ plans.Publish id n = some-is (sym planned ∙ r) in
+    let same : plans.Refused (publishes_at s (suc s.taken)) ≡ plans.Publish id n = same_Some _ _ (sym planned ∙ r) in
     split true refl (sym (ap is-publication same))
 
 pub no-publish : (s : SessionParts) (phase : ℕ) (command : Command) → slice_get s.script s.taken ≡ Some (phase, command) → ((m : List Attribute) → command ≡ commands.Publish m → ⊥) → (id : Id) (n : List Attribute) → next_plan s ≡ Some (plans.Publish id n) → ⊥
 unfolding is-publication
-no-publish s phase command e never id n r = go command never (some-is (sym (ap (plan_in s) e) ∙ r))
+no-publish s phase command e never id n r = go command never (same_Some _ _ (sym (ap (plan_in s) e) ∙ r))
   where
     go : (command : Command) → ((m : List Attribute) → command ≡ commands.Publish m → ⊥) → plan_by s command ≡ plans.Publish id n → ⊥
     go (commands.Subscribe f) other q = split true refl (sym (ap is-publication q))

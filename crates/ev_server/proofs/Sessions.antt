@@ -5,6 +5,7 @@ use Rattle.std.specs.Result.{result_ok}
 use Rattle.std.specs.List.Sorted.{IsStrictlyIncreasing}
 use Rattle.std.proofs.lemmas.Bool.{cases_lt}
 use Rattle.std.proofs.lemmas.Bool.Decides.{nat_tests}
+use Rattle.std.proofs.lemmas.Option.{same_Some}
 use Rattle.ev_memory.specs.declared.NoMemory.{NoMemory}
 use Rattle.ev_sets.specs.Sets.{Has}
 use Rattle.ev_wire.specs.declared.delivery.Delivery.{Delivery}
@@ -15,9 +16,6 @@ use Rattle.ev_server.specs.Clients.{bare, numbers_of, at_client, handed}
 
 -- lists
 
-unsome : {X : Type 0} {a b : X} → Some a ≡ Some b → a ≡ b
-unsome e = cc
-
 pub got : {X : Type 0} (xs : List X) (i : ℕ) (x : X) → i < length xs → x ≡ get_or xs i x → slice_get xs i ≡ Some x
 got [] i x l e = absurd (omega (arith, l))
 got (y ∷ ys) zero x l e = ap (λ z. Some z) (sym e)
@@ -25,7 +23,7 @@ got (y ∷ ys) (suc i) x l e = got ys i x (omega (arith, l)) e
 
 pub got-has : {X : Type 0} (xs : List X) (i : ℕ) (x : X) → slice_get xs i ≡ Some x → Has x xs
 got-has [] i x e = absurd cc
-got-has (y ∷ ys) zero x e = inl (sym (unsome e))
+got-has (y ∷ ys) zero x e = inl (sym (same_Some _ _ e))
 got-has (y ∷ ys) (suc i) x e = inr (got-has ys i x e)
 
 -- what is put in is there
@@ -44,7 +42,7 @@ put-has (x ∷ xs) (suc i) t y (inr m) = elim (put-has xs i t y m) [ inl q ↦ i
 -- a test that is alike at what is put in and at what was there
 pub map-put : {X Y : Type 0} (f : X → Y) (xs : List X) (i : ℕ) (s t : X) → slice_get xs i ≡ Some s → f t ≡ f s → map f (set xs i t) ≡ map f xs
 map-put f [] i s t e q = absurd cc
-map-put f (x ∷ xs) zero s t e q = ap (λ z. z ∷ map f xs) (q ∙ ap f (sym (unsome e)))
+map-put f (x ∷ xs) zero s t e q = ap (λ z. z ∷ map f xs) (q ∙ ap f (sym (same_Some _ _ e)))
 map-put f (x ∷ xs) (suc i) s t e q = ap (λ z. f x ∷ z) (map-put f xs i s t e q)
 
 pub map-has : {X Y : Type 0} (f : X → Y) (xs : List X) (x : X) → Has x xs → Has (f x) (map f xs)
@@ -98,7 +96,7 @@ IsFound xs x r = MatchResult r (λ i. (i < length xs) × (get_or xs i 0 ≡ x)) 
 
 number-at : (ss : List SessionParts) (i : ℕ) (s : SessionParts) → slice_get ss i ≡ Some s → get_or (numbers_of ss) i 0 ≡ s.client
 number-at [] i s e = absurd cc
-number-at (t ∷ ss) zero s e = ap (λ z. z.client) (unsome e)
+number-at (t ∷ ss) zero s e = ap (λ z. z.client) (same_Some _ _ e)
 number-at (t ∷ ss) (suc i) s e = number-at ss i s e
 
 pub found-session : (ss : List SessionParts) (x : ℕ) (r : Result ℕ ℕ) → IsFound (numbers_of ss) x r → IfSome (result_ok r) (λ i. (s : SessionParts) → slice_get ss i ≡ Some s → s.client ≡ x)
@@ -132,7 +130,7 @@ absent-at c f (s ∷ ss) n = rw (eq-no s.client c (λ e. n (inl (sym e))), absen
 pub put-at : (c : ℕ) (f : SessionParts → SessionParts) (ss : List SessionParts) (i : ℕ) (s : SessionParts) → slice_get ss i ≡ Some s → s.client ≡ c → IsStrictlyIncreasing (numbers_of ss) → set ss i (f s) ≡ at_client c f ss
 put-at c f [] i s e q h = absurd cc
 put-at c f (t ∷ ss) zero s e q h =
-    let one : t ≡ s = unsome e in
+    let one : t ≡ s = same_Some _ _ e in
     let there : (t.client == c) ≡ true = eq-yes t.client c (ap (λ z. z.client) one ∙ q) in
     let rest : at_client c f ss ≡ ss = absent-at c f ss (λ m. let more = above t.client (numbers_of ss) h c m in absurd (omega (arith, more, ap (λ z. z.client) one ∙ q))) in
     rw (there, rest) (ap (λ z. f z ∷ ss) (sym one))

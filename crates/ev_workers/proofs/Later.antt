@@ -1,6 +1,7 @@
 -- What a worker's hands keep from one try to the next.
 use Rattle.std.specs.Prelude.{Err, IsErrOf, IfNone}
 use Rattle.std.proofs.Common.{Option, None, ◌≡◌, ℕ, List, Some, refl, sym, ap, subst, ◌∙◌}
+use Rattle.std.proofs.lemmas.Option.{same_Some}
 use mathlib.Core.List.{IsPrefix}
 use Rattle.ev_turnlock.specs.declared.lock.Pass.{Pass}
 use Rattle.ev_turnlock.specs.Passes.{IsSamePass, has_in_hand, seen_by}
@@ -39,9 +40,6 @@ worn-put s lock old new journal seen worn root found put = subst (λ z. IsWornBy
 pub same-fault : {T U : Type 0} (e f : StepFault) → IsErrOf {T = T} (Err e) f → IsErrOf {T = U} (Err e) f
 same-fault {T} {U} e f r = let q : e ≡ f = cc in ap (λ z. Err z) q
 
-some-is : {X : Type 0} (x y : X) → Some x ≡ Some y → x ≡ y
-some-is x y e = cc
-
 -- what a worker keeps as it ends
 pub keeps : (worker : Worker) (lock : CellLock) (given now : Hands) (back : Ended) → AreHands lock given → AreLater given now → AreHands lock now → back.pass ≡ now.pass → back.viewer ≡ now.viewer
     → EndsWith worker (lock_root lock) (seen_by now.pass) back.fault → Keeps worker given.pass given.viewer back
@@ -51,7 +49,7 @@ keeps worker lock given now back first later last p v ends = record {
   seen = subst (λ z. IsPrefix (seen_by given.pass) (seen_by z)) (sym p) later.seen;
   viewer_is = subst (IsSameViewer given.viewer) (sym v) later.viewer;
   ends = λ root e.
-      subst (λ z. EndsWith worker root (seen_by z) back.fault) (sym p) (subst (λ z. EndsWith worker z (seen_by now.pass) back.fault) (some-is (lock_root lock) root (sym first.own.1 ∙ e)) ends);
+      subst (λ z. EndsWith worker root (seen_by z) back.fault) (sym p) (subst (λ z. EndsWith worker z (seen_by now.pass) back.fault) (same_Some (lock_root lock) root (sym first.own.1 ∙ e)) ends);
 }
 
 -- a worker for commands ends by its fault

@@ -1,10 +1,10 @@
 use Rattle.std.proofs.Common.{◌≡◌, ◌+◌, List, length, refl, sym, ap, subst, ◌∙◌, arith, rules}
-use Rattle.std.proofs.lemmas.Option.{slice_get_read}
+use Rattle.std.proofs.lemmas.Option.{slice_get_read, same_Some}
 use Rattle.ev_flood.specs.declared.phase.PhaseFilters.{PhaseFilters}
 use Rattle.ev_flood.specs.Held.{Script, every_filters, passing_filters}
 use Rattle.ev_flood.specs.Publications.{is_met}
 use Rattle.ev_flood.specs.Tables.{AreOf, AreAll, AllUpTo}
-use Rattle.ev_flood.proofs.Finding.{some_is, length_set, upto_next, upto_all}
+use Rattle.ev_flood.proofs.Finding.{length_set, upto_next, upto_all}
 use Rattle.ev_flood.proofs.tables.brought.Goals as goal
 
 pub loop-place-preserved : goal.loop-place-preserved
@@ -33,5 +33,5 @@ returns-clause-tables c =
     let all = upto_all c.args.phase clients lists (subst (λ z. AllUpTo z c.args.phase clients lists) end c.loop-place.invariant.upto) in record {
       count = c.loop-place.invariant.count;
       shown = c.loop-place.invariant.shown;
-      current = λ phase same. subst (λ z. AreAll z clients lists) (some_is same) all;
+      current = λ phase same. subst (λ z. AreAll z clients lists) (same_Some _ _ same) all;
     }

@@ -1,9 +1,9 @@
 use Rattle.std.proofs.Common.{◌≤◌, ◌<◌, ◌-◌, length, refl, sym, ap, subst, ◌∙◌, arith}
+use Rattle.std.proofs.lemmas.Option.{same_Some}
 use Rattle.ev_net.specs.Seen.{seen}
 use Rattle.ev_net.specs.Network.{moment_by}
 use Rattle.ev_tree.specs.Tree.{links_of}
 use Rattle.ev_model.specs.Nets.{topology_at}
-use Rattle.ev_routing.proofs.Spreading.{unsome}
 use Rattle.ev_net.proofs.Among.{server_low, not_both, core_at}
 use Rattle.ev_net.proofs.Standing.{can_act, clocks_low}
 use Rattle.ev_net.proofs.Tried.{version_barred, version_none, version_turn}
@@ -40,7 +40,7 @@ version-requires-clause-some c =
     let low = c.has_server.ensures.0 c.if-not-has_server.false in
     let within : c.args.server - 1 < length c.args.servers.now.places.items = omega (arith, low.0, low.1) in
     let at = core_at c.args.servers.now.places.items (c.args.server - 1) c.index.result.now within c.index.ensures in
-    λ core e none. not_both c.is_calm.result (c.is_calm.ensures.staged.1 (ap (λ z. z.staged) (unsome (sym at ∙ e)) ∙ none)) c.if-is_calm.false
+    λ core e none. not_both c.is_calm.result (c.is_calm.ensures.staged.1 (ap (λ z. z.staged) (same_Some _ _ (sym at ∙ e)) ∙ none)) c.if-is_calm.false
 
 pub returns-clause-turn : goal.returns-clause-turn
 returns-clause-turn c =

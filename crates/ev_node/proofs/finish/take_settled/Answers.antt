@@ -1,6 +1,7 @@
 use Rattle.std.proofs.Common.{◌<◌, length, get_or, set, sym, subst, ◌∙◌, arith}
 use Rattle.std.proofs.lemmas.Grind.{common_steps}
-use Rattle.ev_node.proofs.Places.{found, set-found, one-value}
+use Rattle.std.proofs.lemmas.Option.{same_Some}
+use Rattle.ev_node.proofs.Places.{found, set-found}
 use Rattle.ev_node.proofs.Splits.{map-set}
 use Rattle.ev_node.specs.Cell.{CellParts}
 use Rattle.ev_node.proofs.Emptied.{same-roots, same-count, roots-count, lane-by-roots, take-idle, takes-now, place-now}
@@ -16,7 +17,7 @@ take_from_place-requires g c =
     let lt : c.args.taker < length c.settle_at.new.cells = omega (arith, n, c.requires.taker) in
     let y = found c.settle_at.new.cells c.args.taker c.index-cells-taker.result lt in
     let named = takes-now c.args.cells.now c.settle_at.new.cells c.giver_of-giver.result.0 c.giver_of-giver.result.1 c.args.taker c.args.from c.giver_of-giver.ensures c.settle_at.ensures.sights (get_or c.settle_at.new.cells c.args.taker c.index-cells-taker.result) y in
-    subst (λ (h : CellParts). c.args.from < length h.held.links.items) (one-value _ _ (sym y ∙ found c.settle_at.new.cells c.args.taker c.index-cells-taker-2.result lt))
+    subst (λ (h : CellParts). c.args.from < length h.held.links.items) (same_Some _ _ (sym y ∙ found c.settle_at.new.cells c.args.taker c.index-cells-taker-2.result lt))
     (place-now (get_or c.settle_at.new.cells c.args.taker c.index-cells-taker.result) c.args.from _ c.tells-2.ensures named)
 
 pub returns-in_default-clause-roots : goal.returns-in_default-clause-roots

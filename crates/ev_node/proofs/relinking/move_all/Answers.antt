@@ -1,10 +1,10 @@
 use Rattle.std.proofs.Common.{◌≡◌, ◌<◌, ◌+◌, ℕ, List, length, map, get_or, Some, slice_get, Vec, Global, refl, sym, ap, subst, ◌∙◌, arith}
-use Rattle.std.proofs.lemmas.Option.{slice_get_read}
+use Rattle.std.proofs.lemmas.Option.{slice_get_read, same_Some}
 use Rattle.ev_control.specs.declared.control.HeldLink.{HeldLink}
 use Rattle.ev_node.specs.declared.link.Link.{Link}
 use Rattle.ev_node.specs.Cell.{CellParts}
 use Rattle.ev_node.specs.Relinking.{CanMove, HasMoved}
-use Rattle.ev_node.proofs.Places.{found, one-value, below-found}
+use Rattle.ev_node.proofs.Places.{found, below-found}
 use Rattle.ev_node.proofs.Rows.{long-set}
 use Rattle.ev_node.proofs.Filled.{row-is, rest-set}
 use Rattle.ev_node.proofs.Onward.{same-step, set-step, left-step, below-next}
@@ -49,8 +49,8 @@ loop-k-preserved g c =
       moved = λ j a b held lanes less ea eb f r.
           set-step (Moves c.loop-k.k) (Moves (c.loop-k.k + 1)) c.args.cells.now c.loop-k.cells c.loop-k.k c.index-cells-k.result c.enter_on.new.self within (c.loop-k.invariant.left c.loop-k.k (omega arith))
           (λ now held lanes f r.
-          subst (λ l. HasMoved c.args.phase c.args.clock l lanes (get_or c.loop-k.cells c.loop-k.k c.index-cells-k.result) c.enter_on.new.self) (c.deref.ensures.value ∙ ap (λ (v : Vec HeldLink Global). v.items) (one-value c.index-given-k.result held (sym links ∙ f)))
-          (subst (λ l. HasMoved c.args.phase c.args.clock c.deref.result.now l (get_or c.loop-k.cells c.loop-k.k c.index-cells-k.result) c.enter_on.new.self) (one-value c.replace-links.result.items lanes (sym row ∙ r)) c.in_ok-enter_on.ensures.moved))
+          subst (λ l. HasMoved c.args.phase c.args.clock l lanes (get_or c.loop-k.cells c.loop-k.k c.index-cells-k.result) c.enter_on.new.self) (c.deref.ensures.value ∙ ap (λ (v : Vec HeldLink Global). v.items) (same_Some c.index-given-k.result held (sym links ∙ f)))
+          (subst (λ l. HasMoved c.args.phase c.args.clock c.deref.result.now l (get_or c.loop-k.cells c.loop-k.k c.index-cells-k.result) c.enter_on.new.self) (same_Some c.replace-links.result.items lanes (sym row ∙ r)) c.in_ok-enter_on.ensures.moved))
           (λ i a b other before less held lanes f r. before (below-next i c.loop-k.k less other) held lanes f r)
           (λ i a b ea eb less held lanes f r. c.loop-k.invariant.moved i a b held lanes less ea eb f r)
           j a b ea eb less held lanes f r;

@@ -1,7 +1,7 @@
 use Rattle.std.proofs.Common.{map, get_or, slice_get, sym, ap, subst, ◌∙◌, arith}
+use Rattle.std.proofs.lemmas.Option.{same_Some}
 use Rattle.ev_node.specs.Links.{IsNextAt}
 use Rattle.ev_node.specs.Together.{sight}
-use Rattle.ev_node.proofs.Places.{one-value}
 use Rattle.ev_node.proofs.Splits.{front, back, across, front-set, back-set, ok-map, below}
 use Rattle.ev_node.proofs.settling.settle_two.Goals as goal
 
@@ -41,7 +41,7 @@ returns-then-giver-taker-clause-next g c b frame at is =
     let old = ap (λ l. slice_get l c.args.taker) s.ensures.value ∙ back s.result.0.now s.result.1.now c.args.taker c.index-right-0.result s.ensures.front_len (omega arith) in (
       c.settle.new.taker,
       back-set s.result.0.now s.result.1.now c.args.giver c.args.taker c.settle.new.self c.settle.new.taker s.ensures.front_len (omega arith),
-      c.settle.ensures.next frame (subst (λ x. IsNextAt c.args.from frame (g.T.Settles.cell x).held.links.items) (one-value _ _ (sym at ∙ old)) is),
+      c.settle.ensures.next frame (subst (λ x. IsNextAt c.args.from frame (g.T.Settles.cell x).held.links.items) (same_Some _ _ (sym at ∙ old)) is),
     )
 
 pub settle-requires-else-giver-taker : goal.settle-requires-else-giver-taker
@@ -91,5 +91,5 @@ returns-else-giver-taker-clause-next g c b frame at is =
     let old = ap (λ l. slice_get l c.args.taker) s.ensures.value ∙ front s.result.0.now s.result.1.now c.args.taker c.index-left-taker.result (omega arith) in (
       t.new.taker,
       front-set s.result.0.now _ c.args.taker t.new.taker (omega arith),
-      t.ensures.next frame (subst (λ x. IsNextAt c.args.from frame (g.T.Settles.cell x).held.links.items) (one-value _ _ (sym at ∙ old)) is),
+      t.ensures.next frame (subst (λ x. IsNextAt c.args.from frame (g.T.Settles.cell x).held.links.items) (same_Some _ _ (sym at ∙ old)) is),
     )

@@ -1,5 +1,6 @@
 use Rattle.std.proofs.Common.{arith, max, ◌++◌, ◌<◌, ◌∷◌, [], length, map, refl, sym, ap, subst, ◌∙◌}
 use Rattle.std.proofs.lemmas.Grind.{common_steps}
+use Rattle.std.proofs.lemmas.Option.{same_Some}
 use Rattle.ev_sets.specs.Sets.{Has}
 use Rattle.ev_sets.specs.Numbers.{IsDistinct}
 use Rattle.ev_run.specs.Machine.{Takes}
@@ -8,7 +9,7 @@ use Rattle.ev_model.specs.declared.turn.Act.TheVariants as acts
 use Rattle.ev_model.specs.Parts.{entry_parts}
 use Rattle.ev_model.specs.Meaning.{message_of}
 use Rattle.ev_node.specs.Links.{Both, IsUnmoved, IsTaken}
-use Rattle.ev_node.proofs.Places.{has-name, one-value}
+use Rattle.ev_node.proofs.Places.{has-name}
 use Rattle.ev_node.proofs.Unmoved.{unmoved-roomed}
 use Rattle.ev_node.proofs.Turning.{Found, found-roomed, some-first, still, held-still, held-after, took, took-links, room-taken, spare-taken, names-taken, distinct-left, neighbours-left, long-left, as-long, sends-texts, sends-in-order, on_err}
 use Rattle.ev_node.proofs.Sooner.{taking-from, has-seen}
@@ -58,7 +59,7 @@ take_at-requires-clause-seen g c x e =
     let u : Both IsUnmoved c.args.held.now.links.items c.make_room.new.links.items = unmoved-roomed _ _ c.make_room.ensures.roomed in
     let lt : c.args.place < length c.make_room.new.links.items = (let n = long-left c.args.held.now c.requires.held c.make_room.new.links.items u in let p = c.requires.place in omega (arith, n, p)) in
     let f : Found c.args.place c.args.held.now.links.items c.make_room.new.links.items c.args.seen.0 c.args.seen.1 c.index.result.now = found-roomed c.args.place c.args.held.now.links.items c.make_room.new.links.items c.args.seen c.index.result.now c.requires.seen c.make_room.ensures.roomed lt c.index.ensures in
-    subst (λ v. 0 < length (coming_list v.leave)) (one-value c.index.result.now x (sym f.there ∙ e)) (some-first f.seen.frame (coming_list c.index.result.now.leave) f.seen.next)
+    subst (λ v. 0 < length (coming_list v.leave)) (same_Some c.index.result.now x (sym f.there ∙ e)) (some-first f.seen.frame (coming_list c.index.result.now.leave) f.seen.next)
 
 pub take_at-requires-clause-distinct : goal.take_at-requires-clause-distinct
 take_at-requires-clause-distinct g c =

@@ -1,4 +1,5 @@
 use Rattle.std.proofs.Common.{◌≡◌, ◌<◌, ◌-◌, [], ◌∷◌, ◌++◌, map, Some, slice_get, refl, sym, ap, subst, ◌∙◌, rules, arith, slice_index_or}
+use Rattle.std.proofs.lemmas.Option.{same_Some}
 use Rattle.ev_run.specs.Machine.{Takes}
 use Rattle.ev_wire.specs.declared.sent.Sent.{Sent}
 use Rattle.ev_model.specs.Parts.{entry_parts}
@@ -9,7 +10,6 @@ use Rattle.ev_net.proofs.Able.{neighbours_small, place_within, core_is, some_ser
 use Rattle.ev_net.proofs.Sent.{goes_on}
 use Rattle.ev_net.proofs.Putting.{acted_by}
 use Rattle.ev_run.proofs.Lists.{get-has}
-use Rattle.ev_routing.proofs.Spreading.{unsome}
 use Rattle.ev_sets.specs.Sets.{Has}
 use Rattle.ev_wire.specs.MessageText.{IsMessageText}
 use Rattle.ev_control.specs.Control.{wired}
@@ -115,7 +115,7 @@ returns-clause-acted c = λ m first text.
     let at = subst (λ z. slice_get z 0 ≡ Some c.in-Some.frame.now) (c.make_room.ensures.same.frames c.args.from c.args.server) c.in-Some.ensures.some in
     let there = get-has (frames_at c.args.self.now.links c.args.from c.args.server) 0 c.in-Some.frame.now at in
     let is = core_is c.args.server c.args.neighbours.now c.args.self.now.places.items c.requires.able c.index_mut-place.result.now (c.index_mut-place.ensures.value ∙ ap (λ z. slice_index_or z (c.args.server - 1) c.index_mut-place.result.now) c.make_room.ensures.same.cores) in
-    let same : c.in-Some.frame.now ≡ framed m = unsome (sym at ∙ first) in
+    let same : c.in-Some.frame.now ≡ framed m = same_Some _ _ (sym at ∙ first) in
     let step = subst (λ z. MakesStep (Takes c.args.from m.message) m.stamp z c.take.new.self c.in_ok-stepped.stepped.stamp c.in_ok-stepped.stepped.sent) is
     (subst (λ z. MakesStep (Takes c.args.from m.message) z c.index_mut-place.result.now c.take.new.self c.in_ok-stepped.stepped.stamp c.in_ok-stepped.stepped.sent) (ap (λ z. z.stamp) same)
     (c.in_ok-stepped.ensures.step m.message (subst (λ z. IsMessageText z (wired m.message)) (sym (ap (λ z. z.bytes) same)) text))) in (
