@@ -17,11 +17,9 @@ use crate::marks::mark;
 use ev_memory::NoMemory;
 use ev_pool::{Cover, Key, Pool};
 use ev_poset::{Difference, Poset, Standing, differences};
+use ev_routing::LAST_LINK;
 use std::alloc::Global;
 use std::marker::Model;
-
-/// The last number that a link may have; those above are clients.
-const LAST_LINK: u32 = 64;
 
 /// The items that interfaces hold.
 ///

@@ -3,25 +3,25 @@ use Rattle.std.proofs.Common.{◌≡◌, ◌⊎◌, inl, inr, refl, sym, arith, 
 use Rattle.std.specs.List.{Contains}
 use Rattle.ev_counting.specs.declared.change.Change.{Change}
 use Rattle.ev_counting.specs.declared.change.Change.TheVariants.{Add, Remove}
-use Rattle.ev_counting.specs.Table.{Held, IsApplied, AreApplied}
-use Rattle.ev_counting.specs.Changes.{without, IsOf, IsEntered, IsChanged, IsWithdrawn}
+use Rattle.ev_counting.specs.Table.{HeldFilter, IsApplied, AreApplied}
+use Rattle.ev_counting.specs.Changes.{without, IsOf, HaveAdded, IsChanged, IsWithdrawn}
 use Rattle.ev_counting.proofs.Without.{first, later, parts, one-or-other, left-in, stays-in}
 
 -- one change, and one after the other
-abbrev made : Change → List Held → List Held
+abbrev made : Change → List HeldFilter → List HeldFilter
 made (Add iface filter) xs = (iface, filter) ∷ xs
 made (Remove iface filter) xs = without (iface, filter) xs
 
-abbrev all-made : List Change → List Held → List Held
+abbrev all-made : List Change → List HeldFilter → List HeldFilter
 all-made [] xs = xs
 all-made (c ∷ cs) xs = all-made cs (made c xs)
 
 -- the two have the same members
-record Alike (xs ys : List Held) : Type 0 where
-  pub to : (x : Held) → Contains xs x → Contains ys x
-  pub back : (x : Held) → Contains ys x → Contains xs x
+record Alike (xs ys : List HeldFilter) : Type 0 where
+  pub to : (x : HeldFilter) → Contains xs x → Contains ys x
+  pub back : (x : HeldFilter) → Contains ys x → Contains xs x
 
-made-applied : (c : Change) (xs : List Held) → IsApplied c xs (made c xs)
+made-applied : (c : Change) (xs : List HeldFilter) → IsApplied c xs (made c xs)
 made-applied (Add iface filter) xs = record {
   there = first (iface, filter) xs;
   kept = λ x m. later (iface, filter) x xs m;
@@ -33,7 +33,7 @@ made-applied (Remove iface filter) xs = record {
   only = λ x m. (left-in (iface, filter) xs x m).0;
 }
 
-applied-alike : (c : Change) (old xs ys : List Held) → Alike xs ys → IsApplied c old xs → IsApplied c old ys
+applied-alike : (c : Change) (old xs ys : List HeldFilter) → Alike xs ys → IsApplied c old xs → IsApplied c old ys
 applied-alike (Add iface filter) old xs ys s a = record {
   there = s.to (iface, filter) a.there;
   kept = λ x m. s.to x (a.kept x m);
@@ -45,11 +45,11 @@ applied-alike (Remove iface filter) old xs ys s a = record {
   only = λ x m. a.only x (s.back x m);
 }
 
-chain : (c : Change) (cs : List Change) (old new : List Held) → Alike (all-made (c ∷ cs) old) new → AreApplied (c ∷ cs) old new
+chain : (c : Change) (cs : List Change) (old new : List HeldFilter) → Alike (all-made (c ∷ cs) old) new → AreApplied (c ∷ cs) old new
 chain c [] old new s = (new, applied-alike c old (made c old) new s (made-applied c old), refl)
 chain c (d ∷ ds) old new s = (made c old, made-applied c old, chain d ds (made c old) new s)
 
-changed-or-not : (cs : List Change) (x : Held) → IsChanged cs x ⊎ (IsChanged cs x → ⊥)
+changed-or-not : (cs : List Change) (x : HeldFilter) → IsChanged cs x ⊎ (IsChanged cs x → ⊥)
 changed-or-not [] x = inr (λ h. h)
 changed-or-not (c ∷ cs) x = go (of c) (changed-or-not cs x)
   where
@@ -63,24 +63,24 @@ changed-or-not (c ∷ cs) x = go (of c) (changed-or-not cs x)
     go (inr n) (inr m) = inr (λ t. elim t [ inl h ↦ n h | inr h ↦ m h ])
 
 -- what the last change of a pair does not take, some change adds
-entered-last : (cs : List Change) (x : Held) → IsChanged cs x → (IsWithdrawn cs x → ⊥) → IsEntered cs x
+entered-last : (cs : List Change) (x : HeldFilter) → IsChanged cs x → (IsWithdrawn cs x → ⊥) → HaveAdded cs x
 entered-last [] x h n = h
 entered-last (c ∷ cs) x h n = go c (changed-or-not cs x) h n (entered-last cs x)
   where
-    go : (c : Change) → IsChanged cs x ⊎ (IsChanged cs x → ⊥) → IsChanged (c ∷ cs) x → (IsWithdrawn (c ∷ cs) x → ⊥) → (IsChanged cs x → (IsWithdrawn cs x → ⊥) → IsEntered cs x) → IsEntered (c ∷ cs) x
+    go : (c : Change) → IsChanged cs x ⊎ (IsChanged cs x → ⊥) → IsChanged (c ∷ cs) x → (IsWithdrawn (c ∷ cs) x → ⊥) → (IsChanged cs x → (IsWithdrawn cs x → ⊥) → HaveAdded cs x) → HaveAdded (c ∷ cs) x
     go c (inl m) t k more = inr (more m (λ w. k (inl w)))
     go c (inr m) (inr t) k more = absurd (m t)
     go (Add iface filter) (inr m) (inl t) k more = inl t
     go (Remove iface filter) (inr m) (inl t) k more = absurd (k (inr (t, m)))
 
-entered-changed : (cs : List Change) (x : Held) → IsEntered cs x → IsChanged cs x
+entered-changed : (cs : List Change) (x : HeldFilter) → HaveAdded cs x → IsChanged cs x
 entered-changed [] x h = h
 entered-changed (Add iface filter ∷ cs) x (inl e) = inl e
 entered-changed (Remove iface filter ∷ cs) x (inl e) = absurd e
 entered-changed (c ∷ cs) x (inr h) = inr (entered-changed cs x h)
 
 -- the members after the changes: those before and those that were added, without what the last change takes
-pub to-made : (cs : List Change) (xs : List Held) (x : Held) → Contains (all-made cs xs) x → (Contains xs x ⊎ IsEntered cs x) × (IsWithdrawn cs x → ⊥)
+pub to-made : (cs : List Change) (xs : List HeldFilter) (x : HeldFilter) → Contains (all-made cs xs) x → (Contains xs x ⊎ HaveAdded cs x) × (IsWithdrawn cs x → ⊥)
 to-made [] xs x m = (inl m, λ w. w)
 to-made (Add iface filter ∷ cs) xs x m =
     let r = to-made cs ((iface, filter) ∷ xs) x m in (
@@ -99,7 +99,7 @@ to-made (Remove iface filter ∷ cs) xs x m =
       ],
     )
 
-pub from-made : (cs : List Change) (xs : List Held) (x : Held) → Contains xs x ⊎ IsEntered cs x → (IsWithdrawn cs x → ⊥) → Contains (all-made cs xs) x
+pub from-made : (cs : List Change) (xs : List HeldFilter) (x : HeldFilter) → Contains xs x ⊎ HaveAdded cs x → (IsWithdrawn cs x → ⊥) → Contains (all-made cs xs) x
 from-made [] xs x (inl m) n = m
 from-made [] xs x (inr h) n = absurd h
 from-made (Add iface filter ∷ cs) xs x (inl m) n = from-made cs ((iface, filter) ∷ xs) x (inl (later (iface, filter) x xs m)) (λ w. n (inl w))
@@ -116,9 +116,9 @@ from-made (Remove iface filter ∷ cs) xs x (inl m) n = elim (one-or-other (ifac
 ]
 
 -- all that was added, and then what is taken last taken away
-pub all-applied : (cs : List Change) (old middle new : List Held) → (cs ≡ [] → ⊥)
-    → ((x : Held) → (Contains middle x → Contains old x ⊎ IsEntered cs x) × (Contains old x ⊎ IsEntered cs x → Contains middle x))
-    → ((x : Held) → (Contains new x → Contains middle x × (IsWithdrawn cs x → ⊥)) × (Contains middle x × (IsWithdrawn cs x → ⊥) → Contains new x))
+pub all-applied : (cs : List Change) (old middle new : List HeldFilter) → (cs ≡ [] → ⊥)
+    → ((x : HeldFilter) → (Contains middle x → Contains old x ⊎ HaveAdded cs x) × (Contains old x ⊎ HaveAdded cs x → Contains middle x))
+    → ((x : HeldFilter) → (Contains new x → Contains middle x × (IsWithdrawn cs x → ⊥)) × (Contains middle x × (IsWithdrawn cs x → ⊥) → Contains new x))
     → AreApplied cs old new
 all-applied [] old middle new some m n = absurd (some refl)
 all-applied (c ∷ cs) old middle new some m n = chain c cs old new (record {

@@ -8,7 +8,7 @@ use Rattle.ev_index.specs.Pairs.{tally}
 use Rattle.ev_index.proofs.Tallies.{tally-more}
 use Rattle.ev_counting.specs.declared.goal.Goal.{Goal}
 use Rattle.ev_counting.specs.Slots.{goal_at}
-use Rattle.ev_counting.specs.Counting.{Counts, count_at, is_marked, counted, marked, IsOfRounds, IsFresh, IsFull, AreFull}
+use Rattle.ev_counting.specs.Counting.{Counts, count_at, is_marked, counted, marked, IsOfRounds, IsFreshRound, IsFull, AreFull}
 use Rattle.ev_counting.proofs.Rounds.{same-round, rounds-counted, rounds-marked}
 use Rattle.ev_counting.proofs.Sound.{differ}
 
@@ -57,7 +57,7 @@ hits-all p zero (x ∷ found) l = absurd (omega (arith, l))
 hits-all p (suc i) [] l = refl
 hits-all p (suc i) (x ∷ found) l = omega (arith, hits-all p i found (omega (arith, l)))
 
-pub counting-start : (goals : List Goal) (ifaces found : List ℕ) (c : Counts) → IsOfRounds c → IsFresh (length goals) (length ifaces) c → Counting goals ifaces found c [] 0
+pub counting-start : (goals : List Goal) (ifaces found : List ℕ) (c : Counts) → IsOfRounds c → IsFreshRound (length goals) (length ifaces) c → Counting goals ifaces found c [] 0
 counting-start goals ifaces found c rounds f = record {
   rounds = rounds;
   filters_fit = f.filters_fit;

@@ -11,11 +11,11 @@ use Rattle.ev_constraint.specs.OrderTotal.{list_total}
 use Rattle.ev_constraint.proofs.OrderLaws.{list_tied}
 use Rattle.ev_counting.specs.declared.change.Change.{Change}
 use Rattle.ev_counting.specs.declared.change.Change.TheVariants.{Add, Remove}
-use Rattle.ev_counting.specs.Table.{Held}
-use Rattle.ev_counting.specs.Changes.{Takes, IsOf, IsChanged, IsWithdrawn}
+use Rattle.ev_counting.specs.Table.{HeldFilter}
+use Rattle.ev_counting.specs.Changes.{TakesPair, IsOf, IsChanged, IsWithdrawn}
 
 -- the order of pairs in a set of them
-abbrev pub pair_cmp : Held → Held → Ordering
+abbrev pub pair_cmp : HeldFilter → HeldFilter → Ordering
 pair_cmp x y = ordering_then (nat_cmp x.0 y.0) (list_cmp x.1 y.1)
 
 eq-then : (a b : Ordering) → is_eq (ordering_then a b) ≡ true → (a ≡ Equal) × (b ≡ Equal)
@@ -25,7 +25,7 @@ eq-then Equal Less h = cc
 eq-then Equal Equal h = (refl, refl)
 eq-then Equal Greater h = cc
 
-tied : (x y : Held) → is_eq (pair_cmp x y) ≡ true → x ≡ y
+tied : (x y : HeldFilter) → is_eq (pair_cmp x y) ≡ true → x ≡ y
 tied x y h =
     let e = eq-then (nat_cmp x.0 y.0) (list_cmp x.1 y.1) h in
     let n : x.0 ≡ y.0 = number x.0 y.0 e.0 in
@@ -35,14 +35,14 @@ tied x y h =
     number : (a b : ℕ) → nat_cmp a b ≡ Equal → a ≡ b
     number a b q = grind (arith, nat_tests)
 
-itself : (x : Held) → is_eq (pair_cmp x x) ≡ true
+itself : (x : HeldFilter) → is_eq (pair_cmp x x) ≡ true
 itself x = rw (tied_itself nat_cmp_total x.0) (ap is_eq (tied_itself list_total x.1))
 
 -- what was found of the changes behind those that are left
-pub record Gathers (changes left : List Change) (has : Held → Bool) (found : List Held) : Type 0 where
+pub record Gathers (changes left : List Change) (has : HeldFilter → Bool) (found : List HeldFilter) : Type 0 where
   pub whole : left ++ drop (length left) changes ≡ changes
-  pub changed : (x : Held) → (has x ≡ true) ↔ IsChanged (drop (length left) changes) x
-  pub taken : (x : Held) → Contains found x ↔ IsWithdrawn (drop (length left) changes) x
+  pub changed : (x : HeldFilter) → (has x ≡ true) ↔ IsChanged (drop (length left) changes) x
+  pub taken : (x : HeldFilter) → Contains found x ↔ IsWithdrawn (drop (length left) changes) x
 
 drop-whole : {X : Type 0} (xs ys : List X) → drop (length xs) (xs ++ ys) ≡ ys
 drop-whole [] ys = refl
@@ -52,7 +52,7 @@ drop-own : {X : Type 0} (xs : List X) → drop (length xs) xs ≡ []
 drop-own [] = refl
 drop-own (x ∷ xs) = drop-own xs
 
-pub gathers-start : (changes : List Change) (has : Held → Bool) (taken : List Held) → ((x : Held) → has x ≡ false) → taken ≡ [] → Gathers changes changes has taken
+pub gathers-start : (changes : List Change) (has : HeldFilter → Bool) (taken : List HeldFilter) → ((x : HeldFilter) → has x ≡ false) → taken ≡ [] → Gathers changes changes has taken
 gathers-start changes has taken none nothing = record {
   whole = ap (λ xs. changes ++ xs) (drop-own changes) ∙ append-nil changes;
   changed = λ x. ((λ h. absurd (differ (has x) h (none x))), λ h. absurd (subst (λ cs. IsChanged cs x) (drop-own changes) h));
@@ -63,25 +63,25 @@ gathers-start changes has taken none nothing = record {
     differ true h g = cc
     differ false h g = cc
 
-    no : (x : Held) → Contains [] x → ⊥
+    no : (x : HeldFilter) → Contains [] x → ⊥
     no x h = omega (arith, h.1)
 
 append-one : {X : Type 0} (xs : List X) (x : X) (ys : List X) → (xs ++ x ∷ []) ++ ys ≡ xs ++ x ∷ ys
 append-one [] x ys = refl
 append-one (z ∷ xs) x ys = ap (λ zs. z ∷ zs) (append-one xs x ys)
 
-taking : (c : Change) (x : Held) → Takes c x → IsOf c x
+taking : (c : Change) (x : HeldFilter) → TakesPair c x → IsOf c x
 taking (Add iface filter) x h = absurd h
 taking (Remove iface filter) x h = h
 
-module _ (changes left earlier : List Change) (c : Change) (pair : Held) (has next : Held → Bool) (taken more : List Held) (split : left ≡ earlier ++ c ∷ []) (of : (x : Held) → IsOf c x ↔ (pair ≡ x)) (g : Gathers changes left has taken) where
+module _ (changes left earlier : List Change) (c : Change) (pair : HeldFilter) (has next : HeldFilter → Bool) (taken more : List HeldFilter) (split : left ≡ earlier ++ c ∷ []) (of : (x : HeldFilter) → IsOf c x ↔ (pair ≡ x)) (g : Gathers changes left has taken) where
   all : earlier ++ c ∷ (drop (length left) changes) ≡ changes
   all = sym (append-one earlier c (drop (length left) changes)) ∙ ap (λ xs. xs ++ (drop (length left) changes)) (sym split) ∙ g.whole
 
   behind : drop (length earlier) changes ≡ c ∷ (drop (length left) changes)
   behind = ap (drop (length earlier)) (sym all) ∙ drop-whole earlier (c ∷ (drop (length left) changes))
 
-  gathered : ((x : Held) → (next x ≡ true) ↔ ((pair ≡ x) ⊎ (has x ≡ true))) → ((x : Held) → Contains more x ↔ IsWithdrawn (c ∷ (drop (length left) changes)) x) → Gathers changes earlier next more
+  gathered : ((x : HeldFilter) → (next x ≡ true) ↔ ((pair ≡ x) ⊎ (has x ≡ true))) → ((x : HeldFilter) → Contains more x ↔ IsWithdrawn (c ∷ (drop (length left) changes)) x) → Gathers changes earlier next more
   gathered n t = record {
     whole = ap (λ xs. earlier ++ xs) behind ∙ all;
     changed = λ x. subst (λ cs. (next x ≡ true) ↔ IsChanged cs x) (sym behind) (
@@ -92,7 +92,7 @@ module _ (changes left earlier : List Change) (c : Change) (pair : Held) (has ne
   }
 
   -- the last change of its pair
-  pub gathers-last : has pair ≡ false → ((x : Held) → (next x ≡ true) ↔ ((pair ≡ x) ⊎ (has x ≡ true))) → ((x : Held) → Contains more x ↔ (Contains taken x ⊎ Takes c x)) → Gathers changes earlier next more
+  pub gathers-last : has pair ≡ false → ((x : HeldFilter) → (next x ≡ true) ↔ ((pair ≡ x) ⊎ (has x ≡ true))) → ((x : HeldFilter) → Contains more x ↔ (Contains taken x ⊎ TakesPair c x)) → Gathers changes earlier next more
   gathers-last none n t = gathered n (λ x. (
     (λ h. elim ((t x).0 h) [
       | inl k ↦ inl ((g.taken x).0 k)
@@ -106,7 +106,7 @@ module _ (changes left earlier : List Change) (c : Change) (pair : Held) (has ne
       differ false h k = cc
 
   -- a change whose pair is changed again
-  pub gathers-again : has pair ≡ true → ((x : Held) → (next x ≡ true) ↔ ((pair ≡ x) ⊎ (has x ≡ true))) → more ≡ taken → Gathers changes earlier next more
+  pub gathers-again : has pair ≡ true → ((x : HeldFilter) → (next x ≡ true) ↔ ((pair ≡ x) ⊎ (has x ≡ true))) → more ≡ taken → Gathers changes earlier next more
   gathers-again some n same = gathered n (λ x. (
     (λ h. inl ((g.taken x).0 (subst (λ ts. Contains ts x) same h))),
     λ h. subst (λ ts. Contains ts x) (sym same) (elim h [
@@ -115,7 +115,7 @@ module _ (changes left earlier : List Change) (c : Change) (pair : Held) (has ne
     ]),
   ))
 
-  pub gathers-next : (last : Bool) → last ≡ not (has pair) → ((x : Held) → (next x ≡ true) ↔ ((pair ≡ x) ⊎ (has x ≡ true))) → (last ≡ true → (x : Held) → Contains more x ↔ (Contains taken x ⊎ Takes c x)) → (last ≡ false → more ≡ taken) → Gathers changes earlier next more
+  pub gathers-next : (last : Bool) → last ≡ not (has pair) → ((x : HeldFilter) → (next x ≡ true) ↔ ((pair ≡ x) ⊎ (has x ≡ true))) → (last ≡ true → (x : HeldFilter) → Contains more x ↔ (Contains taken x ⊎ TakesPair c x)) → (last ≡ false → more ≡ taken) → Gathers changes earlier next more
   gathers-next true e n a b = gathers-last (lacks (has pair) e) n (a refl)
     where
       lacks : (b : Bool) → true ≡ not b → b ≡ false
@@ -127,12 +127,12 @@ module _ (changes left earlier : List Change) (c : Change) (pair : Held) (has ne
       has-it true h = refl
       has-it false h = cc
 
-pub gathers-end : (changes left : List Change) (has : Held → Bool) (taken : List Held) → length left ≡ 0 → Gathers changes left has taken → (x : Held) → Contains taken x ↔ IsWithdrawn changes x
+pub gathers-end : (changes left : List Change) (has : HeldFilter → Bool) (taken : List HeldFilter) → length left ≡ 0 → Gathers changes left has taken → (x : HeldFilter) → Contains taken x ↔ IsWithdrawn changes x
 gathers-end changes [] has taken e g x = g.taken x
 gathers-end changes (c ∷ left) has taken e g x = absurd (omega (arith, e))
 
 -- what a set has once a pair is put in
-pub put-in : (pair x : Held) (has next : Bool) → next ≡ cond (is_eq (pair_cmp pair x)) true has → (next ≡ true) ↔ ((pair ≡ x) ⊎ (has ≡ true))
+pub put-in : (pair x : HeldFilter) (has next : Bool) → next ≡ cond (is_eq (pair_cmp pair x)) true has → (next ≡ true) ↔ ((pair ≡ x) ⊎ (has ≡ true))
 put-in pair x has next e = (
   (λ h. go (is_eq (pair_cmp pair x)) refl (sym e ∙ h)),
   λ h. elim h [

@@ -14,7 +14,7 @@ use Rattle.ev_index.proofs.Tallies.{tally-append}
 use Rattle.ev_index.proofs.Groups.{spread-insert, spread-set, spread-remove}
 use Rattle.ev_textindex.specs.Keys.{at_key, key_cmp}
 use Rattle.ev_textindex.proofs.Keys.{same-same}
-use Rattle.ev_counting.specs.Shelves.{idle, idle_names, AreUsed, AreUsedBut}
+use Rattle.ev_counting.specs.Shelves.{idle, idle_names, AreNamesUsed, AreNamesUsedBut}
 use Rattle.ev_counting.proofs.Apart.{none-counted}
 
 module _ {K X P : Type 0} (part : K → X → List P) (p q : P → Bool) (t : K → Bool) (one : (k : K) (x : X) → t k ≡ true → tally q (part k x) ≡ 0) (other : (k : K) (x : X) → t k ≡ false → tally p (part k x) ≡ tally q (part k x)) where
@@ -77,40 +77,40 @@ none-there [] h = absurd (h refl)
 none-there (x ∷ pairs) h = refl
 
 -- other pairs on a shelf, and not none
-pub used-set : (name : List ℕ) (old new : List Pair) (es fs : List (Vec ℕ Global × List Pair)) → lookup (at_key name) es ≡ Some old → fs ≡ set_value (at_key name) es new → (new ≡ [] → ⊥) → AreUsed es → AreUsed fs
+pub used-set : (name : List ℕ) (old new : List Pair) (es fs : List (Vec ℕ Global × List Pair)) → lookup (at_key name) es ≡ Some old → fs ≡ set_value (at_key name) es new → (new ≡ [] → ⊥) → AreNamesUsed es → AreNamesUsed fs
 used-set name old new es fs h f n u = none-counted (idle_names fs) (omega (arith, ap {B = ℕ} (λ (xs : List (Vec ℕ Global × List Pair)). tally all (idle_names xs)) f, spread-set idle all (at_key name) none old new es (λ k pairs _. idle-all k pairs) h, none-there new n, ap (tally all) u))
 
 -- the same pairs on a shelf
-pub used-same : (name : List ℕ) (old new : List Pair) (es fs : List (Vec ℕ Global × List Pair)) → lookup (at_key name) es ≡ Some old → fs ≡ set_value (at_key name) es new → new ≡ old → AreUsed es → AreUsed fs
+pub used-same : (name : List ℕ) (old new : List Pair) (es fs : List (Vec ℕ Global × List Pair)) → lookup (at_key name) es ≡ Some old → fs ≡ set_value (at_key name) es new → new ≡ old → AreNamesUsed es → AreNamesUsed fs
 used-same name old new es fs h f n u = none-counted (idle_names fs) (omega (arith, ap {B = ℕ} (λ (xs : List (Vec ℕ Global × List Pair)). tally all (idle_names xs)) f, spread-set idle all (at_key name) none old new es (λ k pairs _. idle-all k pairs) h, ap none n, ap (tally all) u))
 
 -- a new shelf
-pub used-new : (key : Vec ℕ Global) (new : List Pair) (x : Pair) (es fs : List (Vec ℕ Global × List Pair)) → lookup (at_key key.items) es ≡ None → fs ≡ insert_entry key_cmp es key new → Same new (x ∷ []) → AreUsed es → AreUsed fs
+pub used-new : (key : Vec ℕ Global) (new : List Pair) (x : Pair) (es fs : List (Vec ℕ Global × List Pair)) → lookup (at_key key.items) es ≡ None → fs ≡ insert_entry key_cmp es key new → Same new (x ∷ []) → AreNamesUsed es → AreNamesUsed fs
 used-new key new x es fs h f s u = none-counted (idle_names fs) (omega (arith, ap {B = ℕ} (λ (xs : List (Vec ℕ Global × List Pair)). tally all (idle_names xs)) f, spread-insert idle all key_cmp key new es h, idle-all key new, none-there new (some-there x new [] s), ap (tally all) u))
 
 -- any pairs on the shelf of one name
-pub used-but : (name m : List ℕ) (old new : List Pair) (es fs : List (Vec ℕ Global × List Pair)) → name ≡ m → lookup (at_key name) es ≡ Some old → fs ≡ set_value (at_key name) es new → AreUsed es → AreUsedBut m fs
+pub used-but : (name m : List ℕ) (old new : List Pair) (es fs : List (Vec ℕ Global × List Pair)) → name ≡ m → lookup (at_key name) es ≡ Some old → fs ≡ set_value (at_key name) es new → AreNamesUsed es → AreNamesUsedBut m fs
 used-but name m old new es fs n h f u =
     let e : tally (but name) (idle_names fs) ≡ 0 = omega (arith, ap {B = ℕ} (λ (xs : List (Vec ℕ Global × List Pair)). tally (but name) (idle_names xs)) f, spread-set idle (but name) (at_key name) (λ _. 0) old new es (idle-one name) h, ap (tally (but name)) u) in
     subst (λ (k : List ℕ). tally (but k) (idle_names fs) ≡ 0) n e
 
-pub used-others : (name : List ℕ) (es : List (Vec ℕ Global × List Pair)) → AreUsed es → AreUsedBut name es
+pub used-others : (name : List ℕ) (es : List (Vec ℕ Global × List Pair)) → AreNamesUsed es → AreNamesUsedBut name es
 used-others name es u = ap (tally (but name)) u
 
 -- the shelf of the one name is not empty
-pub used-kept : (name m : List ℕ) (old : List Pair) (es : List (Vec ℕ Global × List Pair)) → name ≡ m → IsDistinct (λ a b. is_eq (key_cmp a b)) (keys_of es) → lookup (at_key name) es ≡ Some old → (old ≡ [] → ⊥) → AreUsedBut m es → AreUsed es
+pub used-kept : (name m : List ℕ) (old : List Pair) (es : List (Vec ℕ Global × List Pair)) → name ≡ m → IsDistinct (λ a b. is_eq (key_cmp a b)) (keys_of es) → lookup (at_key name) es ≡ Some old → (old ≡ [] → ⊥) → AreNamesUsedBut m es → AreNamesUsed es
 used-kept name m old es n distinct h k u =
     let v = subst (λ (k : List ℕ). tally (but k) (idle_names es) ≡ 0) (sym n) u in
     none-counted (idle_names es) (omega (arith, spread-but idle all (but name) (at_key name) (idle-one name) (idle-other name) (λ a b. is_eq (key_cmp a b)) (same-same name) none old es (λ k pairs _. idle-all k pairs) distinct h, none-there old k, v))
 
 -- the shelf of the one name goes
-pub used-gone : (name m : List ℕ) (old : List Pair) (es fs : List (Vec ℕ Global × List Pair)) → name ≡ m → IsDistinct (λ a b. is_eq (key_cmp a b)) (keys_of es) → lookup (at_key name) es ≡ Some old → fs ≡ remove_entry (at_key name) es → AreUsedBut m es → AreUsed fs
+pub used-gone : (name m : List ℕ) (old : List Pair) (es fs : List (Vec ℕ Global × List Pair)) → name ≡ m → IsDistinct (λ a b. is_eq (key_cmp a b)) (keys_of es) → lookup (at_key name) es ≡ Some old → fs ≡ remove_entry (at_key name) es → AreNamesUsedBut m es → AreNamesUsed fs
 used-gone name m old es fs n distinct h f u =
     let v = subst (λ (k : List ℕ). tally (but k) (idle_names es) ≡ 0) (sym n) u in
     none-counted (idle_names fs) (omega (arith, ap {B = ℕ} (λ (xs : List (Vec ℕ Global × List Pair)). tally all (idle_names xs)) f, spread-but idle all (but name) (at_key name) (idle-one name) (idle-other name) (λ a b. is_eq (key_cmp a b)) (same-same name) none old es (λ k pairs _. idle-all k pairs) distinct h, spread-remove idle all (at_key name) none old es (λ k pairs _. idle-all k pairs) h, v))
 
 -- there is no shelf of the one name
-pub used-absent : (name m : List ℕ) (es : List (Vec ℕ Global × List Pair)) → name ≡ m → lookup (at_key name) es ≡ None → AreUsedBut m es → AreUsed es
+pub used-absent : (name m : List ℕ) (es : List (Vec ℕ Global × List Pair)) → name ≡ m → lookup (at_key name) es ≡ None → AreNamesUsedBut m es → AreNamesUsed es
 used-absent name m es n h u =
     let v = subst (λ (k : List ℕ). tally (but k) (idle_names es) ≡ 0) (sym n) u in
     none-counted (idle_names es) (omega (arith, spread-same idle all (but name) (at_key name) (idle-one name) (idle-other name) es h, v))

@@ -7,10 +7,10 @@ use Rattle.std.proofs.lemmas.List.{length-set, get_or-set_same, get_or-set_other
 use Rattle.std.specs.List.{Contains, insert, remove}
 use Rattle.ev_counting.specs.declared.entry.Entry.{Entry}
 use Rattle.ev_counting.specs.declared.goal.Goal.{Goal}
-use Rattle.ev_counting.specs.Table.{Held}
+use Rattle.ev_counting.specs.Table.{HeldFilter}
 use Rattle.ev_counting.specs.Slots.{Slot, pair_of, held, slot_at, goal_of, HasPair, AreAimed, KeepsPlaces}
 use Rattle.ev_counting.specs.Changes.{IsOnce}
-use Rattle.ev_counting.specs.Order.{nth, IsOrdered, IsGap, IsHere, AreFree, IsNone, AreKept}
+use Rattle.ev_counting.specs.Order.{nth, IsOrdered, IsPairGap, IsHere, AreFree, IsNone, ArePlacesKept}
 use Rattle.ev_counting.proofs.Standing.{held-from, held-has}
 use Rattle.ev_counting.proofs.Sound.{aimed-set}
 use Rattle.ev_counting.proofs.Order.{trichotomy, ordered-insert, ordered-remove, one-place, live-within}
@@ -61,8 +61,8 @@ pub apart-empty : (id : ℕ) (free : List ℕ) → length free ≡ 0 → IsNone 
 apart-empty id free e k l = absurd (omega (arith, l, e))
 
 -- an entry of the pair at a free place
-pub kept-put : (slots : List Slot) (goals : List Goal) (sorted free : List ℕ) (pair : Held) (i id : ℕ) (e : Entry) → AreAimed slots goals → IsOrdered slots sorted → AreFree slots free → length slots ≤ 2 ^ 32
-    → IsGap slots sorted pair i → pair_of e ≡ pair → id < length slots → slot_at slots id ≡ None → IsNone id free → AreKept (set slots id (Some e)) (set goals id (goal_of (Some e))) (insert sorted i id) free
+pub kept-put : (slots : List Slot) (goals : List Goal) (sorted free : List ℕ) (pair : HeldFilter) (i id : ℕ) (e : Entry) → AreAimed slots goals → IsOrdered slots sorted → AreFree slots free → length slots ≤ 2 ^ 32
+    → IsPairGap slots sorted pair i → pair_of e ≡ pair → id < length slots → slot_at slots id ≡ None → IsNone id free → ArePlacesKept (set slots id (Some e)) (set goals id (goal_of (Some e))) (insert sorted i id) free
 kept-put slots goals sorted free pair i id e aimed ordered f few gap mine l vacant apart = record {
   aimed = aimed-set slots goals id (Some e) l aimed;
   ordered = ordered-insert slots (set slots id (Some e)) sorted ordered id pair e i gap.within vacant (get_or-set_same slots id (Some e) None l) mine (λ other n. get_or-set_other slots id other (Some e) None n) gap.below gap.above;
@@ -75,8 +75,8 @@ kept-put slots goals sorted free pair i id e aimed ordered f few gap mine l vaca
 }
 
 -- the place of the pair set free
-pub kept-taken : (slots : List Slot) (goals : List Goal) (sorted free : List ℕ) (pair : Held) (i id : ℕ) → AreKept slots goals sorted free → IsHere slots sorted pair i → nth sorted i ≡ id
-    → AreKept (set slots id None) (set goals id (goal_of None)) (remove sorted i) (free ++ id ∷ [])
+pub kept-taken : (slots : List Slot) (goals : List Goal) (sorted free : List ℕ) (pair : HeldFilter) (i id : ℕ) → ArePlacesKept slots goals sorted free → IsHere slots sorted pair i → nth sorted i ≡ id
+    → ArePlacesKept (set slots id None) (set goals id (goal_of None)) (remove sorted i) (free ++ id ∷ [])
 kept-taken slots goals sorted free pair i id kept here is = record {
   aimed = aimed-set slots goals id None within kept.aimed;
   ordered = ordered-remove slots (set slots id None) sorted kept.ordered id i here.within is (get_or-set_same slots id None None within) (λ other n. get_or-set_other slots id other None None n);
@@ -117,7 +117,7 @@ kept-taken slots goals sorted free pair i id kept here is = record {
     last k e = ap (nth (free ++ id ∷ [])) e ∙ nth-last free id
 
 -- it has gone
-pub taken-gone : (slots : List Slot) (sorted : List ℕ) (pair : Held) (i id : ℕ) → IsOrdered slots sorted → IsHere slots sorted pair i → nth sorted i ≡ id → Contains (held (set slots id None)) pair → ⊥
+pub taken-gone : (slots : List Slot) (sorted : List ℕ) (pair : HeldFilter) (i id : ℕ) → IsOrdered slots sorted → IsHere slots sorted pair i → nth sorted i ≡ id → Contains (held (set slots id None)) pair → ⊥
 taken-gone slots sorted pair i id ordered here is h =
     let s = held-from (set slots id None) pair h in
     go s.place s.entry s.mine s.there (cases_eq s.place id)
@@ -137,10 +137,10 @@ taken-gone slots sorted pair i id ordered here is h =
         n (one-place slots sorted ordered k id e here.entry old there (mine ∙ sym here.mine))
 
 -- a pair that stands somewhere is held
-pub here-held : (slots : List Slot) (sorted : List ℕ) (pair : Held) (i : ℕ) → IsHere slots sorted pair i → Contains (held slots) pair
+pub here-held : (slots : List Slot) (sorted : List ℕ) (pair : HeldFilter) (i : ℕ) → IsHere slots sorted pair i → Contains (held slots) pair
 here-held slots sorted pair i h = held-has slots (nth sorted i) pair (rw h.there h.mine)
 
-pub here-has : (slots : List Slot) (sorted : List ℕ) (pair : Held) (i id : ℕ) → IsHere slots sorted pair i → nth sorted i ≡ id → HasPair (slot_at slots id) pair
+pub here-has : (slots : List Slot) (sorted : List ℕ) (pair : HeldFilter) (i id : ℕ) → IsHere slots sorted pair i → nth sorted i ≡ id → HasPair (slot_at slots id) pair
 here-has slots sorted pair i id h is = subst (λ n. HasPair (slot_at slots n) pair) is (rw h.there h.mine)
 
 -- what was put at a free place and taken away again
@@ -149,7 +149,7 @@ set-back [] id s l h = absurd (omega (arith, l))
 set-back (x ∷ slots) zero s l h = ap (λ y. y ∷ slots) (sym h)
 set-back (x ∷ slots) (suc id) s l h = ap (λ ys. x ∷ ys) (set-back slots id s (omega (arith, l)) h)
 
-pub taken-back : (between put new : List Slot) (id : ℕ) (e : Entry) (pair : Held) (r : Option ℕ) → put ≡ set between id (Some e) → pair_of e ≡ pair → id < length between → slot_at between id ≡ None → (Contains (held between) pair → ⊥)
+pub taken-back : (between put new : List Slot) (id : ℕ) (e : Entry) (pair : HeldFilter) (r : Option ℕ) → put ≡ set between id (Some e) → pair_of e ≡ pair → id < length between → slot_at between id ≡ None → (Contains (held between) pair → ⊥)
     → IfSome r (λ j. (j < length put) × HasPair (slot_at put j) pair × (new ≡ set put j None)) → IfNone r (new ≡ put) → (Contains (held new) pair → ⊥) → new ≡ between
 taken-back between put new id e pair None is mine l vacant absent some none gone =
     absurd (gone (held-has new id pair (subst (λ s. HasPair s pair) (sym (ap (λ xs. slot_at xs id) (none ∙ is) ∙ get_or-set_same between id (Some e) None l)) mine)))
@@ -159,12 +159,12 @@ taken-back between put new id e pair (Some j) is mine l vacant absent some none 
 ]
 
 -- whether a pair stands somewhere
-pub seek-tells : (slots : List Slot) (sorted : List ℕ) (pair : Held) (r : Result ℕ ℕ) (b : Bool) → b ≡ is_ok r → IfOk r (λ i. IsHere slots sorted pair i) → IfErr r (λ i. IsGap slots sorted pair i) → IsTrue b ↔ Contains (held slots) pair
+pub seek-tells : (slots : List Slot) (sorted : List ℕ) (pair : HeldFilter) (r : Result ℕ ℕ) (b : Bool) → b ≡ is_ok r → IfOk r (λ i. IsHere slots sorted pair i) → IfErr r (λ i. IsPairGap slots sorted pair i) → IsTrue b ↔ Contains (held slots) pair
 seek-tells slots sorted pair (Ok i) b e ok err = ((λ h. here-held slots sorted pair i ok), λ h. e)
 seek-tells slots sorted pair (Err i) b e ok err = ((λ h. let f : true ≡ false = sym h ∙ e in absurd cc), λ h. absurd (err.absent h))
 
 -- the same entries at the same places
-pub gap-kept : (old new : List Slot) (sorted : List ℕ) (pair : Held) (i : ℕ) → KeepsPlaces old new → IsGap old sorted pair i → IsGap new sorted pair i
+pub gap-kept : (old new : List Slot) (sorted : List ℕ) (pair : HeldFilter) (i : ℕ) → KeepsPlaces old new → IsPairGap old sorted pair i → IsPairGap new sorted pair i
 gap-kept old new sorted pair i keep g = record {
   within = g.within;
   below = λ k x l e. g.below k x l (sym (keep.slots (nth sorted k)) ∙ e);

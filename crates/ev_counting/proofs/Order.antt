@@ -6,10 +6,10 @@ use Rattle.std.specs.List.{Contains, insert, remove}
 use Rattle.std.proofs.lemmas.List.Edits.{length-insert, get_or-insert_below, get_or-insert_at, get_or-insert_above, length-remove, get_or-remove_below, get_or-remove_above}
 use Rattle.ev_notice.specs.Before.{list_before}
 use Rattle.ev_notice.proofs.BeforeLaws.{before-irreflexive, before-before, before-total}
-use Rattle.ev_counting.specs.Table.{Held}
+use Rattle.ev_counting.specs.Table.{HeldFilter}
 use Rattle.ev_counting.specs.declared.entry.Entry.{Entry}
 use Rattle.ev_counting.specs.Slots.{Slot, pair_of, slot_at, held}
-use Rattle.ev_counting.specs.Order.{pair_before, slot_before, slot_behind, nth, IsOrdered, IsGap, IsHere}
+use Rattle.ev_counting.specs.Order.{pair_before, slot_before, slot_behind, nth, IsOrdered, IsPairGap, IsHere}
 use Rattle.ev_counting.proofs.Standing.{held-from, within}
 
 pub trichotomy : (a b : ℕ) → (a < b) ⊎ ((a ≡ b) ⊎ (b < a))
@@ -25,11 +25,11 @@ is-some o x e = rw e refl
 no-some : (X : Type 0) → IsSome {T = X} None → ⊥
 no-some X h = cc
 
-pub irreflexive : (x : Held) → pair_before x x ≡ false
+pub irreflexive : (x : HeldFilter) → pair_before x x ≡ false
 unfolding pair_before
 irreflexive x = grind (arith, nat_tests, before-irreflexive x.1)
 
-both : (x y : Held) → pair_before x y ≡ true → (nat_lt x.0 y.0 ≡ true) ⊎ ((x.0 ≡ y.0) × (list_before x.1 y.1 ≡ true))
+both : (x y : HeldFilter) → pair_before x y ≡ true → (nat_lt x.0 y.0 ≡ true) ⊎ ((x.0 ≡ y.0) × (list_before x.1 y.1 ≡ true))
 unfolding pair_before
 both x y e = go (nat_lt x.0 y.0) (x.0 == y.0) (list_before x.1 y.1) refl refl refl e
   where
@@ -42,15 +42,15 @@ both x y e = go (nat_lt x.0 y.0) (x.0 == y.0) (list_before x.1 y.1) refl refl re
     go false true false f g h k = cc
     go false false c f g h k = cc
 
-lower : (x y : Held) → nat_lt x.0 y.0 ≡ true → pair_before x y ≡ true
+lower : (x y : HeldFilter) → nat_lt x.0 y.0 ≡ true → pair_before x y ≡ true
 unfolding pair_before
 lower x y e = rw e refl
 
-level : (x y : Held) → x.0 ≡ y.0 → list_before x.1 y.1 ≡ true → pair_before x y ≡ true
+level : (x y : HeldFilter) → x.0 ≡ y.0 → list_before x.1 y.1 ≡ true → pair_before x y ≡ true
 unfolding pair_before
 level x y e f = grind (arith, nat_tests, e, f)
 
-pub chain : (x y z : Held) → pair_before x y ≡ true → pair_before y z ≡ true → pair_before x z ≡ true
+pub chain : (x y z : HeldFilter) → pair_before x y ≡ true → pair_before y z ≡ true → pair_before x z ≡ true
 chain x y z e f = go (both x y e) (both y z f)
   where
     less : (a b c : ℕ) → nat_lt a b ≡ true → nat_lt b c ≡ true → nat_lt a c ≡ true
@@ -62,7 +62,7 @@ chain x y z e f = go (both x y e) (both y z f)
     go (inr g) (inl h) = lower x z (subst (λ (n : ℕ). nat_lt n z.0 ≡ true) (sym g.0) h)
     go (inr g) (inr h) = level x z (g.0 ∙ h.0) (before-before x.1 y.1 z.1 g.1 h.1)
 
-pub total : (x y : Held) → pair_before x y ≡ false → pair_before y x ≡ false → x ≡ y
+pub total : (x y : HeldFilter) → pair_before x y ≡ false → pair_before y x ≡ false → x ≡ y
 unfolding pair_before
 total x y e f =
     let n : x.0 ≡ y.0 = grind (arith, nat_tests, e, f) in
@@ -73,7 +73,7 @@ total x y e f =
 
 module _ (slots : List Slot) (sorted : List ℕ) (ix : IsOrdered slots sorted) where
   -- no entry is a pair that all below stand before, and that stands before all above
-  pub absent : (pair : Held) (i : ℕ) → ((k : ℕ) (x : Entry) → k < i → slot_at slots (nth sorted k) ≡ Some x → pair_before (pair_of x) pair ≡ true)
+  pub absent : (pair : HeldFilter) (i : ℕ) → ((k : ℕ) (x : Entry) → k < i → slot_at slots (nth sorted k) ≡ Some x → pair_before (pair_of x) pair ≡ true)
       → ((k : ℕ) (x : Entry) → i ≤ k → k < length sorted → slot_at slots (nth sorted k) ≡ Some x → pair_before pair (pair_of x) ≡ true)
       → Contains (held slots) pair → ⊥
   absent pair i below above h =
@@ -87,7 +87,7 @@ module _ (slots : List Slot) (sorted : List ℕ) (ix : IsOrdered slots sorted) w
       go c q k w f (inr (inr s)) = grind (arith, subst (λ z. pair_before pair z ≡ true) q (above k c (omega arith) w f), irreflexive pair)
 
   -- all later ones stand behind it
-  pub above-strict : (pair : Held) (i : ℕ) (m : Entry) → slot_at slots (nth sorted i) ≡ Some m → pair_before pair (pair_of m) ≡ true
+  pub above-strict : (pair : HeldFilter) (i : ℕ) (m : Entry) → slot_at slots (nth sorted i) ≡ Some m → pair_before pair (pair_of m) ≡ true
       → (k : ℕ) (x : Entry) → i ≤ k → k < length sorted → slot_at slots (nth sorted k) ≡ Some x → pair_before pair (pair_of x) ≡ true
   above-strict pair i m e b k x l w f = go (trichotomy k i)
     where
@@ -100,18 +100,18 @@ module _ (slots : List Slot) (sorted : List ℕ) (ix : IsOrdered slots sorted) w
       go (inr (inr s)) = chain pair (pair_of m) (pair_of x) b (ix.rising i k m x s w e f)
 
   -- such a place is a gap
-  pub gap : (pair : Held) (i : ℕ) → i ≤ length sorted → ((k : ℕ) (x : Entry) → k < i → slot_at slots (nth sorted k) ≡ Some x → pair_before (pair_of x) pair ≡ true)
-      → ((k : ℕ) (x : Entry) → i ≤ k → k < length sorted → slot_at slots (nth sorted k) ≡ Some x → pair_before pair (pair_of x) ≡ true) → IsGap slots sorted pair i
+  pub gap : (pair : HeldFilter) (i : ℕ) → i ≤ length sorted → ((k : ℕ) (x : Entry) → k < i → slot_at slots (nth sorted k) ≡ Some x → pair_before (pair_of x) pair ≡ true)
+      → ((k : ℕ) (x : Entry) → i ≤ k → k < length sorted → slot_at slots (nth sorted k) ≡ Some x → pair_before pair (pair_of x) ≡ true) → IsPairGap slots sorted pair i
   gap pair i w below above = record { within = w; below = below; above = above; absent = absent pair i below above }
 
-  pub gap-end : (pair : Held) (i : ℕ) → i ≤ length sorted → length sorted ≤ i → ((k : ℕ) (x : Entry) → k < i → slot_at slots (nth sorted k) ≡ Some x → pair_before (pair_of x) pair ≡ true) → IsGap slots sorted pair i
+  pub gap-end : (pair : HeldFilter) (i : ℕ) → i ≤ length sorted → length sorted ≤ i → ((k : ℕ) (x : Entry) → k < i → slot_at slots (nth sorted k) ≡ Some x → pair_before (pair_of x) pair ≡ true) → IsPairGap slots sorted pair i
   gap-end pair i w past below = gap pair i w below (λ k x a b e. absurd (omega arith))
 
-  pub gap-inner : (pair : Held) (i : ℕ) (m : Entry) → i ≤ length sorted → ((k : ℕ) (x : Entry) → k < i → slot_at slots (nth sorted k) ≡ Some x → pair_before (pair_of x) pair ≡ true)
-      → slot_at slots (nth sorted i) ≡ Some m → pair_before pair (pair_of m) ≡ true → IsGap slots sorted pair i
+  pub gap-inner : (pair : HeldFilter) (i : ℕ) (m : Entry) → i ≤ length sorted → ((k : ℕ) (x : Entry) → k < i → slot_at slots (nth sorted k) ≡ Some x → pair_before (pair_of x) pair ≡ true)
+      → slot_at slots (nth sorted i) ≡ Some m → pair_before pair (pair_of m) ≡ true → IsPairGap slots sorted pair i
   gap-inner pair i m w below e b = gap pair i w below (above-strict pair i m e b)
 
-  pub here : (pair : Held) (i : ℕ) (m : Entry) → i < length sorted → slot_at slots (nth sorted i) ≡ Some m → pair_before (pair_of m) pair ≡ false → pair_before pair (pair_of m) ≡ false → IsHere slots sorted pair i
+  pub here : (pair : HeldFilter) (i : ℕ) (m : Entry) → i < length sorted → slot_at slots (nth sorted i) ≡ Some m → pair_before (pair_of m) pair ≡ false → pair_before pair (pair_of m) ≡ false → IsHere slots sorted pair i
   here pair i m w e a b = record { within = w; entry = m; there = e; mine = total (pair_of m) pair a b }
 
   -- one pair has one place
@@ -132,7 +132,7 @@ module _ (slots : List Slot) (sorted : List ℕ) (ix : IsOrdered slots sorted) w
   live-within k l = let e = some-is (slot_at slots (nth sorted k)) (ix.live k l) in within slots (nth sorted k) e.0 e.1
 
   -- what stands before the pair, and all below it
-  pub before-upto : (pair : Held) (m : ℕ) → m < length sorted → slot_before (slot_at slots (nth sorted m)) pair ≡ true → (k : ℕ) → k ≤ m → slot_before (slot_at slots (nth sorted k)) pair ≡ true
+  pub before-upto : (pair : HeldFilter) (m : ℕ) → m < length sorted → slot_before (slot_at slots (nth sorted m)) pair ≡ true → (k : ℕ) → k ≤ m → slot_before (slot_at slots (nth sorted k)) pair ≡ true
   before-upto pair m l b k w = elim (trichotomy k m) [
     | inl s ↦ (
         let x = some-is (slot_at slots (nth sorted k)) (ix.live k (omega arith)) in
@@ -143,20 +143,20 @@ module _ (slots : List Slot) (sorted : List ℕ) (ix : IsOrdered slots sorted) w
     | inr (inr s) ↦ absurd (omega arith)
   ]
 
-  pub seek-here : (pair : Held) (i : ℕ) → i < length sorted → slot_before (slot_at slots (nth sorted i)) pair ≡ false → slot_behind (slot_at slots (nth sorted i)) pair ≡ false → IsHere slots sorted pair i
+  pub seek-here : (pair : HeldFilter) (i : ℕ) → i < length sorted → slot_before (slot_at slots (nth sorted i)) pair ≡ false → slot_behind (slot_at slots (nth sorted i)) pair ≡ false → IsHere slots sorted pair i
   seek-here pair i l a b =
       let x = some-is (slot_at slots (nth sorted i)) (ix.live i l) in
       here pair i x.0 l x.1 (subst (λ z. slot_before z pair ≡ false) x.1 a) (subst (λ z. slot_behind z pair ≡ false) x.1 b)
 
-  seek-below : (pair : Held) (i : ℕ) → ((k : ℕ) → k < i → slot_before (slot_at slots (nth sorted k)) pair ≡ true) → (k : ℕ) (x : Entry) → k < i → slot_at slots (nth sorted k) ≡ Some x → pair_before (pair_of x) pair ≡ true
+  seek-below : (pair : HeldFilter) (i : ℕ) → ((k : ℕ) → k < i → slot_before (slot_at slots (nth sorted k)) pair ≡ true) → (k : ℕ) (x : Entry) → k < i → slot_at slots (nth sorted k) ≡ Some x → pair_before (pair_of x) pair ≡ true
   seek-below pair i below k x l e = subst (λ z. slot_before z pair ≡ true) e (below k l)
 
-  pub seek-inner : (pair : Held) (i : ℕ) → i < length sorted → ((k : ℕ) → k < i → slot_before (slot_at slots (nth sorted k)) pair ≡ true) → slot_behind (slot_at slots (nth sorted i)) pair ≡ true → IsGap slots sorted pair i
+  pub seek-inner : (pair : HeldFilter) (i : ℕ) → i < length sorted → ((k : ℕ) → k < i → slot_before (slot_at slots (nth sorted k)) pair ≡ true) → slot_behind (slot_at slots (nth sorted i)) pair ≡ true → IsPairGap slots sorted pair i
   seek-inner pair i l below b =
       let x = some-is (slot_at slots (nth sorted i)) (ix.live i l) in
       gap-inner pair i x.0 (omega arith) (seek-below pair i below) x.1 (subst (λ z. slot_behind z pair ≡ true) x.1 b)
 
-  pub seek-end : (pair : Held) (i : ℕ) → i ≤ length sorted → length sorted ≤ i → ((k : ℕ) → k < i → slot_before (slot_at slots (nth sorted k)) pair ≡ true) → IsGap slots sorted pair i
+  pub seek-end : (pair : HeldFilter) (i : ℕ) → i ≤ length sorted → length sorted ≤ i → ((k : ℕ) → k < i → slot_before (slot_at slots (nth sorted k)) pair ≡ true) → IsPairGap slots sorted pair i
   seek-end pair i w l below = gap-end pair i w l (seek-below pair i below)
 
 pub inserted : (sorted : List ℕ) (i id k : ℕ) → i ≤ length sorted → k < length sorted + 1
@@ -184,7 +184,7 @@ removed sorted i k w l = go (trichotomy k i)
 
 module _ (old new : List Slot) (sorted : List ℕ) (ix : IsOrdered old sorted) (id : ℕ) where
   -- a fresh entry goes to its place
-  pub ordered-insert : (pair : Held) (e : Entry) (i : ℕ) → i ≤ length sorted → slot_at old id ≡ None → slot_at new id ≡ Some e → pair_of e ≡ pair → ((other : ℕ) → other ≢ id → slot_at new other ≡ slot_at old other)
+  pub ordered-insert : (pair : HeldFilter) (e : Entry) (i : ℕ) → i ≤ length sorted → slot_at old id ≡ None → slot_at new id ≡ Some e → pair_of e ≡ pair → ((other : ℕ) → other ≢ id → slot_at new other ≡ slot_at old other)
       → ((k : ℕ) (x : Entry) → k < i → slot_at old (nth sorted k) ≡ Some x → pair_before (pair_of x) pair ≡ true)
       → ((k : ℕ) (x : Entry) → i ≤ k → k < length sorted → slot_at old (nth sorted k) ≡ Some x → pair_before pair (pair_of x) ≡ true)
       → IsOrdered new (insert sorted i id)
@@ -223,7 +223,7 @@ module _ (old new : List Slot) (sorted : List ℕ) (ix : IsOrdered old sorted) (
       one-is k x q f =
           let two : Some x ≡ Some e = sym f ∙ (ap (slot_at new) q ∙ now) in
           let one : x ≡ e = cc in
-          ap {B = Held} pair_of one ∙ mine
+          ap {B = HeldFilter} pair_of one ∙ mine
 
       back : (k j : ℕ) (x : Entry) → j < length sorted → nth (insert sorted i id) k ≡ nth sorted j → slot_at new (nth (insert sorted i id) k) ≡ Some x → slot_at old (nth sorted j) ≡ Some x
       back k j x l e f = sym (at j l) ∙ (ap (slot_at new) (sym e) ∙ f)

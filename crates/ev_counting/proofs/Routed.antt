@@ -8,7 +8,7 @@ use Rattle.ev_notice.specs.Cover.{matches}
 use Rattle.ev_index.specs.Pairs.{tally, Same, Appends}
 use Rattle.ev_index.proofs.Tallies.{tally-append, tally-map, tally-agree, tally-none, tally-le, tally-at}
 use Rattle.ev_counting.specs.declared.goal.Goal.{Goal}
-use Rattle.ev_counting.specs.Table.{Held, AreMatched, IsMatched}
+use Rattle.ev_counting.specs.Table.{HeldFilter, AreMatched, IsMatched}
 use Rattle.ev_counting.specs.Index.{Use, is_satisfied, ids_satisfied}
 use Rattle.ev_counting.specs.Slots.{Slot, held, slot_at, constraints_in, numbered, uses_from, goal_of, goal_at, AreAimed, ArePlaced}
 use Rattle.ev_counting.specs.Counting.{AreGoals, AreFull}
@@ -138,12 +138,12 @@ full-matched n slots goals ifaces found matched aimed placed tell a = record {
       let s = held-from slots (iface, h.0) h.1 in
       let e = s.entry in
       let t : tally (λ x. x == s.place) found ≡ tally (is_satisfied n) e.filter = tell s.place ∙ ap {B = ℕ} (λ x. tally (is_satisfied n) (constraints_in x)) s.there in
-      let m : e.filter ≡ h.0 = ap {B = List ConstraintParts} (λ (x : Held). x.1) s.mine in
+      let m : e.filter ≡ h.0 = ap {B = List ConstraintParts} (λ (x : HeldFilter). x.1) s.mine in
       let c = matches-count n e.filter (rw m h.2) in
       let g = aimed.aims s.place ∙ ap {B = Goal} goal_of s.there in
       let q = placed s.place e s.there in
       let z = ap {B = ℕ} (λ (x : Goal). x.constraints) g in
-      let mine = ap {B = ℕ} (λ (x : Goal). get_or ifaces x.place 0) g ∙ q.there ∙ ap {B = ℕ} (λ (x : Held). x.0) s.mine in
+      let mine = ap {B = ℕ} (λ (x : Goal). get_or ifaces x.place 0) g ∙ q.there ∙ ap {B = ℕ} (λ (x : HeldFilter). x.0) s.mine in
       a.whole iface (record { id = s.place; some = omega (arith, z, q.some); mine = mine; full = omega (arith, c, t, z) }));
 }
   where

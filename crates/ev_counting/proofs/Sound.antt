@@ -10,9 +10,9 @@ use Rattle.ev_counting.specs.declared.entry.Entry.{Entry}
 use Rattle.ev_counting.specs.declared.goal.Goal.{Goal}
 use Rattle.ev_notice.specs.Notice.{Attribute}
 use Rattle.ev_notice.specs.Cover.{matches}
-use Rattle.ev_counting.specs.Table.{Held, AreMatched}
+use Rattle.ev_counting.specs.Table.{HeldFilter, AreMatched}
 use Rattle.ev_counting.specs.Index.{Use}
-use Rattle.ev_counting.specs.Slots.{Slot, pair_of, held, slot_at, HasPair, constraints_in, numbered, uses_from, KeepsPlaces, IsPlaced, IsSound, goal_of, goal_at, AreAimed}
+use Rattle.ev_counting.specs.Slots.{Slot, pair_of, held, slot_at, HasPair, constraints_in, numbered, uses_from, KeepsPlaces, IsPlaced, IsSoundTable, goal_of, goal_at, AreAimed}
 use Rattle.ev_counting.proofs.Sets.{step, matched-yes, matched-no}
 use Rattle.ev_counting.proofs.Rounds.{get-push}
 use Rattle.ev_counting.proofs.Standing.{uses-set}
@@ -29,19 +29,19 @@ length-push (y ∷ xs) x = ap suc (length-push xs x)
 abbrev pub Extends : List ℕ → List ℕ → Type 0
 Extends old new = (k : ℕ) → k < length old → (k < length new) × (get_or new k 0 ≡ get_or old k 0)
 
-pub sound-extended : (index : List Use) (slots : List Slot) (old new : List ℕ) → Extends old new → IsSound index slots old → IsSound index slots new
+pub sound-extended : (index : List Use) (slots : List Slot) (old new : List ℕ) → Extends old new → IsSoundTable index slots old → IsSoundTable index slots new
 sound-extended index slots old new x s = record {
   indexed = s.indexed;
   placed = λ k e h. (let q = s.placed k e h in let y = x e.place q.within in record { some = q.some; few = q.few; within = y.0; there = y.1 ∙ q.there });
 }
 
-pub sound-kept : (index : List Use) (old new : List Slot) (ifaces : List ℕ) → KeepsPlaces old new → IsSound index old ifaces → IsSound index new ifaces
+pub sound-kept : (index : List Use) (old new : List Slot) (ifaces : List ℕ) → KeepsPlaces old new → IsSoundTable index old ifaces → IsSoundTable index new ifaces
 sound-kept index old new ifaces keep s = record {
   indexed = λ p. s.indexed p ∙ ap {B = ℕ} (tally p) (sym keep.uses);
   placed = λ k e h. s.placed k e (sym (keep.slots k) ∙ h);
 }
 
-pub sound-same : (old new : List Use) (slots : List Slot) (ifaces : List ℕ) → Same new old → IsSound old slots ifaces → IsSound new slots ifaces
+pub sound-same : (old new : List Use) (slots : List Slot) (ifaces : List ℕ) → Same new old → IsSoundTable old slots ifaces → IsSoundTable new slots ifaces
 sound-same old new slots ifaces same s = record {
   indexed = λ p. same p ∙ s.indexed p;
   placed = s.placed;
@@ -103,7 +103,7 @@ aimed-spare slots goals a = record {
   aims = λ k. get-push goals k (goal_of None) ∙ a.aims k;
 }
 
-pub sound-added : (old new : List Use) (slots : List Slot) (ifaces : List ℕ) (id : ℕ) (e : Entry) → id < length slots → slot_at slots id ≡ None → IsPlaced ifaces e → Same new (numbered id e.filter ++ old) → IsSound old slots ifaces → IsSound new (set slots id (Some e)) ifaces
+pub sound-added : (old new : List Use) (slots : List Slot) (ifaces : List ℕ) (id : ℕ) (e : Entry) → id < length slots → slot_at slots id ≡ None → IsPlaced ifaces e → Same new (numbered id e.filter ++ old) → IsSoundTable old slots ifaces → IsSoundTable new (set slots id (Some e)) ifaces
 sound-added old new slots ifaces id e l free q same s = record {
   indexed = λ p. (
       let a = uses-set 0 id slots (Some e) p l in
@@ -118,12 +118,12 @@ sound-added old new slots ifaces id e l free q same s = record {
   ];
 }
 
-constraints-of : (s : Slot) (pair : Held) → HasPair s pair → constraints_in s ≡ pair.1
+constraints-of : (s : Slot) (pair : HeldFilter) → HasPair s pair → constraints_in s ≡ pair.1
 constraints-of None pair h = absurd h
-constraints-of (Some e) pair h = ap {B = List ConstraintParts} (λ (x : Held). x.1) h
+constraints-of (Some e) pair h = ap {B = List ConstraintParts} (λ (x : HeldFilter). x.1) h
 
 -- a place of the pair set free, and its constraints taken out of the index
-pub sound-freed : (old new : List Use) (slots : List Slot) (ifaces : List ℕ) (id : ℕ) (pair : Held) → id < length slots → HasPair (slot_at slots id) pair → ((rest : List Use) → Same old (numbered id pair.1 ++ rest) → Same new rest) → IsSound old slots ifaces → IsSound new (set slots id None) ifaces
+pub sound-freed : (old new : List Use) (slots : List Slot) (ifaces : List ℕ) (id : ℕ) (pair : HeldFilter) → id < length slots → HasPair (slot_at slots id) pair → ((rest : List Use) → Same old (numbered id pair.1 ++ rest) → Same new rest) → IsSoundTable old slots ifaces → IsSoundTable new (set slots id None) ifaces
 sound-freed old new slots ifaces id pair l has out s = record {
   indexed = out (uses_from 0 (set slots id None)) (λ p. (
       let a = uses-set 0 id slots None p l in
@@ -176,10 +176,10 @@ take-whole (x ∷ xs) (suc i) h = ap (λ ys. x ∷ ys) (take-whole xs i (omega (
 
 -- the next place's filter is matched, or not, or the place is free
 pub next-yes : (n : List Attribute) (slots : List Slot) (ifaces : List ℕ) (i : ℕ) (e : Entry) → i < length slots → slot_at slots i ≡ Some e → matches n e.filter ≡ true → AreMatched n (held (take i slots)) ifaces → AreMatched n (held (take (i + 1) slots)) (ifaces ++ e.iface ∷ [])
-next-yes n slots ifaces i e l here m a = subst (λ (xs : List Held). AreMatched n xs (ifaces ++ e.iface ∷ [])) (sym (held-more slots i (Some e) l here)) (matched-yes n (held (take i slots)) ifaces (pair_of e) a m)
+next-yes n slots ifaces i e l here m a = subst (λ (xs : List HeldFilter). AreMatched n xs (ifaces ++ e.iface ∷ [])) (sym (held-more slots i (Some e) l here)) (matched-yes n (held (take i slots)) ifaces (pair_of e) a m)
 
 pub next-no : (n : List Attribute) (slots : List Slot) (ifaces : List ℕ) (i : ℕ) (e : Entry) → i < length slots → slot_at slots i ≡ Some e → matches n e.filter ≡ false → AreMatched n (held (take i slots)) ifaces → AreMatched n (held (take (i + 1) slots)) ifaces
-next-no n slots ifaces i e l here m a = subst (λ (xs : List Held). AreMatched n xs ifaces) (sym (held-more slots i (Some e) l here)) (matched-no n (held (take i slots)) ifaces (pair_of e) a m)
+next-no n slots ifaces i e l here m a = subst (λ (xs : List HeldFilter). AreMatched n xs ifaces) (sym (held-more slots i (Some e) l here)) (matched-no n (held (take i slots)) ifaces (pair_of e) a m)
 
 pub next-none : (n : List Attribute) (slots : List Slot) (ifaces : List ℕ) (i : ℕ) → i < length slots → slot_at slots i ≡ None → AreMatched n (held (take i slots)) ifaces → AreMatched n (held (take (i + 1) slots)) ifaces
-next-none n slots ifaces i l here a = subst (λ (xs : List Held). AreMatched n xs ifaces) (sym (held-more slots i None l here ∙ append-nil (held (take i slots)))) a
+next-none n slots ifaces i l here a = subst (λ (xs : List HeldFilter). AreMatched n xs ifaces) (sym (held-more slots i None l here ∙ append-nil (held (take i slots)))) a

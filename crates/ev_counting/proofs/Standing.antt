@@ -5,7 +5,7 @@ use Rattle.std.specs.List.{Contains}
 use Rattle.ev_index.specs.Pairs.{tally}
 use Rattle.ev_index.proofs.Tallies.{tally-append}
 use Rattle.ev_counting.specs.declared.entry.Entry.{Entry}
-use Rattle.ev_counting.specs.Table.{Held, IsAdded}
+use Rattle.ev_counting.specs.Table.{HeldFilter, IsAdded}
 use Rattle.ev_counting.specs.Index.{Use}
 use Rattle.ev_counting.specs.Slots.{Slot, pair_of, held, slot_at, HasPair, constraints_in, numbered, uses_from, KeepsPlaces}
 use Rattle.ev_counting.proofs.Sets.{Falls}
@@ -41,13 +41,13 @@ held-at (None ∷ slots) (suc k) e h = held-at slots k e h
 held-at (Some d ∷ slots) (suc k) e h = later (pair_of d) (pair_of e) (held slots) (held-at slots k e h)
 
 -- the place of a pair that is held
-pub record Stands (slots : List Slot) (pair : Held) : Type 0 where
+pub record Stands (slots : List Slot) (pair : HeldFilter) : Type 0 where
   pub place : ℕ
   pub entry : Entry
   pub there : slot_at slots place ≡ Some entry
   pub mine : pair_of entry ≡ pair
 
-pub held-from : (slots : List Slot) (pair : Held) → Contains (held slots) pair → Stands slots pair
+pub held-from : (slots : List Slot) (pair : HeldFilter) → Contains (held slots) pair → Stands slots pair
 held-from [] pair h = absurd (omega (arith, h.1))
 held-from (None ∷ slots) pair h = let s = held-from slots pair h in record { place = suc s.place; entry = s.entry; there = s.there; mine = s.mine }
 held-from (Some d ∷ slots) pair h = go (parts (pair_of d) pair (held slots) h) (held-from slots pair)
@@ -92,7 +92,7 @@ uses-set i (suc j) (x ∷ slots) s p h =
     omega (arith, a, b, r, ap {B = ℕ} (λ n. tally p (numbered n (constraints_in (slot_at slots j)))) e, ap {B = ℕ} (λ n. tally p (numbered n (constraints_in s))) e)
 
 -- an entry at a free place
-added-cons : (y : Held) (xs ys : List Held) (x : Held) → IsAdded xs ys x → IsAdded (y ∷ xs) (y ∷ ys) x
+added-cons : (y : HeldFilter) (xs ys : List HeldFilter) (x : HeldFilter) → IsAdded xs ys x → IsAdded (y ∷ xs) (y ∷ ys) x
 added-cons y xs ys x a = record {
   there = later y x ys a.there;
   kept = λ z h. elim (parts y z xs h) [ inl e ↦ rw e (first z ys) | inr m ↦ later y z ys (a.kept z m) ];
@@ -114,7 +114,7 @@ held-add (None ∷ slots) (suc j) e l h = held-add slots j e (omega (arith, l)) 
 held-add (Some d ∷ slots) (suc j) e l h = added-cons (pair_of d) (held slots) (held (set slots j (Some e))) (pair_of e) (held-add slots j e (omega (arith, l)) h)
 
 -- a place set free
-falls-cons : (y : Held) (xs ys : List Held) (x : Held) → Falls xs ys x → Falls (y ∷ xs) (y ∷ ys) x
+falls-cons : (y : HeldFilter) (xs ys : List HeldFilter) (x : HeldFilter) → Falls xs ys x → Falls (y ∷ xs) (y ∷ ys) x
 falls-cons y xs ys x f = record {
   kept = λ z h. elim (parts y z xs h) [
     | inl e ↦ inr (rw e (first z ys))
@@ -123,7 +123,7 @@ falls-cons y xs ys x f = record {
   only = λ z h. elim (parts y z ys h) [ inl e ↦ rw e (first z xs) | inr m ↦ later y z xs (f.only z m) ];
 }
 
-pub held-free : (slots : List Slot) (j : ℕ) (pair : Held) → j < length slots → HasPair (slot_at slots j) pair → Falls (held slots) (held (set slots j None)) pair
+pub held-free : (slots : List Slot) (j : ℕ) (pair : HeldFilter) → j < length slots → HasPair (slot_at slots j) pair → Falls (held slots) (held (set slots j None)) pair
 held-free [] j pair l h = absurd (omega (arith, l))
 held-free (None ∷ slots) zero pair l h = absurd h
 held-free (Some d ∷ slots) zero pair l h = record {
@@ -133,7 +133,7 @@ held-free (Some d ∷ slots) zero pair l h = record {
 held-free (None ∷ slots) (suc j) pair l h = held-free slots j pair (omega (arith, l)) h
 held-free (Some d ∷ slots) (suc j) pair l h = falls-cons (pair_of d) (held slots) (held (set slots j None)) pair (held-free slots j pair (omega (arith, l)) h)
 
-pub falls-then : (a b c : List Held) (x : Held) → Falls a b x → Falls b c x → Falls a c x
+pub falls-then : (a b c : List HeldFilter) (x : HeldFilter) → Falls a b x → Falls b c x → Falls a c x
 falls-then a b c x f g = record {
   kept = λ z h. elim (f.kept z h) [ inl e ↦ inl e | inr m ↦ g.kept z m ];
   only = λ z h. f.only z (g.only z h);
@@ -146,7 +146,7 @@ stands-here (y ∷ xs) zero x d h e = sym e
 stands-here (y ∷ xs) (suc k) x d h e = stands-here xs k x d (omega (arith, h)) e
 
 -- a place of this pair
-pub held-has : (slots : List Slot) (k : ℕ) (pair : Held) → HasPair (slot_at slots k) pair → Contains (held slots) pair
+pub held-has : (slots : List Slot) (k : ℕ) (pair : HeldFilter) → HasPair (slot_at slots k) pair → Contains (held slots) pair
 held-has slots k pair h = go (slot_at slots k) refl h
   where
     go : (s : Slot) → slot_at slots k ≡ s → HasPair s pair → Contains (held slots) pair
@@ -159,7 +159,7 @@ within [] (suc k) e h = cc
 within (s ∷ slots) zero e h = omega arith
 within (s ∷ slots) (suc k) e h = omega (arith, within slots k e h)
 
-pub held-none : (slots : List Slot) (pair : Held) → ((k : ℕ) → k < length slots → HasPair (slot_at slots k) pair → ⊥) → Contains (held slots) pair → ⊥
+pub held-none : (slots : List Slot) (pair : HeldFilter) → ((k : ℕ) → k < length slots → HasPair (slot_at slots k) pair → ⊥) → Contains (held slots) pair → ⊥
 held-none slots pair none h =
     let s = held-from slots pair h in
     none s.place (within slots s.place s.entry s.there) (rw s.there s.mine)

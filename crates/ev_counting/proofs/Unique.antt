@@ -4,7 +4,7 @@ use Rattle.std.specs.Prelude.{slice_index}
 use Rattle.std.specs.List.{Contains}
 use Rattle.std.specs.List.Sorted.{IsStrictlyIncreasing}
 use Rattle.ev_notice.specs.Notice.{Attribute}
-use Rattle.ev_counting.specs.Table.{Held, IsRouteOf}
+use Rattle.ev_counting.specs.Table.{HeldFilter, IsRouteOf}
 
 first : (x : ℕ) (xs : List ℕ) → Contains (x ∷ xs) x
 first x xs = (zero, omega arith, refl)
@@ -43,5 +43,5 @@ same-rising (x ∷ xs) (y ∷ ys) h g to back =
     let r = same-rising xs ys (tail-rises x xs h) (tail-rises y ys g) (rest-in x y xs ys e h to) (rest-in y x ys xs (sym e) g back) in
     λ i. e i ∷ r i
 
-pub one-route : (n : List Attribute) (held : List Held) (a b : List ℕ) → IsRouteOf n held a → IsRouteOf n held b → a ≡ b
+pub one-route : (n : List Attribute) (held : List HeldFilter) (a b : List ℕ) → IsRouteOf n held a → IsRouteOf n held b → a ≡ b
 one-route n held a b r s = same-rising a b r.rising s.rising (λ z m. (s.exact z).1 ((r.exact z).0 m)) (λ z m. (r.exact z).1 ((s.exact z).0 m))

@@ -37,7 +37,7 @@ pub record IsOfRounds (c : Counts) : Type 0 where
   pub marked_by : (k : ℕ) → slice_index_or c.marks k 0 ≤ c.base
 
 -- nothing is counted and no interface matched, with room for this many filters and interfaces
-pub record IsFresh (filters ifaces : ℕ) (c : Counts) : Type 0 where
+pub record IsFreshRound (filters ifaces : ℕ) (c : Counts) : Type 0 where
   pub filters_fit : filters ≤ length c.counts
   pub ifaces_fit : ifaces ≤ length c.marks
   pub counts_none : (k : ℕ) → count_at c k ≡ 0

@@ -3,22 +3,22 @@ use Rattle.std.specs.Prelude.{◌≡◌, ◌≢◌, ◌<◌, ◌≤◌, ◌^◌,
 use Rattle.std.specs.Prelude.{slice_index_or, Some, None, IsSome}
 use Rattle.std.specs.List.{Contains}
 use Rattle.ev_notice.specs.Before.{list_before}
-use Rattle.ev_counting.specs.Table.{Held}
+use Rattle.ev_counting.specs.Table.{HeldFilter}
 use Rattle.ev_counting.specs.declared.entry.Entry.{Entry}
 use Rattle.ev_counting.specs.declared.goal.Goal.{Goal}
 use Rattle.ev_counting.specs.Slots.{Slot, pair_of, slot_at, held, AreAimed, KeepsPlaces}
 
 -- the order of pairs: by the interface, then by the filter
-unfoldable pub pair_before : Held → Held → Bool
+unfoldable pub pair_before : HeldFilter → HeldFilter → Bool
 pair_before x y = nat_lt x.0 y.0 || ((x.0 == y.0) && list_before x.1 y.1)
 
 -- the place's pair stands before this one
-abbrev pub slot_before : Slot → Held → Bool
+abbrev pub slot_before : Slot → HeldFilter → Bool
 slot_before None x = false
 slot_before (Some e) x = pair_before (pair_of e) x
 
 -- this pair stands before the place's
-abbrev pub slot_behind : Slot → Held → Bool
+abbrev pub slot_behind : Slot → HeldFilter → Bool
 slot_behind None x = false
 slot_behind (Some e) x = pair_before x (pair_of e)
 
@@ -34,14 +34,14 @@ pub record IsOrdered (slots : List Slot) (sorted : List ℕ) : Type 0 where
       → pair_before (pair_of x) (pair_of y) ≡ true
 
 -- no entry is this pair, and one would stand here
-pub record IsGap (slots : List Slot) (sorted : List ℕ) (pair : Held) (i : ℕ) : Type 0 where
+pub record IsPairGap (slots : List Slot) (sorted : List ℕ) (pair : HeldFilter) (i : ℕ) : Type 0 where
   pub within : i ≤ length sorted
   pub below : (k : ℕ) (x : Entry) → k < i → slot_at slots (nth sorted k) ≡ Some x → pair_before (pair_of x) pair ≡ true
   pub above : (k : ℕ) (x : Entry) → i ≤ k → k < length sorted → slot_at slots (nth sorted k) ≡ Some x → pair_before pair (pair_of x) ≡ true
   pub absent : Contains (held slots) pair → ⊥
 
 -- the place that stands here has this pair
-pub record IsHere (slots : List Slot) (sorted : List ℕ) (pair : Held) (i : ℕ) : Type 0 where
+pub record IsHere (slots : List Slot) (sorted : List ℕ) (pair : HeldFilter) (i : ℕ) : Type 0 where
   pub within : i < length sorted
   pub entry : Entry
   pub there : slot_at slots (nth sorted i) ≡ Some entry
@@ -58,14 +58,14 @@ abbrev pub IsNone : ℕ → List ℕ → Type 0
 IsNone id free = (k : ℕ) → k < length free → nth free k ≢ id
 
 -- what the places of every table keep
-pub record AreKept (slots : List Slot) (goals : List Goal) (sorted spare : List ℕ) : Type 0 where
+pub record ArePlacesKept (slots : List Slot) (goals : List Goal) (sorted spare : List ℕ) : Type 0 where
   pub aimed : AreAimed slots goals
   pub ordered : IsOrdered slots sorted
   pub free : AreFree slots spare
   pub few : length slots ≤ 2 ^ 32
 
 -- an entry was put at a place that was free, or made
-pub record IsPut (old new : List Slot) (id : ℕ) (e : Entry) : Type 0 where
+pub record IsPutAt (old new : List Slot) (id : ℕ) (e : Entry) : Type 0 where
   pub between : List Slot
   pub kept : KeepsPlaces old between
   pub within : id < length between

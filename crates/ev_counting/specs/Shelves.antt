@@ -32,12 +32,12 @@ abbrev pub idle_names : List (Vec ℕ Global × List Pair) → List (Vec ℕ Glo
 idle_names shelves = spread idle shelves
 
 -- something is on each shelf
-abbrev pub AreUsed : List (Vec ℕ Global × List Pair) → Type 0
-AreUsed shelves = idle_names shelves ≡ []
+abbrev pub AreNamesUsed : List (Vec ℕ Global × List Pair) → Type 0
+AreNamesUsed shelves = idle_names shelves ≡ []
 
 -- something is on each shelf but that of the name
-abbrev pub AreUsedBut : List ℕ → List (Vec ℕ Global × List Pair) → Type 0
-AreUsedBut name shelves = tally (λ k. not (bytes_eq name k.items)) (idle_names shelves) ≡ 0
+abbrev pub AreNamesUsedBut : List ℕ → List (Vec ℕ Global × List Pair) → Type 0
+AreNamesUsedBut name shelves = tally (λ k. not (bytes_eq name k.items)) (idle_names shelves) ≡ 0
 
 -- the test is one of strs
 abbrev pub is_text : Pair → Bool

@@ -3,7 +3,7 @@ use Rattle.std.specs.Prelude.{◌≡◌, ◌<◌, ◌≤◌, ◌^◌, ℕ, suc, 
 use Rattle.std.specs.declared.option.Option.{Option}
 use Rattle.ev_constraint.specs.Constraint.{ConstraintParts}
 use Rattle.ev_index.specs.Pairs.{Same}
-use Rattle.ev_counting.specs.Table.{Held}
+use Rattle.ev_counting.specs.Table.{HeldFilter}
 use Rattle.ev_counting.specs.Index.{Use}
 use Rattle.ev_counting.specs.declared.entry.Entry.{Entry}
 use Rattle.ev_counting.specs.declared.goal.Goal.{Goal}
@@ -13,17 +13,17 @@ abbrev pub Slot : Type 0
 Slot = Option Entry
 
 -- the pair of an interface and a filter that an entry stands for
-abbrev pub pair_of : Entry → Held
+abbrev pub pair_of : Entry → HeldFilter
 pair_of e = (e.iface, e.filter)
 
 -- the pairs of all places
-abbrev pub held : List Slot → List Held
+abbrev pub held : List Slot → List HeldFilter
 held [] = []
 held (None ∷ slots) = held slots
 held (Some e ∷ slots) = pair_of e ∷ held slots
 
 -- an entry of this pair
-abbrev pub HasPair : Slot → Held → Type 0
+abbrev pub HasPair : Slot → HeldFilter → Type 0
 HasPair None pair = ⊥
 HasPair (Some e) pair = pair_of e ≡ pair
 
@@ -70,7 +70,7 @@ abbrev pub ArePlaced : List ℕ → List Slot → Type 0
 ArePlaced ifaces slots = (k : ℕ) → (e : Entry) → slot_at slots k ≡ Some e → IsPlaced ifaces e
 
 -- what every table keeps: the index has exactly the constraints of its filters, whose interfaces stand at their places
-pub record IsSound (index : List Use) (slots : List Slot) (ifaces : List ℕ) : Type 0 where
+pub record IsSoundTable (index : List Use) (slots : List Slot) (ifaces : List ℕ) : Type 0 where
   pub indexed : Same index (uses_from 0 slots)
   pub placed : ArePlaced ifaces slots
 

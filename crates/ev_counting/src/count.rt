@@ -1,6 +1,6 @@
 //! Counting the hits of a notice.
 ghost use Rattle.std.specs.Prelude.{◌≡◌, ◌<◌, ◌≤◌, ◌+◌, ◌^◌, [], true, false, length, IfOk, OnOk};
-ghost use Rattle.ev_counting.specs.Counting.{counts_of, count_at, is_marked, counted, marked, IsOfRounds, IsFresh, AreGoals, AreFull, AreKnown};
+ghost use Rattle.ev_counting.specs.Counting.{counts_of, count_at, is_marked, counted, marked, IsOfRounds, IsFreshRound, AreGoals, AreFull, AreKnown};
 
 use crate::counters::Counters;
 use crate::goal::Goal;
@@ -51,7 +51,7 @@ fn count_all(
     requires goals { AreGoals (length ifaces.now) goals.now }
     requires known { AreKnown goals.now found.now }
     requires rounds { IsOfRounds (counts_of base counts.old marks.old) }
-    requires fresh { IsFresh (length goals.now) (length ifaces.now) (counts_of base counts.old marks.old) }
+    requires fresh { IsFreshRound (length goals.now) (length ifaces.now) (counts_of base counts.old marks.old) }
     requires none { matched.old.items ≡ [] }
     ensures rounds { IsOfRounds (counts_of base counts.new marks.new) }
     ensures full { OnOk result (AreFull goals.now ifaces.now found.now matched.new.items) }
@@ -76,7 +76,7 @@ pub(crate) fn count_hits(
 ) -> Result<Vec<u32>, NoMemory>
     requires goals { AreGoals (length ifaces.now) goals.now }
     requires known { AreKnown goals.now found.now }
-    requires fresh { IsFresh (length goals.now) (length ifaces.now) counters.old }
+    requires fresh { IsFreshRound (length goals.now) (length ifaces.now) counters.old }
     ensures { IfOk result (λ matched. AreFull goals.now ifaces.now found.now matched.items) }
 {
     let mut matched = Vec::new(alloc);

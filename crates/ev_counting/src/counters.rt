@@ -29,7 +29,7 @@ impl Model for Counters {
 
 impl Counters {
     ghost use Rattle.std.specs.Prelude.{OnOk};
-    ghost use Rattle.ev_counting.specs.Counting.{IsFresh};
+    ghost use Rattle.ev_counting.specs.Counting.{IsFreshRound};
 
     /// No counters yet. It takes no memory.
     pub(crate) fn new(alloc: Global) -> Counters {
@@ -42,7 +42,7 @@ impl Counters {
 
     /// Begins a round of so many filters and interfaces. It takes memory only where there were never so many.
     pub(crate) fn begin(&mut self, filters: usize, ifaces: usize) -> Result<(), NoMemory>
-        ensures { OnOk result (IsFresh filters ifaces self.new) }
+        ensures { OnOk result (IsFreshRound filters ifaces self.new) }
     {
         next_round(&mut self.base, &mut self.counts, &mut self.marks);
         grow(&mut self.counts, filters)?;

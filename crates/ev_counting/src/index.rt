@@ -3,7 +3,7 @@ ghost use Rattle.std.specs.Prelude.{◌≡◌, ◌∷◌, [], true, false, OnOk,
 ghost use Rattle.ev_index.specs.Pairs.{Same, IsIn, Appends};
 ghost use Rattle.ev_notice.specs.Notice.{AreRising};
 ghost use Rattle.ev_counting.specs.Index.{ids_satisfied};
-ghost use Rattle.ev_counting.specs.Shelves.{uses_of, AreUsed, AreUsedBut};
+ghost use Rattle.ev_counting.specs.Shelves.{uses_of, AreNamesUsed, AreNamesUsedBut};
 
 use crate::shelf::Shelf;
 use ev_constraint::Constraint;
@@ -27,13 +27,13 @@ pub(crate) struct Index {
 impl Model for Index {
     ghost use Rattle.std.specs.Prelude.{List};
     ghost use Rattle.ev_counting.specs.Index.{Use};
-    ghost use Rattle.ev_counting.specs.Shelves.{uses_of, AreUsed};
+    ghost use Rattle.ev_counting.specs.Shelves.{uses_of, AreNamesUsed};
 
     ghost Value = { List Use };
 
     ghost view = { λ index. uses_of index.shelves.entries };
 
-    ghost invariant = { λ index. AreUsed index.shelves.entries };
+    ghost invariant = { λ index. AreNamesUsed index.shelves.entries };
 }
 
 /// Puts a use on the shelf of its name.
@@ -45,7 +45,7 @@ fn put(
 ) -> Result<(), NoMemory>
     ensures added { OnOk result (Same (uses_of shelves.new.entries) ((constraint.now, id) ∷ uses_of shelves.old.entries)) }
     ensures err { OnErr result (Same (uses_of shelves.new.entries) (uses_of shelves.old.entries)) }
-    ensures used { AreUsed shelves.old.entries → AreUsed shelves.new.entries }
+    ensures used { AreNamesUsed shelves.old.entries → AreNamesUsed shelves.new.entries }
 {
     let name = constraint.name().bytes();
     if let Some(shelf) = shelves.get_mut(name) {
@@ -63,7 +63,7 @@ fn pull(shelves: &mut BTreeMap<Key, Shelf>, constraint: &Constraint, id: u32) ->
     ensures there { result ≡ true → Same (uses_of shelves.old.entries) ((constraint.now, id) ∷ uses_of shelves.new.entries) }
     ensures none { result ≡ false → Same (uses_of shelves.new.entries) (uses_of shelves.old.entries)
         × (IsIn (constraint.now, id) (uses_of shelves.old.entries) → ⊥) }
-    ensures used { AreUsed shelves.old.entries → AreUsedBut constraint.now.name shelves.new.entries }
+    ensures used { AreNamesUsed shelves.old.entries → AreNamesUsedBut constraint.now.name shelves.new.entries }
 {
     match shelves.get_mut(constraint.name().bytes()) {
         Some(shelf) => shelf.remove(constraint, id),
@@ -74,7 +74,7 @@ fn pull(shelves: &mut BTreeMap<Key, Shelf>, constraint: &Constraint, id: u32) ->
 /// Takes an empty shelf away.
 fn prune(shelves: &mut BTreeMap<Key, Shelf>, name: &Name)
     ensures same { Same (uses_of shelves.new.entries) (uses_of shelves.old.entries) }
-    ensures used { AreUsedBut name.now shelves.old.entries → AreUsed shelves.new.entries }
+    ensures used { AreNamesUsedBut name.now shelves.old.entries → AreNamesUsed shelves.new.entries }
 {
     // The keys rise, so there is no other shelf of that name.
     let _size = shelves.len();
@@ -91,7 +91,7 @@ fn take(shelves: &mut BTreeMap<Key, Shelf>, constraint: &Constraint, id: u32) ->
     ensures there { result ≡ true → Same (uses_of shelves.old.entries) ((constraint.now, id) ∷ uses_of shelves.new.entries) }
     ensures none { result ≡ false → Same (uses_of shelves.new.entries) (uses_of shelves.old.entries)
         × (IsIn (constraint.now, id) (uses_of shelves.old.entries) → ⊥) }
-    ensures used { AreUsed shelves.old.entries → AreUsed shelves.new.entries }
+    ensures used { AreNamesUsed shelves.old.entries → AreNamesUsed shelves.new.entries }
 {
     let there = pull(shelves, constraint, id);
     prune(shelves, constraint.name());

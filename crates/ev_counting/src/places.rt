@@ -22,13 +22,13 @@ pub(crate) struct Places {
 impl Model for Places {
     ghost use Rattle.std.specs.Prelude.{◌+◌, ◌≤◌, ◌^◌, List, length, vec_len, vec_capacity};
     ghost use Rattle.ev_counting.specs.Slots.{Slot, AreAimed};
-    ghost use Rattle.ev_counting.specs.Order.{IsOrdered, AreFree, AreKept};
+    ghost use Rattle.ev_counting.specs.Order.{IsOrdered, AreFree, ArePlacesKept};
 
     ghost Value = { List Slot };
 
     ghost view = { λ places. places.slots.items };
 
-    ghost invariant = { λ places. AreKept places.slots.items places.goals.items places.sorted.items places.free.items
+    ghost invariant = { λ places. ArePlacesKept places.slots.items places.goals.items places.sorted.items places.free.items
         × (vec_len places.free + vec_len places.sorted ≤ vec_capacity places.free) };
 }
 
@@ -36,7 +36,7 @@ impl Places {
     ghost use Rattle.std.specs.Prelude.{◌≡◌, ◌↔◌, ◌<◌, ◌≤◌, ◌^◌, [], IfOk, IfSome, IfNone, OnErr, IsTrue, length, Some, None, slice_set};
     ghost use Rattle.std.specs.List.{Contains};
     ghost use Rattle.ev_counting.specs.Slots.{held, slot_at, AreAimed, HasPair, KeepsPlaces};
-    ghost use Rattle.ev_counting.specs.Order.{IsPut};
+    ghost use Rattle.ev_counting.specs.Order.{IsPutAt};
     ghost use Rattle.ev_counting.specs.Changes.{IsOnce};
 
     /// No places. It takes no memory.
@@ -77,7 +77,7 @@ impl Places {
     /// Puts a pair that isn't there at a free place; the place.
     pub(crate) fn put(&mut self, iface: u32, place: u32, filter: Filter) -> Result<u32, NoMemory>
         requires { Contains (held self.old) (iface, filter) → ⊥ }
-        ensures put { IfOk result (λ id. IsPut self.old self.new id (record { iface = iface; place = place; filter = filter })) }
+        ensures put { IfOk result (λ id. IsPutAt self.old self.new id (record { iface = iface; place = place; filter = filter })) }
         ensures err { OnErr result (KeepsPlaces self.old self.new) }
     {
         let i = match seek(&self.slots, &self.sorted, iface, &filter) {

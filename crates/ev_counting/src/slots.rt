@@ -1,7 +1,7 @@
 //! The places of a table, in the order of their pairs.
 ghost use Rattle.std.specs.Prelude.{◌≡◌, ◌<◌, ◌≤◌, ◌+◌, ◌^◌, ℕ, IfOk, IfErr, OnOk, true, false, length, vec_len, vec_capacity, None};
 ghost use Rattle.ev_counting.specs.Slots.{slot_at, KeepsPlaces, AreAimed};
-ghost use Rattle.ev_counting.specs.Order.{slot_before, slot_behind, nth, IsOrdered, IsGap, IsHere, AreFree, IsNone};
+ghost use Rattle.ev_counting.specs.Order.{slot_before, slot_behind, nth, IsOrdered, IsPairGap, IsHere, AreFree, IsNone};
 
 use crate::entry::Entry;
 use crate::goal::{FREE, Goal};
@@ -59,7 +59,7 @@ pub(crate) fn seek(
 ) -> Result<usize, usize>
     requires { IsOrdered slots.now sorted.now }
     ensures ok { IfOk result (λ i. IsHere slots.now sorted.now (iface, filter.now) i) }
-    ensures err { IfErr result (λ i. IsGap slots.now sorted.now (iface, filter.now) i) }
+    ensures err { IfErr result (λ i. IsPairGap slots.now sorted.now (iface, filter.now) i) }
 {
     let at = rank(slots, sorted, iface, filter);
     if at < sorted.len() && !is_behind(&slots[sorted[at] as usize], iface, filter) {

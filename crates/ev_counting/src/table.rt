@@ -35,14 +35,14 @@ pub struct Table {
 
 impl Model for Table {
     ghost use Rattle.std.specs.Prelude.{List};
-    ghost use Rattle.ev_counting.specs.Table.{Held};
-    ghost use Rattle.ev_counting.specs.Slots.{held, IsSound};
+    ghost use Rattle.ev_counting.specs.Table.{HeldFilter};
+    ghost use Rattle.ev_counting.specs.Slots.{held, IsSoundTable};
 
-    ghost Value = { List Held };
+    ghost Value = { List HeldFilter };
 
     ghost view = { λ table. held table.places };
 
-    ghost invariant = { λ table. IsSound table.index table.places table.interfaces };
+    ghost invariant = { λ table. IsSoundTable table.index table.places table.interfaces };
 }
 
 /// Takes a filter's constraints out of the index.
@@ -101,7 +101,7 @@ impl Table {
     ghost use Rattle.std.specs.Prelude.{◌↔◌, IsTrue};
     ghost use Rattle.std.specs.List.{Contains};
     ghost use Rattle.ev_counting.specs.Table.{IsApplied, IsRouteOf};
-    ghost use Rattle.ev_counting.specs.Changes.{IsIdle, IsOnce};
+    ghost use Rattle.ev_counting.specs.Changes.{IsIdleChange, IsOnce};
 
     /// A table of no pairs. It takes no memory.
     pub fn new(alloc: Global) -> Table
@@ -120,7 +120,7 @@ impl Table {
     /// It finds the pair by a binary search, and changes the index at the constraints of the change's filter alone.
     pub fn apply(&mut self, change: &Change) -> Result<(), NoMemory>
         ensures applied { OnOk result (IsApplied change.now self.old self.new) }
-        ensures unchanged { OnOk result (IsIdle change.now self.old → self.new ≡ self.old) }
+        ensures unchanged { OnOk result (IsIdleChange change.now self.old → self.new ≡ self.old) }
         ensures err { OnErr result (self.new ≡ self.old) }
     {
         match change {

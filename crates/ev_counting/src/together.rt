@@ -2,8 +2,8 @@
 ghost use Rattle.std.specs.Prelude.{◌≡◌, ◌↔◌, ◌⊎◌, true, false, IfOk, OnOk};
 ghost use Rattle.std.specs.List.{Contains};
 ghost use Rattle.ev_counting.specs.declared.change.Change.{Change};
-ghost use Rattle.ev_counting.specs.Table.{Held};
-ghost use Rattle.ev_counting.specs.Changes.{IsOf, Takes, IsWithdrawn};
+ghost use Rattle.ev_counting.specs.Table.{HeldFilter};
+ghost use Rattle.ev_counting.specs.Changes.{IsOf, TakesPair, IsWithdrawn};
 
 use crate::change::Change;
 use crate::table::Table;
@@ -17,7 +17,7 @@ type Pair = (u32, Filter);
 
 /// The pair of a change.
 fn pair_of(alloc: Global, change: &Change) -> Result<Pair, NoMemory>
-    ensures { IfOk result (λ pair. (x : Held) → IsOf change.now x ↔ (pair ≡ x)) }
+    ensures { IfOk result (λ pair. (x : HeldFilter) → IsOf change.now x ↔ (pair ≡ x)) }
 {
     match change {
         Change::Add { iface, filter } => Ok((*iface, filter.copy(alloc)?)),
@@ -32,7 +32,7 @@ fn note_taken(
     last: bool,
     taken: &mut Vec<Pair>,
 ) -> Result<(), NoMemory>
-    ensures last { OnOk result (last ≡ true → (x : Held) → Contains taken.new.items x ↔ (Contains taken.old.items x ⊎ Takes change.now x)) }
+    ensures last { OnOk result (last ≡ true → (x : HeldFilter) → Contains taken.new.items x ↔ (Contains taken.old.items x ⊎ TakesPair change.now x)) }
     ensures again { OnOk result (last ≡ false → taken.new.items ≡ taken.old.items) }
 {
     if !last {
@@ -47,7 +47,7 @@ fn note_taken(
 
 /// The pairs whose last change takes them, in the order of those changes, which are gone through from the last one on.
 fn withdrawn(alloc: Global, changes: &[Change]) -> Result<Vec<Pair>, NoMemory>
-    ensures { IfOk result (λ pairs. (x : Held) → Contains pairs.items x ↔ IsWithdrawn changes.now x) }
+    ensures { IfOk result (λ pairs. (x : HeldFilter) → Contains pairs.items x ↔ IsWithdrawn changes.now x) }
 {
     let mut taken = Vec::new(alloc);
     let mut changed = BTreeSet::new(alloc);
@@ -65,8 +65,8 @@ fn withdrawn(alloc: Global, changes: &[Change]) -> Result<Vec<Pair>, NoMemory>
 impl Table {
     ghost use Rattle.std.specs.Prelude.{◌≡◌, ◌↔◌, ◌⊎◌, [], OnOk, OnErr};
     ghost use Rattle.std.specs.List.{Contains};
-    ghost use Rattle.ev_counting.specs.Table.{Held, AreApplied};
-    ghost use Rattle.ev_counting.specs.Changes.{undone, IsEntered, IsWithdrawn};
+    ghost use Rattle.ev_counting.specs.Table.{HeldFilter, AreApplied};
+    ghost use Rattle.ev_counting.specs.Changes.{undone, HaveAdded, IsWithdrawn};
 
     /// Makes a list of changes in their order: all of them, or none where it wants memory.
     ///
@@ -92,7 +92,7 @@ impl Table {
     /// Enters each pair that some change adds, and lists those that were not there.
     fn enter_all(&mut self, changes: &[Change], fresh: &mut Vec<Pair>) -> Result<(), NoMemory>
         requires { fresh.old.items ≡ [] }
-        ensures entered { OnOk result ((x : Held) → Contains self.new x ↔ (Contains self.old x ⊎ IsEntered changes.now x)) }
+        ensures entered { OnOk result ((x : HeldFilter) → Contains self.new x ↔ (Contains self.old x ⊎ HaveAdded changes.now x)) }
         ensures back { undone fresh.new.items self.new ≡ self.old }
     {
         for change in changes {
@@ -110,7 +110,7 @@ impl Table {
         filter: &Filter,
         fresh: &mut Vec<Pair>,
     ) -> Result<(), NoMemory>
-        ensures entered { OnOk result ((x : Held) → Contains self.new x ↔ (Contains self.old x ⊎ ((iface, filter.now) ≡ x))) }
+        ensures entered { OnOk result ((x : HeldFilter) → Contains self.new x ↔ (Contains self.old x ⊎ ((iface, filter.now) ≡ x))) }
         ensures back { undone fresh.new.items self.new ≡ undone fresh.old.items self.old }
     {
         if self.holds(iface, filter) {

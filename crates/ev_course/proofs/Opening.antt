@@ -16,7 +16,7 @@ use Rattle.ev_node.specs.declared.starting.Started.{Started}
 use Rattle.ev_node.specs.Cell.{CellParts, IsCellOf, machine_in}
 use Rattle.ev_node.specs.declared.link.Link.{Link}
 use Rattle.ev_node.specs.Entered.{StandFor}
-use Rattle.ev_node.specs.Started.{AreStarted, IsFresh}
+use Rattle.ev_node.specs.Started.{AreStarted, IsFreshCell}
 use Rattle.ev_node.proofs.Gathered.{found-map, there-or-not}
 use Rattle.ev_course.specs.Course.{StandBetween, IsAtStart, journals_by}
 use Rattle.ev_course.proofs.Going.{at-found, at-none}
@@ -55,7 +55,7 @@ module _ (net : NetParts) (started : List Started) (are : AreStarted net started
       let s = found-map (λ (s : Started). s.cell) k started cell e in
       subst IsAtStart s.2 (at-start s.0.cell (are.each k s.0 s.1).0 (are.each k s.0 s.1).1.fresh)
     where
-      at-start : {server : ℕ} (cell : CellParts) (links : List Link) → IsFresh net server links cell → IsAtStart cell
+      at-start : {server : ℕ} (cell : CellParts) (links : List Link) → IsFreshCell net server links cell → IsAtStart cell
       at-start cell links fresh = record {
         core = fresh.core;
         links = fresh.lanes;

@@ -30,7 +30,7 @@ use Rattle.ev_model.specs.Sound.{IsSound}
 use Rattle.ev_model.proofs.SoundNets.{net-laws}
 use Rattle.ev_model.proofs.Counted.{stays-low}
 use Rattle.ev_server.specs.Step.{last_stamp}
-use Rattle.ev_node.specs.Served.{framed}
+use Rattle.ev_net.specs.Links.{framed}
 use Rattle.ev_node.specs.Cell.{CellParts, machine_in}
 use Rattle.ev_node.specs.Entered.{state_of}
 use Rattle.ev_node.specs.InHand.{AreAllInHand}

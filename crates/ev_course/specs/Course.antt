@@ -1,12 +1,11 @@
 -- The cells of a net from phase to phase of a run.
 use Rattle.std.specs.Prelude.{◌≡◌, ◌<◌, ◌⊎◌, ℕ, List, length, map, Some, slice_get}
-use Rattle.std.specs.List.{range_with_len}
 use Rattle.ev_run.specs.Journals.{Cell}
 use Rattle.ev_phases.specs.Trees.{JournalEntry}
 use Rattle.ev_phases.specs.Cells.{IsBetween}
 use Rattle.ev_theory.specs.Real.{real}
 use Rattle.ev_model.specs.Parts.{NetParts, EntryParts}
-use Rattle.ev_model.specs.Nets.{phased_net}
+use Rattle.ev_model.specs.Nets.{phased_net, of_clients}
 use Rattle.ev_model.specs.Sound.{IsSound}
 use Rattle.ev_merge.specs.Merging.{IsMergeOf, journals_in}
 use Rattle.ev_net.specs.Network.{IsLegal, IsDrainedBy, moment_by, refused_by, received_by}
@@ -76,10 +75,6 @@ pub record IsEndOf (net : NetParts) (cells : List CellParts) (journal : List Ent
   pub sound : IsSound net
   pub phase : ℕ
   pub cores : AreServers net phase (moment_by net journal).state (map (λ cell. cell.held.core) cells)
-
--- something of each client of a net, in the order of the net
-abbrev pub of_clients : {A : Type 0} → NetParts → (ℕ → A) → List A
-of_clients net f = map f (range_with_len 1 (length net.clients))
 
 -- THE WHOLE RUN: the merge of all journals is a legal run of the net, and at its end all commands are taken, all links are empty and nothing is staged
 pub record IsWholeMerge (net : NetParts) (cells : List CellParts) (merged : List EntryParts) : Type 0 where

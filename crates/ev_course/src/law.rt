@@ -3,7 +3,7 @@ ghost use Rattle.std.specs.Prelude.{ℕ, suc, List, map};
 ghost use Rattle.ev_model.specs.Parts.{NetParts, EntryParts};
 ghost use Rattle.ev_model.specs.Nets.{phases_of};
 ghost use Rattle.ev_model.specs.Sound.{IsSound};
-ghost use Rattle.ev_merge.specs.Merging.{AreJournals, IsMergeOf};
+ghost use Rattle.ev_merge.specs.Merging.{AreServerJournals, IsMergeOf};
 ghost use Rattle.ev_node.specs.declared.starting.Started.{Started};
 ghost use Rattle.ev_node.specs.Cell.{CellParts};
 ghost use Rattle.ev_node.specs.Coming.{HaveCommand};
@@ -43,7 +43,7 @@ pub fn never_worn()
 
 /// The journals of cells that stand between two phases have a merge; where no command is left, that is a whole run.
 pub fn whole_run()
-    ensures journals { (net : NetParts) (last next : ℕ) (cells : List CellParts) → StandBetween net last next cells → AreJournals (journals_by cells) }
+    ensures journals { (net : NetParts) (last next : ℕ) (cells : List CellParts) → StandBetween net last next cells → AreServerJournals (journals_by cells) }
     ensures whole { (net : NetParts) (last next : ℕ) (cells : List CellParts) (merged : List EntryParts) → AreInHand net last cells
         → StandBetween net last next cells → AreThrough (phases_of net) cells → IsMergeOf (journals_by cells) merged → IsWholeMerge net cells merged }
 {}

@@ -1,11 +1,11 @@
 //! What a run over cells leaves.
 ghost use Rattle.std.specs.Prelude.{◌≡◌, ◌≤◌, ℕ, length, map, IfOk};
-ghost use Rattle.ev_model.specs.Nets.{home_of, phases_of};
+ghost use Rattle.ev_model.specs.Nets.{home_of, phases_of, of_clients};
 ghost use Rattle.ev_model.specs.Sound.{IsSound};
 ghost use Rattle.ev_net.specs.Network.{network_parts, refused_by, received_by};
 ghost use Rattle.ev_net.specs.Sessions.{IsSessionOf};
 ghost use Rattle.ev_node.specs.Entered.{AreThrough};
-ghost use Rattle.ev_course.specs.Course.{StandBetween, AreInHand, IsWholeMerge, IsEndOf, IsRanBy, of_clients, journals_by};
+ghost use Rattle.ev_course.specs.Course.{StandBetween, AreInHand, IsWholeMerge, IsEndOf, IsRanBy, journals_by};
 
 use crate::law::whole_run;
 use ev_memory::NoMemory;

@@ -18,7 +18,7 @@ use Rattle.ev_routing.specs.Clients.{some_pass}
 use Rattle.ev_routing.proofs.Listing.{pass-by, by-pass, get-has, take-one, has-either}
 use Rattle.ev_theory.specs.Real.{real}
 use Rattle.ev_theory.proofs.Meaning.{matches_plain}
-use Rattle.ev_counting.specs.Table.{Held, IsRouteOf}
+use Rattle.ev_counting.specs.Table.{HeldFilter, IsRouteOf}
 use Rattle.ev_model.specs.Parts.{ClientParts}
 use Rattle.ev_flood.specs.declared.phase.PhaseFilters.{PhaseFilters}
 use Rattle.ev_flood.specs.declared.publication.Publication.{Publication}
@@ -26,8 +26,8 @@ use Rattle.ev_flood.specs.declared.tables.Tables.{Tables}
 use Rattle.ev_flood.specs.declared.tables.Met.{Met}
 use Rattle.ev_flood.specs.Held.{Owned}
 use Rattle.ev_flood.specs.Publications.{is_met}
-use Rattle.ev_flood.specs.Shown.{Shows, IsBrought}
-use Rattle.ev_flood.specs.Tables.{AreShown, AreOf, AreAll, AllUpTo, AreTables, is_found, Meets, MeetsAt, AllMeet, ordered_from}
+use Rattle.ev_flood.specs.Shown.{ShowsFilters, IsBrought}
+use Rattle.ev_flood.specs.Tables.{AreShown, AreFiltersOf, AreAll, AllUpTo, AreTables, is_found, Meets, MeetsAt, AllMeet, ordered_from}
 use Rattle.ev_flood.proofs.Passing.{same_test}
 
 -- members and places
@@ -87,7 +87,7 @@ length_set (x ∷ xs) (suc k) v = ap suc (length_set xs k v)
 nothing : {X : Type 0} (x : X) → Contains [] x → ⊥
 nothing x h = omega (arith, h.1)
 
-pub shows_none : (place : ℕ) (filters : Owned) → filters ≡ [] → Shows [] place filters
+pub shows_none : (place : ℕ) (filters : Owned) → filters ≡ [] → ShowsFilters [] place filters
 shows_none place filters e = record {
   sound = λ f h. absurd (nothing (place, f) h);
   whole = λ f h. absurd (subst (λ (z : Owned). Has f z) e h);
@@ -116,22 +116,22 @@ shown_more lists more list e p push s = subst (λ (z : List PhaseFilters). AreSh
 })
 
 -- a client's lists are others
-elsewhere : (place q : ℕ) (filters : Owned) (t u : List Held) (list : Owned) → (q ≡ place → ⊥) → IsBrought place filters t u → Shows t q list → Shows u q list
+elsewhere : (place q : ℕ) (filters : Owned) (t u : List HeldFilter) (list : Owned) → (q ≡ place → ⊥) → IsBrought place filters t u → ShowsFilters t q list → ShowsFilters u q list
 elsewhere place q filters t u list n b s = record {
   sound = λ f h. s.sound f ((b.others (q, f) n).0 h);
   whole = λ f h. (b.others (q, f) n).1 (s.whole f h);
 }
 
-brought_at : (lists : List PhaseFilters) (place : ℕ) (list : PhaseFilters) (of : PhaseFilters → Owned) (t u : List Held) → IsBrought place (of list) t u
-    → ((q : ℕ) (l : PhaseFilters) → slice_get lists q ≡ Some l → Shows t q (of l))
-    → (q : ℕ) (l : PhaseFilters) → slice_get (slice_set lists place list) q ≡ Some l → Shows u q (of l)
+brought_at : (lists : List PhaseFilters) (place : ℕ) (list : PhaseFilters) (of : PhaseFilters → Owned) (t u : List HeldFilter) → IsBrought place (of list) t u
+    → ((q : ℕ) (l : PhaseFilters) → slice_get lists q ≡ Some l → ShowsFilters t q (of l))
+    → (q : ℕ) (l : PhaseFilters) → slice_get (slice_set lists place list) q ≡ Some l → ShowsFilters u q (of l)
 brought_at lists place list of t u b s q l at = elim (same_or q place) [
-  | inl e ↦ subst (λ z. Shows u z (of l)) (sym e)
-      (subst (λ (z : PhaseFilters). Shows u place (of z)) (sym (set_same lists place list l (subst (λ z. slice_get (slice_set lists place list) z ≡ Some l) e at))) b.shows)
+  | inl e ↦ subst (λ z. ShowsFilters u z (of l)) (sym e)
+      (subst (λ (z : PhaseFilters). ShowsFilters u place (of z)) (sym (set_same lists place list l (subst (λ z. slice_get (slice_set lists place list) z ≡ Some l) e at))) b.shows)
   | inr n ↦ elsewhere place q (of list) t u (of l) n b (s q l (sym (set_other lists q place list n) ∙ at))
 ]
 
-pub shown_set : (lists : List PhaseFilters) (place : ℕ) (list : PhaseFilters) (t u v w : List Held) → IsBrought place list.every.items t u → IsBrought place list.passing.items v w
+pub shown_set : (lists : List PhaseFilters) (place : ℕ) (list : PhaseFilters) (t u v w : List HeldFilter) → IsBrought place list.every.items t u → IsBrought place list.passing.items v w
     → AreShown t v lists → AreShown u w (slice_set lists place list)
 shown_set lists place list t u v w a b s = record {
   at_every = brought_at lists place list (λ l. l.every.items) t u a s.at_every;
@@ -140,12 +140,12 @@ shown_set lists place list t u v w a b s = record {
 
 -- one more client has the lists of the phase
 pub upto_next : (place phase : ℕ) (clients : List ClientParts) (lists : List PhaseFilters) (client : ClientParts) (list : PhaseFilters) → slice_get clients place ≡ Some client
-    → AreOf phase client.script list → AllUpTo place phase clients lists → AllUpTo (place + 1) phase clients (slice_set lists place list)
+    → AreFiltersOf phase client.script list → AllUpTo place phase clients lists → AllUpTo (place + 1) phase clients (slice_set lists place list)
 upto_next place phase clients lists client list at of s q c l below has set = elim (same_or q place) [
   | inl e ↦
       let mine : slice_get clients place ≡ Some c = subst (λ z. slice_get clients z ≡ Some c) e has in
       let it : l ≡ list = set_same lists place list l (subst (λ z. slice_get (slice_set lists place list) z ≡ Some l) e set) in
-      subst (λ (z : PhaseFilters). AreOf phase c.script z) (sym it) (subst (λ (z : ClientParts). AreOf phase z.script list) (same_Some _ _ (sym at ∙ mine)) of)
+      subst (λ (z : PhaseFilters). AreFiltersOf phase c.script z) (sym it) (subst (λ (z : ClientParts). AreFiltersOf phase z.script list) (same_Some _ _ (sym at ∙ mine)) of)
   | inr n ↦ s q c l (strict q place (omega (arith, below)) n) has (sym (set_other lists q place list n) ∙ set)
 ]
 
@@ -211,7 +211,7 @@ plain : (n : List Attribute) (f : List ConstraintParts) → AreValues n → real
 plain n f v = ap (λ m. m f) (matches_plain n v)
 
 -- a place is on a route exactly where one of its filters matches
-found_at : (n : List Attribute) (table : List Held) (route : List ℕ) (place : ℕ) (list : Owned) → AreValues n → Shows table place list → IsRouteOf n table route
+found_at : (n : List Attribute) (table : List HeldFilter) (route : List ℕ) (place : ℕ) (list : Owned) → AreValues n → ShowsFilters table place list → IsRouteOf n table route
     → is_found place route ≡ is_met list n
 found_at n table route place list v s r = same_test (is_found place route) (is_met list n) to back
   where

@@ -12,7 +12,7 @@ use Rattle.ev_model.specs.Parts.{ClientParts, NetParts}
 use Rattle.ev_model.specs.Nets.{with_adverts, script_in, script_of}
 use Rattle.ev_flood.specs.declared.owed.OwedRow.{OwedRow}
 use Rattle.ev_flood.specs.declared.publication.Publication.{Publication}
-use Rattle.ev_flood.specs.Flooding.{net_in, IsRow, HasRow, AreRows, all_refused, IsFlooding}
+use Rattle.ev_flood.specs.Flooding.{net_in, IsOwedRow, HasRow, AreRows, all_refused, IsFlooding}
 use Rattle.ev_flood.specs.Held.{Script, below, some_filters, every_filters, every_adverts}
 use Rattle.ev_flood.specs.Publications.{is_free, is_met, publication_of, accepted_from, accepted_of, refusals_from, rows_of, all_rows_of, all_refusals_of}
 use Rattle.ev_flood.proofs.Moments.{ps, below_same}
@@ -149,9 +149,9 @@ each_row : (net : NetParts) (place whose : ℕ) (client publisher : ClientParts)
     → slice_get net.clients place ≡ Some client → slice_get net.clients whose ≡ Some publisher
     → Has p (accepted_from net.semantics (suc whose) publisher.script [] 0 publisher.script)
     → is_met (some_filters p.phase client.script) p.notice ≡ true
-    → IsRow net (suc place) (row_at client.script p)
+    → IsOwedRow net (suc place) (row_at client.script p)
 each_row net place whose client publisher p e f h met =
-    subst (λ z. IsRow net (suc place) (row_at client.script z)) (sym a.is) (record {
+    subst (λ z. IsOwedRow net (suc place) (row_at client.script z)) (sym a.is) (record {
       phase = a.phase;
       notice = a.notice;
       published = published_to net whose publisher p f a;
@@ -211,7 +211,7 @@ client_rows net place client e = record {
   each = λ row h.
       (let w = rows_to client.script (accepted_of net.semantics 1 net.clients) row h in
       let v = whose net.semantics net.clients 1 w.publication w.listed in
-      subst (IsRow net (suc place)) (sym w.is)
+      subst (IsOwedRow net (suc place)) (sym w.is)
       (each_row net place v.place client v.client w.publication e v.at
       (subst (λ z. Has w.publication (accepted_from net.semantics z v.client.script [] 0 v.client.script)) (sym (one_more v.place)) v.accepted) w.met));
   whole = λ q o k n p a.

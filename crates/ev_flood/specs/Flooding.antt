@@ -29,7 +29,7 @@ abbrev pub row_of : ℕ → ℕ → Bool → OwedRow
 row_of publisher ordinal must = record { id = record { publisher = publisher; ordinal = ordinal }; must = must }
 
 -- a row is of an accepted publication that is allowed to the client, and tells whether it is owed to it
-pub record IsRow (net : NetParts) (client : ℕ) (row : OwedRow) : Type 0 where
+pub record IsOwedRow (net : NetParts) (client : ℕ) (row : OwedRow) : Type 0 where
   pub phase : ℕ
   pub notice : List Attribute
   pub published : IsPublication real (net_in net phase) row.id.publisher row.id.ordinal phase notice
@@ -42,7 +42,7 @@ HasRow publisher ordinal rows = (must : Bool) × Has (row_of publisher ordinal m
 
 -- a client's rows: exactly the publications that are allowed to it, by id
 pub record AreRows (net : NetParts) (client : ℕ) (rows : List OwedRow) : Type 0 where
-  pub each : (row : OwedRow) → Has row rows → IsRow net client row
+  pub each : (row : OwedRow) → Has row rows → IsOwedRow net client row
   pub whole : (publisher ordinal phase : ℕ) (notice : List Attribute)
       → IsPublication real (net_in net phase) publisher ordinal phase notice → IsAllowed real (net_in net phase) phase notice client
       → HasRow publisher ordinal rows

@@ -3,23 +3,23 @@ use Rattle.std.specs.Prelude.{◌≡◌, ◌<◌, ℕ, ◌+◌, Bool, ◌&&◌, 
 use Rattle.std.specs.List.{list_any}
 use Rattle.std.specs.List.Sorted.{IsStrictlyIncreasing}
 use Rattle.ev_notice.specs.Notice.{Attribute}
-use Rattle.ev_counting.specs.Table.{Held}
+use Rattle.ev_counting.specs.Table.{HeldFilter}
 use Rattle.ev_model.specs.Parts.{ClientParts}
 use Rattle.ev_flood.specs.Held.{Script, Owned, every_filters, passing_filters}
 use Rattle.ev_flood.specs.Publications.{is_met}
-use Rattle.ev_flood.specs.Shown.{Shows}
+use Rattle.ev_flood.specs.Shown.{ShowsFilters}
 use Rattle.ev_flood.specs.declared.phase.PhaseFilters.{PhaseFilters}
 use Rattle.ev_flood.specs.declared.publication.Publication.{Publication}
 use Rattle.ev_flood.specs.declared.tables.Tables.{Tables}
 use Rattle.ev_flood.specs.declared.tables.Met.{Met}
 
 -- the tables have each client's lists
-pub record AreShown (every passing : List Held) (lists : List PhaseFilters) : Type 0 where
-  pub at_every : (place : ℕ) (list : PhaseFilters) → slice_get lists place ≡ Some list → Shows every place list.every.items
-  pub at_some : (place : ℕ) (list : PhaseFilters) → slice_get lists place ≡ Some list → Shows passing place list.passing.items
+pub record AreShown (every passing : List HeldFilter) (lists : List PhaseFilters) : Type 0 where
+  pub at_every : (place : ℕ) (list : PhaseFilters) → slice_get lists place ≡ Some list → ShowsFilters every place list.every.items
+  pub at_some : (place : ℕ) (list : PhaseFilters) → slice_get lists place ≡ Some list → ShowsFilters passing place list.passing.items
 
 -- the lists are as good as a client's filters of the phase
-pub record AreOf (phase : ℕ) (script : Script) (list : PhaseFilters) : Type 0 where
+pub record AreFiltersOf (phase : ℕ) (script : Script) (list : PhaseFilters) : Type 0 where
   pub every : (n : List Attribute) → is_met list.every.items n ≡ is_met (every_filters phase script) n
   pub passing : (n : List Attribute) → is_met list.passing.items n ≡ is_met (passing_filters phase script) n
 
@@ -27,12 +27,12 @@ pub record AreOf (phase : ℕ) (script : Script) (list : PhaseFilters) : Type 0 
 abbrev pub AreAll : ℕ → List ClientParts → List PhaseFilters → Type 0
 AreAll phase clients lists =
     (place : ℕ) (client : ClientParts) (list : PhaseFilters) → slice_get clients place ≡ Some client → slice_get lists place ≡ Some list
-    → AreOf phase client.script list
+    → AreFiltersOf phase client.script list
 
 -- of those before a place
 abbrev pub AllUpTo : ℕ → ℕ → List ClientParts → List PhaseFilters → Type 0
 AllUpTo count phase clients lists = (place : ℕ) (client : ClientParts) (list : PhaseFilters)
-    → place < count → slice_get clients place ≡ Some client → slice_get lists place ≡ Some list → AreOf phase client.script list
+    → place < count → slice_get clients place ≡ Some client → slice_get lists place ≡ Some list → AreFiltersOf phase client.script list
 
 -- the tables have lists of all clients, and once there is a phase those of the phase
 pub record AreTables (clients : List ClientParts) (tables : Tables) : Type 0 where
@@ -45,19 +45,19 @@ abbrev pub is_found : ℕ → List ℕ → Bool
 is_found place places = list_any (λ y. nat_eq y place) places
 
 -- the places are exactly those of clients of whose lists some filter matches the notice
-abbrev pub Finds : (Script → Owned) → List ClientParts → List Attribute → List ℕ → Type 0
-Finds lists clients notice places =
+abbrev pub FindsClients : (Script → Owned) → List ClientParts → List Attribute → List ℕ → Type 0
+FindsClients lists clients notice places =
     (place : ℕ) (client : ClientParts) → slice_get clients place ≡ Some client → is_found place places ≡ is_met (lists client.script) notice
 
 -- the places rise
-pub record AreRising (met : Met) : Type 0 where
+pub record ArePlacesRising (met : Met) : Type 0 where
   pub every : IsStrictlyIncreasing met.every
   pub others : IsStrictlyIncreasing met.others.items
 
 -- the clients that the publication meets
 pub record Meets (clients : List ClientParts) (p : Publication) (met : Met) : Type 0 where
-  pub rising : AreRising met
-  pub every : Finds (every_filters p.phase) clients p.notice met.every
+  pub rising : ArePlacesRising met
+  pub every : FindsClients (every_filters p.phase) clients p.notice met.every
   pub others : (place : ℕ) (client : ClientParts) → slice_get clients place ≡ Some client
       → is_found place met.others.items ≡ not (is_found place met.every) && is_met (passing_filters p.phase client.script) p.notice
 

@@ -2,7 +2,7 @@
 ghost use Rattle.std.specs.Prelude.{◌≡◌, ◌≤◌, List, length, IfOk};
 ghost use Rattle.ev_notice.specs.Notice.{Attribute};
 ghost use Rattle.ev_flood.specs.Held.{below, before, within, every_filters, passing_filters, every_adverts};
-ghost use Rattle.ev_flood.specs.Lasting.{AreAdverts};
+ghost use Rattle.ev_flood.specs.Lasting.{AreClientAdverts};
 ghost use Rattle.ev_flood.specs.Publications.{is_met};
 
 use crate::pruned::pruned;
@@ -102,9 +102,9 @@ pub(crate) fn renewed_adverts(
     script: &[(u32, Command)],
     phase: u32,
 ) -> Result<PhaseAdverts, NoMemory>
-    requires { AreAdverts script.now lists }
+    requires { AreClientAdverts script.now lists }
     ensures phase { IfOk result (λ lists. lists.phase ≡ phase) }
-    ensures lists { IfOk result (AreAdverts script.now) }
+    ensures lists { IfOk result (AreClientAdverts script.now) }
 {
     if lists.phase == phase {
         return Ok(lists);

@@ -3,7 +3,7 @@ ghost use Rattle.std.specs.Prelude.{◌≡◌, ◌≤◌, ◌++◌, [], OnOk, If
 ghost use Rattle.ev_routing.specs.Clients.{some_pass};
 ghost use Rattle.ev_theory.specs.Real.{real};
 ghost use Rattle.ev_flood.specs.Held.{Script};
-ghost use Rattle.ev_flood.specs.Lasting.{AreAdverts};
+ghost use Rattle.ev_flood.specs.Lasting.{AreClientAdverts};
 ghost use Rattle.ev_flood.specs.Publications.{is_free, publication_of, accepted_from, refusals_from, publishes_in};
 
 use crate::phase::PhaseAdverts;
@@ -62,7 +62,7 @@ fn published(
     id: Id,
     notice: &Notice,
 ) -> Result<Publication, NoMemory>
-    ensures { (script : Script) → AreAdverts script lists.now
+    ensures { (script : Script) → AreClientAdverts script lists.now
         → IfOk result (λ p. p ≡ publication_of semantics id.publisher script id.ordinal lists.now.phase notice.now) }
 {
     let advertised = is_free(semantics, &lists.every, notice);

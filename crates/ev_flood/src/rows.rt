@@ -4,7 +4,7 @@ ghost use Rattle.std.specs.List.Sorted.{IsStrictlyIncreasing};
 ghost use Rattle.ev_sets.specs.Numbers.{sum_over};
 ghost use Rattle.ev_model.specs.Sound.{publishes};
 ghost use Rattle.ev_flood.specs.Publications.{accepted_of, all_rows_of, all_refusals_of};
-ghost use Rattle.ev_flood.specs.Tables.{is_found, AreRising, AllMeet};
+ghost use Rattle.ev_flood.specs.Tables.{is_found, ArePlacesRising, AllMeet};
 ghost use Rattle.ev_flood.specs.Rows.{rows_at, once, rows_by};
 
 use crate::owed::OwedRow;
@@ -46,7 +46,7 @@ fn push_rows(
     publication: &Publication,
     met: &Met,
 ) -> Result<(), NoMemory>
-    requires { AreRising met.now }
+    requires { ArePlacesRising met.now }
     ensures count { OnOk result (length all.new.items ≡ length all.old.items) }
     ensures rows { OnOk result ((i : ℕ) → i < length all.old.items
         → rows_at all.new.items i ≡ rows_at all.old.items i ++ rows_by i publication.now met.now) }

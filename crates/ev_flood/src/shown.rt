@@ -2,7 +2,7 @@
 ghost use Rattle.std.specs.Prelude.{◌≡◌, ◌↔◌, ◌≤◌, Some, IsTrue, length, drop, slice_get, IfOk, OnOk};
 ghost use Rattle.ev_sets.specs.Sets.{Has};
 ghost use Rattle.ev_counting.specs.Table.{IsAdded, IsTaken};
-ghost use Rattle.ev_flood.specs.Shown.{Shows, IsLeft, IsEntered, IsBrought};
+ghost use Rattle.ev_flood.specs.Shown.{ShowsFilters, IsLeft, HaveCome, IsBrought};
 
 use ev_counting::{Change, Table};
 use ev_memory::NoMemory;
@@ -51,7 +51,7 @@ fn withdraw(
     old: &[Filter],
     new: &[Filter],
 ) -> Result<usize, NoMemory>
-    requires { Shows table.old place old.now }
+    requires { ShowsFilters table.old place old.now }
     ensures within { IfOk result (λ kept. kept ≤ length new.now) }
     ensures left { IfOk result (λ kept. IsLeft place new.now (drop kept new.now) table.old table.new) }
 {
@@ -79,7 +79,7 @@ fn add(alloc: Global, table: &mut Table, place: u32, filter: &Filter) -> Result<
 
 // Adds filters of a client.
 fn enter(alloc: Global, table: &mut Table, place: u32, filters: &[Filter]) -> Result<(), NoMemory>
-    ensures { OnOk result (IsEntered place filters.now table.old table.new) }
+    ensures { OnOk result (HaveCome place filters.now table.old table.new) }
 {
     for filter in filters {
         add(alloc, table, place, filter)?;
@@ -95,7 +95,7 @@ pub(crate) fn bring(
     old: &[Filter],
     new: &[Filter],
 ) -> Result<(), NoMemory>
-    requires { Shows table.old place old.now }
+    requires { ShowsFilters table.old place old.now }
     ensures { OnOk result (IsBrought place new.now table.old table.new) }
 {
     let kept = withdraw(alloc, table, place, old, new)?;

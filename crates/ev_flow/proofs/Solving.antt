@@ -13,7 +13,7 @@ use Rattle.ev_run.proofs.Lists.{Same, Is, Not, compare}
 use Rattle.ev_routing.specs.Net.{Net}
 use Rattle.ev_routing.specs.Server.{is_among, union_except, interfaces}
 use Rattle.ev_routing.specs.Clients.{some_pass}
-use Rattle.ev_routing.specs.Tree.{IsTree}
+use Rattle.ev_routing.specs.Tree.{IsTreeBySizes}
 use Rattle.ev_routing.specs.Flow.{holds, flow_ad, flow, AgreesOnLinks, relinked}
 use Rattle.ev_routing.proofs.Flows.{relinked-settled}
 use Rattle.ev_routing.proofs.Gathered.{has-gather, gather-has}
@@ -50,10 +50,10 @@ module _ (semantics : Semantics) (tree : Topology) (laws : TreeLaws tree) (net :
   size : ℕ → ℕ → ℕ
   size = side_size (hop_of tree) (servers_of tree)
 
-  shape : IsTree net.servers net.links (side_size (hop_of tree) (servers_of tree))
+  shape : IsTreeBySizes net.servers net.links (side_size (hop_of tree) (servers_of tree))
   shape =
-      subst (λ z. IsTree z net.links (side_size (hop_of tree) (servers_of tree))) (sym on.servers)
-      (subst (λ z. IsTree (servers_of tree) z (side_size (hop_of tree) (servers_of tree))) (sym on.links) (sides-tree (servers_of tree) (links_of tree) (hop_of tree) laws.hops))
+      subst (λ z. IsTreeBySizes z net.links (side_size (hop_of tree) (servers_of tree))) (sym on.servers)
+      (subst (λ z. IsTreeBySizes (servers_of tree) z (side_size (hop_of tree) (servers_of tree))) (sym on.links) (sides-tree (servers_of tree) (links_of tree) (hop_of tree) laws.hops))
 
   near : (a b : ℕ) → Has b (links_of tree a) → Has b (net.links a)
   near a b m = subst (λ z. Has b (z a)) (sym on.links) m

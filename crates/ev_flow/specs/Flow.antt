@@ -7,6 +7,7 @@ use Rattle.ev_wire.specs.declared.semantics.Semantics.{Semantics}
 use Rattle.ev_tree.specs.Tree.{Topology, servers_of, links_of}
 use Rattle.ev_routing.specs.Net.{Net}
 use Rattle.ev_routing.specs.Flow.{flow, flow_ad}
+use Rattle.ev_routing.specs.Server.{client_interface}
 use Rattle.ev_theory.specs.Real.{real}
 use Rattle.ev_control.specs.declared.control.HeldLink.{HeldLink}
 use Rattle.ev_control.specs.Control.{by_adverts}
@@ -40,10 +41,10 @@ pub record IsNetOn (semantics : Semantics) (tree : Topology) (net : Net real) : 
   pub links : net.links ≡ links_of tree
   pub counted : (server client : ℕ) → Has client (net.clients server) → 1 ≤ client
 
--- what is given of each server has exactly what one of its clients has; a client's interface is 64 + its number
+-- what is given of each server has exactly what one of its clients has, by the client's interface
 abbrev pub IsUnionOfClients : Net real → (ℕ → ℕ → List (List ConstraintParts)) → (ℕ → List (List ConstraintParts)) → Type 0
 IsUnionOfClients net sets given = (server : ℕ) → Has server net.servers → (x : List ConstraintParts)
-    → Has x (given server) ↔ ((client : ℕ) × Has client (net.clients server) × Has x (sets server (64 + client)))
+    → Has x (given server) ↔ ((client : ℕ) × Has client (net.clients server) × Has x (sets server (client_interface client)))
 
 -- what a server holds of a neighbour is what flows, whatever the net on the tree and its clients' sets, of which the homes are the unions
 pub record IsFlow (semantics : Semantics) (tree : Topology) (homes : List Home) (server : ℕ) (held : HeldLink) : Type 0 where

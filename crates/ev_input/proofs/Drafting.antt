@@ -3,7 +3,7 @@ use Rattle.std.proofs.Common.{◌≡◌, ℕ, zero, suc, ◌+◌, ◌<◌, ◌�
 use Rattle.std.proofs.Math.ListN.{set}
 use Rattle.std.specs.Prelude.{IfSome, OnErr, OnOk, Result, Ok, Err}
 use Rattle.ev_input.specs.declared.draft.Draft.{Draft}
-use Rattle.ev_input.specs.Drafts.{AreNamed, changed_at, client_at, name_of, place_of, scriptless}
+use Rattle.ev_input.specs.Drafts.{AreNamesOf, changed_at, client_at, name_of, place_of, scriptless}
 use Rattle.ev_input.proofs.NamePlaces.{map-append, place_within}
 
 -- a write at a place is a change there
@@ -27,34 +27,34 @@ changed_names f same [] n = refl
 changed_names f same (x ∷ xs) zero = ap (λ name. name ∷ map name_of xs) (same x)
 changed_names f same (x ∷ xs) (suc n) = ap (λ ys. name_of x ∷ ys) (changed_names f same xs n)
 
-pub still_named : (f : Draft → Draft) → ((d : Draft) → name_of (f d) ≡ name_of d) → (names : List (List ℕ)) (xs : List Draft) (n : ℕ) → AreNamed names xs → AreNamed names (changed_at n f xs)
+pub still_named : (f : Draft → Draft) → ((d : Draft) → name_of (f d) ≡ name_of d) → (names : List (List ℕ)) (xs : List Draft) (n : ℕ) → AreNamesOf names xs → AreNamesOf names (changed_at n f xs)
 still_named f same names xs n h = record { same = changed_names f same xs n ∙ h.same; few = rw (changed_length f xs n) h.few }
 
 pub length-more : {A : Type 0} (xs : List A) (x : A) → length (xs ++ x ∷ []) ≡ length xs + 1
 length-more [] x = refl
 length-more (y ∷ xs) x = omega (arith, length-more xs x)
 
-pub one_more_named : (names : List (List ℕ)) (xs : List Draft) (name : List ℕ) (home : ℕ) → AreNamed names xs → length xs < 1024 → AreNamed (names ++ name ∷ []) (xs ++ scriptless name home ∷ [])
+pub one_more_named : (names : List (List ℕ)) (xs : List Draft) (name : List ℕ) (home : ℕ) → AreNamesOf names xs → length xs < 1024 → AreNamesOf (names ++ name ∷ []) (xs ++ scriptless name home ∷ [])
 one_more_named names xs name home h room = record {
   same = map-append name_of xs (scriptless name home) ∙ ap (λ ns. ns ++ name ∷ []) h.same;
   few = omega (arith, length-more xs (scriptless name home));
 }
 
 -- a name that no client has is not among the names
-pub new_place : (names : List (List ℕ)) (xs ys : List Draft) (name : List ℕ) → AreNamed names xs → xs ≡ ys → client_at ys name ≡ None → place_of names name ≡ None
+pub new_place : (names : List (List ℕ)) (xs ys : List Draft) (name : List ℕ) → AreNamesOf names xs → xs ≡ ys → client_at ys name ≡ None → place_of names name ≡ None
 unfolding client_at
 new_place names xs ys name h e none = ap (λ ns. place_of ns name) (sym h.same ∙ ap (map name_of) e) ∙ none
 
 -- one client more
-pub more_named : (names more : List (List ℕ)) (xs ys zs : List Draft) (name : List ℕ) (home : ℕ) (d : Draft) → AreNamed names xs → length xs < 1024
-    → more ≡ names ++ name ∷ [] → ys ≡ xs → d ≡ scriptless name home → zs ≡ ys ++ d ∷ [] → AreNamed more zs
+pub more_named : (names more : List (List ℕ)) (xs ys zs : List Draft) (name : List ℕ) (home : ℕ) (d : Draft) → AreNamesOf names xs → length xs < 1024
+    → more ≡ names ++ name ∷ [] → ys ≡ xs → d ≡ scriptless name home → zs ≡ ys ++ d ∷ [] → AreNamesOf more zs
 more_named names more xs ys zs name home d h room m e f g =
-    subst (λ (ns : List (List ℕ)). AreNamed ns zs) (sym m)
-    (subst (λ (ws : List Draft). AreNamed (names ++ name ∷ []) ws) (sym (g ∙ (ap (λ (vs : List Draft). vs ++ d ∷ []) e ∙ ap (λ (v : Draft). xs ++ v ∷ []) f))) (one_more_named names xs name home h room))
+    subst (λ (ns : List (List ℕ)). AreNamesOf ns zs) (sym m)
+    (subst (λ (ws : List Draft). AreNamesOf (names ++ name ∷ []) ws) (sym (g ∙ (ap (λ (vs : List Draft). vs ++ d ∷ []) e ∙ ap (λ (v : Draft). xs ++ v ∷ []) f))) (one_more_named names xs name home h room))
 
 -- what a write at a place keeps
-pub set_named : (f : Draft → Draft) → ((d : Draft) → name_of (f d) ≡ name_of d) → (names : List (List ℕ)) (xs ys : List Draft) (n : ℕ) → ys ≡ changed_at n f xs → AreNamed names xs → AreNamed names ys
-set_named f same names xs ys n e h = subst (λ (zs : List Draft). AreNamed names zs) (sym e) (still_named f same names xs n h)
+pub set_named : (f : Draft → Draft) → ((d : Draft) → name_of (f d) ≡ name_of d) → (names : List (List ℕ)) (xs ys : List Draft) (n : ℕ) → ys ≡ changed_at n f xs → AreNamesOf names xs → AreNamesOf names ys
+set_named f same names xs ys n e h = subst (λ (zs : List Draft). AreNamesOf names zs) (sym e) (still_named f same names xs n h)
 
 -- the member that was borrowed is written, changed
 pub written : (f : Draft → Draft) (xs ys : List Draft) (n : ℕ) (v w : Draft) → xs ≡ ys → v ≡ get_or xs n v → w ≡ f v → n < length xs → set xs n w ≡ changed_at n f ys
@@ -65,12 +65,12 @@ pub untouched : (f : Draft → Draft) (xs ys : List Draft) (n : ℕ) → xs ≡ 
 untouched f xs ys n e l = sym (changed_beyond f ys n (subst (λ (zs : List Draft). length zs ≤ n) e l))
 
 pub written_named : (f : Draft → Draft) → ((d : Draft) → name_of (f d) ≡ name_of d) → (names : List (List ℕ)) (xs : List Draft) (n : ℕ) (v w : Draft) → v ≡ get_or xs n v → w ≡ f v → n < length xs
-    → AreNamed names xs → AreNamed names (set xs n w)
+    → AreNamesOf names xs → AreNamesOf names (set xs n w)
 written_named f same names xs n v w g h l a = set_named f same names xs (set xs n w) n (written f xs xs n v w refl g h l) a
 
 -- the member is written changed, or as it was where the change failed
 pub tried_named : {E : Type 0} (f : Draft → Draft) → ((d : Draft) → name_of (f d) ≡ name_of d) → (names : List (List ℕ)) (xs : List Draft) (n : ℕ) (v w : Draft) (r : Result (Unit {0}) E) → v ≡ get_or xs n v
-    → OnOk r (w ≡ f v) → OnErr r (w ≡ v) → n < length xs → AreNamed names xs → AreNamed names (set xs n w)
+    → OnOk r (w ≡ f v) → OnErr r (w ≡ v) → n < length xs → AreNamesOf names xs → AreNamesOf names (set xs n w)
 tried_named f same names xs n v w (Ok x) g h k l a = written_named f same names xs n v w g h l a
 tried_named f same names xs n v w (Err e) g h k l a = written_named (λ (d : Draft). d) (λ d. refl) names xs n v w g k l a
 
@@ -78,6 +78,6 @@ pub place_few : (o : Option ℕ) (xs : List Draft) (name : List ℕ) → o ≡ c
 place_few None xs name e l = tt
 place_few (Some n) xs name e l = let k : n < length xs = place_within xs name n (sym e) in omega arith
 
-pub found_place : (names : List (List ℕ)) (xs ys : List Draft) (name : List ℕ) (o : Option ℕ) → AreNamed names xs → xs ≡ ys → o ≡ place_of names name → o ≡ client_at ys name
+pub found_place : (names : List (List ℕ)) (xs ys : List Draft) (name : List ℕ) (o : Option ℕ) → AreNamesOf names xs → xs ≡ ys → o ≡ place_of names name → o ≡ client_at ys name
 unfolding client_at
 found_place names xs ys name o h e f = f ∙ ap (λ (ns : List (List ℕ)). place_of ns name) (sym h.same ∙ ap (map name_of) e)

@@ -7,7 +7,7 @@ use Rattle.ev_tree.specs.Graph.{IsEdgeWithin, joins, has_edge}
 use Rattle.ev_tree.specs.Labels.{AreLabelsOf, ServerLabels}
 use Rattle.ev_tree.proofs.Joined.{has_edge-more}
 use Rattle.ev_input.specs.Near.{is_near}
-use Rattle.ev_input.specs.Drawn.{Block, Drawn, IsDrawn, IsWhole, are_neighbours, blocks, is_apart, undrawn, with_edge, with_phase}
+use Rattle.ev_input.specs.Drawn.{Block, Drawn, IsDrawn, IsWholeBlock, are_neighbours, blocks, is_apart, undrawn, with_edge, with_phase}
 use Rattle.ev_input.proofs.Joining.{not_apart_is_whole}
 
 or-none : (b : Bool) → b || false ≡ b
@@ -49,7 +49,7 @@ nothing_drawn n labels near few count are none = record {
   count = count;
   labelled = are;
   within = All-nil (IsEdgeWithin n);
-  earlier = All-nil (IsWhole n);
+  earlier = All-nil (IsWholeBlock n);
   neighbours = λ a b p q. none a b p q ∙ sym (near-none n a b);
 }
 
@@ -70,6 +70,6 @@ phase_drawn d phase old new near h whole count are = record {
   count = count;
   labelled = are;
   within = All-nil (IsEdgeWithin d.servers);
-  earlier = All-append (IsWhole d.servers) d.earlier ((d.phase, d.edges) ∷ []) h.earlier (All-cons (IsWhole d.servers) (d.phase, d.edges) [] (record { within = h.within; tree = not_apart_is_whole d h.labelled.forest whole }) (All-nil (IsWhole d.servers)));
+  earlier = All-append (IsWholeBlock d.servers) d.earlier ((d.phase, d.edges) ∷ []) h.earlier (All-cons (IsWholeBlock d.servers) (d.phase, d.edges) [] (record { within = h.within; tree = not_apart_is_whole d h.labelled.forest whole }) (All-nil (IsWholeBlock d.servers)));
   neighbours = λ a b p q. h.neighbours a b p q ∙ sym (near-phase d phase a b);
 }

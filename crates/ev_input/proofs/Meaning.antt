@@ -9,7 +9,7 @@ use Rattle.ev_input.specs.declared.fault.Fault.TheVariants as is
 use Rattle.ev_input.specs.declared.state.State.{State}
 use Rattle.ev_input.specs.Drawn.{is_apart}
 use Rattle.ev_input.specs.Places.{document_of, end_rule, has_servers, line_rule, read_from, start, then_on, told}
-use Rattle.ev_input.specs.Meaning.{AreTaken, IsFirstFault, IsRefused, stands}
+use Rattle.ev_input.specs.Meaning.{AreTaken, IsFirstFault, IsRefusedLine, stands}
 
 -- a fault among the lines, the first of which has the number k
 record Found (k : ℕ) (s : State) (ls : List (List ℕ)) (n : ℕ) (fault : Fault) : Type 0 where
@@ -19,7 +19,7 @@ record Found (k : ℕ) (s : State) (ls : List (List ℕ)) (n : ℕ) (fault : Fau
   pub number : n ≡ length before + k
   pub state : State
   pub taken : stands k s before ≡ Ok state
-  pub refused : IsRefused n state after fault
+  pub refused : IsRefusedLine n state after fault
 
 told_err : {A : Type 0} (k : ℕ) (r : Result A Fault) (n : ℕ) (f : Fault) → told k r ≡ Err (n, f) → (n ≡ k) × (r ≡ Err f)
 told_err k (Ok x) n f e = cc
@@ -55,7 +55,7 @@ found k s (l ∷ ls) n f e = go (line_rule s k l) refl e (λ t d. found (k + 1) 
         let p : (n ≡ k) × (r ≡ Err f) = told_err k r n f (here (k, g) (n, f) e) in
         record { before = []; after = l ∷ ls; parts = refl; number = omega (arith, p.0); state = s; taken = refl; refused = rw p.0 (is ∙ p.1) }
 
-refused_reads : (k : ℕ) (s : State) (ls : List (List ℕ)) (f : Fault) → IsRefused k s ls f → read_from k s ls ≡ Err (k, f)
+refused_reads : (k : ℕ) (s : State) (ls : List (List ℕ)) (f : Fault) → IsRefusedLine k s ls f → read_from k s ls ≡ Err (k, f)
 refused_reads k s [] f r = rw r refl
 refused_reads k s (l ∷ ls) f r = rw r refl
 
@@ -105,7 +105,7 @@ pub fault_means : (bytes : List ℕ) (n : ℕ) (f : Fault) → length bytes ≤ 
 fault_means bytes n f le = (
   (λ e. let h : Found 1 start (lines bytes) n f = found 1 start (lines bytes) n f (sym (opened bytes le) ∙ e) in
       record { before = h.before; after = h.after; parts = h.parts; number = h.number; state = h.state; taken = h.taken; refused = h.refused }),
-  (λ h. let r : IsRefused (length h.before + 1) h.state h.after f = rw (sym h.number) h.refused in
+  (λ h. let r : IsRefusedLine (length h.before + 1) h.state h.after f = rw (sym h.number) h.refused in
       (((opened bytes le ∙ ap (read_from 1 start) h.parts) ∙ reads_on 1 start h.state h.before h.after h.taken)
       ∙ refused_reads (length h.before + 1) h.state h.after f r) ∙ ap (λ m. Err (m, f)) (sym h.number)),
 )

@@ -2,31 +2,31 @@
 use Rattle.std.proofs.Common.{◌≡◌, ◌⊎◌, inl, inr, ℕ, ◌+◌, List, ◌∷◌, refl, ap, Result, Ok, Err}
 use Rattle.std.specs.Prelude.{IfOk, IsOk}
 use Rattle.ev_model.specs.Parts.{NetParts}
-use Rattle.ev_input.specs.Net.{IsBadAt, IsNetOf, Reads}
+use Rattle.ev_input.specs.Net.{IsBadAt, IsNetOf, ReadsNet}
 use Rattle.ev_input.specs.Places.{document_of, line_rule, read_from}
 use Rattle.ev_input.specs.declared.fault.Fault.{Fault}
 use Rattle.ev_input.specs.declared.fault.InputFault.{InputFault}
 use Rattle.ev_input.specs.declared.fault.InputFault.TheVariants as inputs
 use Rattle.ev_input.specs.declared.state.State.{State}
 
-pub net_read : (bytes : List ℕ) (r : Result NetParts InputFault) → Reads r (document_of bytes) → IfOk r (λ net. IsNetOf bytes net)
+pub net_read : (bytes : List ℕ) (r : Result NetParts InputFault) → ReadsNet r (document_of bytes) → IfOk r (λ net. IsNetOf bytes net)
 net_read bytes (Ok net) h = record { state = h.0; read = h.1; holds = h.2 }
 net_read bytes (Err e) h = tt
 
 no_fault : (d : Result State (ℕ × Fault)) (s : State) (x : ℕ × Fault) → d ≡ Ok s → d ≡ Err x → ⊥
 no_fault d s x p q = cc
 
-pub given_read : (bytes : List ℕ) (r : Result NetParts InputFault) → Reads r (document_of bytes) → (net : NetParts) → IsNetOf bytes net → IsOk r ⊎ (r ≡ Err inputs.NoMemory)
+pub given_read : (bytes : List ℕ) (r : Result NetParts InputFault) → ReadsNet r (document_of bytes) → (net : NetParts) → IsNetOf bytes net → IsOk r ⊎ (r ≡ Err inputs.NoMemory)
 given_read bytes (Ok x) h net n = inl refl
 given_read bytes (Err inputs.NoMemory) h net n = inr refl
 given_read bytes (Err (inputs.Bad line kind)) h net n = absurd (no_fault (document_of bytes) n.state (line, kind) n.read h)
 
-pub bad_read : (bytes : List ℕ) (r : Result NetParts InputFault) → Reads r (document_of bytes) → (line : ℕ) (kind : Fault) → r ≡ Err (inputs.Bad line kind) → IsBadAt bytes line kind
+pub bad_read : (bytes : List ℕ) (r : Result NetParts InputFault) → ReadsNet r (document_of bytes) → (line : ℕ) (kind : Fault) → r ≡ Err (inputs.Bad line kind) → IsBadAt bytes line kind
 bad_read bytes (Ok net) h line kind e = cc
 bad_read bytes (Err inputs.NoMemory) h line kind e = cc
 bad_read bytes (Err (inputs.Bad l k)) h line kind e = cc
 
-pub refused_read : (bytes : List ℕ) (r : Result NetParts InputFault) → Reads r (document_of bytes) → (line : ℕ) (kind : Fault) → IsBadAt bytes line kind → (r ≡ Err (inputs.Bad line kind)) ⊎ (r ≡ Err inputs.NoMemory)
+pub refused_read : (bytes : List ℕ) (r : Result NetParts InputFault) → ReadsNet r (document_of bytes) → (line : ℕ) (kind : Fault) → IsBadAt bytes line kind → (r ≡ Err (inputs.Bad line kind)) ⊎ (r ≡ Err inputs.NoMemory)
 refused_read bytes (Ok net) h line kind e = absurd (both (document_of bytes) h.0 line kind h.1 e)
   where
     both : (d : Result State (ℕ × Fault)) (s : State) (line : ℕ) (kind : Fault) → d ≡ Ok s → d ≡ Err (line, kind) → ⊥

@@ -8,11 +8,11 @@ use Rattle.ev_script.specs.declared.form.Given.{Given}
 use Rattle.ev_script.specs.declared.form.Part.{Part}
 use Rattle.ev_script.specs.declared.verb.Verb.{Verb}
 use Rattle.ev_script.specs.declared.verb.Verb.TheVariants as verbs
-use Rattle.ev_script.specs.Form.{Form}
-use Rattle.ev_script.specs.Form.Form.{control, publish}
+use Rattle.ev_script.specs.Form.{CommandForm}
+use Rattle.ev_script.specs.Form.CommandForm.{control, publish}
 use Rattle.ev_script.specs.Command.{IsCommandOf, Spells, fault_of_form, fits, form_of, script_fault}
 use Rattle.ev_input.specs.declared.fault.LineFault.{LineFault}
-use Rattle.ev_input.specs.Answer.{Fails}
+use Rattle.ev_input.specs.Answer.{FailsByRule}
 use Rattle.ev_input.specs.Commands.{Tells, command_in, command_of, command_of_form, kind_of, unless_fault}
 use Rattle.ev_input.proofs.Notices.{rising_is_set}
 
@@ -27,7 +27,7 @@ publish_spells : (attributes : List (List ℕ × Given)) (c : Command) → Spell
 publish_spells attributes (commands.Publish n) h = ap commands.Publish (rising_is_set (fits attributes) n h.0 h.1)
 publish_spells attributes c h = absurd h
 
-spells : (form : Form) (c : Command) → Spells form c → c ≡ command_in form
+spells : (form : CommandForm) (c : Command) → Spells form c → c ≡ command_in form
 spells (control v parts) c h = control_spells v parts c h
 spells (publish attributes) c h = publish_spells attributes c h
 
@@ -35,7 +35,7 @@ pub command_told : (version : ℕ) (line : List ℕ) (c : Command) → IsCommand
 unfolding command_of
 command_told version line c h = ap command_of_form h.1 ∙ (ap (λ (e : Option ScriptFault). unless_fault e h.0) h.2 ∙ ap Ok (sym (spells h.0 c h.3)))
 
-in_form : (form : Option Form) (e : ScriptFault) → fault_of_form form ≡ Some e → command_of_form form ≡ Err (kind_of e)
+in_form : (form : Option CommandForm) (e : ScriptFault) → fault_of_form form ≡ Some e → command_of_form form ≡ Err (kind_of e)
 in_form None e h = let f : faults.Syntax ≡ e = cc in ap (λ (x : ScriptFault). Err (kind_of x)) f
 in_form (Some form) e h = ap (λ (x : Option ScriptFault). unless_fault x form) h
 
@@ -47,10 +47,10 @@ fault_told version line e h = in_form (form_of version line) e h
 pub told_fault : (version : ℕ) (line : List ℕ) (r : Result Command ScriptFault) (e : ScriptFault) (told : LineFault) → r ≡ Err e → Tells told e
     → (r ≡ Err faults.Syntax → script_fault version line ≡ Some faults.Syntax) → (r ≡ Err faults.Value → script_fault version line ≡ Some faults.Value)
     → (r ≡ Err faults.Operand → script_fault version line ≡ Some faults.Operand) → (r ≡ Err faults.Count → script_fault version line ≡ Some faults.Count)
-    → (r ≡ Err faults.Repeat → script_fault version line ≡ Some faults.Repeat) → Fails told (command_of version line)
-told_fault version line r faults.Syntax told e t a b c d f = subst (λ (x : LineFault). Fails x (command_of version line)) (sym t) (fault_told version line faults.Syntax (a e))
-told_fault version line r faults.Value told e t a b c d f = subst (λ (x : LineFault). Fails x (command_of version line)) (sym t) (fault_told version line faults.Value (b e))
-told_fault version line r faults.Operand told e t a b c d f = subst (λ (x : LineFault). Fails x (command_of version line)) (sym t) (fault_told version line faults.Operand (c e))
-told_fault version line r faults.Count told e t a b c d f = subst (λ (x : LineFault). Fails x (command_of version line)) (sym t) (fault_told version line faults.Count (d e))
-told_fault version line r faults.Repeat told e t a b c d f = subst (λ (x : LineFault). Fails x (command_of version line)) (sym t) (fault_told version line faults.Repeat (f e))
-told_fault version line r faults.NoMemory told e t a b c d f = subst (λ (x : LineFault). Fails x (command_of version line)) (sym t) tt
+    → (r ≡ Err faults.Repeat → script_fault version line ≡ Some faults.Repeat) → FailsByRule told (command_of version line)
+told_fault version line r faults.Syntax told e t a b c d f = subst (λ (x : LineFault). FailsByRule x (command_of version line)) (sym t) (fault_told version line faults.Syntax (a e))
+told_fault version line r faults.Value told e t a b c d f = subst (λ (x : LineFault). FailsByRule x (command_of version line)) (sym t) (fault_told version line faults.Value (b e))
+told_fault version line r faults.Operand told e t a b c d f = subst (λ (x : LineFault). FailsByRule x (command_of version line)) (sym t) (fault_told version line faults.Operand (c e))
+told_fault version line r faults.Count told e t a b c d f = subst (λ (x : LineFault). FailsByRule x (command_of version line)) (sym t) (fault_told version line faults.Count (d e))
+told_fault version line r faults.Repeat told e t a b c d f = subst (λ (x : LineFault). FailsByRule x (command_of version line)) (sym t) (fault_told version line faults.Repeat (f e))
+told_fault version line r faults.NoMemory told e t a b c d f = subst (λ (x : LineFault). FailsByRule x (command_of version line)) (sym t) tt

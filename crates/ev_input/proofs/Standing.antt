@@ -20,7 +20,7 @@ use Rattle.ev_input.specs.Answer.{◌>>=◌, need, want}
 use Rattle.ev_input.specs.Words.{name_and_number, one, one_name, one_number, two_numbers}
 use Rattle.ev_input.specs.Drawn.{are_neighbours, are_servers, blocks, is_server, joined}
 use Rattle.ev_input.specs.Drafts.{barriers_at, barriers_of, begun, client_at, has_script, name_of, place_of, scriptless, with_barrier, with_command}
-use Rattle.ev_input.specs.Tally.{Counts, control_product, control_rule, notice_product, publish_rule, with_control, with_publish}
+use Rattle.ev_input.specs.Tally.{CommandCounts, control_product, control_rule, notice_product, publish_rule, with_control, with_publish}
 use Rattle.ev_input.specs.Commands.{command_of as line_command}
 use Rattle.ev_input.specs.Rules.{barrier_rule, client_rule, command_rule, command_turn, count_rule, edge_rule, header_rule, phase_rule, schedule_rule, script_rule, semantics_named, semantics_rule, servers_rule, take_turn, version_named, version_number, version_turn, with_turn}
 use Rattle.ev_input.specs.Places.{has_servers}
@@ -63,7 +63,7 @@ bind_ok : {A B : Type 0} (r : Result A Fault) (k : A → Result B Fault) (t : B)
 bind_ok (Ok x) k t e = (x, refl, e)
 bind_ok (Err f) k t e = cc
 
-same_counts : (s t : Counts) → (let r : Result Counts Fault = Ok s in r) ≡ Ok t → s ≡ t
+same_counts : (s t : CommandCounts) → (let r : Result CommandCounts Fault = Ok s in r) ≡ Ok t → s ≡ t
 same_counts s t e = cc
 
 late : (q : Place) → q ≡ at.Scripts → has_servers q ≡ false → ⊥
@@ -251,38 +251,38 @@ barrier_stands s t w ws o e h =
     })
 
 -- what a command adds to the counts
-record Counted (c : Command) (t u : Counts) : Type 0 where
+record Counted (c : Command) (t u : CommandCounts) : Type 0 where
   pub controls : u.controls ≡ t.controls + count (is_control c)
   pub publications : u.publications ≡ t.publications + count (is_publish real (command_of c))
   pub within : (t.controls ≤ 4096) × (t.publications ≤ 100000) → (u.controls ≤ 4096) × (u.publications ≤ 100000)
 
-control_counted : (c : Command) (t u : Counts) (withdraws : Bool) (bytes servers : ℕ) → is_publish real (command_of c) ≡ false → control_rule t withdraws bytes servers ≡ Ok u → Counted c t u
+control_counted : (c : Command) (t u : CommandCounts) (withdraws : Bool) (bytes servers : ℕ) → is_publish real (command_of c) ≡ false → control_rule t withdraws bytes servers ≡ Ok u → Counted c t u
 unfolding control_rule
 control_counted c t u withdraws bytes servers p e =
     let a = need_ok (nat_lt t.controls 4096) is.Commands _ u e in
     let b = need_ok (nat_le (control_product (with_control t withdraws bytes) servers) 2147483648) is.MuchControl _ u a.1 in
     let few : t.controls < 4096 = grind (arith, common_steps, a.0) in
     let same : with_control t withdraws bytes ≡ u = same_counts _ u b.1 in
-    subst (λ (v : Counts). Counted c t v) same (record {
+    subst (λ (v : CommandCounts). Counted c t v) same (record {
       controls = rw p refl;
       publications = rw p (omega arith);
       within = λ l. (omega arith, l.1);
     })
 
-publish_counted : (c : Command) (t u : Counts) (bytes clients : ℕ) → is_publish real (command_of c) ≡ true → publish_rule t bytes clients ≡ Ok u → Counted c t u
+publish_counted : (c : Command) (t u : CommandCounts) (bytes clients : ℕ) → is_publish real (command_of c) ≡ true → publish_rule t bytes clients ≡ Ok u → Counted c t u
 unfolding publish_rule
 publish_counted c t u bytes clients p e =
     let a = need_ok (nat_lt t.publications 100000) is.Publications _ u e in
     let b = need_ok (nat_le (notice_product (with_publish t bytes) clients) 268435456) is.MuchNotice _ u a.1 in
     let few : t.publications < 100000 = grind (arith, common_steps, a.0) in
     let same : with_publish t bytes ≡ u = same_counts _ u b.1 in
-    subst (λ (v : Counts). Counted c t v) same (record {
+    subst (λ (v : CommandCounts). Counted c t v) same (record {
       controls = rw p (omega arith);
       publications = rw p refl;
       within = λ l. (l.0, omega arith);
     })
 
-command_counted : (c : Command) (t u : Counts) (bytes servers clients : ℕ) → count_rule t c bytes servers clients ≡ Ok u → Counted c t u
+command_counted : (c : Command) (t u : CommandCounts) (bytes servers clients : ℕ) → count_rule t c bytes servers clients ≡ Ok u → Counted c t u
 command_counted (commands.Subscribe f) t u bytes servers clients e = control_counted (commands.Subscribe f) t u false bytes servers refl e
 command_counted (commands.Unsubscribe f) t u bytes servers clients e = control_counted (commands.Unsubscribe f) t u true bytes servers refl e
 command_counted (commands.Advertise f) t u bytes servers clients e = control_counted (commands.Advertise f) t u false bytes servers refl e

@@ -20,16 +20,16 @@ want None fault = Err fault
 want (Some x) fault = Ok x
 
 -- the rule has this fault; want of memory tells nothing of it
-abbrev pub Fails : {A : Type 0} → LineFault → Result A Fault → Type 0
-Fails NoMemory rule = Unit {0}
-Fails (Bad fault) rule = rule ≡ Err fault
+abbrev pub FailsByRule : {A : Type 0} → LineFault → Result A Fault → Type 0
+FailsByRule NoMemory rule = Unit {0}
+FailsByRule (Bad fault) rule = rule ≡ Err fault
 
 -- after the call there stands what the rule gives, or the rule has the fault that the call told, or memory ran out
-abbrev pub Steps : {S A : Type 0} → Result A LineFault → S → Result S Fault → Type 0
-Steps (Ok _) new rule = rule ≡ Ok new
-Steps (Err e) new rule = Fails e rule
+abbrev pub StepsByRule : {S A : Type 0} → Result A LineFault → S → Result S Fault → Type 0
+StepsByRule (Ok _) new rule = rule ≡ Ok new
+StepsByRule (Err e) new rule = FailsByRule e rule
 
 -- the call gives what the rule gives, or the rule has the fault that the call told, or memory ran out
-abbrev pub Gives : {A : Type 0} → Result A LineFault → Result A Fault → Type 0
-Gives (Ok x) rule = rule ≡ Ok x
-Gives (Err e) rule = Fails e rule
+abbrev pub GivesByRule : {A : Type 0} → Result A LineFault → Result A Fault → Type 0
+GivesByRule (Ok x) rule = rule ≡ Ok x
+GivesByRule (Err e) rule = FailsByRule e rule

@@ -8,8 +8,8 @@ use Rattle.ev_wire.specs.declared.command.Command.TheVariants as commands
 use Rattle.ev_script.specs.declared.fault.ScriptFault.{ScriptFault}
 use Rattle.ev_script.specs.declared.fault.ScriptFault.TheVariants as faults
 use Rattle.ev_script.specs.declared.verb.Verb.TheVariants as verbs
-use Rattle.ev_script.specs.Form.{Form}
-use Rattle.ev_script.specs.Form.Form.{control, publish}
+use Rattle.ev_script.specs.Form.{CommandForm}
+use Rattle.ev_script.specs.Form.CommandForm.{control, publish}
 use Rattle.ev_script.specs.Command.{fault_in, fits, form_of, wholes}
 use Rattle.ev_input.specs.declared.fault.Fault.{Fault}
 use Rattle.ev_input.specs.declared.fault.LineFault.{LineFault}
@@ -27,7 +27,7 @@ kind_of faults.NoMemory = is.Syntax
 
 -- the command of a form without fault: constraints once each, in canonical order; attributes by their names, of which no two
 -- are the same (no form has the first word `publish` and constraints)
-abbrev pub command_in : Form → Command
+abbrev pub command_in : CommandForm → Command
 command_in (control verbs.Subscribe parts) = commands.Subscribe (canonical (wholes parts))
 command_in (control verbs.Unsubscribe parts) = commands.Unsubscribe (canonical (wholes parts))
 command_in (control verbs.Advertise parts) = commands.Advertise (canonical (wholes parts))
@@ -36,12 +36,12 @@ command_in (control verbs.Publish parts) = commands.Publish []
 command_in (publish attributes) = commands.Publish (set_of is_name_less (fits attributes))
 
 -- the fault, if there is one, and else the form's command
-abbrev pub unless_fault : Option ScriptFault → Form → Result Command Fault
+abbrev pub unless_fault : Option ScriptFault → CommandForm → Result Command Fault
 unless_fault (Some fault) form = Err (kind_of fault)
 unless_fault None form = Ok (command_in form)
 
 -- a line without a form is at fault by that
-abbrev pub command_of_form : Option Form → Result Command Fault
+abbrev pub command_of_form : Option CommandForm → Result Command Fault
 command_of_form None = Err is.Syntax
 command_of_form (Some form) = unless_fault (fault_in form) form
 

@@ -59,6 +59,6 @@ abbrev pub with_command : Command → Draft → Draft
 with_command c d = draft (client_parts d.client.name d.client.home d.client.barriers (d.client.script ++ (d.client.barriers, c) ∷ [])) d.has_script
 
 -- the names, in the order of their giving, are those of the clients, of which there are at most 1,024
-pub record AreNamed (names : List (List ℕ)) (drafts : List Draft) : Type 0 where
+pub record AreNamesOf (names : List (List ℕ)) (drafts : List Draft) : Type 0 where
   pub same : map name_of drafts ≡ names
   pub few : length drafts ≤ 1024

@@ -69,7 +69,7 @@ unfoldable pub are_neighbours : Drawn → ℕ × ℕ → Bool
 are_neighbours d e = list_any (λ block. has_edge block.1 e.0 e.1) (blocks d)
 
 -- the edges of a tree of so many servers
-pub record IsWhole (servers : ℕ) (block : Block) : Type 0 where
+pub record IsWholeBlock (servers : ℕ) (block : Block) : Type 0 where
   pub within : AreWithin servers block.1
   pub tree : IsTree servers block.1
 
@@ -79,5 +79,5 @@ pub record IsDrawn (d : Drawn) (labels : ServerLabels) (near : List ℕ) : Type 
   pub count : labels.count ≡ d.servers
   pub labelled : AreLabelsOf d.edges labels
   pub within : AreWithin d.servers d.edges
-  pub earlier : All (IsWhole d.servers) d.earlier
+  pub earlier : All (IsWholeBlock d.servers) d.earlier
   pub neighbours : (a b : ℕ) → a ≤ 64 → b ≤ 64 → is_near near a b ≡ are_neighbours d (a, b)

@@ -12,9 +12,9 @@ stands n s [] = Ok s
 stands n s (l ∷ ls) = line_rule s n l >>= λ t. stands (n + 1) t ls
 
 -- line n, the first of these, has the fault, or the end where there is none
-abbrev pub IsRefused : ℕ → State → List (List ℕ) → Fault → Type 0
-IsRefused n s [] fault = end_rule s ≡ Err fault
-IsRefused n s (l ∷ ls) fault = line_rule s n l ≡ Err fault
+abbrev pub IsRefusedLine : ℕ → State → List (List ℕ) → Fault → Type 0
+IsRefusedLine n s [] fault = end_rule s ≡ Err fault
+IsRefusedLine n s (l ∷ ls) fault = line_rule s n l ≡ Err fault
 
 -- the lines before number n are taken, and this one, or the end, has the fault
 pub record IsFirstFault (ls : List (List ℕ)) (n : ℕ) (fault : Fault) : Type 0 where
@@ -24,7 +24,7 @@ pub record IsFirstFault (ls : List (List ℕ)) (n : ℕ) (fault : Fault) : Type 
   pub number : n ≡ length before + 1
   pub state : State
   pub taken : stands 1 start before ≡ Ok state
-  pub refused : IsRefused n state after fault
+  pub refused : IsRefusedLine n state after fault
 
 -- each line is taken, and so is the end
 pub record AreTaken (ls : List (List ℕ)) (state : State) : Type 0 where

@@ -59,6 +59,6 @@ Refuses inputs.NoMemory read = Unit {0}
 Refuses (inputs.Bad line kind) read = read ≡ Err (line, kind)
 
 -- the reader gives a net of what stands, or the first line at fault and its fault, unless memory ran out
-abbrev pub Reads : Result NetParts InputFault → Result State (ℕ × Fault) → Type 0
-Reads (Ok net) read = (s : State) × (read ≡ Ok s) × IsNetIn s net
-Reads (Err e) read = Refuses e read
+abbrev pub ReadsNet : Result NetParts InputFault → Result State (ℕ × Fault) → Type 0
+ReadsNet (Ok net) read = (s : State) × (read ≡ Ok s) × IsNetIn s net
+ReadsNet (Err e) read = Refuses e read

@@ -14,7 +14,7 @@ use Rattle.ev_input.specs.Answer.{◌>>=◌, need, want}
 use Rattle.ev_input.specs.Words.{name_and_number, one, one_name, one_number, two_numbers}
 use Rattle.ev_input.specs.Drawn.{are_neighbours, are_servers, is_server, joined, undrawn, with_edge, with_phase}
 use Rattle.ev_input.specs.Drafts.{barriers_at, begun, changed_at, client_at, has_script, scriptless, with_barrier, with_command}
-use Rattle.ev_input.specs.Tally.{Counts, control_rule, publish_rule}
+use Rattle.ev_input.specs.Tally.{CommandCounts, control_rule, publish_rule}
 use Rattle.ev_input.specs.Commands.{command_of}
 use Rattle.ev_input.specs.declared.fault.Fault.{Fault}
 use Rattle.ev_input.specs.declared.fault.Fault.TheVariants as is
@@ -113,7 +113,7 @@ barrier_rule s w ws = do
   Ok (record s { clients = changed_at s.client with_barrier s.clients })
 
 -- the counts after one command more, on a line of so many bytes, in a document of so many servers and clients
-abbrev pub count_rule : Counts → Command → ℕ → ℕ → ℕ → Result Counts Fault
+abbrev pub count_rule : CommandCounts → Command → ℕ → ℕ → ℕ → Result CommandCounts Fault
 count_rule t (commands.Subscribe f) bytes servers clients = control_rule t false bytes servers
 count_rule t (commands.Unsubscribe f) bytes servers clients = control_rule t true bytes servers
 count_rule t (commands.Advertise a) bytes servers clients = control_rule t false bytes servers

@@ -22,13 +22,13 @@ pub struct Clients {
 impl Model for Clients {
     ghost use Rattle.std.specs.Prelude.{List};
     ghost use Rattle.ev_input.specs.declared.draft.Draft.{Draft as Drafted};
-    ghost use Rattle.ev_input.specs.Drafts.{AreNamed};
+    ghost use Rattle.ev_input.specs.Drafts.{AreNamesOf};
 
     ghost Value = { List Drafted };
 
     ghost view = { λ c. c.drafts.items };
 
-    ghost invariant = { λ c. AreNamed c.names c.drafts.items };
+    ghost invariant = { λ c. AreNamesOf c.names c.drafts.items };
 }
 
 // A client without a script.

@@ -1,7 +1,7 @@
 //! The net of what stands at the end of a document.
 ghost use Rattle.std.specs.Prelude.{◌≡◌, IfOk, false, map};
 ghost use Rattle.ev_tree.specs.Graph.{IsCount};
-ghost use Rattle.ev_input.specs.Drawn.{IsWhole, is_apart};
+ghost use Rattle.ev_input.specs.Drawn.{IsWholeBlock, is_apart};
 ghost use Rattle.ev_input.specs.Net.{IsNetIn};
 
 use crate::state::State;

@@ -1,7 +1,7 @@
 //! The lines of servers, trees and clients.
 ghost use Rattle.std.specs.Prelude.{◌≡◌, false};
 ghost use Rattle.ev_input.specs.Lines.{words};
-ghost use Rattle.ev_input.specs.Answer.{Steps};
+ghost use Rattle.ev_input.specs.Answer.{StepsByRule};
 ghost use Rattle.ev_input.specs.Drawn.{are_servers, is_apart, is_server};
 ghost use Rattle.ev_input.specs.Rules.{client_rule, edge_rule, header_rule, phase_rule, semantics_named, semantics_rule, servers_rule};
 
@@ -43,7 +43,7 @@ fn semantics_named(word: &[u8]) -> Option<Semantics>
 /// `siena 1`, `siena 2`.
 #[tactic(auto, unfolding(crate::specs::Rules::header_rule))]
 pub fn header(state: &mut State, word: &[u8], rest: &[u8]) -> Result<(), LineFault>
-    ensures { Steps result state.new (header_rule state.old word.now (words rest.now)) }
+    ensures { StepsByRule result state.new (header_rule state.old word.now (words rest.now)) }
 {
     if word != b"siena".as_slice() {
         return Err(LineFault::Bad(Fault::Header));
@@ -62,7 +62,7 @@ pub fn header(state: &mut State, word: &[u8], rest: &[u8]) -> Result<(), LineFau
 /// `semantics subscription`, `semantics advertisement`.
 #[tactic(auto, unfolding(crate::specs::Rules::semantics_rule))]
 pub fn semantics(state: &mut State, word: &[u8], rest: &[u8]) -> Result<(), LineFault>
-    ensures { Steps result state.new (semantics_rule state.old word.now (words rest.now)) }
+    ensures { StepsByRule result state.new (semantics_rule state.old word.now (words rest.now)) }
 {
     if word != b"semantics".as_slice() {
         return Err(LineFault::Bad(Fault::Order));
@@ -81,7 +81,7 @@ pub fn semantics(state: &mut State, word: &[u8], rest: &[u8]) -> Result<(), Line
 /// `servers N`.
 #[tactic(auto, unfolding(crate::specs::Rules::servers_rule))]
 pub fn servers(alloc: Global, state: &mut State, word: &[u8], rest: &[u8]) -> Result<(), LineFault>
-    ensures { Steps result state.new (servers_rule state.old word.now (words rest.now)) }
+    ensures { StepsByRule result state.new (servers_rule state.old word.now (words rest.now)) }
 {
     if word != b"servers".as_slice() {
         return Err(LineFault::Bad(Fault::Order));
@@ -100,7 +100,7 @@ pub fn servers(alloc: Global, state: &mut State, word: &[u8], rest: &[u8]) -> Re
 /// `edge A B`.
 #[tactic(auto, unfolding(crate::specs::Rules::edge_rule, crate::specs::Drawn::edge_fault))]
 pub fn edge(state: &mut State, rest: &[u8]) -> Result<(), LineFault>
-    ensures { Steps result state.new (edge_rule state.old (words rest.now)) }
+    ensures { StepsByRule result state.new (edge_rule state.old (words rest.now)) }
 {
     let Some((a, b)) = two_numbers(rest) else {
         return Err(LineFault::Bad(Fault::Words));
@@ -119,7 +119,7 @@ pub fn edge(state: &mut State, rest: &[u8]) -> Result<(), LineFault>
 #[tactic(auto, unfolding(crate::specs::Rules::phase_rule))]
 pub fn phase(alloc: Global, state: &mut State, rest: &[u8]) -> Result<(), LineFault>
     requires { is_apart state.old.trees ≡ false }
-    ensures { Steps result state.new (phase_rule state.old (words rest.now)) }
+    ensures { StepsByRule result state.new (phase_rule state.old (words rest.now)) }
 {
     let Some(k) = one_number(rest) else {
         return Err(LineFault::Bad(Fault::Words));
@@ -134,7 +134,7 @@ pub fn phase(alloc: Global, state: &mut State, rest: &[u8]) -> Result<(), LineFa
 /// `client NAME SERVER`.
 #[tactic(auto, unfolding(crate::specs::Rules::client_rule))]
 pub fn client(alloc: Global, state: &mut State, rest: &[u8]) -> Result<(), LineFault>
-    ensures { Steps result state.new (client_rule state.old (words rest.now)) }
+    ensures { StepsByRule result state.new (client_rule state.old (words rest.now)) }
 {
     let Some((name, server)) = name_and_number(rest) else {
         return Err(LineFault::Bad(Fault::Words));

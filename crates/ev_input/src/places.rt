@@ -4,7 +4,7 @@ ghost use Rattle.std.specs.Str.{bytes_eq};
 ghost use Rattle.ev_input.specs.Rules.{version_number};
 ghost use Rattle.ev_script.specs.Tokens.{first_word, tokens};
 ghost use Rattle.ev_input.specs.Lines.{words};
-ghost use Rattle.ev_input.specs.Answer.{Steps};
+ghost use Rattle.ev_input.specs.Answer.{StepsByRule};
 ghost use Rattle.ev_input.specs.Drawn.{is_apart};
 ghost use Rattle.ev_input.specs.Places.{at_clients, at_edges, at_schedule, at_token, end_rule, has_servers, is_comment, line_rule};
 
@@ -21,7 +21,7 @@ use std::alloc::Global;
 // Behind a client.
 #[tactic(auto, unfolding(crate::specs::Places::at_clients))]
 fn at_clients(alloc: Global, state: &mut State, word: &[u8], rest: &[u8]) -> Result<(), LineFault>
-    ensures { Steps result state.new (at_clients state.old word.now (words rest.now)) }
+    ensures { StepsByRule result state.new (at_clients state.old word.now (words rest.now)) }
 {
     if word == b"client".as_slice() {
         client(alloc, state, rest)
@@ -44,7 +44,7 @@ fn begins_phase(version: Version, word: &[u8]) -> bool
 // Behind `servers`, an edge or a phase.
 #[tactic(auto, unfolding(crate::specs::Places::at_edges))]
 fn at_edges(alloc: Global, state: &mut State, word: &[u8], rest: &[u8]) -> Result<(), LineFault>
-    ensures { Steps result state.new (at_edges state.old word.now (words rest.now)) }
+    ensures { StepsByRule result state.new (at_edges state.old word.now (words rest.now)) }
 {
     if word == b"edge".as_slice() {
         return edge(state, rest);
@@ -70,7 +70,7 @@ fn at_token(
 ) -> Result<(), LineFault>
     requires bytes { bytes ≡ length line }
     requires short { bytes ≤ 4194304 }
-    ensures { Steps result state.new (at_token state.old line.entry word.now (words rest.now) (first_word (tokens line.entry))) }
+    ensures { StepsByRule result state.new (at_token state.old line.entry word.now (words rest.now) (first_word (tokens line.entry))) }
 {
     let Some(token) = line.first_word() else {
         return Err(LineFault::Bad(Fault::Order));
@@ -99,7 +99,7 @@ fn in_script(
     rest: &[u8],
 ) -> Result<(), LineFault>
     requires { length line.now ≤ 4194304 }
-    ensures { Steps result state.new (at_token state.old line.now word.now (words rest.now) (first_word (tokens line.now))) }
+    ensures { StepsByRule result state.new (at_token state.old line.now word.now (words rest.now) (first_word (tokens line.now))) }
 {
     let cut = Line::cut(alloc, line)?;
     at_token(alloc, state, cut, line.len(), word, rest)
@@ -108,7 +108,7 @@ fn in_script(
 // In the schedule.
 #[tactic(auto, unfolding(crate::specs::Places::at_schedule))]
 fn at_schedule(state: &mut State, number: u32, word: &[u8], rest: &[u8]) -> Result<(), LineFault>
-    ensures { Steps result state.new (at_schedule state.old number word.now (words rest.now)) }
+    ensures { StepsByRule result state.new (at_schedule state.old number word.now (words rest.now)) }
 {
     if word == b"command".as_slice() {
         command_turn(state, number, rest)
@@ -134,7 +134,7 @@ fn is_comment(word: &[u8]) -> bool
 #[tactic(auto, unfolding(crate::specs::Places::line_rule))]
 pub fn line(alloc: Global, state: &mut State, number: u32, line: &[u8]) -> Result<(), LineFault>
     requires { length line.now ≤ 4194304 }
-    ensures { Steps result state.new (line_rule state.old number line.now) }
+    ensures { StepsByRule result state.new (line_rule state.old number line.now) }
 {
     let Some((word, rest)) = next_word(line) else {
         return Ok(());
@@ -165,7 +165,7 @@ fn has_servers(place: Place) -> bool
 /// Takes the end, or tells its first fault.
 #[tactic(auto, unfolding(crate::specs::Places::end_rule))]
 pub fn end(state: &State) -> Result<(), LineFault>
-    ensures steps { Steps result state.now (end_rule state.now) }
+    ensures steps { StepsByRule result state.now (end_rule state.now) }
     ensures whole { OnOk result (is_apart state.now.trees ≡ false) }
 {
     if !has_servers(state.place) {

@@ -4,7 +4,7 @@ ghost use Rattle.ev_model.specs.Parts.{NetParts};
 ghost use Rattle.ev_input.specs.declared.fault.Fault.{Fault as Kind};
 ghost use Rattle.ev_input.specs.declared.fault.InputFault.TheVariants.{Bad, NoMemory};
 ghost use Rattle.ev_input.specs.Lines.{lines};
-ghost use Rattle.ev_input.specs.Net.{IsBadAt, IsNetOf, Places, Reads};
+ghost use Rattle.ev_input.specs.Net.{IsBadAt, IsNetOf, Places, ReadsNet};
 ghost use Rattle.ev_input.specs.Places.{document_of, read_from, start};
 
 use crate::clients::Clients;
@@ -49,7 +49,7 @@ fn bad(line: u32, fault: LineFault) -> InputFault
 
 fn read_lines(alloc: Global, bytes: &[u8]) -> Result<Net, InputFault>
     requires { length bytes.now ≤ 4194304 }
-    ensures { Reads result (read_from 1 start (lines bytes.now)) }
+    ensures { ReadsNet result (read_from 1 start (lines bytes.now)) }
 {
     let mut state = start(alloc);
     let mut number: u32 = 1;
@@ -74,7 +74,7 @@ fn read_lines(alloc: Global, bytes: &[u8]) -> Result<Net, InputFault>
 
 #[tactic(auto, unfolding(crate::specs::Places::document_of))]
 fn answered(alloc: Global, bytes: &[u8]) -> Result<Net, InputFault>
-    ensures { Reads result (document_of bytes.now) }
+    ensures { ReadsNet result (document_of bytes.now) }
 {
     if bytes.len() > MOST_BYTES {
         return Err(InputFault::Bad {

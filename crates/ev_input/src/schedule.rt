@@ -1,7 +1,7 @@
 //! The lines of the schedule.
 ghost use Rattle.std.specs.Prelude.{◌≡◌};
 ghost use Rattle.ev_input.specs.Lines.{words};
-ghost use Rattle.ev_input.specs.Answer.{Steps};
+ghost use Rattle.ev_input.specs.Answer.{StepsByRule};
 ghost use Rattle.ev_input.specs.Rules.{command_turn, take_turn, version_turn};
 
 use crate::fault::{Fault, LineFault};
@@ -13,7 +13,7 @@ use ev_model::Turn;
 /// `command NAME`.
 #[tactic(auto, unfolding(crate::specs::Rules::command_turn))]
 pub fn command_turn(state: &mut State, line: u32, rest: &[u8]) -> Result<(), LineFault>
-    ensures { Steps result state.new (command_turn state.old line (words rest.now)) }
+    ensures { StepsByRule result state.new (command_turn state.old line (words rest.now)) }
 {
     let Some(name) = one_name(rest) else {
         return Err(LineFault::Bad(Fault::Words));
@@ -28,7 +28,7 @@ pub fn command_turn(state: &mut State, line: u32, rest: &[u8]) -> Result<(), Lin
 /// `take A B`.
 #[tactic(auto, unfolding(crate::specs::Rules::take_turn))]
 pub fn take_turn(state: &mut State, line: u32, rest: &[u8]) -> Result<(), LineFault>
-    ensures { Steps result state.new (take_turn state.old line (words rest.now)) }
+    ensures { StepsByRule result state.new (take_turn state.old line (words rest.now)) }
 {
     let Some((a, b)) = two_numbers(rest) else {
         return Err(LineFault::Bad(Fault::Words));
@@ -47,7 +47,7 @@ pub fn take_turn(state: &mut State, line: u32, rest: &[u8]) -> Result<(), LineFa
 /// `version A`.
 #[tactic(auto, unfolding(crate::specs::Rules::version_turn))]
 pub fn version_turn(state: &mut State, line: u32, rest: &[u8]) -> Result<(), LineFault>
-    ensures { Steps result state.new (version_turn state.old line (words rest.now)) }
+    ensures { StepsByRule result state.new (version_turn state.old line (words rest.now)) }
 {
     let Some(a) = one_number(rest) else {
         return Err(LineFault::Bad(Fault::Words));

@@ -1,7 +1,7 @@
 //! The lines of scripts.
 ghost use Rattle.std.specs.Prelude.{◌≡◌, ◌≤◌, length};
 ghost use Rattle.ev_input.specs.Lines.{words};
-ghost use Rattle.ev_input.specs.Answer.{Gives, Steps};
+ghost use Rattle.ev_input.specs.Answer.{GivesByRule, StepsByRule};
 ghost use Rattle.ev_input.specs.Commands.{Tells, command_of};
 ghost use Rattle.ev_input.specs.Rules.{barrier_rule, command_rule, count_rule, schedule_rule, script_rule, version_number};
 
@@ -18,7 +18,7 @@ use std::alloc::Global;
 /// `script NAME`.
 #[tactic(auto, unfolding(crate::specs::Rules::script_rule))]
 pub fn script(state: &mut State, word: &[u8], rest: &[u8]) -> Result<(), LineFault>
-    ensures { Steps result state.new (script_rule state.old word.now (words rest.now)) }
+    ensures { StepsByRule result state.new (script_rule state.old word.now (words rest.now)) }
 {
     if word != b"script".as_slice() {
         return Err(LineFault::Bad(Fault::Words));
@@ -41,7 +41,7 @@ pub fn script(state: &mut State, word: &[u8], rest: &[u8]) -> Result<(), LineFau
 /// `barrier`.
 #[tactic(auto, unfolding(crate::specs::Rules::barrier_rule))]
 pub fn barrier(state: &mut State, word: &[u8], rest: &[u8]) -> Result<(), LineFault>
-    ensures { Steps result state.new (barrier_rule state.old word.now (words rest.now)) }
+    ensures { StepsByRule result state.new (barrier_rule state.old word.now (words rest.now)) }
 {
     if word != b"barrier".as_slice() || next_word(rest).is_some() {
         return Err(LineFault::Bad(Fault::Words));
@@ -56,7 +56,7 @@ pub fn barrier(state: &mut State, word: &[u8], rest: &[u8]) -> Result<(), LineFa
 /// `schedule`.
 #[tactic(auto, unfolding(crate::specs::Rules::schedule_rule))]
 pub fn schedule(state: &mut State, word: &[u8], rest: &[u8]) -> Result<(), LineFault>
-    ensures { Steps result state.new (schedule_rule state.old word.now (words rest.now)) }
+    ensures { StepsByRule result state.new (schedule_rule state.old word.now (words rest.now)) }
 {
     if word != b"schedule".as_slice() || next_word(rest).is_some() {
         return Err(LineFault::Bad(Fault::Words));
@@ -81,7 +81,7 @@ fn line_fault(fault: ScriptFault) -> LineFault
 
 // The command of a line whose first token is cut off.
 fn command_of(alloc: Global, version: Version, line: Line<'_>) -> Result<Command, LineFault>
-    ensures { Gives result (command_of (version_number version) line.entry) }
+    ensures { GivesByRule result (command_of (version_number version) line.entry) }
 {
     match line.command(alloc, version.number()) {
         Ok(command) => Ok(command),
@@ -100,7 +100,7 @@ fn count(
     requires short { bytes ≤ 4194304 }
     requires servers { servers ≤ 64 }
     requires clients { clients ≤ 1024 }
-    ensures { Steps result tally.new (count_rule tally.old command.now bytes servers clients) }
+    ensures { StepsByRule result tally.new (count_rule tally.old command.now bytes servers clients) }
 {
     match command {
         Command::Subscribe(_) | Command::Advertise(_) => tally.add_control(false, bytes, servers),
@@ -121,7 +121,7 @@ pub fn command(
 ) -> Result<(), LineFault>
     requires bytes { bytes ≡ length line }
     requires short { bytes ≤ 4194304 }
-    ensures { Steps result state.new (command_rule state.old line.entry) }
+    ensures { StepsByRule result state.new (command_rule state.old line.entry) }
 {
     let command = command_of(alloc, state.version, line)?;
     let servers = state.trees.servers() as u64;

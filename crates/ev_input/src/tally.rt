@@ -1,6 +1,6 @@
 //! How many commands a document has, and the bytes of their lines.
 ghost use Rattle.std.specs.Prelude.{◌≡◌, ◌≤◌};
-ghost use Rattle.ev_input.specs.Answer.{Steps};
+ghost use Rattle.ev_input.specs.Answer.{StepsByRule};
 ghost use Rattle.ev_input.specs.Tally.{control_rule, no_counts, publish_rule};
 
 use crate::fault::{Fault, LineFault};
@@ -25,9 +25,9 @@ pub struct Tally {
 }
 
 impl Model for Tally {
-    ghost use Rattle.ev_input.specs.Tally.{AreSmall, Counts, counts};
+    ghost use Rattle.ev_input.specs.Tally.{AreSmall, CommandCounts, counts};
 
-    ghost Value = { Counts };
+    ghost Value = { CommandCounts };
 
     ghost view = { λ t. counts t.controls t.withdrawals t.control_bytes t.publications t.publish_bytes };
 
@@ -58,7 +58,7 @@ impl Tally {
     ) -> Result<(), LineFault>
         requires short { bytes ≤ 4194304 }
         requires few { servers ≤ 64 }
-        ensures { Steps result self.new (control_rule self.old withdraws bytes servers) }
+        ensures { StepsByRule result self.new (control_rule self.old withdraws bytes servers) }
     {
         if self.controls >= MOST_CONTROLS {
             return Err(LineFault::Bad(Fault::Commands));
@@ -83,7 +83,7 @@ impl Tally {
     pub fn add_publish(&mut self, bytes: u64, clients: u64) -> Result<(), LineFault>
         requires short { bytes ≤ 4194304 }
         requires few { clients ≤ 1024 }
-        ensures { Steps result self.new (publish_rule self.old bytes clients) }
+        ensures { StepsByRule result self.new (publish_rule self.old bytes clients) }
     {
         if self.publications >= MOST_PUBLICATIONS {
             return Err(LineFault::Bad(Fault::Publications));

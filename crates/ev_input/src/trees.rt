@@ -2,7 +2,7 @@
 ghost use Rattle.std.specs.Prelude.{◌≡◌, ◌≤◌, ℕ, All, false, IfOk, Ok, None};
 ghost use Rattle.ev_tree.specs.Graph.{AreWithin, IsCount, IsEdgeWithin, IsTree};
 ghost use Rattle.ev_input.specs.Net.{AreTreesOf, IsTreeOf};
-ghost use Rattle.ev_input.specs.Drawn.{IsWhole, are_neighbours, blocks, edge_fault, is_apart, undrawn, with_edge, with_phase};
+ghost use Rattle.ev_input.specs.Drawn.{IsWholeBlock, are_neighbours, blocks, edge_fault, is_apart, undrawn, with_edge, with_phase};
 
 use crate::block::Block;
 use crate::near::Near;
@@ -58,7 +58,7 @@ fn tree_of(alloc: Global, servers: u32, edges: &[(u32, u32)]) -> Result<Tree, No
 // The tree of each, with its first phase.
 fn trees_of(alloc: Global, servers: u32, blocks: &[Block]) -> Result<Vec<(u32, Tree)>, NoMemory>
     requires count { IsCount servers }
-    requires whole { All (IsWhole servers) blocks.now }
+    requires whole { All (IsWholeBlock servers) blocks.now }
     ensures { IfOk result (λ trees. AreTreesOf servers blocks.now trees.items) }
 {
     let mut trees = Vec::with_capacity(alloc, blocks.len() + 1)?;

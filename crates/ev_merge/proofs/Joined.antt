@@ -5,7 +5,7 @@ use Rattle.std.proofs.lemmas.List.Sums.{sum_by-cons}
 use Rattle.ev_sets.specs.Sets.{Has}
 use Rattle.ev_run.proofs.Lists.{has-append, append-nothing}
 use Rattle.ev_model.specs.Parts.{EntryParts}
-use Rattle.ev_merge.specs.Merging.{IsJournalOf, AreJournals, journal_at}
+use Rattle.ev_merge.specs.Merging.{IsJournalOf, AreServerJournals, journal_at}
 use Rattle.ev_merge.proofs.Lists.{Later, later-append, filter-append, filter-all, filter-none}
 
 abbrev pub joined : List (List EntryParts) → List EntryParts
@@ -76,16 +76,16 @@ part-of n (suc k) (l ∷ ls) a =
     shift : n + suc k ≡ suc n + k
     shift = omega arith
 
-from-one : (ls : List (List EntryParts)) → AreJournals ls → AreFrom 1 ls
+from-one : (ls : List (List EntryParts)) → AreServerJournals ls → AreFrom 1 ls
 from-one ls are = are-from 1 ls (λ k. subst (λ s. IsJournalOf s (slice_index_or ls k [])) (shift k) (are (suc k)))
   where
     shift : (k : ℕ) → suc k ≡ 1 + k
     shift k = omega arith
 
-pub ranked : (ls : List (List EntryParts)) → AreJournals ls → Later IsRanked (joined ls)
+pub ranked : (ls : List (List EntryParts)) → AreServerJournals ls → Later IsRanked (joined ls)
 ranked ls are = (ranked-from 1 ls (from-one ls are)).0
 
-pub parts : (ls : List (List EntryParts)) → AreJournals ls → (server : ℕ) → filter (is_of server) (joined ls) ≡ journal_at ls server
+pub parts : (ls : List (List EntryParts)) → AreServerJournals ls → (server : ℕ) → filter (is_of server) (joined ls) ≡ journal_at ls server
 parts ls are zero = none-below 1 zero ls (from-one ls are) (omega arith)
 parts ls are (suc k) = ap (λ s. filter (is_of s) (joined ls)) shift ∙ part-of 1 k ls (from-one ls are)
   where

@@ -13,7 +13,7 @@ use Rattle.ev_phases.specs.Trees.{JournalEntry, entry_on, entry_off, entries_on}
 use Rattle.ev_theory.specs.Real.{real}
 use Rattle.ev_model.specs.Parts.{EntryParts}
 use Rattle.ev_model.specs.Meaning.{entry_of, journal_of}
-use Rattle.ev_merge.specs.Merging.{IsJournalOf, AreJournals, journal_at, entries_in}
+use Rattle.ev_merge.specs.Merging.{IsJournalOf, AreServerJournals, journal_at, entries_in}
 use Rattle.ev_merge.proofs.Lists.{Later}
 use Rattle.ev_merge.proofs.Joined.{joined, is_of}
 use Rattle.ev_merge.proofs.Sorted.{stamp_of, IsSooner, merged-order, merged-parts}
@@ -54,7 +54,7 @@ module _ (net : Net real) where
   merge-seen lists es order parts = record { order = order-seen es order; parts = λ server. parts-seen server es ∙ ap (entries_in net) (parts server) }
 
   -- of journals one after the other, sorted
-  pub merge-sorted : (lists : List (List EntryParts)) → AreJournals lists → (xs ys : List EntryParts) → xs ≡ joined lists
+  pub merge-sorted : (lists : List (List EntryParts)) → AreServerJournals lists → (xs ys : List EntryParts) → xs ≡ joined lists
       → IsNonDecreasingBy stamp_of ys → IsStableByKey stamp_of nat_cmp xs ys → IsMerge m (λ server. entries_in net (journal_at lists server)) (entries_in net ys)
   merge-sorted lists are xs ys is rising stable =
       merge-seen lists ys (merged-order lists are xs ys is rising stable) (merged-parts lists are xs ys is rising stable)
@@ -103,6 +103,6 @@ module _ (net : Net real) where
       ∙ unseen (journal_of es)
 
   -- what has a merge are journals
-  pub are-journals : (lists : List (List EntryParts)) (sofar : List JournalEntry) → IsMerge m (λ server. entries_in net (journal_at lists server)) (entries_on real net sofar) → AreJournals lists
+  pub are-journals : (lists : List (List EntryParts)) (sofar : List JournalEntry) → IsMerge m (λ server. entries_in net (journal_at lists server)) (entries_on real net sofar) → AreServerJournals lists
   are-journals lists sofar a server =
       seen-journal server (journal_at lists server) (subst (IsJournal m server) (a.parts server) (part-journal server (entries_on real net sofar) a.order))

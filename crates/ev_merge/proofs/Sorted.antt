@@ -6,7 +6,7 @@ use Rattle.ev_sets.specs.Sets.{Has}
 use Rattle.ev_sets.proofs.Roots.{Has-filter, filter-Has}
 use Rattle.ev_model.specs.Parts.{EntryParts}
 use Rattle.ev_merge.proofs.Lists.{Later, later-filter, one-list}
-use Rattle.ev_merge.specs.Merging.{AreJournals, journal_at}
+use Rattle.ev_merge.specs.Merging.{AreServerJournals, journal_at}
 use Rattle.ev_merge.proofs.Joined.{joined, is_of, IsRanked, ranked, parts}
 
 abbrev pub stamp_of : EntryParts → ℕ
@@ -88,7 +88,7 @@ module _ (xs ys : List EntryParts) (apart : Later IsRanked xs) (rising : IsNonDe
       lower e f p q (inr l) = l.1
 
 -- of journals one after the other, sorted
-module _ (lists : List (List EntryParts)) (are : AreJournals lists) (xs ys : List EntryParts) (is : xs ≡ joined lists) (rising : IsNonDecreasingBy stamp_of ys) (stable : IsStableByKey stamp_of nat_cmp xs ys) where
+module _ (lists : List (List EntryParts)) (are : AreServerJournals lists) (xs ys : List EntryParts) (is : xs ≡ joined lists) (rising : IsNonDecreasingBy stamp_of ys) (stable : IsStableByKey stamp_of nat_cmp xs ys) where
   apart-here : Later IsRanked xs
   apart-here = subst (Later IsRanked) (sym is) (ranked lists are)
 

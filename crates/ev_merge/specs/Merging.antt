@@ -21,8 +21,8 @@ journal_at journals zero = []
 journal_at journals (suc place) = slice_index_or journals place []
 
 -- each is a journal of its server
-abbrev pub AreJournals : List (List EntryParts) → Type 0
-AreJournals journals = (server : ℕ) → IsJournalOf server (journal_at journals server)
+abbrev pub AreServerJournals : List (List EntryParts) → Type 0
+AreServerJournals journals = (server : ℕ) → IsJournalOf server (journal_at journals server)
 
 -- the journals as runs over trees by phase see them
 abbrev pub journals_in : List (List EntryParts) → ℕ → List JournalEntry

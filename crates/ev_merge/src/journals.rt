@@ -1,7 +1,7 @@
 //! One list of all entries.
 ghost use Rattle.std.specs.Prelude.{◌≡◌, ℕ, ◌==◌, length, map, filter, sum_by, IfOk};
 ghost use Rattle.std.specs.List.{flat_map};
-ghost use Rattle.ev_merge.specs.Merging.{AreJournals, IsMergeOf, journal_at};
+ghost use Rattle.ev_merge.specs.Merging.{AreServerJournals, IsMergeOf, journal_at};
 
 use ev_memory::NoMemory;
 use ev_model::Entry;
@@ -20,7 +20,7 @@ fn joined(alloc: Global, journals: Vec<Vec<Entry>>) -> Result<Vec<Entry>, NoMemo
 
 /// The journals of servers 1, 2, .. as one: all their entries, each once, by stamp and then by server.
 pub fn merge(alloc: Global, journals: Vec<Vec<Entry>>) -> Result<Vec<Entry>, NoMemory>
-    requires { AreJournals (map (λ journal. journal.items) journals.items) }
+    requires { AreServerJournals (map (λ journal. journal.items) journals.items) }
     ensures merge { IfOk result (λ merged. IsMergeOf (map (λ journal. journal.items) journals.items) merged.items) }
     ensures entries { IfOk result (λ merged. (server : ℕ)
         → filter (λ entry. entry.server == server) merged.items ≡ journal_at (map (λ journal. journal.items) journals.items) server) }

@@ -10,7 +10,7 @@ ghost use Rattle.ev_phases.specs.Trees.{JournalEntry, State, PhasedNet};
 ghost use Rattle.ev_theory.specs.Real.{real};
 ghost use Rattle.ev_model.specs.Meaning.{journal_of};
 ghost use Rattle.ev_model.specs.Parts.{EntryParts};
-ghost use Rattle.ev_merge.specs.Merging.{AreJournals, IsJournalOf, IsMergeOf, entries_in, journals_in};
+ghost use Rattle.ev_merge.specs.Merging.{AreServerJournals, IsJournalOf, IsMergeOf, entries_in, journals_in};
 
 /// The journal of a server is what the laws of runs call so, whatever the net.
 pub fn journal_in_runs()
@@ -21,7 +21,7 @@ pub fn journal_in_runs()
 /// Journals that have a merge in the runs of a net are journals that may be merged, and the merged one is that merge and no other.
 pub fn merge_in_runs()
     ensures may { (net : PhasedNet real) (journals : List (List EntryParts)) (sofar : List JournalEntry)
-        → MergesJournals real net (journals_in journals) sofar → AreJournals journals }
+        → MergesJournals real net (journals_in journals) sofar → AreServerJournals journals }
     ensures is { (net : PhasedNet real) (journals : List (List EntryParts)) (merged : List EntryParts)
         → IsMergeOf journals merged → MergesJournals real net (journals_in journals) (journal_of merged) }
     ensures once { (net : PhasedNet real) (journals : List (List EntryParts)) (merged : List EntryParts) (sofar : List JournalEntry)

@@ -42,6 +42,10 @@ abbrev pub client_at : List ClientParts → ℕ → Option ClientParts
 client_at clients zero = None
 client_at clients (suc place) = slice_get clients place
 
+-- something of each client of a net, in the order of the net
+abbrev pub of_clients : {A : Type 0} → NetParts → (ℕ → A) → List A
+of_clients net f = map f (range_with_len 1 (length net.clients))
+
 -- the server of a client, where there is one; else server 1
 abbrev pub home_in : Option ClientParts → ℕ
 home_in None = 1

@@ -26,7 +26,7 @@ use Rattle.ev_model.specs.Meaning.{act_of, entry_of}
 use Rattle.ev_model.specs.Nets.{phased_net}
 use Rattle.ev_model.specs.declared.turn.Act.{Act as EntryAct}
 use Rattle.ev_server.specs.Core.{CoreParts, IsServerState}
-use Rattle.ev_server.specs.Step.{IsStep, stamp_after}
+use Rattle.ev_server.specs.Step.{IsServerStep, stamp_after}
 use Rattle.ev_net.specs.Links.{framed, frames_to, AreOnLinks}
 use Rattle.ev_net.specs.Kept.{AreServers}
 use Rattle.ev_net.specs.Acted.{Servers, StampedInput, input_of, stamp_of, told_as, frames_left, IsActed}
@@ -97,7 +97,7 @@ module _ (net : NetParts) (phase : ℕ) (laws : NetLaws real (net_at real (phase
     stands : IsServerState (net_at real (phased_net net) phase) step.core (state.state step.core.server)
     stands = subst (λ z. IsServerState (net_at real (phased_net net) phase) step.core (state.state z)) (sym t-is) (servers.states place step.core step.here)
 
-    local : IsStep (net_at real (phased_net net) phase) (state.state step.core.server) (input_of input) step.core step.next step.sent
+    local : IsServerStep (net_at real (phased_net net) phase) (state.state step.core.server) (input_of input) step.core step.next step.sent
     local = step.step.step (net_at real (phased_net net) phase) (state.state step.core.server) stands
 
     links-are : (net_at real (phased_net net) phase).links step.core.server ≡ step.core.control.links

@@ -24,7 +24,7 @@ use Rattle.ev_server.specs.Core.{CoreParts, IsServerState}
 use Rattle.ev_server.specs.Linked.{SuitsCore}
 use Rattle.ev_net.specs.Kept.{AreServers}
 use Rattle.ev_net.specs.Owned.{HoldsOwn, AreOwn, IsTogether}
-use Rattle.ev_net.specs.Begin.{Fits, greatest_clock}
+use Rattle.ev_net.specs.Begin.{FitsCore, greatest_clock}
 use Rattle.ev_net.proofs.Moving.{Sets, AreUnions, client_filters, client_adverts}
 use Rattle.ev_net.proofs.Owned.{client_interfaces, holds-own, fits}
 
@@ -86,7 +86,7 @@ module _ (net : NetParts) (sound : IsSound net) (last : ℕ) (state : State real
   pub all-hold-own : (place : ℕ) (core : CoreParts) → slice_get cores place ≡ Some core → HoldsOwn net core
   all-hold-own place core at = holds-own net sound last state rest core (its-state place core at)
 
-  pub all-fit : (place : ℕ) (core : CoreParts) (control : Controlled) → slice_get cores place ≡ Some core → SuitsCore core control → Fits core control
+  pub all-fit : (place : ℕ) (core : CoreParts) (control : Controlled) → slice_get cores place ≡ Some core → SuitsCore core control → FitsCore core control
   all-fit place core control at suits = fits net sound last state rest core (its-state place core at) control suits
 
   pub clock-is : greatest_clock cores ≡ greatest (machine_at real (phased_net net) last) state.clock (servers_in net)

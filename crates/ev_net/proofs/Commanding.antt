@@ -28,7 +28,7 @@ use Rattle.ev_server.specs.Core.{CoreParts}
 use Rattle.ev_server.specs.Staged.{is_some_there}
 use Rattle.ev_server.specs.Step.{last_stamp}
 use Rattle.ev_net.specs.declared.servers.Servers as code
-use Rattle.ev_net.specs.Seen.{seen, calm_in, calm_at, AreCalm}
+use Rattle.ev_net.specs.Seen.{seen, calm_in, calm_at, AreCalmCores}
 use Rattle.ev_frame.specs.Frame.{FrameParts}
 use Rattle.ev_net.specs.Sessions.{is_below}
 use Rattle.std.proofs.lemmas.Bool.Decides.{nat_tests}
@@ -311,7 +311,7 @@ taken_back net last old new kept cores frames journal = record {
     same = ap (moment_by net) journal
 
 -- quiet where nothing lies on a link and no core has anything staged
-pub quiet_where : (net : NetParts) (phase : ℕ) (now : Servers) → IsNetwork net phase now → ((a b : ℕ) → now.frames a b ≡ []) → AreCalm now.cores
+pub quiet_where : (net : NetParts) (phase : ℕ) (now : Servers) → IsNetwork net phase now → ((a b : ℕ) → now.frames a b ≡ []) → AreCalmCores now.cores
     → IsQuietOn real (phased_net net) phase (moment_by net now.journal).state
 quiet_where net phase now kept empty calm = record {
   empty = λ a b. all-taken ((moment_by net now.journal).state.put a b) ((moment_by net now.journal).state.taken a b) (kept.links.within a b)
@@ -332,7 +332,7 @@ quiet_where net phase now kept empty calm = record {
 pub empty_where : (net : NetParts) (phase : ℕ) (now : Servers) → IsNetwork net phase now → IsQuietOn real (phased_net net) phase (moment_by net now.journal).state → (a b : ℕ) → now.frames a b ≡ []
 empty_where net phase now kept quiet a b = kept.links.frames_are a b ∙ ap (map framed) (ap (λ z. drop z ((moment_by net now.journal).state.put a b)) (quiet.empty a b) ∙ drop-all ((moment_by net now.journal).state.put a b))
 
-pub calm_where : (net : NetParts) (phase : ℕ) (now : Servers) → IsNetwork net phase now → IsQuietOn real (phased_net net) phase (moment_by net now.journal).state → AreCalm now.cores
+pub calm_where : (net : NetParts) (phase : ℕ) (now : Servers) → IsNetwork net phase now → IsQuietOn real (phased_net net) phase (moment_by net now.journal).state → AreCalmCores now.cores
 calm_where net phase now kept quiet k l = go (get-at now.cores k l)
   where
     go : At now.cores k → calm_at now.cores k ≡ true

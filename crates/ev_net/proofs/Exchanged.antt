@@ -20,22 +20,22 @@ use Rattle.ev_server.specs.Core.{CoreParts, IsServerState, published_from}
 use Rattle.ev_server.specs.Linked.{IsOnLinks}
 use Rattle.ev_net.specs.Kept.{AreServers}
 use Rattle.ev_net.specs.declared.relinking.Standing.{Standing}
-use Rattle.ev_net.specs.Begin.{FitsWhere, CanTake, IsGiven, given_back, IsExchanged, CanAllTake, AreExchanged, Begins, IsKept, IsUndone, IsUndoneBy, IsMoved, greatest_clock}
+use Rattle.ev_net.specs.Begin.{FitsWhere, CanTake, IsGivenControl, given_back, IsExchanged, CanAllTake, AreExchanged, Begins, IsCoreKept, IsUndone, IsUndoneBy, IsOnOtherLinks, greatest_clock}
 use Rattle.ev_net.proofs.Moving.{AreUnions, client_filters, client_adverts, server-moved}
 use Rattle.ev_net.proofs.Beginning.{one-there, also, other-clock, its-state, all-fit, clock-is}
 
 -- one core
 
 -- its server stays
-given-server : (links : Option Controlled) (old new : CoreParts) → IsGiven links old new → new.server ≡ old.server
+given-server : (links : Option Controlled) (old new : CoreParts) → IsGivenControl links old new → new.server ≡ old.server
 given-server None old new g = ap (λ (z : CoreParts). z.server) g
 given-server (Some control) old new g = g.server
 
 -- what was taken on by a core takes it back
 pub undone : (standing left : Standing) (old new : CoreParts) → CanTake standing old → IsExchanged standing old left new → IsUndone left old new
-undone standing left old new can x = record { can = x.can; clock = x.clock_back; kept = subst (λ z. IsKept z old new) (sym x.back) (go standing.links can.fits x.given) }
+undone standing left old new can x = record { can = x.can; clock = x.clock_back; kept = subst (λ z. IsCoreKept z old new) (sym x.back) (go standing.links can.fits x.given) }
   where
-    go : (links : Option Controlled) → FitsWhere old links → IsGiven links old new → IsKept (given_back links old.control) old new
+    go : (links : Option Controlled) → FitsWhere old links → IsGivenControl links old new → IsCoreKept (given_back links old.control) old new
     go None f g = g
     go (Some control) f g = (refl, f.staged, f.published, g.server, g.clients)
 
@@ -76,7 +76,7 @@ taken-back before left old now after u x = go before.links u.kept x.given
     clock : after.clock ≡ old.clock
     clock = x.clock ∙ u.clock
 
-    go : (links : Option Controlled) → IsKept links old now → IsGiven links now after → IsAlike old after
+    go : (links : Option Controlled) → IsCoreKept links old now → IsGivenControl links now after → IsAlike old after
     go None k g =
         alike-of after old both
       where
@@ -148,7 +148,7 @@ begun-clock net last phase state server = go (is_one_tree real (phased_net net) 
     go false = refl
 
 record IsGone (standing : Standing) (was core : CoreParts) : Type 0 where
-  pub given : IsGiven standing.links was core
+  pub given : IsGivenControl standing.links was core
   pub clock : core.clock ≡ standing.clock
 
 pub all-begun : (net : NetParts) (sound : IsSound net) (last phase : ℕ) (standings left : List Standing) (old new : List CoreParts) → Begins net last phase old standings → AreExchanged standings old left new
@@ -176,7 +176,7 @@ pub raised-begins : (net : NetParts) (sound : IsSound net) (last phase clock : �
 raised-begins net sound last phase clock cores standings one is low long all = record {
   can = record { long = long; each = λ place standing core s c. record { low = omega (arith, low, (all place standing s).0); fits = subst (FitsWhere core) (sym (all place standing s).1) unit } };
   clock = λ place standing s. (all place standing s).0 ∙ is;
-  stands = λ state servers rest place standing core new s c g. same-tree state place core new (servers.states place core c) (subst (λ z. IsGiven z core new) (all place standing s).1 g);
+  stands = λ state servers rest place standing core new s c g. same-tree state place core new (servers.states place core c) (subst (λ z. IsGivenControl z core new) (all place standing s).1 g);
 }
   where
     unit : Unit {0}
@@ -195,7 +195,7 @@ pub moved-begins : (net : NetParts) (sound : IsSound net) (last phase clock : �
     → (homes : List Home) → ((state : State real) → AreServers net last state cores → IsAtRestOn real (phased_net net) last state
     → AreUnions net.semantics (net_at real (phased_net net) phase) (client_filters net sound last phase state homes) (client_adverts net sound last phase state homes) homes)
     → ((place : ℕ) (standing : Standing) (core : CoreParts) → slice_get standings place ≡ Some standing → slice_get cores place ≡ Some core
-    → (held : List HeldLink) × (map (λ h. h.link) held ≡ links_of (topology_at net phase) (suc place)) × ((h : HeldLink) → Has h held → IsFlow net.semantics (topology_at net phase) homes (suc place) h) × IsMoved held core standing)
+    → (held : List HeldLink) × (map (λ h. h.link) held ≡ links_of (topology_at net phase) (suc place)) × ((h : HeldLink) → Has h held → IsFlow net.semantics (topology_at net phase) homes (suc place) h) × IsOnOtherLinks held core standing)
     → AreServers net last state cores → IsAtRestOn real (phased_net net) last state → Begins net last phase cores standings
 moved-begins net sound last phase clock cores standings state other is low long clocks homes unions all servers rest = record {
   can = record {
@@ -209,12 +209,12 @@ moved-begins net sound last phase clock cores standings state other is low long 
 }
   where
     on-tree : (state : State real) → AreServers net last state cores → IsAtRestOn real (phased_net net) last state → (place : ℕ) (standing : Standing) (core new : CoreParts) → slice_get standings place ≡ Some standing → slice_get cores place ≡ Some core
-        → IsGiven standing.links core new → IsServerState (net_at real (phased_net net) phase) new ((begun real (phased_net net) last phase state).state (suc place))
+        → IsGivenControl standing.links core new → IsServerState (net_at real (phased_net net) phase) new ((begun real (phased_net net) last phase state).state (suc place))
     on-tree state servers rest place standing core new s c g =
         let a = all place standing core s c in
         let number : core.server ≡ suc place = servers.number place core c in
         let links = a.1 ∙ ap (links_of (topology_at net phase)) (sym number) in
-        let given : IsOnLinks a.3.control core (record new { clock = core.clock }) = subst (λ z. IsGiven z core new) a.3.given g in
+        let given : IsOnLinks a.3.control core (record new { clock = core.clock }) = subst (λ z. IsGivenControl z core new) a.3.given g in
         let moved = server-moved net sound last phase state homes (net-on net sound phase) (unions state servers rest) core a.0 a.3.control (its-state net sound last state cores servers rest place core c) links
         (λ h m. subst (λ z. IsFlow net.semantics (topology_at net phase) homes z h) (sym number) (a.2 h m)) a.3.linked a.3.suits (record new { clock = core.clock }) given in
         let here = other-clock (net_at real (phased_net net) phase) core new ((with_tree_changed real (phased_net net) last phase state).state core.server) moved in

@@ -17,13 +17,13 @@ use Rattle.ev_model.specs.Nets.{clients_of, home_of, home_in}
 use Rattle.ev_model.proofs.Adding.{filters-sorted, adverts-sorted}
 use Rattle.ev_session.specs.Session.{SessionParts, filters_at, adverts_at, first_commands}
 use Rattle.ev_session.specs.Turn.{filter_set_at, advert_set_at}
-use Rattle.ev_counting.specs.Table.{Held, IsAdded}
+use Rattle.ev_counting.specs.Table.{HeldFilter, IsAdded}
 use Rattle.ev_control.specs.declared.control.HeldLink.{HeldLink}
 use Rattle.ev_control.specs.Control.{subs, advs, by_adverts}
 use Rattle.ev_control.proofs.Taken.{has-next, has-more}
 use Rattle.ev_server.specs.Clients.{bare}
 use Rattle.ev_server.specs.Core.{CoreParts}
-use Rattle.ev_net.specs.Owned.{HasPair, HoldsOwn, IsOwn, AreOwn}
+use Rattle.ev_net.specs.Owned.{HasFilterBy, HoldsOwn, IsOwn, AreOwn}
 
 -- one more at the end
 
@@ -39,7 +39,7 @@ push-long xs new x n is long = omega (arith, long, ap length is, length-append x
 
 -- pairs of a table
 
-pub enter-step : (old now new : List Held) (iface : ℕ) (filters : List (List ConstraintParts)) (n : ℕ) (x : List ConstraintParts) → slice_get filters n ≡ Some x → IsAdded now new (iface, x)
+pub enter-step : (old now new : List HeldFilter) (iface : ℕ) (filters : List (List ConstraintParts)) (n : ℕ) (x : List ConstraintParts) → slice_get filters n ≡ Some x → IsAdded now new (iface, x)
     → ((i : ℕ) (f : List ConstraintParts) → Contains now (i, f) ↔ (Contains old (i, f) ⊎ ((iface ≡ i) × Has f (take n filters))))
     → (i : ℕ) (f : List ConstraintParts) → Contains new (i, f) ↔ (Contains old (i, f) ⊎ ((iface ≡ i) × Has f (take (n + 1) filters)))
 enter-step old now new iface filters n x at added ih i f = (to, from)
@@ -47,7 +47,7 @@ enter-step old now new iface filters n x at added ih i f = (to, from)
     to : Contains new (i, f) → Contains old (i, f) ⊎ ((iface ≡ i) × Has f (take (n + 1) filters))
     to k = elim (added.only (i, f) k) [
       | inl m ↦ elim ((ih i f).0 m) [ inl o ↦ inl o | inr r ↦ inr (r.0, (has-next filters n x f at).1 (inl r.1)) ]
-      | inr q ↦ inr (ap (λ (z : Held). z.0) (sym q), (has-next filters n x f at).1 (inr (ap (λ (z : Held). z.1) q)))
+      | inr q ↦ inr (ap (λ (z : HeldFilter). z.0) (sym q), (has-next filters n x f at).1 (inr (ap (λ (z : HeldFilter). z.1) q)))
     ]
 
     from : Contains old (i, f) ⊎ ((iface ≡ i) × Has f (take (n + 1) filters)) → Contains new (i, f)
@@ -57,53 +57,53 @@ enter-step old now new iface filters n x at added ih i f = (to, from)
       | inr q ↦ subst (λ z. Contains new (i, z)) (sym q) (subst (λ z. Contains new (z, x)) r.0 added.there)
     ]
 
-pub pairs-next : (held : List HeldLink) (n : ℕ) (h : HeldLink) (i : ℕ) (f : List ConstraintParts) → slice_get held n ≡ Some h → HasPair (take (n + 1) held) i f ↔ (HasPair (take n held) i f ⊎ ((h.link ≡ i) × Has f h.filters))
+pub pairs-next : (held : List HeldLink) (n : ℕ) (h : HeldLink) (i : ℕ) (f : List ConstraintParts) → slice_get held n ≡ Some h → HasFilterBy (take (n + 1) held) i f ↔ (HasFilterBy (take n held) i f ⊎ ((h.link ≡ i) × Has f h.filters))
 pairs-next held n h i f at = (to, from)
   where
-    to : HasPair (take (n + 1) held) i f → HasPair (take n held) i f ⊎ ((h.link ≡ i) × Has f h.filters)
+    to : HasFilterBy (take (n + 1) held) i f → HasFilterBy (take n held) i f ⊎ ((h.link ≡ i) × Has f h.filters)
     to (g, m, e, k) = elim ((has-next held n h g at).0 m) [
       | inl o ↦ inl (g, o, e, k)
       | inr q ↦ inr (ap (λ (z : HeldLink). z.link) (sym q) ∙ e, subst (λ (z : HeldLink). Has f z.filters) q k)
     ]
 
-    from : HasPair (take n held) i f ⊎ ((h.link ≡ i) × Has f h.filters) → HasPair (take (n + 1) held) i f
+    from : HasFilterBy (take n held) i f ⊎ ((h.link ≡ i) × Has f h.filters) → HasFilterBy (take (n + 1) held) i f
     from (inl (g, m, e, k)) = (g, (has-next held n h g at).1 (inl m), e, k)
     from (inr (e, k)) = (h, (has-next held n h h at).1 (inr refl), e, k)
 
-pub links-step : (old now new : List Held) (held : List HeldLink) (n : ℕ) (h : HeldLink) → slice_get held n ≡ Some h
+pub links-step : (old now new : List HeldFilter) (held : List HeldLink) (n : ℕ) (h : HeldLink) → slice_get held n ≡ Some h
     → ((i : ℕ) (f : List ConstraintParts) → Contains new (i, f) ↔ (Contains now (i, f) ⊎ ((h.link ≡ i) × Has f h.filters)))
-    → ((i : ℕ) (f : List ConstraintParts) → Contains now (i, f) ↔ (Contains old (i, f) ⊎ HasPair (take n held) i f))
-    → (i : ℕ) (f : List ConstraintParts) → Contains new (i, f) ↔ (Contains old (i, f) ⊎ HasPair (take (n + 1) held) i f)
+    → ((i : ℕ) (f : List ConstraintParts) → Contains now (i, f) ↔ (Contains old (i, f) ⊎ HasFilterBy (take n held) i f))
+    → (i : ℕ) (f : List ConstraintParts) → Contains new (i, f) ↔ (Contains old (i, f) ⊎ HasFilterBy (take (n + 1) held) i f)
 links-step old now new held n h at added ih i f = (to, from)
   where
-    to : Contains new (i, f) → Contains old (i, f) ⊎ HasPair (take (n + 1) held) i f
+    to : Contains new (i, f) → Contains old (i, f) ⊎ HasFilterBy (take (n + 1) held) i f
     to k = elim ((added i f).0 k) [
       | inl m ↦ elim ((ih i f).0 m) [ inl o ↦ inl o | inr r ↦ inr ((pairs-next held n h i f at).1 (inl r)) ]
       | inr r ↦ inr ((pairs-next held n h i f at).1 (inr r))
     ]
 
-    from : Contains old (i, f) ⊎ HasPair (take (n + 1) held) i f → Contains new (i, f)
+    from : Contains old (i, f) ⊎ HasFilterBy (take (n + 1) held) i f → Contains new (i, f)
     from (inl o) = (added i f).1 (inl ((ih i f).1 (inl o)))
     from (inr r) = elim ((pairs-next held n h i f at).0 r) [
       | inl m ↦ (added i f).1 (inl ((ih i f).1 (inr m)))
       | inr m ↦ (added i f).1 (inr m)
     ]
 
-pub pairs-both : (empty first table : List Held) (held own : List HeldLink) → empty ≡ [] → ((i : ℕ) (f : List ConstraintParts) → Contains first (i, f) ↔ (Contains empty (i, f) ⊎ HasPair held i f))
-    → ((i : ℕ) (f : List ConstraintParts) → Contains table (i, f) ↔ (Contains first (i, f) ⊎ HasPair own i f))
-    → (i : ℕ) (f : List ConstraintParts) → Contains table (i, f) ↔ (HasPair held i f ⊎ HasPair own i f)
+pub pairs-both : (empty first table : List HeldFilter) (held own : List HeldLink) → empty ≡ [] → ((i : ℕ) (f : List ConstraintParts) → Contains first (i, f) ↔ (Contains empty (i, f) ⊎ HasFilterBy held i f))
+    → ((i : ℕ) (f : List ConstraintParts) → Contains table (i, f) ↔ (Contains first (i, f) ⊎ HasFilterBy own i f))
+    → (i : ℕ) (f : List ConstraintParts) → Contains table (i, f) ↔ (HasFilterBy held i f ⊎ HasFilterBy own i f)
 pairs-both empty first table held own none one two i f = (to, from)
   where
     nothing : Contains empty (i, f) → ⊥
     nothing k = let r = subst (λ z. Contains z (i, f)) none k in omega (arith, r.1)
 
-    to : Contains table (i, f) → HasPair held i f ⊎ HasPair own i f
+    to : Contains table (i, f) → HasFilterBy held i f ⊎ HasFilterBy own i f
     to k = elim ((two i f).0 k) [
       | inl m ↦ elim ((one i f).0 m) [ inl o ↦ absurd (nothing o) | inr r ↦ inl r ]
       | inr r ↦ inr r
     ]
 
-    from : HasPair held i f ⊎ HasPair own i f → Contains table (i, f)
+    from : HasFilterBy held i f ⊎ HasFilterBy own i f → Contains table (i, f)
     from (inl r) = (two i f).1 (inl ((one i f).1 (inr r)))
     from (inr r) = (two i f).1 (inr r)
 

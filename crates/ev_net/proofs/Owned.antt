@@ -15,7 +15,7 @@ use Rattle.ev_model.specs.Nets.{phased_net, clients_of}
 use Rattle.ev_model.specs.Sound.{IsSound}
 use Rattle.ev_model.proofs.SoundNets.{net-laws}
 use Rattle.ev_session.specs.Session.{SessionParts}
-use Rattle.ev_counting.specs.Table.{Held}
+use Rattle.ev_counting.specs.Table.{HeldFilter}
 use Rattle.ev_counting.specs.declared.change.Change.{Change}
 use Rattle.ev_control.specs.declared.control.HeldLink.{HeldLink}
 use Rattle.ev_control.specs.Control.{Controlled, subs, by_adverts}
@@ -23,8 +23,8 @@ use Rattle.ev_server.specs.Core.{CoreParts, IsServerState, published_from}
 use Rattle.ev_server.specs.Staged.{is_some_there}
 use Rattle.ev_server.specs.Linked.{SuitsCore, IsLinked}
 use Rattle.ev_flow.proofs.Nets.{net-on}
-use Rattle.ev_net.specs.Owned.{IsTableFor, HasPair, HoldsOwn, AreOwn}
-use Rattle.ev_net.specs.Begin.{Fits}
+use Rattle.ev_net.specs.Owned.{IsTableFor, HasFilterBy, HoldsOwn, AreOwn}
+use Rattle.ev_net.specs.Begin.{FitsCore}
 use Rattle.ev_net.proofs.Moving.{among, find-link, low-or-high, unlike}
 
 -- the interfaces of a server's clients
@@ -42,10 +42,10 @@ module _ (net : NetParts) (sound : IsSound net) where
       omega (arith, one, r.2)
 
   -- the table of a core on other links
-  module _ (core : CoreParts) (own held : List HeldLink) (control : Controlled) (table : List Held) (owns : HoldsOwn net core) (are : AreOwn net core own)
+  module _ (core : CoreParts) (own held : List HeldLink) (control : Controlled) (table : List HeldFilter) (owns : HoldsOwn net core) (are : AreOwn net core own)
       (small : (h : HeldLink) → Has h held → h.link ≤ 64) (linked : IsLinked held core.control control)
-      (pairs : (i : ℕ) (f : List ConstraintParts) → Contains table (i, f) ↔ (HasPair held i f ⊎ HasPair own i f)) where
-    to-table : (i : ℕ) (f : List ConstraintParts) → HasPair held i f ⊎ HasPair own i f → Has f (subs control i)
+      (pairs : (i : ℕ) (f : List ConstraintParts) → Contains table (i, f) ↔ (HasFilterBy held i f ⊎ HasFilterBy own i f)) where
+    to-table : (i : ℕ) (f : List ConstraintParts) → HasFilterBy held i f ⊎ HasFilterBy own i f → Has f (subs control i)
     to-table i f (inl (h, m, e, k)) = subst (λ z. Has f (subs control z)) e (subst (Has f) (sym (linked.filters.links h m)) k)
     to-table i f (inr (h, m, e, k)) =
         let r = are.each h m in
@@ -54,7 +54,7 @@ module _ (net : NetParts) (sound : IsSound net) where
         let more : 64 < i = omega (arith, one, place) in
         subst (Has f) (sym (linked.filters.clients i more)) (subst (λ z. Has f (subs core.control z)) (sym place) ((r.2.filters f).0 k))
 
-    from-table : (i : ℕ) (f : List ConstraintParts) → Has f (subs control i) → HasPair held i f ⊎ HasPair own i f
+    from-table : (i : ℕ) (f : List ConstraintParts) → Has f (subs control i) → HasFilterBy held i f ⊎ HasFilterBy own i f
     from-table i f m = elim (low-or-high i) [
       | inl low ↦ elim (find-link held i) [
         | inl r ↦ inl (r.0, r.1, r.2, subst (Has f) (ap (subs control) (sym r.2) ∙ linked.filters.links r.0 r.1) m)
@@ -66,7 +66,7 @@ module _ (net : NetParts) (sound : IsSound net) where
         there : 64 < i → Has f (subs core.control i)
         there more = subst (Has f) (linked.filters.clients i more) m
 
-        by : 64 < i → (b : Bool) → is_among i (client_interfaces net core.server) ≡ b → HasPair held i f ⊎ HasPair own i f
+        by : 64 < i → (b : Bool) → is_among i (client_interfaces net core.server) ≡ b → HasFilterBy held i f ⊎ HasFilterBy own i f
         by more true e =
             let c = map-has (λ c. 64 + c) i (clients_of net core.server) (among i (client_interfaces net core.server) e) in
             let r = are.all c.0 c.1 in
@@ -127,5 +127,5 @@ module _ (net : NetParts) (sound : IsSound net) where
             let none : Has i (interfaces real n core.server) → ⊥ = λ k. unlike (sym e ∙ has-one i (interfaces real n core.server) k) in
             is.published_apart i none ∙ sym (is.control.subs_apart i none)
 
-    pub fits : (control : Controlled) → SuitsCore core control → Fits core control
+    pub fits : (control : Controlled) → SuitsCore core control → FitsCore core control
     fits control suits = record { suits = suits; staged = no-change core.staged (sym is.staged ∙ rest.unstaged core.server); published = all-published }

@@ -7,7 +7,7 @@ use Rattle.ev_theory.specs.Real.{real}
 use Rattle.ev_wire.specs.declared.message.Message.TheVariants.{Notice}
 use Rattle.ev_wire.specs.declared.sent.Sent.{Sent}
 use Rattle.ev_wire.specs.MessageText.{IsMessageText}
-use Rattle.ev_wire.specs.Shared.{Publication, publication_text}
+use Rattle.ev_wire.specs.Shared.{SharedPublication, publication_text}
 use Rattle.ev_wire.proofs.Unique.{message_value}
 use Rattle.ev_control.specs.Control.{wired}
 use Rattle.ev_model.specs.Meaning.{message_of}
@@ -20,7 +20,7 @@ again (Subs out add) = refl
 again (Advs out add) = refl
 again (Noticed publisher ordinal n) = refl
 
-pub taken_as : (p : Publication) (m : Message real) → IsMessageText (publication_text p) (Notice p.id p.notice) → IsMessageText (publication_text p) (wired m)
+pub taken_as : (p : SharedPublication) (m : Message real) → IsMessageText (publication_text p) (Notice p.id p.notice) → IsMessageText (publication_text p) (wired m)
     → message_of (Notice p.id p.notice) ≡ m
 taken_as p m is text = ap message_of (message_value (publication_text p) (Notice p.id p.notice) (wired m) is text) ∙ again m
 

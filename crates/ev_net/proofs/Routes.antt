@@ -17,7 +17,7 @@ use Rattle.ev_session.specs.declared.planned.Planned.{Planned}
 use Rattle.ev_session.specs.declared.planned.Planned.TheVariants.{Publish}
 use Rattle.ev_session.specs.Session.{SessionParts}
 use Rattle.ev_session.specs.Plan.{next_plan}
-use Rattle.ev_counting.specs.Table.{Held, IsRouteOf}
+use Rattle.ev_counting.specs.Table.{HeldFilter, IsRouteOf}
 use Rattle.ev_server.specs.Clients.{numbers_of}
 use Rattle.ev_server.specs.Core.{CoreParts, published_from}
 use Rattle.ev_server.specs.Routed.{IsRoute, RoutesNext, RoutesMessage}
@@ -53,7 +53,7 @@ distinct core (net, laws, state, stands) = subst IsDistinct stands.clients (laws
 same-notice : (a b : Id) (n m : List Attribute) → ◌≡◌ {A = Option Planned} (Some (Publish a n)) (Some (Publish b m)) → n ≡ m
 same-notice a b n m e = cc
 
-module _ (core : CoreParts) (table : List Held) (agrees : IsTableOf core table) where
+module _ (core : CoreParts) (table : List HeldFilter) (agrees : IsTableOf core table) where
   pub route-is : (n : List Attribute) (r : List ℕ) → AreValues n → IsRouteOf n table r → IsRoute n (published_from core) r
   route-is n r values by = record { rising = by.rising; exact = λ i. (onto i, from i) }
     where

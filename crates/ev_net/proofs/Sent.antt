@@ -16,7 +16,7 @@ use Rattle.ev_wire.specs.MessageText.{IsMessageText}
 use Rattle.ev_control.specs.Control.{texts, wired}
 use Rattle.ev_frame.specs.Frame.{HasMessage}
 use Rattle.ev_server.specs.Core.{CoreParts}
-use Rattle.ev_server.specs.Step.{IsStep, MakesStep}
+use Rattle.ev_server.specs.Step.{IsServerStep, MakesStep}
 use Rattle.ev_net.specs.Seen.{CanAct}
 use Rattle.ev_net.proofs.Sending.{texts-few, texts-to, texts-of, texts-apart}
 
@@ -41,7 +41,7 @@ goes_on server neighbours cores able input taken next stamp sent step = record {
   few = subst (λ z. length sent ≤ length z) (sym able.links) (subst (λ z. length z ≤ length able.core.control.links) (sym local.sent_texts) (texts-few local.outcome.outs able.core.control.links one));
 }
   where
-    local : IsStep able.net able.state input able.core next sent
+    local : IsServerStep able.net able.state input able.core next sent
     local = step.step able.net able.state able.stands
 
     there : (s : Sent) → Has s sent → Has s (texts local.outcome.outs able.core.control.links)

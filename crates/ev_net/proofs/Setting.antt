@@ -17,7 +17,7 @@ use Rattle.ev_server.specs.Linked.{AreHeldLinks}
 use Rattle.ev_net.specs.Kept.{AreServers}
 use Rattle.ev_net.specs.declared.relinking.Standing.{Standing}
 use Rattle.ev_net.specs.Owned.{AreOwn, IsTogether}
-use Rattle.ev_net.specs.Begin.{Begins, IsMoved, greatest_clock}
+use Rattle.ev_net.specs.Begin.{Begins, IsOnOtherLinks, greatest_clock}
 use Rattle.ev_net.proofs.Beginning.{also, unions}
 use Rattle.ev_net.proofs.Exchanged.{moved-begins}
 
@@ -77,7 +77,7 @@ pub all-set : (net : NetParts) (sound : IsSound net) (phase clock : ℕ) (cores 
     → ((place : ℕ) (links : Vec HeldLink Global) → slice_get held place ≡ Some links → (h : HeldLink) → Has h links.items → IsFlow net.semantics (topology_at net phase) homes (suc place) h)
     → length standings ≡ length cores → ((place : ℕ) (standing : Standing) → slice_get standings place ≡ Some standing → standing.clock ≡ clock)
     → ((place : ℕ) (links : Vec HeldLink Global) (core : CoreParts) (standing : Standing) → slice_get held place ≡ Some links → slice_get cores place ≡ Some core → slice_get standings place ≡ Some standing
-    → IsMoved links.items core standing)
+    → IsOnOtherLinks links.items core standing)
     → (last : ℕ) (state : State real) → is_one_tree real (phased_net net) last phase ≡ false → AreServers net last state cores → IsAtRestOn real (phased_net net) last state → Begins net last phase cores standings
 all-set net sound phase clock cores owns held homes standings greatest low long-owns long-homes long-held own home links flow long clocks moved last state other servers rest =
     moved-begins net sound last phase clock cores standings state other greatest low long clocks homes

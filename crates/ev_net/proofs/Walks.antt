@@ -30,7 +30,6 @@ use Rattle.ev_net.proofs.Turns.{run-first}
 use Rattle.ev_net.proofs.Tries.{moment-made, nothing-made}
 
 module _ (th : Theory) (net : PhasedNet th) (bound : ℕ) (some : 0 < bound) (low : AllBelow th net bound) where
-
   next-low : (client : ℕ) (k : ℕ) (o : Option (PhasedCommand th)) (n q : ℕ) → slice_get (net.script client) n ≡ o → phase_of th (net_at th net q) o ≡ Some k → k < bound
   next-low client k None n q e f = subst (λ z. z < bound) (same_Some _ _ f) some
   next-low client k (Some command) n q e f = subst (λ z. z < bound) (same_Some _ _ f) (low client command (get-has (net.script client) n command e))

@@ -18,7 +18,7 @@ greatest_clock [] = 0
 greatest_clock (core ∷ cores) = max core.clock (greatest_clock cores)
 
 -- a control fits a core of which all is published
-pub record Fits (core : CoreParts) (control : Controlled) : Type 0 where
+pub record FitsCore (core : CoreParts) (control : Controlled) : Type 0 where
   pub suits : SuitsCore core control
   pub staged : core.staged ≡ []
   pub published : (i : ℕ) → published_from core i ≡ subs core.control i
@@ -26,7 +26,7 @@ pub record Fits (core : CoreParts) (control : Controlled) : Type 0 where
 -- the same where one is given
 abbrev pub FitsWhere : CoreParts → Option Controlled → Type 0
 FitsWhere core None = Unit {0}
-FitsWhere core (Some control) = Fits core control
+FitsWhere core (Some control) = FitsCore core control
 
 -- a standing that a core can take on
 pub record CanTake (standing : Standing) (core : CoreParts) : Type 0 where
@@ -39,8 +39,8 @@ IsOn None old new = new ≡ old
 IsOn (Some control) old new = IsOnLinks control old new
 
 -- the same but for its clock
-abbrev pub IsGiven : Option Controlled → CoreParts → CoreParts → Type 0
-IsGiven links old new = IsOn links old (record new { clock = old.clock })
+abbrev pub IsGivenControl : Option Controlled → CoreParts → CoreParts → Type 0
+IsGivenControl links old new = IsOn links old (record new { clock = old.clock })
 
 -- what comes back: what the core had
 abbrev pub given_back : Option Controlled → Controlled → Option Controlled
@@ -49,7 +49,7 @@ given_back (Some given) control = Some control
 
 -- a core took a standing on, and that is now what the core had
 pub record IsExchanged (standing : Standing) (old : CoreParts) (left : Standing) (new : CoreParts) : Type 0 where
-  pub given : IsGiven standing.links old new
+  pub given : IsGivenControl standing.links old new
   pub clock : new.clock ≡ standing.clock
   pub clock_back : left.clock ≡ old.clock
   pub back : left.links ≡ given_back standing.links old.control
@@ -74,20 +74,20 @@ pub record Begins (net : NetParts) (last phase : ℕ) (cores : List CoreParts) (
   pub clock : (place : ℕ) (standing : Standing) → slice_get standings place ≡ Some standing → standing.clock ≡ greatest_clock cores
   pub stands : (state : State real) → AreServers net last state cores → IsAtRestOn real (phased_net net) last state
       → (place : ℕ) (standing : Standing) (core new : CoreParts) → slice_get standings place ≡ Some standing → slice_get cores place ≡ Some core
-      → IsGiven standing.links core new
+      → IsGivenControl standing.links core new
       → IsServerState (net_at real (phased_net net) phase) new ((begun real (phased_net net) last phase state).state (suc place))
 
 -- a core has these things of an old one, and will have the rest once it takes up what comes back
-abbrev pub IsKept : Option Controlled → CoreParts → CoreParts → Type 0
-IsKept None old new = record new { clock = old.clock } ≡ old
-IsKept (Some control) old new = (control ≡ old.control) × (old.staged ≡ []) × ((i : ℕ) → published_from old i ≡ subs old.control i)
+abbrev pub IsCoreKept : Option Controlled → CoreParts → CoreParts → Type 0
+IsCoreKept None old new = record new { clock = old.clock } ≡ old
+IsCoreKept (Some control) old new = (control ≡ old.control) × (old.staged ≡ []) × ((i : ℕ) → published_from old i ≡ subs old.control i)
     × (new.server ≡ old.server) × (new.clients ≡ old.clients)
 
 -- a standing that was replaced at a core takes the core back
 pub record IsUndone (before : Standing) (old new : CoreParts) : Type 0 where
   pub can : CanTake before new
   pub clock : before.clock ≡ old.clock
-  pub kept : IsKept before.links old new
+  pub kept : IsCoreKept before.links old new
 
 -- WHAT THE BEGINNING OF A PHASE REPLACED: it takes these cores back to the old ones
 pub record IsUndoneBy (before : List Standing) (old new : List CoreParts) : Type 0 where
@@ -97,7 +97,7 @@ pub record IsUndoneBy (before : List Standing) (old new : List CoreParts) : Type
       → slice_get new place ≡ Some now → IsUndone standing core now
 
 -- a standing on other links, where this is held from them
-pub record IsMoved (held : List HeldLink) (core : CoreParts) (standing : Standing) : Type 0 where
+pub record IsOnOtherLinks (held : List HeldLink) (core : CoreParts) (standing : Standing) : Type 0 where
   pub control : Controlled
   pub given : standing.links ≡ Some control
   pub linked : IsLinked held core.control control

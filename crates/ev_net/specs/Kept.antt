@@ -3,7 +3,7 @@ use Rattle.std.specs.Prelude.{◌≡◌, ◌↔◌, ℕ, suc, List, length, slic
 use Rattle.std.specs.List.{Contains}
 use Rattle.ev_sets.specs.Sets.{Has}
 use Rattle.ev_constraint.specs.Constraint.{ConstraintParts}
-use Rattle.ev_counting.specs.Table.{Held}
+use Rattle.ev_counting.specs.Table.{HeldFilter}
 use Rattle.ev_routing.specs.Net.{Net, NetLaws}
 use Rattle.ev_routing.specs.Server.{ServerState}
 use Rattle.ev_routing.specs.Routing.{empty_server}
@@ -18,7 +18,7 @@ use Rattle.ev_net.specs.Links.{AreOnLinks}
 use Rattle.ev_net.specs.Acted.{Servers}
 
 -- a table has exactly the pairs that a core published
-abbrev pub IsTableOf : CoreParts → List Held → Type 0
+abbrev pub IsTableOf : CoreParts → List HeldFilter → Type 0
 IsTableOf core table = (interface : ℕ) (f : List ConstraintParts) → Contains table (interface, f) ↔ Has f (published_from core interface)
 
 -- a core stands for some state of its server in some net

@@ -30,8 +30,8 @@ calm_in (Some core) = not (is_some_there core.staged)
 abbrev pub calm_at : List CoreParts → ℕ → Bool
 calm_at cores place = calm_in (slice_get cores place)
 
-abbrev pub AreCalm : List CoreParts → Type 0
-AreCalm cores = (place : ℕ) → place < length cores → calm_at cores place ≡ true
+abbrev pub AreCalmCores : List CoreParts → Type 0
+AreCalmCores cores = (place : ℕ) → place < length cores → calm_at cores place ≡ true
 
 -- for each server its clients, rising
 pub record AreClients (net : NetParts) (clients : List (List ℕ)) : Type 0 where

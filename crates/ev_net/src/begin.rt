@@ -13,7 +13,7 @@ ghost use Rattle.ev_server.specs.Linked.{AreHeldLinks};
 ghost use Rattle.ev_net.specs.Kept.{AreServers};
 ghost use Rattle.ev_net.specs.declared.relinking.Standing.{Standing};
 ghost use Rattle.ev_net.specs.Owned.{HoldsOwn, AreOwn, IsTogether};
-ghost use Rattle.ev_net.specs.Begin.{greatest_clock, CanAllTake, AreExchanged, Begins, IsUndoneBy, IsMoved};
+ghost use Rattle.ev_net.specs.Begin.{greatest_clock, CanAllTake, AreExchanged, Begins, IsUndoneBy, IsOnOtherLinks};
 
 use crate::owning::{own_sets, table_of, together};
 use crate::place::Place;
@@ -123,7 +123,7 @@ fn moved(
     requires held { AreHeldLinks held.now }
     requires own { (net : NetParts) × IsSound net × HoldsOwn net place.now × AreOwn net place.now own.now }
     ensures clock { IfOk result (λ standing. standing.clock ≡ clock) }
-    ensures links { IfOk result (λ standing. IsMoved held.now place.now standing) }
+    ensures links { IfOk result (λ standing. IsOnOtherLinks held.now place.now standing) }
 {
     let control = place.core().relinked(held)?;
     let table = table_of(alloc, held, own)?;
@@ -147,7 +147,7 @@ fn all_moved(
     ensures long { IfOk result (λ standings. length standings.items ≡ length places.now) }
     ensures clock { IfOk result (λ standings. (place : ℕ) (standing : Standing) → slice_get standings.items place ≡ Some standing → standing.clock ≡ clock) }
     ensures links { IfOk result (λ standings. (place : ℕ) (links : _) (core : CoreParts) (standing : Standing) → slice_get held.now place ≡ Some links
-        → slice_get places.now place ≡ Some core → slice_get standings.items place ≡ Some standing → IsMoved links.items core standing) }
+        → slice_get places.now place ≡ Some core → slice_get standings.items place ≡ Some standing → IsOnOtherLinks links.items core standing) }
 {
     let mut standings = Vec::with_capacity(alloc, places.len())?;
     for (i, place) in places.iter().enumerate() {

@@ -10,7 +10,7 @@ ghost use Rattle.ev_server.specs.Core.{CoreParts};
 ghost use Rattle.ev_net.specs.Network.{moment_by, next_phase_by, received_by, refused_by};
 ghost use Rattle.ev_net.specs.Turns.{IsTurn, IsMade};
 ghost use Rattle.ev_net.specs.Kept.{IsNetwork};
-ghost use Rattle.ev_net.specs.Seen.{seen, shown, calm_in, calm_at, AreCalm};
+ghost use Rattle.ev_net.specs.Seen.{seen, shown, calm_in, calm_at, AreCalmCores};
 ghost use Rattle.ev_net.specs.Links.{frames_at};
 ghost use Rattle.ev_net.specs.Sessions.{IsSessionOf, is_below};
 
@@ -220,14 +220,14 @@ fn first_command(
 
 /// Whether all links are empty and nothing is staged.
 fn is_quiet(servers: &Servers) -> bool
-    ensures { IsTrue result ↔ (((a b : ℕ) → frames_at servers.now.links a b ≡ []) × AreCalm servers.now.places.items) }
+    ensures { IsTrue result ↔ (((a b : ℕ) → frames_at servers.now.links a b ≡ []) × AreCalmCores servers.now.places.items) }
 {
     servers.links.are_empty() && are_calm(&servers.places)
 }
 
 /// Whether no server has anything staged.
 fn are_calm(places: &[Place]) -> bool
-    ensures { IsTrue result ↔ AreCalm places.now }
+    ensures { IsTrue result ↔ AreCalmCores places.now }
 {
     for i in 0..places.len() {
         if !is_calm_at(places, i) {

@@ -6,7 +6,7 @@ ghost use Rattle.ev_constraint.specs.Constraint.{ConstraintParts};
 ghost use Rattle.ev_model.specs.Sound.{IsSound};
 ghost use Rattle.ev_control.specs.Control.{by_adverts};
 ghost use Rattle.ev_session.specs.Session.{filters_at, adverts_at};
-ghost use Rattle.ev_net.specs.Owned.{HasPair, HoldsOwn, AreOwn, IsTogether};
+ghost use Rattle.ev_net.specs.Owned.{HasFilterBy, HoldsOwn, AreOwn, IsTogether};
 
 use ev_control::HeldLink;
 use ev_counting::{Change, Table};
@@ -14,13 +14,11 @@ use ev_flow::Home;
 use ev_memory::NoMemory;
 use ev_model::Net;
 use ev_notice::{Advert, Filter};
+use ev_routing::LAST_LINK;
 use ev_server::Core;
 use ev_session::Session;
 use ev_wire::{Adverts, Filters, Semantics};
 use std::alloc::Global;
-
-/// The last number that a link may have; a client's interface is this and its number.
-const LAST_LINK: u32 = 64;
 
 /// Puts copies of filters at the end of a list.
 fn put_filters(alloc: Global, list: &mut Vec<Filter>, filters: &[Filter]) -> Result<(), NoMemory>
@@ -128,7 +126,7 @@ fn enter_filters(
 
 /// Enters what some interfaces have into a table.
 fn enter_all(alloc: Global, table: &mut Table, held: &[HeldLink]) -> Result<(), NoMemory>
-    ensures { OnOk result ((i : ℕ) (f : List ConstraintParts) → Contains table.new (i, f) ↔ (Contains table.old (i, f) ⊎ HasPair held.now i f)) }
+    ensures { OnOk result ((i : ℕ) (f : List ConstraintParts) → Contains table.new (i, f) ↔ (Contains table.old (i, f) ⊎ HasFilterBy held.now i f)) }
 {
     for one in held {
         enter_filters(alloc, table, one.link, one.filters.as_slice())?;
@@ -142,7 +140,7 @@ pub(crate) fn table_of(
     held: &[HeldLink],
     own: &[HeldLink],
 ) -> Result<Table, NoMemory>
-    ensures { IfOk result (λ table. (i : ℕ) (f : List ConstraintParts) → Contains table (i, f) ↔ (HasPair held.now i f ⊎ HasPair own.now i f)) }
+    ensures { IfOk result (λ table. (i : ℕ) (f : List ConstraintParts) → Contains table (i, f) ↔ (HasFilterBy held.now i f ⊎ HasFilterBy own.now i f)) }
 {
     let mut table = Table::new(alloc);
     enter_all(alloc, &mut table, held)?;

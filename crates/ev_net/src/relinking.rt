@@ -2,7 +2,7 @@
 ghost use Rattle.std.specs.Prelude.{◌≡◌};
 ghost use Rattle.ev_server.specs.Linked.{IsOnLinks};
 ghost use Rattle.ev_net.specs.Owned.{IsTableFor};
-ghost use Rattle.ev_net.specs.Begin.{Fits, FitsWhere, IsOn, given_back, CanTake, IsExchanged};
+ghost use Rattle.ev_net.specs.Begin.{FitsCore, FitsWhere, IsOn, given_back, CanTake, IsExchanged};
 
 use crate::place::Place;
 use ev_counting::Table;
@@ -48,10 +48,10 @@ impl OnLinks {
 impl Place {
     /// Gives the server what was made for it; what it had comes back. It takes no memory.
     fn relink(&mut self, links: OnLinks) -> OnLinks
-        requires { Fits self.old links }
+        requires { FitsCore self.old links }
         ensures core { IsOnLinks links self.old self.new }
         ensures back { result ≡ self.old.control }
-        ensures fits { Fits self.new result }
+        ensures fits { FitsCore self.new result }
     {
         let control = self.core.relink(links.control);
         let table = mem::replace(&mut self.table, links.table);

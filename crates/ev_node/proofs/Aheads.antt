@@ -22,23 +22,24 @@ use Rattle.ev_versions.specs.declared.publisher.Publisher.{Publisher}
 use Rattle.ev_versions.specs.Pairs.{pairs_after}
 use Rattle.ev_versions.specs.declared.ahead.Ahead.{Ahead}
 use Rattle.ev_versions.specs.Ends.{notice_in, published}
-use Rattle.ev_node.specs.declared.held.Held.{Held}
+use Rattle.ev_node.specs.declared.held.ServerInHand.{ServerInHand}
 use Rattle.ev_node.specs.declared.held.Root.{Root}
 use Rattle.ev_node.specs.declared.what.What.{What}
 use Rattle.ev_node.specs.declared.what.Turned.{Turned}
 use Rattle.ev_node.specs.declared.what.Turned.TheVariants.{Made, Stale, Idle}
 use Rattle.ev_node.specs.declared.choice.Choice.{Choice}
 use Rattle.ev_node.specs.declared.choice.Choice.TheVariants.{Other, Outdated, Agreed}
-use Rattle.ev_node.specs.Served.{IsSomeServer, IsTableOf, StampedInput, told_as}
-use Rattle.ev_node.specs.Cell.{IsHeld, IsKept}
+use Rattle.ev_net.specs.Acted.{StampedInput, told_as}
+use Rattle.ev_net.specs.Kept.{IsSomeServer, IsTableOf}
+use Rattle.ev_node.specs.Cell.{IsServerInHand, IsKept}
 use Rattle.ev_node.specs.Turns.{IsStill}
 use Rattle.ev_node.specs.Asked.{act_for}
 use Rattle.ev_node.specs.Ahead.{AnswersAhead, IsChoice, IsChoiceNext, IsChoiceOf, IsNoticeOf, PublishesNext, RoutesNotice}
 use Rattle.ev_node.proofs.Routes.{one-session, distinct, routes_next, routes_message}
 use Rattle.ev_node.proofs.Keeping.{kept-turn, kept-still}
 
-module _ (net : NetParts) (root : Root) (journal : List EntryParts) (old : Held) (kept : IsKept net root journal old) where
-  pub kept-ahead : (what : What) (ahead : Ahead) (new : Held) (after : List EntryParts) (r : Result Turned StepFault) → IfOk r (AnswersAhead root.phase what ahead old new journal after) → OnErr r (IsStill old new journal after) → IsHeld new → IsKept net root after new
+module _ (net : NetParts) (root : Root) (journal : List EntryParts) (old : ServerInHand) (kept : IsKept net root journal old) where
+  pub kept-ahead : (what : What) (ahead : Ahead) (new : ServerInHand) (after : List EntryParts) (r : Result Turned StepFault) → IfOk r (AnswersAhead root.phase what ahead old new journal after) → OnErr r (IsStill old new journal after) → IsServerInHand new → IsKept net root after new
   kept-ahead what ahead new after (Ok Made) a s held = kept-turn net root journal old kept a.0.input (act_for what) new after a.0.turn held
   kept-ahead what ahead new after (Ok Stale) a s held = kept-turn net root journal old kept a.0.input (act_for what) new after a.0.turn held
   kept-ahead what ahead new after (Ok Idle) a s held = kept-still net root journal old kept new after a.0 held

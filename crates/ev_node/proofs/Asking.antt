@@ -13,15 +13,15 @@ use Rattle.ev_server.specs.declared.stepped.StepFault.{StepFault}
 use Rattle.ev_server.specs.declared.stepped.StepFault.TheVariants.{Worn}
 use Rattle.ev_versions.specs.declared.ahead.Ahead.{Ahead}
 use Rattle.ev_versions.specs.Ends.{notice_in}
-use Rattle.ev_node.specs.declared.held.Held.{Held}
+use Rattle.ev_node.specs.declared.held.ServerInHand.{ServerInHand}
 use Rattle.ev_node.specs.declared.link.Link.{Link}
 use Rattle.ev_node.specs.declared.what.What.TheVariants.{Take, Version}
 use Rattle.ev_node.specs.declared.what.Turned.{Turned}
 use Rattle.ev_node.specs.declared.what.Turned.TheVariants.{Made, Stale, Idle}
 use Rattle.ev_node.specs.Links.{IsNeighbour, IsUnmoved}
-use Rattle.ev_node.specs.Cell.{IsHeld}
-use Rattle.ev_node.specs.Turns.{IsTurn, IsStill, IsTaking, IsTakingFrom, IsVersion, IsWornAt, message_seen}
-use Rattle.ev_node.specs.Asked.{Answers, IsMade, IsWorn, SuitsHeld}
+use Rattle.ev_node.specs.Cell.{IsServerInHand}
+use Rattle.ev_node.specs.Turns.{IsCellTurn, IsStill, IsTaking, IsTakingFrom, IsVersionTurn, IsWornAt, message_seen}
+use Rattle.ev_node.specs.Asked.{Answers, IsMadeStep, IsWorn, SuitsHeld}
 use Rattle.ev_node.specs.Ahead.{AnswersAhead, IsTakingAhead}
 use Rattle.ev_node.proofs.Places.{both-behind}
 use Rattle.ev_node.proofs.Gathered.{named-place}
@@ -34,15 +34,15 @@ pub not-both : (b : Bool) → b ≡ true → b ≡ false → ⊥
 not-both b e f = true-false (sym e ∙ f)
 
 -- a neighbour has a place
-pub place-of : (held : Held) (from : ℕ) → IsHeld held → SuitsHeld (Take from) held → (p : ℕ) × IsNeighbour p from held.links.items
+pub place-of : (held : ServerInHand) (from : ℕ) → IsServerInHand held → SuitsHeld (Take from) held → (p : ℕ) × IsNeighbour p from held.links.items
 place-of held from is suits = named-place held.links.items from (subst (Has from) (sym is.neighbours) suits)
 
-module _ (phase place from : ℕ) (old new : Held) (before after : List EntryParts) (named : IsNeighbour place from old.links.items) where
+module _ (phase place from : ℕ) (old new : ServerInHand) (before after : List EntryParts) (named : IsNeighbour place from old.links.items) where
   -- a taking from a place is one from its neighbour
-  turn-from : (m : Stamped (Message real)) → IsTakingFrom phase place m old new before after → IsTurn phase (Takes from m) (acts.Take from) old new before after
-  turn-from m t = subst (λ n. IsTurn phase (Takes n m) (acts.Take n) old new before after) (ap (λ (l : Link). l.neighbour) (same_Some t.link named.0 (sym t.there ∙ named.1)) ∙ named.2) t.turn
+  turn-from : (m : Stamped (Message real)) → IsTakingFrom phase place m old new before after → IsCellTurn phase (Takes from m) (acts.Take from) old new before after
+  turn-from m t = subst (λ n. IsCellTurn phase (Takes n m) (acts.Take n) old new before after) (ap (λ (l : Link). l.neighbour) (same_Some t.link named.0 (sym t.there ∙ named.1)) ∙ named.2) t.turn
 
-  abbrev made-from : (m : Stamped (Message real)) → IsTakingFrom phase place m old new before after → IsMade phase (Take from) old new before after
+  abbrev made-from : (m : Stamped (Message real)) → IsTakingFrom phase place m old new before after → IsMadeStep phase (Take from) old new before after
   made-from m t = record { input = Takes from m; turn = turn-from m t; busy = (place, named, t.seen) }
 
   pub taken-made : (b : Bool) → IsTaking phase place old new before after b → b ≡ true → Answers phase (Take from) old new before after Made
@@ -71,12 +71,12 @@ module _ (phase place from : ℕ) (old new : Held) (before after : List EntryPar
   taken-ahead ahead (Ok Idle) t = (t.0, (place, named, t.1))
   taken-ahead ahead (Err e) t = tt
 
-module _ (phase : ℕ) (old new : Held) (before after : List EntryParts) where
-  pub version-made : (b : Bool) → IsVersion phase old new before after b → b ≡ true → Answers phase Version old new before after Made
+module _ (phase : ℕ) (old new : ServerInHand) (before after : List EntryParts) where
+  pub version-made : (b : Bool) → IsVersionTurn phase old new before after b → b ≡ true → Answers phase Version old new before after Made
   version-made true t e = record { input = Does MakesVersion; turn = t.0; busy = t.1 }
   version-made false t e = absurd (true-false (sym e))
 
-  pub version-idle : (b : Bool) → IsVersion phase old new before after b → b ≡ false → Answers phase Version old new before after Idle
+  pub version-idle : (b : Bool) → IsVersionTurn phase old new before after b → b ≡ false → Answers phase Version old new before after Idle
   version-idle true t e = absurd (true-false e)
   version-idle false t e = t
 

@@ -15,8 +15,8 @@ use Rattle.ev_wire.specs.declared.sent.Sent.{Sent}
 use Rattle.ev_model.specs.Meaning.{phased_command}
 use Rattle.ev_session.specs.Session.{SessionParts}
 use Rattle.ev_server.specs.Core.{CoreParts, IsServerState}
-use Rattle.ev_server.specs.Step.{IsStep}
-use Rattle.ev_node.specs.Served.{StampedInput, input_of}
+use Rattle.ev_server.specs.Step.{IsServerStep}
+use Rattle.ev_net.specs.Acted.{StampedInput, input_of}
 use Rattle.ev_node.specs.Cell.{IsDue}
 use Rattle.ev_node.specs.Turns.{HasCommand, IsOfPhase}
 
@@ -140,7 +140,7 @@ command-of (Does Version) client e = let q : ◌≡◌ {A = Input Task (Message 
 command-of (Takes from m) client e = let q : ◌≡◌ {A = Input Task (Message real)} (Takes from m.message) (Does (NextCommand client)) = e in absurd cc
 
 -- A STEP keeps it
-pub due-then : (net : Net real) (state : ServerState real) (old new : CoreParts) (phase : ℕ) (input : StampedInput) (sent : List Sent) (stands : IsServerState net old state) (step : IsStep net state (input_of input) old new sent) → NetLaws real net → new.server ≡ old.server
+pub due-then : (net : Net real) (state : ServerState real) (old new : CoreParts) (phase : ℕ) (input : StampedInput) (sent : List Sent) (stands : IsServerState net old state) (step : IsServerStep net state (input_of input) old new sent) → NetLaws real net → new.server ≡ old.server
     → IsOfPhase phase old input → IsDue phase old.clients → IsDue phase new.clients
 due-then net state old new phase input sent stands step laws same due at-first =
     due-sessions net new step.outcome.state step.state_after phase

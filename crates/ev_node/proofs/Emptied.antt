@@ -10,7 +10,7 @@ use Rattle.ev_lane.specs.Lane.{put_list, taken_list, rest_list}
 use Rattle.ev_server.specs.declared.stepped.StepFault.{StepFault}
 use Rattle.ev_node.specs.declared.held.Root.{Root}
 use Rattle.ev_node.specs.declared.link.Link.{Link}
-use Rattle.ev_node.specs.Links.{Both, At, IsOneLane, IsSettled, IsNeighbour, IsSameLink, HasMissed, put_for, taken_from}
+use Rattle.ev_node.specs.Links.{Both, At, IsOneLane, IsSettledLane, IsNeighbour, IsSameLink, HasMissed, put_for, taken_from}
 use Rattle.ev_node.specs.Cell.{CellParts}
 use Rattle.ev_node.specs.Together.{Sight, IsLaneOf, IsTakenUp, IsCellDone, HasNoCommand, IsWornSomewhere, sight, sights, roots, links_of}
 use Rattle.ev_server.specs.Step.{last_stamp}
@@ -36,7 +36,7 @@ pub distinct-kept : (cell : CellParts) → IsKeptCell cell → IsDistinct (names
 distinct-kept cell k = subst IsDistinct (sym k.now.neighbours) (some-apart cell.held.core (some-server cell.root.net.value cell.root cell.journal cell.held k))
 
 -- after it was settled, a look that finds nothing tells that all is taken
-pub emptied : (a b : CellParts) (later : List Link) (to from u : ℕ) → IsKeptCell a → IsKeptCell b → At IsSettled to a.held.links.items from b.held.links.items
+pub emptied : (a b : CellParts) (later : List Link) (to from u : ℕ) → IsKeptCell a → IsKeptCell b → At IsSettledLane to a.held.links.items from b.held.links.items
     → Both IsSameLink b.held.links.items later → HasMissed from b.held.links.items later → IsNeighbour to b.root.server (links_of a.root) → IsNeighbour from u (links_of b.root) → (sight b).took u ≡ (sight a).put b.root.server
 emptied a b later to from u ka kb (x, y, ex, ey, s) same missed gives takes =
     let z = both-behind IsSameLink from b.held.links.items later y same ey in
@@ -49,7 +49,7 @@ emptied a b later to from u ka kb (x, y, ex, ey, s) same missed gives takes =
     ap (λ n. taken_from b.held.links.items n) (sym ny) ∙ found-taken from b.held.links.items y ey (distinct-kept b kb) ∙ all ∙ sym (found-put to a.held.links.items x ex (distinct-kept a ka)) ∙ ap (λ n. put_for a.held.links.items n) nx
 
 pub taken-up : (cells : List CellParts) (a b : CellParts) (later : List Link) (giver to taker from : ℕ) → slice_get cells giver ≡ Some a → slice_get cells taker ≡ Some b → IsKeptCell a → IsKeptCell b
-    → At IsSettled to a.held.links.items from b.held.links.items → Both IsSameLink b.held.links.items later → HasMissed from b.held.links.items later → IsNeighbour to b.root.server (links_of a.root) → IsNeighbour from (suc giver) (links_of b.root) → IsTakenUp (sights cells) taker from
+    → At IsSettledLane to a.held.links.items from b.held.links.items → Both IsSameLink b.held.links.items later → HasMissed from b.held.links.items later → IsNeighbour to b.root.server (links_of a.root) → IsNeighbour from (suc giver) (links_of b.root) → IsTakenUp (sights cells) taker from
 taken-up cells a b later giver to taker from at-a at-b ka kb settled same missed gives takes s t y i es ey et name =
     let sb : s ≡ sight b = same_Some s (sight b) (sym es ∙ map-found sight taker cells b at-b) in
     let yn : y ≡ takes.0 = same_Some y takes.0 (sym ey ∙ ap (λ (w : Sight). slice_get (links_of w.root) from) sb ∙ takes.1) in
@@ -99,7 +99,7 @@ module _ (old mid : List CellParts) (giver to taker from : ℕ) (lane : IsLaneOf
       subst (λ (r : Root). IsNeighbour to r.server (links_of a.root)) b'.2 (subst (λ (r : Root). IsNeighbour to b'.0.root.server (links_of r)) a'.2 (lane.gives a'.0 b'.0 a'.1 b'.1))
 
   pub take-idle : (x y d z : CellParts) (r : Result Bool StepFault) → taker < length mid → slice_get mid giver ≡ Some x → slice_get mid taker ≡ Some y → IsKeptCell x → IsKeptCell y
-      → (a b : CellParts) × (slice_get mid giver ≡ Some a) × (slice_get mid taker ≡ Some b) × At IsSettled to a.held.links.items from b.held.links.items
+      → (a b : CellParts) × (slice_get mid giver ≡ Some a) × (slice_get mid taker ≡ Some b) × At IsSettledLane to a.held.links.items from b.held.links.items
       → IsTakeIdle (get_or mid taker d) z from r
       → IfOk r (λ made. made ≡ false → (sights (set mid taker z) ≡ sights old) × IsTakenUp (sights (set mid taker z)) taker from)
   take-idle x y d z (Err e) lt ex ey kx ky s t = tt
@@ -109,7 +109,7 @@ module _ (old mid : List CellParts) (giver to taker from : ℕ) (lane : IsLaneOf
       let by : b' ≡ y = same_Some b' y (sym eb ∙ ey) in
       let ax : a ≡ x = same_Some a x (sym ea ∙ ex) in
       let still : sights (set mid taker z) ≡ sights mid = map-set sight mid taker d z lt t.0 in
-      let settled' : At IsSettled to x.held.links.items from y.held.links.items = subst (λ (w : CellParts). At IsSettled to w.held.links.items from y.held.links.items) ax (subst (λ (w : CellParts). At IsSettled to a.held.links.items from w.held.links.items) by settled) in
+      let settled' : At IsSettledLane to x.held.links.items from y.held.links.items = subst (λ (w : CellParts). At IsSettledLane to w.held.links.items from y.held.links.items) ax (subst (λ (w : CellParts). At IsSettledLane to a.held.links.items from w.held.links.items) by settled) in
       let up = taken-up mid x y z.held.links.items giver to taker from ex ey kx ky settled' (subst (λ (w : CellParts). Both IsSameLink w.held.links.items z.held.links.items) yd t.1) (subst (λ (w : CellParts). HasMissed from w.held.links.items z.held.links.items) yd t.2) (gives-now x y ex ey) (takes-now y ey) in
       (still ∙ seen, subst (λ l. IsTakenUp l taker from) (sym still) up)
 

@@ -15,11 +15,11 @@ use Rattle.ev_model.specs.Parts.{NetParts, EntryParts}
 use Rattle.ev_model.specs.Meaning.{journal_of}
 use Rattle.ev_model.specs.Nets.{phased_net}
 use Rattle.ev_server.specs.Core.{CoreParts, IsServerState}
-use Rattle.ev_node.specs.declared.held.Held.{Held}
+use Rattle.ev_node.specs.declared.held.ServerInHand.{ServerInHand}
 use Rattle.ev_node.specs.declared.held.Root.{Root}
 use Rattle.ev_node.specs.declared.link.Link.{Link}
 use Rattle.ev_node.specs.Links.{Both, Each, IsSameLink, put_for, taken_from}
-use Rattle.ev_node.specs.Cell.{IsCellOf, IsHeld, IsKept, HasNoneBelow, IsReplayed, machine_in}
+use Rattle.ev_node.specs.Cell.{IsCellOf, IsServerInHand, IsKept, HasNoneBelow, IsReplayed, machine_in}
 use Rattle.ev_node.proofs.Unmoved.{same-refl}
 
 pub all-same : (xs : List Link) → Both IsSameLink xs xs
@@ -47,7 +47,7 @@ few-more : (low high : ℕ) → low ≤ high → (xs : List Link) → Each (λ l
 few-more low high le [] e = tt
 few-more low high le (x ∷ xs) e = (let f : length (put_list x.enter) ≤ low = e.0 in omega (arith, f, le), few-more low high le xs e.1)
 
-pub raised : (old new : Held) (clock : ℕ) → IsHeld old → old.core.clock ≤ clock → clock < 2 ^ 62 → new.core ≡ record old.core { clock = clock } → new.links ≡ old.links → new.publisher ≡ old.publisher → new.handed ≡ old.handed → IsHeld new
+pub raised : (old new : ServerInHand) (clock : ℕ) → IsServerInHand old → old.core.clock ≤ clock → clock < 2 ^ 62 → new.core ≡ record old.core { clock = clock } → new.links ≡ old.links → new.publisher ≡ old.publisher → new.handed ≡ old.handed → IsServerInHand new
 raised old new clock held le low core links publisher handed = record {
   low = subst (λ (z : CoreParts). z.clock < 2 ^ 62) (sym core) low;
   neighbours = ap (λ l. map (λ (link : Link). link.neighbour) l.items) links ∙ held.neighbours ∙ ap (λ (z : CoreParts). z.control.links) (sym core);
@@ -56,7 +56,7 @@ raised old new clock held le low core links publisher handed = record {
   handed = rw (publisher, handed) held.handed;
 }
 
-pub entered : (net : NetParts) (root after : Root) (journal : List EntryParts) (old new : Held) (clock : ℕ) → IsKept net root journal old → old.core.clock ≤ clock → clock < 2 ^ 62
+pub entered : (net : NetParts) (root after : Root) (journal : List EntryParts) (old new : ServerInHand) (clock : ℕ) → IsKept net root journal old → old.core.clock ≤ clock → clock < 2 ^ 62
     → is_one_tree real (phased_net net) root.phase after.phase ≡ true → root.phase ≤ after.phase → HasNoneBelow after.phase old.core.clients → after.net ≡ root.net → after.server ≡ root.server → after.entries ≡ length journal → after.before.value.items ≡ journal → after.core.value ≡ new.core → after.links.value ≡ new.links → after.viewer ≡ root.viewer
     → new.core ≡ record old.core { clock = clock } → new.links ≡ old.links → new.publisher ≡ old.publisher → new.handed ≡ old.handed → IsKept net after journal new
 entered net root after journal old new clock kept le low tree later none net_same server entries before core_is links_is viewer core links publisher handed = record {

@@ -8,7 +8,7 @@ use Rattle.ev_wire.proofs.Unique.{message_value}
 use Rattle.ev_control.specs.Control.{wired}
 use Rattle.ev_frame.specs.Frame.{FrameParts}
 use Rattle.ev_model.specs.Meaning.{message_of}
-use Rattle.ev_node.specs.Served.{framed}
+use Rattle.ev_net.specs.Links.{framed}
 use Rattle.ev_node.specs.Cell.{AreReadable}
 
 read-back : (m : Message real) → message_of (wired m) ≡ m

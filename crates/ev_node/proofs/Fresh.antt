@@ -16,17 +16,17 @@ use Rattle.ev_model.specs.Meaning.{journal_of}
 use Rattle.ev_model.specs.Nets.{phased_net, topology_at}
 use Rattle.ev_model.specs.Sound.{IsSound}
 use Rattle.ev_server.specs.Core.{CoreParts, IsServerState, published_from}
-use Rattle.ev_counting.specs.Table.{Held as Pair}
+use Rattle.ev_counting.specs.Table.{HeldFilter as Pair}
 use Rattle.ev_versions.specs.declared.publisher.Publisher.{Publisher}
 use Rattle.ev_versions.specs.Pairs.{pairs_after}
 use Rattle.ev_versions.proofs.Pairs.{none-after}
 use Rattle.ev_versions.specs.Ends.{staged, published, IsViewerOf}
-use Rattle.ev_node.specs.declared.held.Held.{Held}
+use Rattle.ev_node.specs.declared.held.ServerInHand.{ServerInHand}
 use Rattle.ev_node.specs.declared.held.Root.{Root}
 use Rattle.ev_node.specs.declared.link.Link.{Link}
 use Rattle.ev_node.specs.Links.{Both, Each, IsSameLink, put_for, taken_from}
 use Rattle.ev_node.specs.Lanes.{IsNew}
-use Rattle.ev_node.specs.Cell.{IsCellOf, IsKept, IsDue, IsPublished, machine_in}
+use Rattle.ev_node.specs.Cell.{IsCellOf, IsKept, IsDue, IsPublishedBy, machine_in}
 use Rattle.ev_node.proofs.Hands.{names}
 use Rattle.ev_node.proofs.Entering.{all-same}
 use Rattle.ev_node.proofs.Published.{by-interface-of}
@@ -84,7 +84,7 @@ module _ (net : NetParts) (core : CoreParts) (links : List Link) (stands : IsSer
   nothing-published : (i : ℕ) → published_from core i ≡ []
   nothing-published = by-interface-of here core (λ i. published_from core i ≡ []) (λ i h. sym (stands.published i h)) (λ i n. stands.published_apart i n)
 
-  shown : (publisher : Publisher) → published publisher ≡ [] → IsPublished publisher core
+  shown : (publisher : Publisher) → published publisher ≡ [] → IsPublishedBy publisher core
   shown publisher e i f = subst (λ l. Contains (pairs_after l) (i, f) ↔ Has f (published_from core i)) (sym e)
       ((λ h. absurd (none-there i f h)), (λ h. absurd (subst (Has f) (nothing-published i) h)))
 
@@ -94,7 +94,7 @@ module _ (net : NetParts) (core : CoreParts) (links : List Link) (stands : IsSer
     taken = λ client k c h lt e. absurd (omega (arith, lt));
   })
 
-  pub kept-fresh : (root : Root) (held : Held) (journal : List EntryParts) → IsSound net → root.net.value ≡ net → core.server ≡ root.server → root.phase ≡ 0 → root.entries ≡ 0 → root.before.value.items ≡ [] → root.core.value ≡ core → root.links.value.items ≡ links
+  pub kept-fresh : (root : Root) (held : ServerInHand) (journal : List EntryParts) → IsSound net → root.net.value ≡ net → core.server ≡ root.server → root.phase ≡ 0 → root.entries ≡ 0 → root.before.value.items ≡ [] → root.core.value ≡ core → root.links.value.items ≡ links
       → held.core ≡ core → held.links.items ≡ links → staged held.publisher ≡ [] → published held.publisher ≡ [] → held.handed.items ≡ [] → IsViewerOf held.publisher root.viewer.value → names links ≡ links_of (topology_at net 0) root.server → journal ≡ [] → IsKept net root journal held
   kept-fresh root held journal sound net_is server phase entries before core_is links_is core_held links_held none-staged none-published none-handed viewer named none = record {
     net_is = net_is;
@@ -115,7 +115,7 @@ module _ (net : NetParts) (core : CoreParts) (links : List Link) (stands : IsSer
       low = (let c = ap (λ (c : CoreParts). c.clock) core_held in omega (arith, c, clock));
       neighbours = ap (λ l. names l) links_held ∙ named ∙ sym (links_at net 0 root.server) ∙ ap here.links (sym server) ∙ stands.control.links ∙ ap (λ (c : CoreParts). c.control.links) (sym core_held);
       few = subst (λ l. Each (λ link. length (put_list link.enter) ≤ held.core.clock) l) (sym links_held) (new-few held.core.clock links new);
-      shown = subst (λ (c : CoreParts). IsPublished held.publisher c) (sym core_held) (shown held.publisher none-published);
+      shown = subst (λ (c : CoreParts). IsPublishedBy held.publisher c) (sym core_held) (shown held.publisher none-published);
       handed = none-staged ∙ rw (none-published, none-handed) refl;
     };
     due = subst (λ p. IsDue p held.core.clients) (sym phase) (subst (λ (c : CoreParts). IsDue 0 c.clients) (sym core_held) due);

@@ -19,14 +19,14 @@ use Rattle.ev_wire.specs.MessageText.{message_text, IsMessageText}
 use Rattle.ev_control.specs.Control.{texts, wired}
 use Rattle.ev_frame.specs.Frame.{HasMessage}
 use Rattle.ev_server.specs.Core.{CoreParts, IsServerState}
-use Rattle.ev_server.specs.Step.{IsStep}
-use Rattle.ev_node.specs.Served.{framed, frames_to}
+use Rattle.ev_server.specs.Step.{IsServerStep}
+use Rattle.ev_net.specs.Links.{framed, frames_to}
 use Rattle.ev_node.proofs.Sending.{receivers-told, frames-told, texts-to, texts-of}
 use Rattle.ev_node.specs.Links.{AreInOrder}
 use Rattle.ev_node.proofs.Orders.{receivers-in-order}
 
 module _ (net : Net real) (laws : NetLaws real net) (state : ServerState real) (core next : CoreParts) (stands : IsServerState net core state)
-    (input : Input Task (Message real)) (sent : List Sent) (local : IsStep net state input core next sent) where
+    (input : Input Task (Message real)) (sent : List Sent) (local : IsServerStep net state input core next sent) where
   measured : MeasureLaws (routing_machine real net) (measure real net (side_size net.hop net.servers))
   measured = spreads real (strict-of real real_laws) net (side_size net.hop net.servers) laws.single (tree real real_laws net laws)
 

@@ -5,7 +5,7 @@ use Rattle.ev_constraint.specs.Constraint.{ConstraintParts}
 use Rattle.ev_sets.specs.Sets.{Has}
 use Rattle.ev_control.specs.Control.{subs}
 use Rattle.ev_control.specs.Holdings.{Holding}
-use Rattle.ev_counting.specs.Table.{Held, AreApplied}
+use Rattle.ev_counting.specs.Table.{HeldFilter, AreApplied}
 use Rattle.ev_counting.specs.declared.change.Change.{Change}
 use Rattle.ev_counting.specs.declared.change.Change.TheVariants.{Add, Remove}
 use Rattle.ev_server.specs.Core.{CoreParts, published_from}
@@ -15,7 +15,7 @@ use Rattle.ev_versions.proofs.Pairs.{goes_on}
 use Rattle.ev_run.specs.Machine.{Does}
 use Rattle.ev_routing.specs.Step.{Version}
 use Rattle.ev_server.specs.Step.{MakesStep}
-use Rattle.ev_node.specs.Served.{IsTableOf, IsSomeServer}
+use Rattle.ev_net.specs.Kept.{IsTableOf, IsSomeServer}
 use Rattle.ev_node.proofs.Published.{held_by_version}
 use Rattle.ev_node.specs.Versions.{IsTouched, AreTouched}
 use Rattle.ev_node.proofs.Tables.{there}
@@ -31,15 +31,15 @@ module _ (i : ℕ) (f : List ConstraintParts) where
   more : (c : Change) (cs : List Change) → Touch cs → Touch (c ∷ cs)
   more c cs (d, h, e) = (d, inr h, e)
 
-  here : (j : ℕ) (g : List ConstraintParts) → ◌≡◌ {A = Held} (i, f) (j, g) → pair ≡ record { interface = j; item = g }
-  here j g e = ap (λ (z : Held). record { interface = z.0; item = z.1 }) e
+  here : (j : ℕ) (g : List ConstraintParts) → ◌≡◌ {A = HeldFilter} (i, f) (j, g) → pair ≡ record { interface = j; item = g }
+  here j g e = ap (λ (z : HeldFilter). record { interface = z.0; item = z.1 }) e
 
   -- what is there after changes was there before, or was touched
-  back : (cs : List Change) (old new : List Held) → AreApplied cs old new → Contains new (i, f) → Contains old (i, f) ⊎ Touch cs
+  back : (cs : List Change) (old new : List HeldFilter) → AreApplied cs old new → Contains new (i, f) → Contains old (i, f) ⊎ Touch cs
   back [] old new e h = inl (subst (λ z. Contains z (i, f)) e h)
   back (Add j g ∷ cs) old new (between, first, rest) h = go (back cs between new rest h)
     where
-      at : Contains old (i, f) ⊎ ◌≡◌ {A = Held} (i, f) (j, g) → Contains old (i, f) ⊎ Touch (Add j g ∷ cs)
+      at : Contains old (i, f) ⊎ ◌≡◌ {A = HeldFilter} (i, f) (j, g) → Contains old (i, f) ⊎ Touch (Add j g ∷ cs)
       at (inl o) = inl o
       at (inr e) = inr (Add j g, inl refl, here j g e)
 
@@ -53,7 +53,7 @@ module _ (i : ℕ) (f : List ConstraintParts) where
       go (inr t) = inr (more (Remove j g) cs t)
 
   -- and what was there before is there after them, or was touched
-  forth : (cs : List Change) (old new : List Held) → AreApplied cs old new → Contains old (i, f) → Contains new (i, f) ⊎ Touch cs
+  forth : (cs : List Change) (old new : List HeldFilter) → AreApplied cs old new → Contains old (i, f) → Contains new (i, f) ⊎ Touch cs
   forth [] old new e h = inl (subst (λ z. Contains z (i, f)) (sym e) h)
   forth (Add j g ∷ cs) old new (between, first, rest) h = go (forth cs between new rest (first.kept (i, f) h))
     where
@@ -66,7 +66,7 @@ module _ (i : ℕ) (f : List ConstraintParts) where
       go (inl b) = inl b
       go (inr t) = inr (more (Remove j g) cs t)
 
-      at : (Contains between (i, f) → Contains new (i, f) ⊎ Touch cs) → ◌≡◌ {A = Held} (i, f) (j, g) ⊎ Contains between (i, f) → Contains new (i, f) ⊎ Touch (Remove j g ∷ cs)
+      at : (Contains between (i, f) → Contains new (i, f) ⊎ Touch cs) → ◌≡◌ {A = HeldFilter} (i, f) (j, g) ⊎ Contains between (i, f) → Contains new (i, f) ⊎ Touch (Remove j g ∷ cs)
       at next (inl e) = inr (Remove j g, inl refl, here j g e)
       at next (inr b) = go (next b)
 

@@ -22,10 +22,10 @@ use Rattle.ev_server.specs.Core.{CoreParts, IsServerState}
 use Rattle.ev_server.specs.Staged.{is_some_there}
 use Rattle.ev_node.specs.declared.link.Link.{Link}
 use Rattle.ev_node.specs.Links.{IsNeighbour, put_for, taken_from}
-use Rattle.ev_node.specs.Served.{framed}
+use Rattle.ev_net.specs.Links.{framed}
 use Rattle.ev_node.specs.Cell.{CellParts, IsCellOf, IsDue, AreReadable, machine_in}
 use Rattle.ev_node.specs.Together.{AreTogether, AreBegun, AreDone, IsFinished, HasNoCommand, entries_in, journals, links_of, of_server, roots, sight, sights}
-use Rattle.ev_node.specs.InHand.{AreAllInHand, AreInOrder}
+use Rattle.ev_node.specs.InHand.{AreAllInHand, AreTakenInOrder}
 use Rattle.ev_node.proofs.Places.{below-found}
 use Rattle.ev_node.proofs.Due.{DueAt, due-state, session-of, script-of, done-of, map-get}
 use Rattle.ev_node.proofs.Framing.{frames-one}
@@ -276,7 +276,7 @@ module _ (net : NetParts) (phase : ℕ) (cells : List CellParts) (together : Are
   unfolding ends
   phase-in-hand took = record { merge = merge.1; replay = λ s. (piece s).replay; took = took }
 
-  module _ (order : AreInOrder (sights cells)) where
+  module _ (order : AreTakenInOrder (sights cells)) where
     none-taken : (xs ys : List FrameParts) → xs ≡ [] → IsPrefix xs ys
     none-taken xs ys e = (ys, ap (λ l. l ++ ys) e)
 

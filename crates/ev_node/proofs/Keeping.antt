@@ -17,16 +17,17 @@ use Rattle.ev_model.proofs.SoundNets.{net-laws, tree-map}
 use Rattle.ev_model.specs.declared.turn.Act.{Act as EntryAct}
 use Rattle.ev_server.specs.Core.{CoreParts, IsServerState}
 use Rattle.ev_server.specs.declared.stepped.StepFault.{StepFault}
-use Rattle.ev_node.specs.declared.held.Held.{Held}
+use Rattle.ev_node.specs.declared.held.ServerInHand.{ServerInHand}
 use Rattle.ev_node.specs.declared.held.Root.{Root}
 use Rattle.ev_node.specs.declared.what.What.{What}
 use Rattle.ev_node.specs.declared.what.What.TheVariants.{Command, Take, Version}
 use Rattle.ev_node.specs.declared.what.Turned.{Turned}
 use Rattle.ev_node.specs.declared.what.Turned.TheVariants.{Made, Stale, Idle}
-use Rattle.ev_node.specs.Served.{IsSomeServer, StampedInput}
+use Rattle.ev_net.specs.Acted.{StampedInput}
+use Rattle.ev_net.specs.Kept.{IsSomeServer}
 use Rattle.ev_node.specs.Links.{IsSameLink, IsMoved, IsUnmoved}
-use Rattle.ev_node.specs.Cell.{IsCellOf, IsHeld, IsKept, IsDue, IsReplayed, machine_in}
-use Rattle.ev_node.specs.Turns.{IsTurn, IsStill, taken_by}
+use Rattle.ev_node.specs.Cell.{IsCellOf, IsServerInHand, IsKept, IsDue, IsReplayed, machine_in}
+use Rattle.ev_node.specs.Turns.{IsCellTurn, IsStill, taken_by}
 use Rattle.ev_node.specs.Asked.{Answers, Suits, SuitsHeld, act_for}
 use Rattle.ev_node.proofs.Walks.{both-comp}
 use Rattle.ev_node.proofs.Unmoved.{same-link}
@@ -41,7 +42,7 @@ laws_at net sound phase = each-net real (phased_net net) (net-laws net sound) ph
 pub links_at : (net : NetParts) (phase server : ℕ) → (net_at real (phased_net net) phase).links server ≡ links_of (topology_at net phase) server
 links_at net phase server = ap (λ z. z.links server) (sym (tree-map (first_tree net.trees) (later_trees net.trees) phase))
 
-module _ (net : NetParts) (root : Root) (journal : List EntryParts) (old : Held) (kept : IsKept net root journal old) where
+module _ (net : NetParts) (root : Root) (journal : List EntryParts) (old : ServerInHand) (kept : IsKept net root journal old) where
   pub replayed : IsReplayed net root journal kept.begins.0 old
   replayed = kept.replays kept.begins.0 kept.begins.1
 
@@ -57,7 +58,7 @@ module _ (net : NetParts) (root : Root) (journal : List EntryParts) (old : Held)
       subst (Has from) (ap (λ n. links_of (topology_at n root.phase) root.server) same ∙ sym (links_at net root.phase root.server) ∙ ap (net_at real (phased_net net) root.phase).links (sym kept.number) ∙ replayed.stands.state.control.links) has
   suits-held Version has same = tt
 
-  pub kept-turn : (input : StampedInput) (act : EntryAct) (new : Held) (after : List EntryParts) → IsTurn root.phase input act old new journal after → IsHeld new → IsKept net root after new
+  pub kept-turn : (input : StampedInput) (act : EntryAct) (new : ServerInHand) (after : List EntryParts) → IsCellTurn root.phase input act old new journal after → IsServerInHand new → IsKept net root after new
   kept-turn input act new after turn held = record {
     net_is = kept.net_is;
     sound = kept.sound;
@@ -82,7 +83,7 @@ module _ (net : NetParts) (root : Root) (journal : List EntryParts) (old : Held)
       longer : root.entries ≤ length after
       longer = let e = ap (λ (l : List EntryParts). length l) turn.entry in let n = length-append journal (entry_parts turn.stamp old.core.server act (map (λ s. s.to) turn.sent) ∷ []) in let k = kept.entries in omega (arith, e, n, k)
 
-  pub kept-still : (new : Held) (after : List EntryParts) → IsStill old new journal after → IsHeld new → IsKept net root after new
+  pub kept-still : (new : ServerInHand) (after : List EntryParts) → IsStill old new journal after → IsServerInHand new → IsKept net root after new
   kept-still new after still held = record {
     net_is = kept.net_is;
     sound = kept.sound;
@@ -114,7 +115,7 @@ module _ (net : NetParts) (root : Root) (journal : List EntryParts) (old : Held)
       }
 
   -- WHATEVER IS ANSWERED
-  pub kept-asked : (what : What) (new : Held) (after : List EntryParts) (r : Result Turned StepFault) → IfOk r (Answers root.phase what old new journal after) → OnErr r (IsStill old new journal after) → IsHeld new → IsKept net root after new
+  pub kept-asked : (what : What) (new : ServerInHand) (after : List EntryParts) (r : Result Turned StepFault) → IfOk r (Answers root.phase what old new journal after) → OnErr r (IsStill old new journal after) → IsServerInHand new → IsKept net root after new
   kept-asked what new after (Ok Made) a s held = kept-turn a.input (act_for what) new after a.turn held
   kept-asked what new after (Ok Stale) a s held = elim a [ ]
   kept-asked what new after (Ok Idle) a s held = kept-still new after a.0 held

@@ -6,7 +6,7 @@ use Rattle.ev_model.specs.Nets.{clients_of}
 use Rattle.ev_session.specs.Session.{SessionParts}
 use Rattle.ev_server.specs.Clients.{numbers_of}
 use Rattle.ev_routing.proofs.Listing.{has-map}
-use Rattle.ev_node.specs.declared.held.Held.{Held}
+use Rattle.ev_node.specs.declared.held.ServerInHand.{ServerInHand}
 use Rattle.ev_node.specs.declared.held.Root.{Root}
 use Rattle.ev_node.specs.Cell.{IsKept}
 use Rattle.ev_node.specs.Turns.{HasCommand}
@@ -16,7 +16,7 @@ use Rattle.ev_node.proofs.Places.{below-found}
 use Rattle.ev_node.proofs.Keeping.{replayed}
 
 -- where no client at a place of the net has a command left, none is left
-pub none-left : (net : NetParts) (root : Root) (journal : List EntryParts) (held : Held) (n : ℕ) → IsKept net root journal held → length net.clients ≤ n
+pub none-left : (net : NetParts) (root : Root) (journal : List EntryParts) (held : ServerInHand) (n : ℕ) → IsKept net root journal held → length net.clients ≤ n
     → ((place : ℕ) → place < n → Has (suc place) (clients_of net root.server) → HasCommand held.core (suc place) root.phase → ⊥) → HasNoCommand held.core root.phase
 none-left net root journal held n kept all none client h =
     let here : clients_of net root.server ≡ numbers_of held.core.clients = ap (clients_of net) (sym kept.number) ∙ (replayed net root journal held kept).stands.state.clients in

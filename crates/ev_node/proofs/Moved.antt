@@ -9,7 +9,8 @@ use Rattle.ev_lane.specs.Lane.{put_list, taken_list}
 use Rattle.ev_frame.specs.Frame.{FrameParts}
 use Rattle.ev_wire.specs.declared.sent.Sent.{Sent}
 use Rattle.ev_node.specs.declared.link.Link.{Link}
-use Rattle.ev_node.specs.Links.{Both, IsSameLink, IsUnmoved, IsGiven, IsTaken, IsMoved, put_for, taken_from, only_for, only_from, frame_of, frames_of}
+use Rattle.ev_node.specs.Links.{Both, IsSameLink, IsUnmoved, IsGiven, IsFrameTaken, IsMoved, put_for, taken_from, only_for, only_from, frames_of}
+use Rattle.ev_net.specs.Links.{frame_of}
 use Rattle.ev_node.proofs.Hands.{names}
 use Rattle.ev_node.proofs.Unmoved.{same-link}
 
@@ -40,7 +41,7 @@ moved-given stamp sent x y z u g = record {
   took = ap (λ (b : LaneOut FrameParts). taken_list b) g.put.leave ∙ u.taken ∙ sym (append-nothing (taken_list x.leave));
 }
 
-pub moved-taken : (stamp : ℕ) (sent : List Sent) (from : ℕ) (frame : FrameParts) (x y z : Link) → IsTaken from frame x y → IsGiven stamp sent y z → IsMoved stamp sent (only_from from frame) x z
+pub moved-taken : (stamp : ℕ) (sent : List Sent) (from : ℕ) (frame : FrameParts) (x y z : Link) → IsFrameTaken from frame x y → IsGiven stamp sent y z → IsMoved stamp sent (only_from from frame) x z
 moved-taken stamp sent from frame x y z t g = record {
   same = same-link x y z t.same g.put.same;
   one = subst (λ n. length (only_for n sent) ≤ 1) t.same.neighbour g.put.one;

@@ -6,7 +6,7 @@ use Rattle.ev_sets.specs.Sets.{Has}
 use Rattle.ev_wire.specs.declared.command.Command.{Command}
 use Rattle.ev_session.specs.Session.{SessionParts}
 use Rattle.ev_server.specs.Core.{CoreParts}
-use Rattle.ev_node.specs.Served.{IsSomeServer}
+use Rattle.ev_net.specs.Kept.{IsSomeServer}
 use Rattle.ev_node.specs.Cell.{IsPast}
 use Rattle.ev_node.specs.Turns.{HasCommand}
 use Rattle.ev_node.proofs.Places.{below-found}

@@ -12,7 +12,7 @@ use Rattle.ev_lane.specs.Lane.{put_list, waiting_list, taken_list, rest_list, co
 use Rattle.ev_frame.specs.Frame.{FrameParts}
 use Rattle.ev_wire.specs.declared.message.Message.{Message}
 use Rattle.ev_node.specs.declared.link.Link.{Link}
-use Rattle.ev_node.specs.Links.{Both, ComesNext, IsLooked, IsLookedAt, IsSameLink, IsUnmoved, IsTaken, IsRoomed, IsMissed, HasMissed, IsOneLane, IsSettled, IsNeighbour, IsNextAt, At}
+use Rattle.ev_node.specs.Links.{Both, ComesNext, IsLooked, IsLookedAt, IsSameLink, IsUnmoved, IsFrameTaken, IsRoomed, IsMissed, HasMissed, IsOneLane, IsSettledLane, IsNeighbour, IsNextAt, At}
 use Rattle.ev_node.proofs.Hands.{names}
 use Rattle.ev_node.proofs.Unmoved.{same-refl, unmoved-refl, all-unmoved}
 
@@ -45,16 +45,16 @@ found-name n [] x e = absurd cc
 found-name zero (y ∷ xs) x e = inl (ap (λ (w : Link). w.neighbour) (same_Some x y (sym e)))
 found-name (suc n) (y ∷ xs) x e = inr (found-name n xs x e)
 
-other : (from : ℕ) (frame : FrameParts) (x : Link) → (x.neighbour ≡ from → ⊥) → IsTaken from frame x x
+other : (from : ℕ) (frame : FrameParts) (x : Link) → (x.neighbour ≡ from → ⊥) → IsFrameTaken from frame x x
 other from frame x n = record { same = same-refl x; enter = refl; took = rw (ne_eqb x.neighbour from n) (sym (append-nothing (taken_list x.leave))); seen = refl }
 
-others : (from : ℕ) (frame : FrameParts) (xs : List Link) → (Has from (names xs) → ⊥) → Both (IsTaken from frame) xs xs
+others : (from : ℕ) (frame : FrameParts) (xs : List Link) → (Has from (names xs) → ⊥) → Both (IsFrameTaken from frame) xs xs
 others from frame [] n = tt
 others from frame (x ∷ xs) n = (other from frame x (λ e. n (inl (sym e))), others from frame xs (λ h. n (inr h)))
 
 -- the lane at a place gave a frame, the others did not
 pub set-taken : (n : ℕ) (xs : List Link) (d z : Link) (frame : FrameParts) → n < length xs → IsDistinct (names xs) → IsSameLink (get_or xs n d) z → z.enter ≡ (get_or xs n d).enter → taken_list z.leave ≡ taken_list (get_or xs n d).leave ++ frame ∷ []
-    → misses z.leave ≡ misses (get_or xs n d).leave → Both (IsTaken (get_or xs n d).neighbour frame) xs (set xs n z)
+    → misses z.leave ≡ misses (get_or xs n d).leave → Both (IsFrameTaken (get_or xs n d).neighbour frame) xs (set xs n z)
 set-taken n [] d z frame lt dis s e t m = absurd (omega arith)
 set-taken zero (x ∷ xs) d z frame lt dis s e t m = (record { same = s; enter = e; took = rw (eq-eqb x.neighbour x.neighbour refl) t; seen = m }, others x.neighbour frame xs dis.0)
 set-taken (suc n) (x ∷ xs) d z frame lt dis s e t m = (
@@ -93,7 +93,7 @@ missed-after n xs ys zs b h x z p q =
     }
 
 pub settled-at : {E : Type 0} (to : ℕ) (xs : List Link) (from : ℕ) (ys : List Link) (x y : Link) (r : Result (Unit {0}) E) → to < length xs → from < length ys → IsLane x.enter y.leave
-    → OnOk r ((taken_list y.leave ++ rest_list y.leave ≡ put_list x.enter) × (waiting_list x.enter ≡ []) × (coming_list y.leave ≡ rest_list y.leave)) → OnOk r (At IsSettled to (set xs to x) from (set ys from y))
+    → OnOk r ((taken_list y.leave ++ rest_list y.leave ≡ put_list x.enter) × (waiting_list x.enter ≡ []) × (coming_list y.leave ≡ rest_list y.leave)) → OnOk r (At IsSettledLane to (set xs to x) from (set ys from y))
 settled-at to xs from ys x y (Ok u) lt lt' l s = (x, y, set-found xs to x lt, set-found ys from y lt', record { lane = l; all = s.0; coming = s.2 })
 settled-at to xs from ys x y (Err e) lt lt' l s = tt
 
@@ -138,14 +138,14 @@ looked-at n xs d x z (Err e) lt q l = tt
 looked-at n xs d x z (Ok seen) lt q l = (get_or xs n d, z, found xs n d lt, set-found xs n z lt, subst (λ (w : Link). IsLooked w z seen) q l)
 
 -- the lane at a place gave the frame that came next
-pub taken-next : (n : ℕ) (xs : List Link) (d y z : Link) → n < length xs → IsDistinct (names xs) → y ≡ get_or xs n d → ((frame : FrameParts) → ComesNext frame y → IsTaken y.neighbour frame y z)
-    → (frame : FrameParts) (x : Link) → slice_get xs n ≡ Some x → ComesNext frame x → Both (IsTaken x.neighbour frame) xs (set xs n z)
+pub taken-next : (n : ℕ) (xs : List Link) (d y z : Link) → n < length xs → IsDistinct (names xs) → y ≡ get_or xs n d → ((frame : FrameParts) → ComesNext frame y → IsFrameTaken y.neighbour frame y z)
+    → (frame : FrameParts) (x : Link) → slice_get xs n ≡ Some x → ComesNext frame x → Both (IsFrameTaken x.neighbour frame) xs (set xs n z)
 taken-next n xs d y z lt dis q t frame x e next =
     let p : x ≡ get_or xs n d = same_Some x (get_or xs n d) (sym e ∙ found xs n d lt) in
-    let w : IsTaken x.neighbour frame x z = subst (λ (v : Link). ComesNext frame v → IsTaken v.neighbour frame v z) (q ∙ sym p) (t frame) next in
-    let u : IsTaken (get_or xs n d).neighbour frame (get_or xs n d) z = subst (λ (v : Link). IsTaken v.neighbour frame v z) p w in
+    let w : IsFrameTaken x.neighbour frame x z = subst (λ (v : Link). ComesNext frame v → IsFrameTaken v.neighbour frame v z) (q ∙ sym p) (t frame) next in
+    let u : IsFrameTaken (get_or xs n d).neighbour frame (get_or xs n d) z = subst (λ (v : Link). IsFrameTaken v.neighbour frame v z) p w in
     let k : (get_or xs n d).neighbour ≡ x.neighbour = ap (λ (v : Link). v.neighbour) (sym p) in
-    subst (λ m. Both (IsTaken m frame) xs (set xs n z)) k (set-taken n xs d z frame lt dis u.same u.enter (rw (eq-eqb (get_or xs n d).neighbour (get_or xs n d).neighbour refl) at u.took) u.seen)
+    subst (λ m. Both (IsFrameTaken m frame) xs (set xs n z)) k (set-taken n xs d z frame lt dis u.same u.enter (rw (eq-eqb (get_or xs n d).neighbour (get_or xs n d).neighbour refl) at u.took) u.seen)
 
 pub prefix-then : {T : Type 0} (xs ys zs : List T) → IsPrefix xs ys → IsPrefix ys zs → IsPrefix xs zs
 prefix-then xs ys zs (us, e) (vs, f) = (us ++ vs, sym (append_assoc xs us vs) ∙ ap (λ l. l ++ vs) e ∙ f)

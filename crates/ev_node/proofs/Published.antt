@@ -14,7 +14,7 @@ use Rattle.ev_theory.specs.Real.{real}
 use Rattle.ev_wire.specs.declared.sent.Sent.{Sent}
 use Rattle.ev_control.specs.Control.{subs}
 use Rattle.ev_server.specs.Core.{CoreParts, IsServerState, published_from}
-use Rattle.ev_server.specs.Step.{IsStep}
+use Rattle.ev_server.specs.Step.{IsServerStep}
 
 true-false : true ≡ false → ⊥
 true-false e = cc
@@ -66,7 +66,7 @@ module _ (net : Net real) where
     by-interface : (P : ℕ → Type 0) → ((i : ℕ) → Has i (interfaces real net core.server) → P i) → ((i : ℕ) → (Has i (interfaces real net core.server) → ⊥) → P i) → (i : ℕ) → P i
     by-interface = by-interface-of core
 
-    module _ (input : Input Task (Message real)) (step : IsStep net state input core next sent) (same : next.server ≡ core.server) where
+    module _ (input : Input Task (Message real)) (step : IsServerStep net state input core next sent) (same : next.server ≡ core.server) where
       next-published : (i : ℕ) → Has i (interfaces real net core.server) → step.outcome.state.published i ≡ published_from next i
       next-published i h = step.state_after.published i (subst (λ z. Has i (interfaces real net z)) (sym same) h)
 
@@ -79,7 +79,7 @@ module _ (net : Net real) where
           (λ i h. sym (next-published i h) ∙ ap (λ z. z i) e ∙ stands.published i h)
           (λ i n. next-apart i n ∙ sym (stands.published_apart i n))
 
-    pub kept_by_command : (client : ℕ) → IsStep net state (Does (NextCommand client)) core next sent → next.server ≡ core.server → (i : ℕ) → published_from next i ≡ published_from core i
+    pub kept_by_command : (client : ℕ) → IsServerStep net state (Does (NextCommand client)) core next sent → next.server ≡ core.server → (i : ℕ) → published_from next i ≡ published_from core i
     kept_by_command client step same = kept-by (Does (NextCommand client)) step same (published-stays (served real net core.server state (Does (NextCommand client)) step.outcome step.step))
       where
         published-stays : Served real net core.server state (Does (NextCommand client)) step.outcome → step.outcome.state.published ≡ state.published
@@ -95,7 +95,7 @@ module _ (net : Net real) where
                     at None f = absurd cc
                     at (Some x) f = subst IsNoVersion (same_Some _ _ f) (command-none client (state.done client) x.command)
 
-    pub kept_by_taking : (from : ℕ) (m : Message real) → IsStep net state (Takes from m) core next sent → next.server ≡ core.server → (i : ℕ) → published_from next i ≡ published_from core i
+    pub kept_by_taking : (from : ℕ) (m : Message real) → IsServerStep net state (Takes from m) core next sent → next.server ≡ core.server → (i : ℕ) → published_from next i ≡ published_from core i
     kept_by_taking from m step same = kept-by (Takes from m) step same (published-stays (served real net core.server state (Takes from m) step.outcome step.step))
       where
         published-stays : Served real net core.server state (Takes from m) step.outcome → step.outcome.state.published ≡ state.published
@@ -105,7 +105,7 @@ module _ (net : Net real) where
             plain-work work e = subst IsNoVersion (same_Some _ _ (cond-some (is_among core.server net.servers) (is_among from (net.links core.server)) (Some (message_work real net state from m)) work e).2) (message-none state from m)
 
     -- a version publishes what is held
-    pub held_by_version : IsStep net state (Does Version) core next sent → next.server ≡ core.server → (i : ℕ) → published_from next i ≡ subs core.control i
+    pub held_by_version : IsServerStep net state (Does Version) core next sent → next.server ≡ core.server → (i : ℕ) → published_from next i ≡ subs core.control i
     held_by_version step same = by-interface (λ i. published_from next i ≡ subs core.control i)
         (λ i h. sym (next-published (Does Version) step same i h) ∙ ap (λ z. z i) shown ∙ stands.control.subs_held i h)
         (λ i n. next-apart (Does Version) step same i n ∙ sym (stands.control.subs_apart i n))

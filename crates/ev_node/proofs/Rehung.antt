@@ -18,14 +18,14 @@ use Rattle.ev_server.specs.Core.{CoreParts, IsServerState, published_from}
 use Rattle.ev_server.specs.Linked.{AreHeldLinks, IsLinked, IsOnLinks}
 use Rattle.ev_server.specs.Staged.{IsStaged}
 use Rattle.ev_versions.specs.Ends.{staged, published, IsSamePublisher}
-use Rattle.ev_node.specs.declared.held.Held.{Held}
+use Rattle.ev_node.specs.declared.held.ServerInHand.{ServerInHand}
 use Rattle.ev_node.specs.declared.held.Root.{Root}
 use Rattle.ev_node.specs.declared.link.Link.{Link}
-use Rattle.ev_node.specs.Served.{IsSomeServer}
+use Rattle.ev_net.specs.Kept.{IsSomeServer}
 use Rattle.ev_node.specs.Links.{Both, Each, IsSameLink, IsUnmoved, put_for, taken_from}
 use Rattle.ev_node.specs.Lanes.{IsNew, named}
 use Rattle.ev_node.specs.Turns.{IsStill}
-use Rattle.ev_node.specs.Cell.{IsCellOf, IsHeld, IsKept, HasNoneBelow, cell_parts, machine_in}
+use Rattle.ev_node.specs.Cell.{IsCellOf, IsServerInHand, IsKept, HasNoneBelow, cell_parts, machine_in}
 use Rattle.ev_node.specs.Relinking.{CanMove, IsPutOn, additions, removals}
 use Rattle.ev_node.proofs.Entering.{all-same, any-clock, drop-all, raised}
 use Rattle.ev_node.proofs.Fresh.{new-put, new-taken, new-few}
@@ -33,7 +33,7 @@ use Rattle.ev_node.proofs.Unmoved.{all-unmoved}
 use Rattle.ev_node.proofs.Turnover.{shown-on}
 
 -- what is in hand stays so while changes are handed to the publisher, which publishes none
-pub still-held : (old new : Held) → IsHeld old → new.core ≡ old.core → new.links ≡ old.links → published new.publisher ≡ published old.publisher → staged new.publisher ≡ published new.publisher ++ new.handed.items → IsHeld new
+pub still-held : (old new : ServerInHand) → IsServerInHand old → new.core ≡ old.core → new.links ≡ old.links → published new.publisher ≡ published old.publisher → staged new.publisher ≡ published new.publisher ++ new.handed.items → IsServerInHand new
 still-held old new held core links shown handed = record {
   low = subst (λ (c : CoreParts). c.clock < 2 ^ 62) (sym core) held.low;
   neighbours = ap (λ l. map (λ (link : Link). link.neighbour) l.items) links ∙ held.neighbours ∙ ap (λ (c : CoreParts). c.control.links) (sym core);
@@ -46,7 +46,7 @@ pub on-err : {A E : Type 0} {P : Type 0} (r : Result A E) → P → OnErr r P
 on-err (Ok x) p = tt
 on-err (Err e) p = p
 
-pub stays : (old new : Held) → new.core ≡ old.core → new.links ≡ old.links → IsSamePublisher old.publisher new.publisher → published new.publisher ≡ published old.publisher → (journal : List EntryParts) → IsStill old new journal journal
+pub stays : (old new : ServerInHand) → new.core ≡ old.core → new.links ≡ old.links → IsSamePublisher old.publisher new.publisher → published new.publisher ≡ published old.publisher → (journal : List EntryParts) → IsStill old new journal journal
 stays old new core links same shown journal = record {
   core = core;
   links = subst (λ l. Both IsUnmoved old.links.items l.items) (sym links) (all-unmoved old.links.items);
@@ -56,9 +56,9 @@ stays old new core links same shown journal = record {
 }
 
 -- on other links it holds too
-pub put-held : (old new : Held) (given : List HeldLink) (control : Controlled) → IsHeld old → IsSomeServer old.core → old.core.staged ≡ [] → AreHeldLinks given → named new.links.items ≡ map (λ (h : HeldLink). h.link) given → Each IsNew new.links.items
+pub put-held : (old new : ServerInHand) (given : List HeldLink) (control : Controlled) → IsServerInHand old → IsSomeServer old.core → old.core.staged ≡ [] → AreHeldLinks given → named new.links.items ≡ map (λ (h : HeldLink). h.link) given → Each IsNew new.links.items
     → IsStaged (published_from old.core) (subs old.core.control) old.core.staged → IsLinked given old.core.control control → IsOnLinks control old.core new.core
-    → published new.publisher ≡ published old.publisher ++ (removals old.core.control (named old.links.items) ++ additions given) → staged new.publisher ≡ published new.publisher → new.handed.items ≡ [] → IsHeld new
+    → published new.publisher ≡ published old.publisher ++ (removals old.core.control (named old.links.items) ++ additions given) → staged new.publisher ≡ published new.publisher → new.handed.items ≡ [] → IsServerInHand new
 put-held old new given control held some calm may names fresh turns linked on shown all none = record {
   low = subst (λ n. n < 2 ^ 62) (sym on.clock) held.low;
   neighbours = names ∙ sym linked.links ∙ sym (ap (λ (c : Controlled). c.links) on.control_is);
@@ -67,8 +67,8 @@ put-held old new given control held some calm may names fresh turns linked on sh
   handed = all ∙ sym (append-nil (published new.publisher)) ∙ ap (λ l. published new.publisher ++ l) (sym none);
 }
 
-module _ (net : NetParts) (root after : Root) (journal : List EntryParts) (old mid new : Held) (clock : ℕ) (given : List HeldLink) (row : List Link) (kept : IsKept net root journal old)
-    (can : CanMove after.phase clock given row (cell_parts root journal old)) (low : clock < 2 ^ 62) (held : IsHeld mid) (put : IsPutOn given row old mid) (core : new.core ≡ record mid.core { clock = clock }) (links : new.links ≡ mid.links) where
+module _ (net : NetParts) (root after : Root) (journal : List EntryParts) (old mid new : ServerInHand) (clock : ℕ) (given : List HeldLink) (row : List Link) (kept : IsKept net root journal old)
+    (can : CanMove after.phase clock given row (cell_parts root journal old)) (low : clock < 2 ^ 62) (held : IsServerInHand mid) (put : IsPutOn given row old mid) (core : new.core ≡ record mid.core { clock = clock }) (links : new.links ≡ mid.links) where
   abbrev cell-then : Cell (machine_in net after.phase)
   cell-then = record { state = can.state; clock = clock; put = λ link. []; took = λ link. [] }
 

@@ -19,13 +19,13 @@ use Rattle.ev_model.specs.Parts.{NetParts, EntryParts, entry_parts}
 use Rattle.ev_model.specs.Meaning.{entry_of, journal_of, phased_command}
 use Rattle.ev_model.specs.Nets.{phased_net}
 use Rattle.ev_model.specs.declared.turn.Act.{Act as EntryAct}
-use Rattle.ev_server.specs.Step.{IsStep, stamp_after}
-use Rattle.ev_node.specs.Served.{StampedInput, input_of, stamp_of, told_as}
-use Rattle.ev_node.specs.Served.{framed}
-use Rattle.ev_node.specs.declared.held.Held.{Held}
+use Rattle.ev_server.specs.Step.{IsServerStep, stamp_after}
+use Rattle.ev_net.specs.Acted.{StampedInput, input_of, stamp_of, told_as}
+use Rattle.ev_net.specs.Links.{framed}
+use Rattle.ev_node.specs.declared.held.ServerInHand.{ServerInHand}
 use Rattle.ev_node.specs.Links.{AreInOrder, put_for, taken_from, only_for, frames_of}
 use Rattle.ev_node.specs.Cell.{IsCellOf, AreReadable, machine_in}
-use Rattle.ev_node.specs.Turns.{IsTurn, IsTold, IsOfPhase, taken_by}
+use Rattle.ev_node.specs.Turns.{IsCellTurn, IsTold, IsOfPhase, taken_by}
 use Rattle.ev_node.proofs.Going.{going-frames, going-readable, going-told, going-order}
 use Rattle.ev_node.proofs.Hands.{names, tos, none}
 use Rattle.ev_node.proofs.Moved.{puts, takes}
@@ -40,12 +40,12 @@ get-map f [] k x e = absurd cc
 get-map f (y ∷ ys) zero x e = let q : y ≡ x = cc in ap (λ z. Some (f z)) q
 get-map f (y ∷ ys) (suc k) x e = get-map f ys k x e
 
-module _ (net : NetParts) (phase : ℕ) (laws : NetLaws real (net_at real (phased_net net) phase)) (input : StampedInput) (act : EntryAct) (old new : Held) (before after : List EntryParts)
-    (turn : IsTurn phase input act old new before after) (neighbours : names old.links.items ≡ old.core.control.links) (cell : Cell (machine_in net phase)) (stands : IsCellOf net phase old.core old.links.items cell) where
+module _ (net : NetParts) (phase : ℕ) (laws : NetLaws real (net_at real (phased_net net) phase)) (input : StampedInput) (act : EntryAct) (old new : ServerInHand) (before after : List EntryParts)
+    (turn : IsCellTurn phase input act old new before after) (neighbours : names old.links.items ≡ old.core.control.links) (cell : Cell (machine_in net phase)) (stands : IsCellOf net phase old.core old.links.items cell) where
   abbrev here : Net real
   here = net_at real (phased_net net) phase
 
-  pub local : IsStep here cell.state (input_of input) old.core new.core turn.sent
+  pub local : IsServerStep here cell.state (input_of input) old.core new.core turn.sent
   local = turn.step.step here cell.state stands.state
 
   abbrev then-cell : Cell (machine_in net phase)

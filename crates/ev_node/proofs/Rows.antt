@@ -8,7 +8,7 @@ use Rattle.ev_tree.specs.Tree.{Topology, TreeLaws, links_of}
 use Rattle.ev_tree.proofs.Servers.{server-in}
 use Rattle.ev_node.specs.declared.link.Link.{Link}
 use Rattle.ev_node.specs.Links.{Each, IsOneLane}
-use Rattle.ev_node.specs.Lanes.{IsNew, AreNone, AreJoined, AreEnds, AreLanes, AreLanesOf, IsLaid, named, with_link}
+use Rattle.ev_node.specs.Lanes.{IsNew, AreNone, AreJoinedByLanes, AreEnds, AreLanes, AreLanesOf, IsLaid, named, with_link}
 
 less : (x y : ℕ) → nat_lt x y ≡ true → x < y
 less x y e = grind (arith, nat_tests, e)
@@ -126,7 +126,7 @@ data IsRowThen (one other : ℕ) (mine theirs : Link) (k : ℕ) (r row : List Li
   Theirs : suc k ≡ other → row ≡ r ++ theirs ∷ [] → IsRowThen one other mine theirs k r row
   Kept : (suc k ≡ one → ⊥) → (suc k ≡ other → ⊥) → row ≡ r → IsRowThen one other mine theirs k r row
 
-row-then : (one other : ℕ) (rows new : List (List Link)) → 1 ≤ one → 1 ≤ other → (one ≡ other → ⊥) → (j : AreJoined one other rows new) (k : ℕ) (row : List Link) → slice_get new k ≡ Some row
+row-then : (one other : ℕ) (rows new : List (List Link)) → 1 ≤ one → 1 ≤ other → (one ≡ other → ⊥) → (j : AreJoinedByLanes one other rows new) (k : ℕ) (row : List Link) → slice_get new k ≡ Some row
     → (r : List Link) × (slice_get rows k ≡ Some r) × IsRowThen one other j.mine j.theirs k r row
 row-then one other rows new a b apart j k row e = go (get-with (other - 1) k j.theirs (with_link (one - 1) j.mine rows) row (subst (λ (l : List (List Link)). slice_get l k ≡ Some row) j.rows e))
   where
@@ -243,7 +243,7 @@ module _ (tree : Topology) (laws : TreeLaws tree) where
   }
 
   -- two servers were joined
-  module _ (s t : ℕ) (rows new : List (List Link)) (counted : 1 ≤ s) (above : s < t) (edge : Has t (links_of tree s)) (lanes : AreLanes tree s t rows) (j : AreJoined s t rows new) where
+  module _ (s t : ℕ) (rows new : List (List Link)) (counted : 1 ≤ s) (above : s < t) (edge : Has t (links_of tree s)) (lanes : AreLanes tree s t rows) (j : AreJoinedByLanes s t rows new) where
     unlaid-one : IsLaid s t s t → ⊥
     unlaid-one (inl l) = omega (arith, l)
     unlaid-one (inr (inl l)) = omega (arith, l, above)

@@ -12,8 +12,8 @@ use Rattle.ev_theory.specs.Real.{real}
 use Rattle.ev_wire.specs.declared.sent.Sent.{Sent}
 use Rattle.ev_wire.specs.MessageText.{message_text}
 use Rattle.ev_control.specs.Control.{texts, sent_to, wired}
-use Rattle.ev_node.specs.Served.{framed, frames_to}
-use Rattle.ev_node.specs.Links.{frame_of}
+use Rattle.ev_net.specs.Links.{framed, frames_to}
+use Rattle.ev_net.specs.Links.{frame_of}
 
 -- lists
 

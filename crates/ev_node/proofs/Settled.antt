@@ -9,8 +9,8 @@ use Rattle.ev_lane.specs.Lane.{put_list, taken_list, rest_list}
 use Rattle.ev_frame.specs.Frame.{FrameParts}
 use Rattle.ev_node.specs.declared.held.Root.{Root}
 use Rattle.ev_node.specs.declared.link.Link.{Link}
-use Rattle.ev_node.specs.Links.{At, IsSettled, IsNeighbour, IsSameLink, put_for, taken_from}
-use Rattle.ev_node.specs.Served.{framed}
+use Rattle.ev_node.specs.Links.{At, IsSettledLane, IsNeighbour, IsSameLink, put_for, taken_from}
+use Rattle.ev_net.specs.Links.{framed}
 use Rattle.ev_node.specs.Cell.{CellParts, AreReadable}
 use Rattle.ev_node.specs.Together.{Sight, IsLaneOf, sight, sights, roots, links_of}
 use Rattle.ev_node.specs.InHand.{IsTakenInOrder}
@@ -33,7 +33,7 @@ frames-begin (a ∷ ms) (b ∷ ns) ra rb p =
     first-of x y xs ys e = (cc, cc)
 
 -- after it was settled, what is taken is the beginning of what was put
-begins : (a b : CellParts) (to from u : ℕ) → IsKeptCell a → IsKeptCell b → At IsSettled to a.held.links.items from b.held.links.items → IsNeighbour to b.root.server (links_of a.root) → IsNeighbour from u (links_of b.root) → IsPrefix ((sight b).took u) ((sight a).put b.root.server)
+begins : (a b : CellParts) (to from u : ℕ) → IsKeptCell a → IsKeptCell b → At IsSettledLane to a.held.links.items from b.held.links.items → IsNeighbour to b.root.server (links_of a.root) → IsNeighbour from u (links_of b.root) → IsPrefix ((sight b).took u) ((sight a).put b.root.server)
 begins a b to from u ka kb (x, y, ex, ey, s) gives takes =
     let x0 = both-before IsSameLink to (links_of a.root) a.held.links.items x ka.links ex in
     let y0 = both-before IsSameLink from (links_of b.root) b.held.links.items y kb.links ey in
@@ -44,7 +44,7 @@ begins a b to from u ka kb (x, y, ex, ey, s) gives takes =
     (rest_list y.leave, ap (λ l. l ++ rest_list y.leave) took ∙ s.all ∙ put)
 
 taken-in-order : (cells : List CellParts) (a b : CellParts) (giver to taker from : ℕ) → slice_get cells giver ≡ Some a → slice_get cells taker ≡ Some b → IsKeptCell a → IsKeptCell b
-    → At IsSettled to a.held.links.items from b.held.links.items → IsNeighbour to b.root.server (links_of a.root) → IsNeighbour from (suc giver) (links_of b.root) → IsTakenInOrder (sights cells) taker from
+    → At IsSettledLane to a.held.links.items from b.held.links.items → IsNeighbour to b.root.server (links_of a.root) → IsNeighbour from (suc giver) (links_of b.root) → IsTakenInOrder (sights cells) taker from
 taken-in-order cells a b giver to taker from at-a at-b ka kb settled gives takes s t y i es ey et name =
     let sb : s ≡ sight b = same_Some s (sight b) (sym es ∙ map-found sight taker cells b at-b) in
     let yn : y ≡ takes.0 = same_Some y takes.0 (sym ey ∙ ap (λ (w : Sight). slice_get (links_of w.root) from) sb ∙ takes.1) in
@@ -69,11 +69,11 @@ module _ (old mid : List CellParts) (giver to taker from : ℕ) (lane : IsLaneOf
 
   -- what is taken after the settling is the beginning of what was put
   pub settle-order : (x y : CellParts) → slice_get mid giver ≡ Some x → slice_get mid taker ≡ Some y → IsKeptCell x → IsKeptCell y
-      → (a b : CellParts) × (slice_get mid giver ≡ Some a) × (slice_get mid taker ≡ Some b) × At IsSettled to a.held.links.items from b.held.links.items → IsTakenInOrder (sights mid) taker from
+      → (a b : CellParts) × (slice_get mid giver ≡ Some a) × (slice_get mid taker ≡ Some b) × At IsSettledLane to a.held.links.items from b.held.links.items → IsTakenInOrder (sights mid) taker from
   settle-order x y ex ey kx ky (a, b, ea, eb, settled) =
       let by : b ≡ y = same_Some b y (sym eb ∙ ey) in
       let ax : a ≡ x = same_Some a x (sym ea ∙ ex) in
-      let settled' : At IsSettled to x.held.links.items from y.held.links.items = subst (λ (w : CellParts). At IsSettled to w.held.links.items from y.held.links.items) ax (subst (λ (w : CellParts). At IsSettled to a.held.links.items from w.held.links.items) by settled) in
+      let settled' : At IsSettledLane to x.held.links.items from y.held.links.items = subst (λ (w : CellParts). At IsSettledLane to w.held.links.items from y.held.links.items) ax (subst (λ (w : CellParts). At IsSettledLane to a.held.links.items from w.held.links.items) by settled) in
       taken-in-order mid x y giver to taker from ex ey kx ky settled' (gives-now x y ex ey) (takes-now old mid giver to taker from lane seen y ey)
 
 -- so many places were settled

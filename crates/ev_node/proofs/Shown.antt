@@ -7,14 +7,14 @@ use Rattle.ev_routing.specs.Step.{Task, NextCommand, Version}
 use Rattle.ev_wire.specs.declared.sent.Sent.{Sent}
 use Rattle.ev_wire.specs.declared.message.Message.{Message}
 use Rattle.ev_control.specs.Control.{subs}
-use Rattle.ev_counting.specs.Table.{Held, AreApplied}
+use Rattle.ev_counting.specs.Table.{HeldFilter, AreApplied}
 use Rattle.ev_model.specs.Meaning.{message_of}
 use Rattle.ev_server.specs.declared.stepped.StepFault.{StepFault}
 use Rattle.ev_server.specs.declared.stepped.StepFault.TheVariants.{Worn, NoMemory}
 use Rattle.ev_server.specs.Core.{CoreParts, published_from}
 use Rattle.ev_server.specs.Staged.{IsStaged}
 use Rattle.ev_server.specs.Step.{MakesStep, last_stamp}
-use Rattle.ev_node.specs.Served.{IsTableOf, IsSomeServer}
+use Rattle.ev_net.specs.Kept.{IsTableOf, IsSomeServer}
 use Rattle.ev_node.proofs.Published.{kept_by_command, kept_by_taking, held_by_version}
 use Rattle.ev_node.proofs.Tables.{stays_table, table_by_version}
 
@@ -28,7 +28,7 @@ pub never_publishes : (answer : Result ℕ StepFault) (fault : StepFault) → an
 never_publishes answer NoMemory e clock low worn memory = memory e
 never_publishes answer (Worn s) e clock low worn memory = let w = ((worn s).0 e).0 in omega (arith, low, w)
 
-module _ (core next : CoreParts) (table : List Held) where
+module _ (core next : CoreParts) (table : List HeldFilter) where
   pub table_after_command : (client : ℕ) → IsSomeServer core → {T : Type 0} (answer : Result T StepFault) (stamp : T → ℕ) (sent : T → List Sent)
       → IfOk answer (λ s. MakesStep (Does (NextCommand client)) 0 core next (stamp s) (sent s)) → OnErr answer (next ≡ core) → IsTableOf core table → IsTableOf next table
   table_after_command client (net, laws, state, stands) (Ok s) stamp sent step same agrees =
@@ -41,12 +41,12 @@ module _ (core next : CoreParts) (table : List Held) where
       stays_table core next table (kept_by_taking net state core next (sent s) stands from (message_of m) (step.step net state stands) step.same_server) agrees
   table_after_taking from m taken some (Err e) stamp sent step same agrees = subst (λ z. IsTableOf z table) (sym same) agrees
 
-  pub table_after_version : (after : List Held) (stamp : ℕ) → IsSomeServer core → MakesStep (Does Version) 0 core next stamp []
+  pub table_after_version : (after : List HeldFilter) (stamp : ℕ) → IsSomeServer core → MakesStep (Does Version) 0 core next stamp []
       → IsStaged (published_from core) (subs core.control) core.staged → AreApplied core.staged table after → IsTableOf core table → IsTableOf next after
   table_after_version after stamp (net, laws, state, stands) step staged applied agrees =
       table_by_version core next table after agrees staged applied (held_by_version net state core next [] stands (step.step net state stands) step.same_server)
 
-pub table_as_before : (core : CoreParts) (old new : List Held) → new ≡ old → IsTableOf core old → IsTableOf core new
+pub table_as_before : (core : CoreParts) (old new : List HeldFilter) → new ≡ old → IsTableOf core old → IsTableOf core new
 table_as_before core old new same agrees = subst (IsTableOf core) (sym same) agrees
 
 -- a step that is not worn has a stamp below the end

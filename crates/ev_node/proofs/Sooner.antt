@@ -17,21 +17,21 @@ use Rattle.ev_server.specs.Core.{CoreParts}
 use Rattle.ev_server.specs.Step.{MakesStep}
 use Rattle.ev_versions.specs.declared.publisher.Publisher.{Publisher}
 use Rattle.ev_versions.specs.Ends.{published, IsSamePublisher}
-use Rattle.ev_node.specs.declared.held.Held.{Held}
+use Rattle.ev_node.specs.declared.held.ServerInHand.{ServerInHand}
 use Rattle.ev_node.specs.declared.link.Link.{Link}
-use Rattle.ev_node.specs.Served.{StampedInput, input_of, stamp_of}
-use Rattle.ev_node.specs.Links.{Both, IsUnmoved, IsRoomed, IsTaken, IsGiven, IsMoved, IsMissed, IsLookedAt, IsSeenAt, HasMissed, HasSeen}
-use Rattle.ev_node.specs.Turns.{IsTurn, IsStill, IsOfPhase, IsTakingFrom, taken_by}
+use Rattle.ev_net.specs.Acted.{StampedInput, input_of, stamp_of}
+use Rattle.ev_node.specs.Links.{Both, IsUnmoved, IsRoomed, IsFrameTaken, IsGiven, IsMoved, IsMissed, IsLookedAt, IsSeenAt, HasMissed, HasSeen}
+use Rattle.ev_node.specs.Turns.{IsCellTurn, IsStill, IsOfPhase, IsTakingFrom, taken_by}
 use Rattle.ev_node.proofs.Walks.{both-comp}
 use Rattle.ev_node.proofs.Unmoved.{unmoved-all}
 use Rattle.ev_node.proofs.Moved.{moved-after}
 use Rattle.ev_node.proofs.Places.{both-before, both-behind}
 
 -- what was made room for, taken and given was seen without a miss
-pub has-seen : (place from : ℕ) (frame : FrameParts) (stamp : ℕ) (sent : List Sent) (xs ys zs ws : List Link) → Both IsRoomed xs ys → Both (IsTaken from frame) ys zs → Both (IsGiven stamp sent) zs ws → HasSeen place xs ws
+pub has-seen : (place from : ℕ) (frame : FrameParts) (stamp : ℕ) (sent : List Sent) (xs ys zs ws : List Link) → Both IsRoomed xs ys → Both (IsFrameTaken from frame) ys zs → Both (IsGiven stamp sent) zs ws → HasSeen place xs ws
 has-seen place from frame stamp sent xs ys zs ws r t g x w p q =
     let y = both-behind IsRoomed place xs ys x r p in
-    let z = both-behind (IsTaken from frame) place ys zs y.0 t y.1 in
+    let z = both-behind (IsFrameTaken from frame) place ys zs y.0 t y.1 in
     let v = both-behind (IsGiven stamp sent) place zs ws z.0 g z.1 in
     ap (λ (l : Link). misses l.leave) (same_Some w v.0 (sym q ∙ v.1)) ∙ ap (λ (l : LaneOut FrameParts). misses l) v.2.put.leave ∙ z.2.seen ∙ ap (λ (l : LaneOut FrameParts). misses l) y.2.leave
 
@@ -58,8 +58,8 @@ looked-none place xs ys o looked e a b p q = go (subst (IsLookedAt place xs ys) 
     go : IsLookedAt place xs ys None → IsMissed a b
     go (x, y, ex, ey, l) = subst (λ (z : Link). IsMissed a z) (same_Some y b (sym ey ∙ q)) (subst (λ (z : Link). IsMissed z y) (same_Some x a (sym ex ∙ p)) l)
 
-module _ (old mid new : Held) (before after : List EntryParts) (core : mid.core ≡ old.core) (links : Both IsUnmoved old.links.items mid.links.items) (publisher : mid.publisher ≡ old.publisher) where
-  pub turn-before : (phase : ℕ) (input : StampedInput) (act : EntryAct) → IsTurn phase input act mid new before after → IsTurn phase input act old new before after
+module _ (old mid new : ServerInHand) (before after : List EntryParts) (core : mid.core ≡ old.core) (links : Both IsUnmoved old.links.items mid.links.items) (publisher : mid.publisher ≡ old.publisher) where
+  pub turn-before : (phase : ℕ) (input : StampedInput) (act : EntryAct) → IsCellTurn phase input act mid new before after → IsCellTurn phase input act old new before after
   turn-before phase input act t = record {
     told = t.told;
     text = t.text;
@@ -96,15 +96,15 @@ module _ (old mid new : Held) (before after : List EntryParts) (core : mid.core 
       go (x, e, n) = record {
         link = x;
         there = e;
-        turn = turn-before phase (Takes x.neighbour m) (acts.Take x.neighbour) (subst (λ k. IsTurn phase (Takes k m) (acts.Take k) mid new before after) n t.turn);
+        turn = turn-before phase (Takes x.neighbour m) (acts.Take x.neighbour) (subst (λ k. IsCellTurn phase (Takes k m) (acts.Take k) mid new before after) n t.turn);
         seen = seen-then place old.links.items mid.links.items new.links.items seen links t.seen;
       }
 
-pub taking-from : (phase place n : ℕ) (link : Link) (m : Stamped (Message real)) (old new : Held) (before after : List EntryParts) → slice_get old.links.items place ≡ Some link → n ≡ link.neighbour → IsTurn phase (Takes n m) (acts.Take n) old new before after
+pub taking-from : (phase place n : ℕ) (link : Link) (m : Stamped (Message real)) (old new : ServerInHand) (before after : List EntryParts) → slice_get old.links.items place ≡ Some link → n ≡ link.neighbour → IsCellTurn phase (Takes n m) (acts.Take n) old new before after
     → HasSeen place old.links.items new.links.items → IsTakingFrom phase place m old new before after
 taking-from phase place n link m old new before after e q t seen = record {
   link = link;
   there = e;
-  turn = subst (λ k. IsTurn phase (Takes k m) (acts.Take k) old new before after) q t;
+  turn = subst (λ k. IsCellTurn phase (Takes k m) (acts.Take k) old new before after) q t;
   seen = seen;
 }

@@ -4,7 +4,7 @@ use Rattle.std.specs.List.{Contains}
 use Rattle.ev_constraint.specs.Constraint.{ConstraintParts}
 use Rattle.ev_sets.specs.Sets.{Has}
 use Rattle.ev_control.specs.Control.{subs}
-use Rattle.ev_counting.specs.Table.{Held, IsAdded, IsTaken, AreApplied}
+use Rattle.ev_counting.specs.Table.{HeldFilter, IsAdded, IsTaken, AreApplied}
 use Rattle.ev_counting.specs.declared.change.Change.{Change}
 use Rattle.ev_counting.specs.declared.change.Change.TheVariants.{Add, Remove}
 use Rattle.ev_server.specs.declared.stepped.StepFault.{StepFault}
@@ -12,10 +12,10 @@ use Rattle.ev_server.specs.declared.stepped.StepFault.TheVariants.{Worn}
 use Rattle.ev_server.specs.Core.{CoreParts, published_from}
 use Rattle.ev_server.specs.Staged.{pair_of, AreOnce, IsStaged}
 use Rattle.ev_server.specs.Step.{last_stamp}
-use Rattle.ev_node.specs.Served.{IsTableOf}
+use Rattle.ev_net.specs.Kept.{IsTableOf}
 
 -- the same is published
-pub stays_table : (core next : CoreParts) (table : List Held) → ((i : ℕ) → published_from next i ≡ published_from core i) → IsTableOf core table → IsTableOf next table
+pub stays_table : (core next : CoreParts) (table : List HeldFilter) → ((i : ℕ) → published_from next i ≡ published_from core i) → IsTableOf core table → IsTableOf next table
 stays_table core next table same agrees i f = subst (λ z. Contains table (i, f) ↔ Has f z) (sym (same i)) (agrees i f)
 
 -- a step whose stamps are below the greatest is not worn
@@ -26,13 +26,13 @@ not_worn answer clock low worn s e = let w = ((worn s).0 e).0 in omega (arith, l
 module _ (i : ℕ) (f : List ConstraintParts) where
   -- the pair is this one
   abbrev IsPair : ℕ → List ConstraintParts → Type 0
-  IsPair j g = ◌≡◌ {A = Held} (i, f) (j, g)
+  IsPair j g = ◌≡◌ {A = HeldFilter} (i, f) (j, g)
 
   -- a pair is there after changes where it is added, or where it was there and is not taken away
-  abbrev IsThere : List Change → List Held → List Held → Type 0
+  abbrev IsThere : List Change → List HeldFilter → List HeldFilter → Type 0
   IsThere changes old new = Contains new (i, f) ↔ (Has (Add i f) changes ⊎ (Contains old (i, f) × (Has (Remove i f) changes → ⊥)))
 
-  added : (j : ℕ) (g : List ConstraintParts) (cs : List Change) (old between new : List Held) → ((c : Change) → Has c cs → pair_of (Add j g) ≢ pair_of c)
+  added : (j : ℕ) (g : List ConstraintParts) (cs : List Change) (old between new : List HeldFilter) → ((c : Change) → Has c cs → pair_of (Add j g) ≢ pair_of c)
       → IsAdded old between (j, g) → IsThere cs between new → IsThere (Add j g ∷ cs) old new
   added j g cs old between new once a ih = (onto, from)
     where
@@ -45,7 +45,7 @@ module _ (i : ℕ) (f : List ConstraintParts) where
               none-of : Has (Remove i f) (Add j g ∷ cs) → ⊥
               none-of (inl e) = cc
               none-of (inr h) = none h
-          go (inr e) = inl (inl (ap (λ (z : Held). Add z.0 z.1) e))
+          go (inr e) = inl (inl (ap (λ (z : HeldFilter). Add z.0 z.1) e))
 
       onto : Contains new (i, f) → Has (Add i f) (Add j g ∷ cs) ⊎ (Contains old (i, f) × (Has (Remove i f) (Add j g ∷ cs) → ⊥))
       onto h = go (ih.0 h)
@@ -57,13 +57,13 @@ module _ (i : ℕ) (f : List ConstraintParts) where
       from : Has (Add i f) (Add j g ∷ cs) ⊎ (Contains old (i, f) × (Has (Remove i f) (Add j g ∷ cs) → ⊥)) → Contains new (i, f)
       from (inl (inl e)) = ih.1 (inr (subst (Contains between) (ap pair-in (sym e)) a.there, λ h. once (Remove i f) h (ap pair_of (sym e))))
         where
-          pair-in : Change → Held
+          pair-in : Change → HeldFilter
           pair-in (Add k x) = (k, x)
           pair-in (Remove k x) = (k, x)
       from (inl (inr h)) = ih.1 (inl h)
       from (inr (o, none)) = ih.1 (inr (a.kept (i, f) o, λ h. none (inr h)))
 
-  taken : (j : ℕ) (g : List ConstraintParts) (cs : List Change) (old between new : List Held) → IsTaken old between (j, g) → IsThere cs between new → IsThere (Remove j g ∷ cs) old new
+  taken : (j : ℕ) (g : List ConstraintParts) (cs : List Change) (old between new : List HeldFilter) → IsTaken old between (j, g) → IsThere cs between new → IsThere (Remove j g ∷ cs) old new
   taken j g cs old between new a ih = (onto, from)
     where
       onto : Contains new (i, f) → Has (Add i f) (Remove j g ∷ cs) ⊎ (Contains old (i, f) × (Has (Remove i f) (Remove j g ∷ cs) → ⊥))
@@ -73,7 +73,7 @@ module _ (i : ℕ) (f : List ConstraintParts) where
           go (inl x) = inl (inr x)
           go (inr (b, none)) = inr (a.only (i, f) b, none-of)
             where
-              pair-in : Change → Held
+              pair-in : Change → HeldFilter
               pair-in (Add k x) = (k, x)
               pair-in (Remove k x) = (k, x)
 
@@ -87,10 +87,10 @@ module _ (i : ℕ) (f : List ConstraintParts) where
       from (inr (o, none)) = go (a.kept (i, f) o)
         where
           go : IsPair j g ⊎ Contains between (i, f) → Contains new (i, f)
-          go (inl e) = absurd (none (inl (ap (λ (z : Held). Remove z.0 z.1) e)))
+          go (inl e) = absurd (none (inl (ap (λ (z : HeldFilter). Remove z.0 z.1) e)))
           go (inr b) = ih.1 (inr (b, λ h. none (inr h)))
 
-  pub there : (changes : List Change) (old new : List Held) → AreOnce changes → AreApplied changes old new → IsThere changes old new
+  pub there : (changes : List Change) (old new : List HeldFilter) → AreOnce changes → AreApplied changes old new → IsThere changes old new
   there [] old new once e = (λ h. inr (subst (λ z. Contains z (i, f)) e h, λ x. x), back)
     where
       back : ⊥ ⊎ (Contains old (i, f) × (⊥ → ⊥)) → Contains new (i, f)
@@ -100,7 +100,7 @@ module _ (i : ℕ) (f : List ConstraintParts) where
   there (Remove j g ∷ cs) old new once (between, first, rest) = taken j g cs old between new first (there cs between new once.1 rest)
 
 -- a version's changes make the table that of what is held
-pub table_by_version : (core next : CoreParts) (old new : List Held) → IsTableOf core old → IsStaged (published_from core) (subs core.control) core.staged
+pub table_by_version : (core next : CoreParts) (old new : List HeldFilter) → IsTableOf core old → IsStaged (published_from core) (subs core.control) core.staged
     → AreApplied core.staged old new → ((i : ℕ) → published_from next i ≡ subs core.control i) → IsTableOf next new
 table_by_version core next old new agrees staged applied held i f = subst (λ z. Contains new (i, f) ↔ Has f z) (sym (held i)) (onto, from)
   where

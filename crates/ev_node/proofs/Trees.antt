@@ -9,7 +9,7 @@ use Rattle.ev_theory.specs.Real.{real}
 use Rattle.ev_model.specs.Parts.{NetParts, EntryParts}
 use Rattle.ev_model.specs.Nets.{phased_net, phased_tree, first_tree, later_trees, topology_at}
 use Rattle.ev_model.specs.Sound.{HasTrees}
-use Rattle.ev_node.specs.declared.held.Held.{Held}
+use Rattle.ev_node.specs.declared.held.ServerInHand.{ServerInHand}
 use Rattle.ev_node.specs.declared.held.Root.{Root}
 use Rattle.ev_node.specs.Cell.{IsKept}
 use Rattle.ev_node.proofs.Keeping.{replayed}
@@ -44,7 +44,7 @@ counts [] h k = absurd h
 counts (t ∷ ts) h k = count-after t.1 ts k t.1.count refl h.same
 
 -- a cell's server is one of the tree of its phase
-pub server-known : (net : NetParts) (root : Root) (journal : List EntryParts) (held : Held) → IsKept net root journal held → IsServer (topology_at net root.phase) root.server
+pub server-known : (net : NetParts) (root : Root) (journal : List EntryParts) (held : ServerInHand) → IsKept net root journal held → IsServer (topology_at net root.phase) root.server
 server-known net root journal held kept =
     let r = replayed net root journal held kept in
     let s = server-in (first_tree net.trees).count root.server (subst (λ n. Has n (net_at real (phased_net net) root.phase).servers) kept.number (one-has held.core.server (net_at real (phased_net net) root.phase).servers r.stands.state.among)) in

@@ -25,12 +25,13 @@ use Rattle.ev_model.specs.Meaning.{act_of, message_of}
 use Rattle.ev_server.specs.Core.{CoreParts}
 use Rattle.ev_server.specs.Step.{MakesStep}
 use Rattle.ev_versions.specs.Ends.{staged, published, IsSamePublisher}
-use Rattle.ev_node.specs.declared.held.Held.{Held}
+use Rattle.ev_node.specs.declared.held.ServerInHand.{ServerInHand}
 use Rattle.ev_node.specs.declared.link.Link.{Link}
-use Rattle.ev_node.specs.Served.{IsSomeServer, framed}
-use Rattle.ev_node.specs.Links.{Both, Each, AreInOrder, IsSameLink, IsUnmoved, IsRoomed, IsGiven, IsTaken, IsMoved, IsFlushed, IsSeen, IsSeenAt, IsLookedAt, only_from}
-use Rattle.ev_node.specs.Cell.{IsHeld, IsPublished}
-use Rattle.ev_node.specs.Turns.{IsTurn, IsStill, IsOfPhase}
+use Rattle.ev_net.specs.Links.{framed}
+use Rattle.ev_net.specs.Kept.{IsSomeServer}
+use Rattle.ev_node.specs.Links.{Both, Each, AreInOrder, IsSameLink, IsUnmoved, IsRoomed, IsGiven, IsFrameTaken, IsMoved, IsFlushed, IsSeen, IsSeenAt, IsLookedAt, only_from}
+use Rattle.ev_node.specs.Cell.{IsServerInHand, IsPublishedBy}
+use Rattle.ev_node.specs.Turns.{IsCellTurn, IsStill, IsOfPhase}
 use Rattle.ev_node.proofs.Walks.{both-map, both-each, both-comp, each-after}
 use Rattle.ev_node.proofs.Hands.{names, tos}
 use Rattle.ev_node.proofs.Going.{going-texts, going-order}
@@ -54,7 +55,7 @@ module _ (core next : CoreParts) (some : IsSomeServer core) (input : Input Task 
 pub some-apart : (core : CoreParts) → IsSomeServer core → IsDistinct core.control.links
 some-apart core (net, laws, state, stands) = subst IsDistinct stands.control.links (laws.tree.single core.server)
 
-module _ (old : Held) (held : IsHeld old) (links : List Link) (u : Both IsUnmoved old.links.items links) where
+module _ (old : ServerInHand) (held : IsServerInHand old) (links : List Link) (u : Both IsUnmoved old.links.items links) where
   pub names-left : names links ≡ names old.links.items
   names-left = names-same old.links.items links (same-of old.links.items links u)
 
@@ -72,21 +73,21 @@ module _ (old : Held) (held : IsHeld old) (links : List Link) (u : Both IsUnmove
   pub long-left : length links ≡ length old.links.items
   long-left = as-long old.links.items links names-left
 
-  module _ (from : ℕ) (frame : FrameParts) (later : List Link) (t : Both (IsTaken from frame) links later) where
+  module _ (from : ℕ) (frame : FrameParts) (later : List Link) (t : Both (IsFrameTaken from frame) links later) where
     -- what a taking leaves
     pub spare-taken : Each (λ link. 0 < spare link.enter) links → Each (λ link. 0 < spare link.enter) later
-    spare-taken e = each-after (IsTaken from frame) (λ link. 0 < spare link.enter) (λ link. 0 < spare link.enter) (λ x y r p. subst (λ (a : LaneIn FrameParts). 0 < spare a) (sym r.enter) p) links later t e
+    spare-taken e = each-after (IsFrameTaken from frame) (λ link. 0 < spare link.enter) (λ link. 0 < spare link.enter) (λ x y r p. subst (λ (a : LaneIn FrameParts). 0 < spare a) (sym r.enter) p) links later t e
 
     pub room-taken : Each (λ link. length (put_list link.enter) < 2 ^ 63) later
-    room-taken = each-after (IsTaken from frame) (λ link. length (put_list link.enter) < 2 ^ 63) (λ link. length (put_list link.enter) < 2 ^ 63)
+    room-taken = each-after (IsFrameTaken from frame) (λ link. length (put_list link.enter) < 2 ^ 63) (λ link. length (put_list link.enter) < 2 ^ 63)
         (λ x y r p. subst (λ (a : LaneIn FrameParts). length (put_list a) < 2 ^ 63) (sym r.enter) p) links later t room-left
 
     pub names-taken : names later ≡ names links
-    names-taken = names-same links later (both-map (IsTaken from frame) IsSameLink (λ x y r. r.same) links later t)
+    names-taken = names-same links later (both-map (IsFrameTaken from frame) IsSameLink (λ x y r. r.same) links later t)
 
 -- what is in hand after a step
-pub held-after : (old new : Held) (input : Input Task (Message real)) (taken stamp : ℕ) (sent : List Sent) (moved : ℕ → List FrameParts) → IsHeld old → MakesStep input taken old.core new.core stamp sent → stamp < 2 ^ 62
-    → Both (IsMoved stamp sent moved) old.links.items new.links.items → IsPublished new.publisher new.core → staged new.publisher ≡ published new.publisher ++ new.handed.items → IsHeld new
+pub held-after : (old new : ServerInHand) (input : Input Task (Message real)) (taken stamp : ℕ) (sent : List Sent) (moved : ℕ → List FrameParts) → IsServerInHand old → MakesStep input taken old.core new.core stamp sent → stamp < 2 ^ 62
+    → Both (IsMoved stamp sent moved) old.links.items new.links.items → IsPublishedBy new.publisher new.core → staged new.publisher ≡ published new.publisher ++ new.handed.items → IsServerInHand new
 held-after old new input taken stamp sent moved held step low links shown handed = record {
   low = subst (λ z. z < 2 ^ 62) (sym step.clock_is) low;
   neighbours = names-same old.links.items new.links.items (both-map (IsMoved stamp sent moved) IsSameLink (λ x y r. r.same) old.links.items new.links.items links) ∙ held.neighbours ∙ sym step.same_links;
@@ -100,7 +101,7 @@ held-after old new input taken stamp sent moved held step low links shown handed
     more = let e = step.stamp_is in omega arith
 
 -- what is in hand after nothing was done
-pub held-still : (old new : Held) → IsHeld old → new.core ≡ old.core → Both IsUnmoved old.links.items new.links.items → IsPublished new.publisher new.core → staged new.publisher ≡ published new.publisher ++ new.handed.items → IsHeld new
+pub held-still : (old new : ServerInHand) → IsServerInHand old → new.core ≡ old.core → Both IsUnmoved old.links.items new.links.items → IsPublishedBy new.publisher new.core → staged new.publisher ≡ published new.publisher ++ new.handed.items → IsServerInHand new
 held-still old new held core links shown handed = record {
   low = subst (λ (z : CoreParts). z.clock < 2 ^ 62) (sym core) held.low;
   neighbours = names-same old.links.items new.links.items (same-of old.links.items new.links.items links) ∙ held.neighbours ∙ ap (λ (z : CoreParts). z.control.links) (sym core);
@@ -111,7 +112,7 @@ held-still old new held core links shown handed = record {
   handed = handed;
 }
 
-pub still : (old new : Held) (before after : List EntryParts) → new.core ≡ old.core → Both IsUnmoved old.links.items new.links.items → after ≡ before → IsSamePublisher old.publisher new.publisher → published new.publisher ≡ published old.publisher → IsStill old new before after
+pub still : (old new : ServerInHand) (before after : List EntryParts) → new.core ≡ old.core → Both IsUnmoved old.links.items new.links.items → after ≡ before → IsSamePublisher old.publisher new.publisher → published new.publisher ≡ published old.publisher → IsStill old new before after
 still old new before after core links journal publisher shown = record {
   core = core;
   links = links;
@@ -121,9 +122,9 @@ still old new before after core links journal publisher shown = record {
 }
 
 -- a task was made
-pub did : (phase : ℕ) (task : Task) (act : EntryAct) (old new : Held) (links : List Link) (before after : List EntryParts) (stamp : ℕ) (sent : List Sent) → Did task ≡ act_of act → IsOfPhase phase old.core (Does task)
+pub did : (phase : ℕ) (task : Task) (act : EntryAct) (old new : ServerInHand) (links : List Link) (before after : List EntryParts) (stamp : ℕ) (sent : List Sent) → Did task ≡ act_of act → IsOfPhase phase old.core (Does task)
     → MakesStep (Does task) 0 old.core new.core stamp sent → Both IsUnmoved old.links.items links → Both (IsGiven stamp sent) links new.links.items
-    → after ≡ before ++ entry_parts stamp old.core.server act (map (λ s. s.to) sent) ∷ [] → IsSamePublisher old.publisher new.publisher → IsTurn phase (Does task) act old new before after
+    → after ≡ before ++ entry_parts stamp old.core.server act (map (λ s. s.to) sent) ∷ [] → IsSamePublisher old.publisher new.publisher → IsCellTurn phase (Does task) act old new before after
 did phase task act old new links before after stamp sent told due step u g entry publisher = record {
   told = told;
   text = tt;
@@ -150,10 +151,10 @@ pub seen-told : (m : WireMessage) (bytes : List ℕ) → IsMessageText bytes m �
 seen-told m bytes t = subst (λ z. IsMessageText (message_text z) z) (sym (wired-back m)) (subst (λ z. IsMessageText z m) t.text t)
 
 -- a frame was taken
-pub took : (phase from : ℕ) (m : WireMessage) (act : EntryAct) (old new : Held) (links middle : List Link) (frame : FrameParts) (before after : List EntryParts) (taken stamp : ℕ) (sent : List Sent) → Took from ≡ act_of act
+pub took : (phase from : ℕ) (m : WireMessage) (act : EntryAct) (old new : ServerInHand) (links middle : List Link) (frame : FrameParts) (before after : List EntryParts) (taken stamp : ℕ) (sent : List Sent) → Took from ≡ act_of act
     → frame.stamp ≡ taken → IsMessageText frame.bytes m
-    → MakesStep (Takes from (message_of m)) taken old.core new.core stamp sent → Both IsUnmoved old.links.items links → Both (IsTaken from frame) links middle → Both (IsGiven stamp sent) middle new.links.items
-    → after ≡ before ++ entry_parts stamp old.core.server act (map (λ s. s.to) sent) ∷ [] → IsSamePublisher old.publisher new.publisher → IsTurn phase (Takes from (record { stamp = taken; message = message_of m })) act old new before after
+    → MakesStep (Takes from (message_of m)) taken old.core new.core stamp sent → Both IsUnmoved old.links.items links → Both (IsFrameTaken from frame) links middle → Both (IsGiven stamp sent) middle new.links.items
+    → after ≡ before ++ entry_parts stamp old.core.server act (map (λ s. s.to) sent) ∷ [] → IsSamePublisher old.publisher new.publisher → IsCellTurn phase (Takes from (record { stamp = taken; message = message_of m })) act old new before after
 took phase from m act old new links middle frame before after taken stamp sent told e text step u t g entry publisher = record {
   told = told;
   text = seen-told m frame.bytes text;
@@ -164,7 +165,7 @@ took phase from m act old new links middle frame before after taken stamp sent t
   entry = entry;
   links = subst (λ (f : FrameParts). Both (IsMoved stamp sent (only_from from f)) old.links.items new.links.items) (sym (seen-frame taken m frame e text))
       (both-comp IsUnmoved (IsMoved stamp sent (only_from from frame)) (IsMoved stamp sent (only_from from frame)) (moved-after stamp sent (only_from from frame)) old.links.items links new.links.items u
-      (both-comp (IsTaken from frame) (IsGiven stamp sent) (IsMoved stamp sent (only_from from frame)) (moved-taken stamp sent from frame) links middle new.links.items t g));
+      (both-comp (IsFrameTaken from frame) (IsGiven stamp sent) (IsMoved stamp sent (only_from from frame)) (moved-taken stamp sent from frame) links middle new.links.items t g));
   flushed = both-each (IsGiven stamp sent) IsFlushed (λ x y r. r.flushed) middle new.links.items g;
   publisher = publisher;
 }
@@ -222,7 +223,7 @@ pub did-links : (xs ys zs : List Link) (stamp : ℕ) (sent : List Sent) → Both
 did-links xs ys zs stamp sent u g = both-comp IsUnmoved (IsGiven stamp sent) (IsMoved stamp sent (λ n. [])) (moved-given stamp sent) xs ys zs u g
 
 -- and where it takes a frame
-pub took-links : (xs ys ws zs : List Link) (from : ℕ) (frame : FrameParts) (stamp : ℕ) (sent : List Sent) → Both IsUnmoved xs ys → Both (IsTaken from frame) ys ws → Both (IsGiven stamp sent) ws zs → Both (IsMoved stamp sent (only_from from frame)) xs zs
+pub took-links : (xs ys ws zs : List Link) (from : ℕ) (frame : FrameParts) (stamp : ℕ) (sent : List Sent) → Both IsUnmoved xs ys → Both (IsFrameTaken from frame) ys ws → Both (IsGiven stamp sent) ws zs → Both (IsMoved stamp sent (only_from from frame)) xs zs
 took-links xs ys ws zs from frame stamp sent u t g =
     both-comp IsUnmoved (IsMoved stamp sent (only_from from frame)) (IsMoved stamp sent (only_from from frame)) (moved-after stamp sent (only_from from frame)) xs ys zs u
-    (both-comp (IsTaken from frame) (IsGiven stamp sent) (IsMoved stamp sent (only_from from frame)) (moved-taken stamp sent from frame) ys ws zs t g)
+    (both-comp (IsFrameTaken from frame) (IsGiven stamp sent) (IsMoved stamp sent (only_from from frame)) (moved-taken stamp sent from frame) ys ws zs t g)

@@ -3,7 +3,7 @@ use Rattle.std.proofs.Common.{◌≡◌, ◌↔◌, ◌⊎◌, inl, inr, ◌≤�
 use Rattle.std.specs.List.{Contains, flat_map}
 use Rattle.ev_sets.specs.Sets.{Has}
 use Rattle.ev_constraint.specs.Constraint.{ConstraintParts}
-use Rattle.ev_counting.specs.Table.{Held, IsAdded, IsTaken, AreApplied}
+use Rattle.ev_counting.specs.Table.{HeldFilter, IsAdded, IsTaken, AreApplied}
 use Rattle.ev_counting.specs.declared.change.Change.{Change}
 use Rattle.ev_counting.specs.declared.change.Change.TheVariants.{Add, Remove}
 use Rattle.ev_routing.specs.Server.{is_among, interfaces}
@@ -18,7 +18,7 @@ use Rattle.ev_server.specs.Staged.{IsStaged}
 use Rattle.ev_versions.specs.Pairs.{pairs_after}
 use Rattle.ev_versions.proofs.Pairs.{goes_on}
 use Rattle.ev_net.proofs.Moving.{low-or-high, find-link}
-use Rattle.ev_node.specs.Served.{IsSomeServer, IsTableOf}
+use Rattle.ev_net.specs.Kept.{IsSomeServer, IsTableOf}
 use Rattle.ev_node.specs.Relinking.{removals, additions}
 use Rattle.ev_node.proofs.Handing.{gone-of, given-of}
 
@@ -34,7 +34,7 @@ flat-has f y [] h = absurd h
 flat-has f y (z ∷ xs) h = elim (has-either y (f z) (flat_map f xs) h) [ inl m ↦ (z, inl refl, m) | inr m ↦ (let r = flat-has f y xs m in (r.0, inr r.1, r.2)) ]
 
 -- the pair of a change
-abbrev pair-in : Change → Held
+abbrev pair-in : Change → HeldFilter
 pair-in (Add i f) = (i, f)
 pair-in (Remove i f) = (i, f)
 
@@ -52,7 +52,7 @@ no-addition j g (i, f, e) = cc
 
 module _ (i : ℕ) (f : List ConstraintParts) where
   -- a pair is there after removals where it was there and is none of them
-  removed : (changes : List Change) (old new : List Held) → ((change : Change) → Has change changes → IsRemoval change) → AreApplied changes old new
+  removed : (changes : List Change) (old new : List HeldFilter) → ((change : Change) → Has change changes → IsRemoval change) → AreApplied changes old new
       → Contains new (i, f) ↔ (Contains old (i, f) × (Has (Remove i f) changes → ⊥))
   removed [] old new all e = (λ h. (subst (λ z. Contains z (i, f)) e h, λ n. n), λ p. subst (λ z. Contains z (i, f)) (sym e) p.0)
   removed (Add j g ∷ changes) old new all a = absurd (no-removal j g (all (Add j g) (inl refl)))
@@ -65,10 +65,10 @@ module _ (i : ℕ) (f : List ConstraintParts) where
           to h = let r = ih.0 h in (first.only (i, f) r.0, λ m. elim m [ inl e ↦ first.gone (subst (Contains between) (ap pair-in e) r.0) | inr k ↦ r.1 k ])
 
           from : Contains old (i, f) × (Has (Remove i f) (Remove j g ∷ changes) → ⊥) → Contains new (i, f)
-          from (h, none) = elim (first.kept (i, f) h) [ inl e ↦ absurd (none (inl (ap (λ (z : Held). Remove z.0 z.1) e))) | inr b ↦ ih.1 (b, λ m. none (inr m)) ]
+          from (h, none) = elim (first.kept (i, f) h) [ inl e ↦ absurd (none (inl (ap (λ (z : HeldFilter). Remove z.0 z.1) e))) | inr b ↦ ih.1 (b, λ m. none (inr m)) ]
 
   -- and after additions where it was there or is one of them
-  added : (changes : List Change) (old new : List Held) → ((change : Change) → Has change changes → IsAddition change) → AreApplied changes old new
+  added : (changes : List Change) (old new : List HeldFilter) → ((change : Change) → Has change changes → IsAddition change) → AreApplied changes old new
       → Contains new (i, f) ↔ (Contains old (i, f) ⊎ Has (Add i f) changes)
   added [] old new all e = (λ h. inl (subst (λ z. Contains z (i, f)) e h), λ r. elim r [ inl h ↦ subst (λ z. Contains z (i, f)) (sym e) h | inr n ↦ absurd n ])
   added (Remove j g ∷ changes) old new all a = absurd (no-addition j g (all (Remove j g) (inl refl)))
@@ -79,7 +79,7 @@ module _ (i : ℕ) (f : List ConstraintParts) where
         where
           to : Contains new (i, f) → Contains old (i, f) ⊎ Has (Add i f) (Add j g ∷ changes)
           to h = elim (ih.0 h) [
-            | inl b ↦ elim (first.only (i, f) b) [ inl o ↦ inl o | inr e ↦ inr (inl (ap (λ (z : Held). Add z.0 z.1) e)) ]
+            | inl b ↦ elim (first.only (i, f) b) [ inl o ↦ inl o | inr e ↦ inr (inl (ap (λ (z : HeldFilter). Add z.0 z.1) e)) ]
             | inr m ↦ inr (inr m)
           ]
 
@@ -143,13 +143,13 @@ module _ (core next : CoreParts) (given : List HeldLink) (control : Controlled) 
       let r = flat-has (gone-of core.control) (Remove i f) row h in
       let m = map-has (Remove r.0) (Remove i f) (subs core.control r.0) r.2 in
       let low = small r.0 (subst (Has r.0) named r.1) in
-      let same : i ≡ r.0 = ap (λ (z : Held). z.0) (ap pair-in m.2) in
+      let same : i ≡ r.0 = ap (λ (z : HeldFilter). z.0) (ap pair-in m.2) in
       omega (arith, more, low, same)
 
-  abbrev between : List Held
+  abbrev between : List HeldFilter
   between = pairs_after (before ++ removals core.control row)
 
-  abbrev end : List Held
+  abbrev end : List HeldFilter
   end = pairs_after (before ++ removals core.control row ++ additions given)
 
   after-removals : (i : ℕ) (f : List ConstraintParts) → Contains between (i, f) ↔ (Contains (pairs_after before) (i, f) × (Has (Remove i f) (removals core.control row) → ⊥))
@@ -170,8 +170,8 @@ module _ (core next : CoreParts) (given : List HeldLink) (control : Controlled) 
   added-now i f a =
       let r = flat-has given-of (Add i f) given a in
       let m = map-has (Add r.0.link) (Add i f) r.0.filters r.2 in
-      let place : i ≡ r.0.link = ap (λ (z : Held). z.0) (ap pair-in m.2) in
-      let same : f ≡ m.0 = ap (λ (z : Held). z.1) (ap pair-in m.2) in
+      let place : i ≡ r.0.link = ap (λ (z : HeldFilter). z.0) (ap pair-in m.2) in
+      let same : f ≡ m.0 = ap (λ (z : HeldFilter). z.1) (ap pair-in m.2) in
       subst (λ z. Has f (subs control z)) (sym place) (subst (Has f) (sym (linked.filters.links r.0 r.1)) (subst (λ z. Has z r.0.filters) (sym same) m.1))
 
   to-held : (i : ℕ) (f : List ConstraintParts) → Contains end (i, f) → Has f (subs control i)

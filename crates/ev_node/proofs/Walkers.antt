@@ -5,15 +5,15 @@ use Rattle.ev_model.specs.Parts.{NetParts, EntryParts}
 use Rattle.ev_server.specs.Core.{CoreParts}
 use Rattle.ev_server.specs.declared.stepped.StepFault.{StepFault}
 use Rattle.ev_server.specs.declared.stepped.StepFault.TheVariants.{Worn}
-use Rattle.ev_node.specs.declared.held.Held.{Held}
+use Rattle.ev_node.specs.declared.held.ServerInHand.{ServerInHand}
 use Rattle.ev_node.specs.declared.held.Root.{Root}
 use Rattle.ev_node.specs.declared.what.What.{What}
 use Rattle.ev_node.specs.declared.what.Turned.{Turned}
 use Rattle.ev_node.specs.declared.what.Turned.TheVariants.{Made, Stale, Idle}
 use Rattle.ev_node.specs.Links.{Both, At, IsOneLane, IsSameLink, IsUnmoved, HasMissed}
-use Rattle.ev_node.specs.Cell.{CellParts, IsHeld, IsKept, cell_parts}
+use Rattle.ev_node.specs.Cell.{CellParts, IsServerInHand, IsKept, cell_parts}
 use Rattle.ev_node.specs.Turns.{IsStill, IsTaking, IsWornAt}
-use Rattle.ev_node.specs.Asked.{Answers, IsIdle}
+use Rattle.ev_node.specs.Asked.{Answers, IsIdleStep}
 use Rattle.ev_node.specs.Together.{sight, links_of}
 use Rattle.ev_node.proofs.Walks.{both-map}
 use Rattle.ev_node.proofs.Moved.{unmoved-put, unmoved-taken}
@@ -21,7 +21,7 @@ use Rattle.ev_node.proofs.Places.{lane-at}
 use Rattle.ev_node.proofs.Keeping.{kept-turn, kept-still}
 
 -- where nothing was done nothing is seen
-pub sight-unmoved : (root : Root) (journal after : List EntryParts) (old new : Held) → new.core ≡ old.core → Both IsUnmoved old.links.items new.links.items → after ≡ journal → sight (cell_parts root after new) ≡ sight (cell_parts root journal old)
+pub sight-unmoved : (root : Root) (journal after : List EntryParts) (old new : ServerInHand) → new.core ≡ old.core → Both IsUnmoved old.links.items new.links.items → after ≡ journal → sight (cell_parts root after new) ≡ sight (cell_parts root journal old)
 sight-unmoved root journal after old new core links same = λ i. record {
   root = root;
   journal = same i;
@@ -30,14 +30,14 @@ sight-unmoved root journal after old new core links same = λ i. record {
   took = λ n. unmoved-taken old.links.items new.links.items links n i;
 }
 
-pub sight-still : (root : Root) (journal after : List EntryParts) (old new : Held) → IsStill old new journal after → sight (cell_parts root after new) ≡ sight (cell_parts root journal old)
+pub sight-still : (root : Root) (journal after : List EntryParts) (old new : ServerInHand) → IsStill old new journal after → sight (cell_parts root after new) ≡ sight (cell_parts root journal old)
 sight-still root journal after old new s = sight-unmoved root journal after old new s.core s.links s.journal
 
-pub same-links-still : (old new : Held) (journal after : List EntryParts) → IsStill old new journal after → Both IsSameLink old.links.items new.links.items
+pub same-links-still : (old new : ServerInHand) (journal after : List EntryParts) → IsStill old new journal after → Both IsSameLink old.links.items new.links.items
 same-links-still old new journal after s = both-map IsUnmoved IsSameLink (λ x y r. r.same) old.links.items new.links.items s.links
 
 -- what was idle
-pub idle-is : (phase : ℕ) (what : What) (old new : Held) (before after : List EntryParts) (t : Turned) → Answers phase what old new before after t → t ≡ Idle → IsStill old new before after × IsIdle phase what old new
+pub idle-is : (phase : ℕ) (what : What) (old new : ServerInHand) (before after : List EntryParts) (t : Turned) → Answers phase what old new before after t → t ≡ Idle → IsStill old new before after × IsIdleStep phase what old new
 idle-is phase what old new before after Made a e = absurd cc
 idle-is phase what old new before after Stale a e = absurd a
 idle-is phase what old new before after Idle a e = a
@@ -47,8 +47,8 @@ pub lane-now : (to from : ℕ) (one other : CellParts) → IsKept one.root.net.v
     → At IsOneLane to one.held.links.items from other.held.links.items
 lane-now to from one other k l a = lane-at to from (links_of one.root) one.held.links.items (links_of other.root) other.held.links.items k.links l.links a
 
-module _ (net : NetParts) (root : Root) (journal : List EntryParts) (old : Held) (kept : IsKept net root journal old) (place : ℕ) (new : Held) (after : List EntryParts) where
-  pub kept-taking : (r : Result Bool StepFault) → IfOk r (λ made. IsTaking root.phase place old new journal after made) → OnErr r (IsStill old new journal after) → IsHeld new → IsKept net root after new
+module _ (net : NetParts) (root : Root) (journal : List EntryParts) (old : ServerInHand) (kept : IsKept net root journal old) (place : ℕ) (new : ServerInHand) (after : List EntryParts) where
+  pub kept-taking : (r : Result Bool StepFault) → IfOk r (λ made. IsTaking root.phase place old new journal after made) → OnErr r (IsStill old new journal after) → IsServerInHand new → IsKept net root after new
   kept-taking (Ok true) a s held = kept-turn net root journal old kept _ _ new after a.1.turn held
   kept-taking (Ok false) a s held = kept-still net root journal old kept new after a.0 held
   kept-taking (Err e) a s held = kept-still net root journal old kept new after s held

@@ -8,7 +8,7 @@ use Rattle.ev_lane.specs.Lane.{put_list, taken_list, rest_list, coming_list}
 use Rattle.ev_frame.specs.Frame.{FrameParts}
 use Rattle.ev_server.specs.Step.{last_stamp}
 use Rattle.ev_node.specs.declared.link.Link.{Link}
-use Rattle.ev_node.specs.Links.{At, IsSettled, IsNextAt}
+use Rattle.ev_node.specs.Links.{At, IsSettledLane, IsNextAt}
 use Rattle.ev_node.specs.Cell.{CellParts}
 use Rattle.ev_node.specs.Turns.{IsWornAt}
 use Rattle.ev_node.specs.Together.{IsWornSomewhere, sight, sights}
@@ -22,12 +22,12 @@ has-first : {T : Type 0} (x : T) (xs : List T) → IsPrefix (x ∷ []) xs → Ha
 has-first x xs p = subst (λ l. Has x l) p.1 (inl refl)
 
 -- what comes next at a settled end was put at the other
-put-next : (x y : Link) (frame : FrameParts) → IsSettled x y → IsPrefix (frame ∷ []) (coming_list y.leave) → Has frame (put_list x.enter)
+put-next : (x y : Link) (frame : FrameParts) → IsSettledLane x y → IsPrefix (frame ∷ []) (coming_list y.leave) → Has frame (put_list x.enter)
 put-next x y frame s p = subst (λ l. Has frame l) s.all (has-right frame (taken_list y.leave) (rest_list y.leave) (has-first frame (rest_list y.leave) (subst (λ l. IsPrefix (frame ∷ []) l) s.coming p)))
 
 -- so a taking that says Worn tells the truth: after the lane was settled again, the frame stands among what was put
 pub worn-taken : (old new : List CellParts) (giver to taker from stamp : ℕ) (z k : CellParts) → sights new ≡ sights old → slice_get old taker ≡ Some z → IsWornAt from z.held.core.clock stamp z.held.links.items
-    → (a b : CellParts) × (slice_get new giver ≡ Some a) × (slice_get new taker ≡ Some b) × At IsSettled to a.held.links.items from b.held.links.items
+    → (a b : CellParts) × (slice_get new giver ≡ Some a) × (slice_get new taker ≡ Some b) × At IsSettledLane to a.held.links.items from b.held.links.items
     → ((b : CellParts) (frame : FrameParts) → slice_get old taker ≡ Some b → IsNextAt from frame b.held.links.items → (c : CellParts) × (slice_get new taker ≡ Some c) × IsNextAt from frame c.held.links.items)
     → slice_get new giver ≡ Some k → IsKeptCell k → IsWornSomewhere stamp (sights new)
 worn-taken old new giver to taker from stamp z k seen at w (a, b, ea, eb, (x, y, ex, ey, s)) next ek kept =

@@ -24,11 +24,11 @@ use Rattle.ev_versions.specs.Ends.{notice_in, seen_in, published}
 use Rattle.ev_node.specs.declared.what.What.{What}
 use Rattle.ev_node.specs.declared.what.Turned.{Turned}
 use Rattle.ev_node.specs.declared.what.Turned.TheVariants.{Made, Stale, Idle}
-use Rattle.ev_node.specs.declared.held.Held.{Held}
-use Rattle.ev_node.specs.Served.{StampedInput}
+use Rattle.ev_node.specs.declared.held.ServerInHand.{ServerInHand}
+use Rattle.ev_net.specs.Acted.{StampedInput}
 use Rattle.ev_node.specs.Links.{HasMissed}
 use Rattle.ev_node.specs.Turns.{IsStill, IsTakingFrom, message_seen}
-use Rattle.ev_node.specs.Asked.{IsMade, IsIdle}
+use Rattle.ev_node.specs.Asked.{IsMadeStep, IsIdleStep}
 
 -- the next command of a client is a publish of this notice, which will be accepted
 abbrev pub PublishesNext : CoreParts → ℕ → List Attribute → Type 0
@@ -46,12 +46,12 @@ IsUpToDate publisher ahead = length (seen_in ahead) ≡ length (published publis
 
 -- WHAT IS ANSWERED with a match ahead: as without one; and a made step is stale exactly where it routes the notice that was matched ahead and the
 -- match had not seen all that is published
-abbrev pub AnswersAhead : ℕ → What → Ahead → Held → Held → List EntryParts → List EntryParts → Turned → Type 0
-AnswersAhead phase what ahead old new before after Made = (made : IsMade phase what old new before after)
+abbrev pub AnswersAhead : ℕ → What → Ahead → ServerInHand → ServerInHand → List EntryParts → List EntryParts → Turned → Type 0
+AnswersAhead phase what ahead old new before after Made = (made : IsMadeStep phase what old new before after)
     × (RoutesNotice old.core made.input (notice_in ahead) → IsUpToDate old.publisher ahead)
-AnswersAhead phase what ahead old new before after Stale = (made : IsMade phase what old new before after)
+AnswersAhead phase what ahead old new before after Stale = (made : IsMadeStep phase what old new before after)
     × RoutesNotice old.core made.input (notice_in ahead) × (IsUpToDate old.publisher ahead → ⊥)
-AnswersAhead phase what ahead old new before after Idle = IsStill old new before after × IsIdle phase what old new
+AnswersAhead phase what ahead old new before after Idle = IsStill old new before after × IsIdleStep phase what old new
 
 -- what comes of a match ahead for a notice: it is another one's, or out of date, or its route is that of what is published
 abbrev pub IsChoice : Publisher → Ahead → List Attribute → Choice → Type 0
@@ -76,7 +76,7 @@ IsChoiceOf core publisher ahead m Outdated = IsNoticeOf m (notice_in ahead) × (
 IsChoiceOf core publisher ahead m (Agreed route) = IsUpToDate publisher ahead × RoutesMessage core m route.now
 
 -- the same of a taking from the neighbour at a place
-abbrev pub IsTakingAhead : ℕ → ℕ → Ahead → Held → Held → List EntryParts → List EntryParts → Turned → Type 0
+abbrev pub IsTakingAhead : ℕ → ℕ → Ahead → ServerInHand → ServerInHand → List EntryParts → List EntryParts → Turned → Type 0
 IsTakingAhead phase place ahead old new before after Made = (seen : ℕ × Message) × IsTakingFrom phase place (message_seen seen) old new before after
     × (IsNoticeOf seen.1 (notice_in ahead) → IsUpToDate old.publisher ahead)
 IsTakingAhead phase place ahead old new before after Stale = (seen : ℕ × Message) × IsTakingFrom phase place (message_seen seen) old new before after

@@ -12,11 +12,11 @@ use Rattle.ev_node.specs.declared.what.What.{What}
 use Rattle.ev_node.specs.declared.what.What.TheVariants.{Command, Take, Version}
 use Rattle.ev_node.specs.declared.what.Turned.{Turned}
 use Rattle.ev_node.specs.declared.what.Turned.TheVariants.{Made, Stale, Idle}
-use Rattle.ev_node.specs.declared.held.Held.{Held}
+use Rattle.ev_node.specs.declared.held.ServerInHand.{ServerInHand}
 use Rattle.ev_node.specs.declared.held.Root.{Root}
-use Rattle.ev_node.specs.Served.{StampedInput}
+use Rattle.ev_net.specs.Acted.{StampedInput}
 use Rattle.ev_node.specs.Links.{IsNeighbour, HasMissed, HasSeen}
-use Rattle.ev_node.specs.Turns.{HasCommand, IsTurn, IsStill, IsWornAt}
+use Rattle.ev_node.specs.Turns.{HasCommand, IsCellTurn, IsStill, IsWornAt}
 
 -- how a journal tells the step
 abbrev pub act_for : What → EntryAct
@@ -31,37 +31,37 @@ Suits (Take from) root = Has from (links_of (topology_at root.net.value root.pha
 Suits Version root = Unit {0}
 
 -- so it is in hand
-abbrev pub SuitsHeld : What → Held → Type 0
+abbrev pub SuitsHeld : What → ServerInHand → Type 0
 SuitsHeld (Command client) held = Has client (numbers_of held.core.clients)
 SuitsHeld (Take from) held = Has from held.core.control.links
 SuitsHeld Version held = Unit {0}
 
 -- there is something to do: a command of the phase; a frame, so that the misses of its lane stay; something staged
-abbrev pub IsBusy : ℕ → What → Held → Held → Type 0
+abbrev pub IsBusy : ℕ → What → ServerInHand → ServerInHand → Type 0
 IsBusy phase (Command client) old new = HasCommand old.core client phase
 IsBusy phase (Take from) old new = (place : ℕ) × IsNeighbour place from old.links.items × HasSeen place old.links.items new.links.items
 IsBusy phase Version old new = old.core.staged ≡ [] → ⊥
 
 -- there is nothing to do: no command of the phase; no frame, and the misses of that lane rise; nothing staged
-abbrev pub IsIdle : ℕ → What → Held → Held → Type 0
-IsIdle phase (Command client) old new = HasCommand old.core client phase → ⊥
-IsIdle phase (Take from) old new = (place : ℕ) × IsNeighbour place from old.links.items × HasMissed place old.links.items new.links.items
-IsIdle phase Version old new = old.core.staged ≡ []
+abbrev pub IsIdleStep : ℕ → What → ServerInHand → ServerInHand → Type 0
+IsIdleStep phase (Command client) old new = HasCommand old.core client phase → ⊥
+IsIdleStep phase (Take from) old new = (place : ℕ) × IsNeighbour place from old.links.items × HasMissed place old.links.items new.links.items
+IsIdleStep phase Version old new = old.core.staged ≡ []
 
 -- the step was made
-pub record IsMade (phase : ℕ) (what : What) (old new : Held) (before after : List EntryParts) : Type 0 where
+pub record IsMadeStep (phase : ℕ) (what : What) (old new : ServerInHand) (before after : List EntryParts) : Type 0 where
   pub input : StampedInput
-  pub turn : IsTurn phase input (act_for what) old new before after
+  pub turn : IsCellTurn phase input (act_for what) old new before after
   pub busy : IsBusy phase what old new
 
 -- WHAT IS ANSWERED without a match ahead: the step was made, or nothing was done since there was nothing to do
-abbrev pub Answers : ℕ → What → Held → Held → List EntryParts → List EntryParts → Turned → Type 0
-Answers phase what old new before after Made = IsMade phase what old new before after
+abbrev pub Answers : ℕ → What → ServerInHand → ServerInHand → List EntryParts → List EntryParts → Turned → Type 0
+Answers phase what old new before after Made = IsMadeStep phase what old new before after
 Answers phase what old new before after Stale = ⊥
-Answers phase what old new before after Idle = IsStill old new before after × IsIdle phase what old new
+Answers phase what old new before after Idle = IsStill old new before after × IsIdleStep phase what old new
 
 -- why no stamp is left: by the clock, or by the frame that comes next
-abbrev pub IsWorn : What → ℕ → Held → Held → Type 0
+abbrev pub IsWorn : What → ℕ → ServerInHand → ServerInHand → Type 0
 IsWorn (Command client) stamp old new = (old.core.clock ≡ last_stamp) × (stamp ≡ last_stamp)
 IsWorn (Take from) stamp old new = (place : ℕ) × IsNeighbour place from new.links.items × IsWornAt place old.core.clock stamp new.links.items
 IsWorn Version stamp old new = (old.core.clock ≡ last_stamp) × (stamp ≡ last_stamp)

@@ -19,9 +19,9 @@ use Rattle.ev_server.specs.Core.{CoreParts, IsServerState}
 use Rattle.ev_versions.specs.declared.publisher.Publisher.{Publisher}
 use Rattle.ev_versions.specs.Pairs.{pairs_after}
 use Rattle.ev_versions.specs.Ends.{staged, published, IsViewerOf}
-use Rattle.ev_node.specs.Served.{IsTableOf}
-use Rattle.ev_node.specs.Served.{framed}
-use Rattle.ev_node.specs.declared.held.Held.{Held}
+use Rattle.ev_net.specs.Kept.{IsTableOf}
+use Rattle.ev_net.specs.Links.{framed}
+use Rattle.ev_node.specs.declared.held.ServerInHand.{ServerInHand}
 use Rattle.ev_node.specs.declared.link.Link.{Link}
 use Rattle.ev_node.specs.declared.held.Root.{Root}
 use Rattle.ev_node.specs.Links.{Both, Each, IsSameLink, put_for, taken_from}
@@ -30,9 +30,9 @@ use Rattle.ev_node.specs.Links.{Both, Each, IsSameLink, put_for, taken_from}
 pub record CellParts : Type 0 where
   pub root : Root
   pub journal : List EntryParts
-  pub held : Held
+  pub held : ServerInHand
 
-abbrev pub cell_parts : Root → List EntryParts → Held → CellParts
+abbrev pub cell_parts : Root → List EntryParts → ServerInHand → CellParts
 cell_parts root journal held = record { root = root; journal = journal; held = held }
 
 -- a cell has just entered a phase
@@ -51,8 +51,8 @@ abbrev pub machine_in : NetParts → ℕ → Machine
 machine_in net phase = machine_at real (phased_net net) phase
 
 -- the changes that are published make the pairs of what the core published
-abbrev pub IsPublished : Publisher → CoreParts → Type 0
-IsPublished publisher core = IsTableOf core (pairs_after (published publisher))
+abbrev pub IsPublishedBy : Publisher → CoreParts → Type 0
+IsPublishedBy publisher core = IsTableOf core (pairs_after (published publisher))
 
 -- messages whose texts can be read back
 abbrev pub AreReadable : List (Stamped (Message real)) → Type 0
@@ -82,15 +82,15 @@ pub record IsDue (phase : ℕ) (sessions : List SessionParts) : Type 0 where
 
 -- what one server has in hand: its lanes by its neighbours, and no lane with more frames than the clock counts; its publisher shows what the core
 -- published, and nothing is staged there but what was handed over
-pub record IsHeld (held : Held) : Type 0 where
+pub record IsServerInHand (held : ServerInHand) : Type 0 where
   pub low : held.core.clock < 2 ^ 62
   pub neighbours : map (λ link. link.neighbour) held.links.items ≡ held.core.control.links
   pub few : Each (λ link. length (put_list link.enter) ≤ held.core.clock) held.links.items
-  pub shown : IsPublished held.publisher held.core
+  pub shown : IsPublishedBy held.publisher held.core
   pub handed : staged held.publisher ≡ published held.publisher ++ held.handed.items
 
 -- the entries of the phase, replayed from a cell, lead to one that is in hand
-pub record IsReplayed (net : NetParts) (root : Root) (journal : List EntryParts) (begun : Cell (machine_in net root.phase)) (held : Held) : Type 0 where
+pub record IsReplayed (net : NetParts) (root : Root) (journal : List EntryParts) (begun : Cell (machine_in net root.phase)) (held : ServerInHand) : Type 0 where
   pub end : Cell (machine_in net root.phase)
   pub replay : IsReplay (machine_in net root.phase) root.phase root.server begun
       (entries_on real (net_at real (phased_net net) root.phase) (journal_of (drop root.entries journal))) end
@@ -98,7 +98,7 @@ pub record IsReplayed (net : NetParts) (root : Root) (journal : List EntryParts)
 
 -- WHAT A CELL KEEPS: its journal begins with the entries that it had as it entered its phase, and from each cell that was in hand then the entries since
 -- replay to one that is in hand
-pub record IsKept (net : NetParts) (root : Root) (journal : List EntryParts) (held : Held) : Type 0 where
+pub record IsKept (net : NetParts) (root : Root) (journal : List EntryParts) (held : ServerInHand) : Type 0 where
   pub net_is : root.net.value ≡ net
   pub sound : IsSound net
   pub number : held.core.server ≡ root.server
@@ -109,5 +109,5 @@ pub record IsKept (net : NetParts) (root : Root) (journal : List EntryParts) (he
   pub before : take root.entries journal ≡ root.before.value.items
   pub links : Both IsSameLink root.links.value.items held.links.items
   pub publisher : IsViewerOf held.publisher root.viewer.value
-  pub now : IsHeld held
+  pub now : IsServerInHand held
   pub due : IsDue root.phase held.core.clients

@@ -14,8 +14,8 @@ IsTakenInOrder all k p = (s t : Sight) (y : Link) (i : ℕ) → slice_get all k 
     → IsPrefix (s.took y.neighbour) (t.put s.root.server)
 
 -- so it is on all lanes
-abbrev pub AreInOrder : List Sight → Type 0
-AreInOrder all = (k p : ℕ) → k < length all → IsTakenInOrder all k p
+abbrev pub AreTakenInOrder : List Sight → Type 0
+AreTakenInOrder all = (k p : ℕ) → k < length all → IsTakenInOrder all k p
 
 -- ALL CELLS ARE IN HAND within the phase: what each took of another is the beginning of what that put, and their journals have a merge
 pub record AreAllInHand (net : NetParts) (phase : ℕ) (cells : List CellParts) (begun : ℕ → Cell (machine_in net phase)) : Type 0 where

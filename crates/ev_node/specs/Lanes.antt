@@ -32,7 +32,7 @@ with_link zero x (r ∷ rows) = (r ++ x ∷ []) ∷ rows
 with_link (suc place) x (r ∷ rows) = r ∷ with_link place x rows
 
 -- two servers were joined by lanes
-pub record AreJoined (one other : ℕ) (old new : List (List Link)) : Type 0 where
+pub record AreJoinedByLanes (one other : ℕ) (old new : List (List Link)) : Type 0 where
   pub mine : Link
   pub theirs : Link
   pub between : AreBetween one other mine theirs

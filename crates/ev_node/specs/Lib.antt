@@ -1,5 +1,4 @@
 pub mod Links
-pub mod Served
 pub mod Cell
 pub mod Turns
 pub mod Versions

@@ -1,12 +1,13 @@
 -- The lanes of one server.
 use Rattle.std.specs.Prelude.{◌≡◌, ◌⊎◌, ◌≤◌, ◌<◌, ◌^◌, ℕ, ◌+◌, ◌==◌, cond, List, [], ◌∷◌, ◌++◌, length, map, filter, Option, Some, None, slice_get}
 use Rattle.ev_lane.specs.Lane.{put_list, pushed_list, waiting_list, free_places, mark_of, taken_list, rest_list, coming_list, misses, IsLane, SameIn, SameOut}
-use Rattle.ev_frame.specs.Frame.{FrameParts, frame_parts}
+use Rattle.ev_frame.specs.Frame.{FrameParts}
 use mathlib.Core.List.{IsPrefix}
 use Rattle.ev_wire.specs.declared.message.Message.{Message}
 use Rattle.ev_wire.specs.MessageText.{IsMessageText}
 use Rattle.ev_node.specs.declared.link.Link.{Link}
 use Rattle.ev_wire.specs.declared.sent.Sent.{Sent}
+use Rattle.ev_net.specs.Links.{frame_of}
 
 -- two lists of one length, whose elements are related one by one
 abbrev pub Both : {X : Type 0} → (X → X → Type 0) → List X → List X → Type 0
@@ -87,7 +88,7 @@ abbrev pub IsOneLane : Link → Link → Type 0
 IsOneLane x y = IsLane x.enter y.leave
 
 -- a frame was taken from a neighbour
-pub record IsTaken (from : ℕ) (frame : FrameParts) (x y : Link) : Type 0 where
+pub record IsFrameTaken (from : ℕ) (frame : FrameParts) (x y : Link) : Type 0 where
   pub same : IsSameLink x y
   pub enter : y.enter ≡ x.enter
   pub took : taken_list y.leave ≡ taken_list x.leave ++ cond (x.neighbour == from) (frame ∷ []) []
@@ -119,10 +120,10 @@ IsInSight place xs = (x : Link) → slice_get xs place ≡ Some x → 0 < length
 
 -- where this frame comes next at the link at a place, it is taken
 abbrev pub TakesAt : ℕ → FrameParts → List Link → List Link → Type 0
-TakesAt place frame xs ys = (x : Link) → slice_get xs place ≡ Some x → ComesNext frame x → Both (IsTaken x.neighbour frame) xs ys
+TakesAt place frame xs ys = (x : Link) → slice_get xs place ≡ Some x → ComesNext frame x → Both (IsFrameTaken x.neighbour frame) xs ys
 
 -- the putting end of one link and the taking end of the other are those of one lane, and all that was put and not taken is at the taking end
-pub record IsSettled (x y : Link) : Type 0 where
+pub record IsSettledLane (x y : Link) : Type 0 where
   pub lane : IsLane x.enter y.leave
   pub all : taken_list y.leave ++ rest_list y.leave ≡ put_list x.enter
   pub coming : coming_list y.leave ≡ rest_list y.leave
@@ -144,10 +145,7 @@ rest_for neighbour (s ∷ sent) = cond (s.to == neighbour) sent (s ∷ sent)
 abbrev pub only_for : ℕ → List Sent → List Sent
 only_for neighbour sent = filter (λ s. s.to == neighbour) sent
 
--- a text that was sent, under a stamp, and several
-abbrev pub frame_of : ℕ → Sent → FrameParts
-frame_of stamp sent = frame_parts stamp sent.bytes
-
+-- the texts that were sent, under a stamp
 abbrev pub frames_of : ℕ → List Sent → List FrameParts
 frames_of stamp sent = map (frame_of stamp) sent
 

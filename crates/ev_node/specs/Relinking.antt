@@ -5,7 +5,7 @@ use Rattle.ev_sets.specs.Sets.{Has}
 use Rattle.ev_constraint.specs.Constraint.{ConstraintParts}
 use Rattle.ev_counting.specs.declared.change.Change.{Change}
 use Rattle.ev_counting.specs.declared.change.Change.TheVariants.{Add, Remove}
-use Rattle.ev_routing.specs.Server.{ServerState}
+use Rattle.ev_routing.specs.Server.{ServerState, client_interface}
 use Rattle.ev_phases.specs.Trees.{net_at, is_one_tree}
 use Rattle.ev_theory.specs.Real.{real}
 use Rattle.ev_model.specs.Parts.{NetParts}
@@ -16,7 +16,7 @@ use Rattle.ev_flow.specs.declared.home.Home.{Home}
 use Rattle.ev_server.specs.Core.{CoreParts, IsServerState}
 use Rattle.ev_server.specs.Linked.{AreHeldLinks, SuitsCore, IsLinked, IsOnLinks}
 use Rattle.ev_versions.specs.Ends.{IsSamePublisher}
-use Rattle.ev_node.specs.declared.held.Held.{Held}
+use Rattle.ev_node.specs.declared.held.ServerInHand.{ServerInHand}
 use Rattle.ev_node.specs.declared.link.Link.{Link}
 use Rattle.ev_node.specs.Links.{Each}
 use Rattle.ev_node.specs.Lanes.{IsNew, named}
@@ -24,11 +24,12 @@ use Rattle.ev_node.specs.Cell.{CellParts, HasEntered, HasNoneBelow}
 
 -- exactly what the clients among these, up to a number, have in sets by interface
 abbrev pub IsUnionUpTo : List ℕ → (ℕ → List (List ConstraintParts)) → ℕ → List (List ConstraintParts) → Type 0
-IsUnionUpTo clients sets n xs = (x : List ConstraintParts) → Has x xs ↔ ((client : ℕ) × (client ≤ n) × Has client clients × Has x (sets (64 + client)))
+IsUnionUpTo clients sets n xs = (x : List ConstraintParts)
+    → Has x xs ↔ ((client : ℕ) × (client ≤ n) × Has client clients × Has x (sets (client_interface client)))
 
 -- exactly what the clients have
 abbrev pub IsUnionBy : List ℕ → (ℕ → List (List ConstraintParts)) → List (List ConstraintParts) → Type 0
-IsUnionBy clients sets xs = (x : List ConstraintParts) → Has x xs ↔ ((client : ℕ) × Has client clients × Has x (sets (64 + client)))
+IsUnionBy clients sets xs = (x : List ConstraintParts) → Has x xs ↔ ((client : ℕ) × Has client clients × Has x (sets (client_interface client)))
 
 -- what the clients of a server have together; advertisements where these steer filters, else none
 pub record IsHomeOf (net : NetParts) (server : ℕ) (core : CoreParts) (home : Home) : Type 0 where
@@ -44,7 +45,7 @@ abbrev pub additions : List HeldLink → List Change
 additions given = flat_map (λ h. map (Add h.link) h.filters) given
 
 -- a server has these links, with what is given as held from them, and these lanes; its publisher is the same
-pub record IsPutOn (given : List HeldLink) (row : List Link) (old new : Held) : Type 0 where
+pub record IsPutOn (given : List HeldLink) (row : List Link) (old new : ServerInHand) : Type 0 where
   pub control : Controlled
   pub linked : IsLinked given old.core.control control
   pub suits : SuitsCore old.core control

@@ -13,7 +13,7 @@ use Rattle.ev_node.specs.Cell.{CellParts, IsCellOf, machine_in}
 use Rattle.ev_node.specs.Together.{AreTogether}
 
 -- a cell of a server in phase 0, with these lanes, the clock 0 and an empty journal; it stands for its server at the opening
-pub record IsFresh (net : NetParts) (server : ℕ) (links : List Link) (cell : CellParts) : Type 0 where
+pub record IsFreshCell (net : NetParts) (server : ℕ) (links : List Link) (cell : CellParts) : Type 0 where
   pub net_is : cell.root.net.value ≡ net
   pub server_is : cell.root.server ≡ server
   pub phase : cell.root.phase ≡ 0
@@ -29,7 +29,7 @@ pub record IsFresh (net : NetParts) (server : ℕ) (links : List Link) (cell : C
 
 -- with its viewers, which are of the publisher that the cell's root names
 pub record IsStarted (net : NetParts) (server : ℕ) (links : List Link) (started : Started) : Type 0 where
-  pub fresh : IsFresh net server links started.cell
+  pub fresh : IsFreshCell net server links started.cell
   pub commands : IsSameViewer started.cell.root.viewer.value started.commands
   pub links_viewer : IsSameViewer started.cell.root.viewer.value started.links
 

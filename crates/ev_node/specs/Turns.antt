@@ -19,9 +19,9 @@ use Rattle.ev_session.specs.Session.{SessionParts}
 use Rattle.ev_server.specs.Core.{CoreParts}
 use Rattle.ev_server.specs.Step.{MakesStep, last_stamp}
 use Rattle.ev_versions.specs.Ends.{published, IsSamePublisher}
-use Rattle.ev_node.specs.Served.{StampedInput, input_of, stamp_of, told_as}
-use Rattle.ev_node.specs.Served.{framed}
-use Rattle.ev_node.specs.declared.held.Held.{Held}
+use Rattle.ev_net.specs.Acted.{StampedInput, input_of, stamp_of, told_as}
+use Rattle.ev_net.specs.Links.{framed}
+use Rattle.ev_node.specs.declared.held.ServerInHand.{ServerInHand}
 use Rattle.ev_node.specs.declared.link.Link.{Link}
 use Rattle.ev_node.specs.Links.{Both, Each, IsMoved, IsUnmoved, IsFlushed, HasMissed, HasSeen, ComesNext, only_from}
 
@@ -48,7 +48,7 @@ IsOfPhase phase core (Takes from m) = Unit {0}
 
 -- A STEP WAS MADE: the core made it, its texts are on the lanes with its stamp, what it took is taken, and the journal has just its entry more; each
 -- putting end stands as `flush` leaves it
-pub record IsTurn (phase : ℕ) (input : StampedInput) (act : EntryAct) (old new : Held) (before after : List EntryParts) : Type 0 where
+pub record IsCellTurn (phase : ℕ) (input : StampedInput) (act : EntryAct) (old new : ServerInHand) (before after : List EntryParts) : Type 0 where
   pub told : told_as input ≡ act_of act
   pub text : IsTold input
   pub due : IsOfPhase phase old.core input
@@ -61,7 +61,7 @@ pub record IsTurn (phase : ℕ) (input : StampedInput) (act : EntryAct) (old new
   pub publisher : IsSamePublisher old.publisher new.publisher
 
 -- nothing was done: at most some staged changes were handed to the publisher, which published none
-pub record IsStill (old new : Held) (before after : List EntryParts) : Type 0 where
+pub record IsStill (old new : ServerInHand) (before after : List EntryParts) : Type 0 where
   pub core : new.core ≡ old.core
   pub links : Both IsUnmoved old.links.items new.links.items
   pub journal : after ≡ before
@@ -69,14 +69,14 @@ pub record IsStill (old new : Held) (before after : List EntryParts) : Type 0 wh
   pub published : published new.publisher ≡ published old.publisher
 
 -- this message was taken from the neighbour at a place, and the misses of its lane stay
-pub record IsTakingFrom (phase place : ℕ) (message : Stamped (Message real)) (old new : Held) (before after : List EntryParts) : Type 0 where
+pub record IsTakingFrom (phase place : ℕ) (message : Stamped (Message real)) (old new : ServerInHand) (before after : List EntryParts) : Type 0 where
   pub link : Link
   pub there : slice_get old.links.items place ≡ Some link
-  pub turn : IsTurn phase (Takes link.neighbour message) (acts.Take link.neighbour) old new before after
+  pub turn : IsCellTurn phase (Takes link.neighbour message) (acts.Take link.neighbour) old new before after
   pub seen : HasSeen place old.links.items new.links.items
 
 -- a message was taken, or all that the neighbour put is taken
-abbrev pub IsTaking : ℕ → ℕ → Held → Held → List EntryParts → List EntryParts → Bool → Type 0
+abbrev pub IsTaking : ℕ → ℕ → ServerInHand → ServerInHand → List EntryParts → List EntryParts → Bool → Type 0
 IsTaking phase place old new before after true = (m : Stamped (Message real)) × IsTakingFrom phase place m old new before after
 IsTaking phase place old new before after false = IsStill old new before after × HasMissed place old.links.items new.links.items
 
@@ -85,9 +85,9 @@ abbrev pub message_seen : ℕ × WireMessage → Stamped (Message real)
 message_seen seen = record { stamp = seen.0; message = message_of seen.1 }
 
 -- a version was made, or nothing is staged
-abbrev pub IsVersion : ℕ → Held → Held → List EntryParts → List EntryParts → Bool → Type 0
-IsVersion phase old new before after true = IsTurn phase (Does Version) acts.Version old new before after × (old.core.staged ≡ [] → ⊥)
-IsVersion phase old new before after false = IsStill old new before after × (old.core.staged ≡ [])
+abbrev pub IsVersionTurn : ℕ → ServerInHand → ServerInHand → List EntryParts → List EntryParts → Bool → Type 0
+IsVersionTurn phase old new before after true = IsCellTurn phase (Does Version) acts.Version old new before after × (old.core.staged ≡ [] → ⊥)
+IsVersionTurn phase old new before after false = IsStill old new before after × (old.core.staged ≡ [])
 
 -- the next stamp would be 2^62, by the clock, or by the frame that comes next from the neighbour at a place
 pub record IsWornAt (place clock stamp : ℕ) (links : List Link) : Type 0 where

@@ -1,15 +1,15 @@
 //! Steps with a route that was matched ahead.
 ghost use Rattle.std.specs.Prelude.{◌≡◌, ◌<◌, ℕ, length, IfOk, OnErr, IsErrOf};
 ghost use Rattle.ev_versions.specs.Ends.{IsAheadOf, IsSameViewer, IsViewerOf};
-ghost use Rattle.ev_node.specs.Served.{IsSomeServer};
-ghost use Rattle.ev_node.specs.Cell.{IsHeld};
+ghost use Rattle.ev_net.specs.Kept.{IsSomeServer};
+ghost use Rattle.ev_node.specs.Cell.{IsServerInHand};
 ghost use Rattle.ev_node.specs.Turns.{IsStill, IsWornAt};
 ghost use Rattle.ev_node.specs.Asked.{IsWorn, SuitsHeld};
 ghost use Rattle.ev_node.specs.Ahead.{AnswersAhead, IsTakingAhead};
 
 use crate::asked::{is_of_phase, version_asked};
 use crate::choice::{Choice, choose_next, choose_of};
-use crate::held::Held;
+use crate::held::ServerInHand;
 use crate::link::place_in;
 use crate::taking::look_at;
 use crate::turn::{take_seen, turn_command};
@@ -24,7 +24,7 @@ use std::sync::Wait;
 /// The next command of a client, if it is of the phase.
 fn command_ahead(
     alloc: Global,
-    held: &mut Held,
+    held: &mut ServerInHand,
     journal: &mut Vec<Entry>,
     scratch: &mut Scratch,
     server: u32,
@@ -34,7 +34,7 @@ fn command_ahead(
     ahead: &Ahead,
 ) -> Result<Turned, StepFault>
     requires server { held.old.core.server ≡ server }
-    requires held { IsHeld held.old }
+    requires held { IsServerInHand held.old }
     requires stands { IsSomeServer held.old.core }
     requires suits { SuitsHeld (What.Command client) held.old }
     requires viewer { IsViewerOf held.old.publisher viewer.old }
@@ -42,7 +42,7 @@ fn command_ahead(
     ensures answers { IfOk result (AnswersAhead phase (What.Command client) ahead.now held.old held.new journal.old.items journal.new.items) }
     ensures still { OnErr result (IsStill held.old held.new journal.old.items journal.new.items) }
     ensures worn { (s : ℕ) → IsErrOf result (StepFault.Worn s) → IsWorn (What.Command client) s held.old held.new }
-    ensures held { IsHeld held.new }
+    ensures held { IsServerInHand held.new }
     ensures same { IsSameViewer viewer.old viewer.new }
 {
     if !is_of_phase(&held.core, phase, client) {
@@ -68,7 +68,7 @@ fn command_ahead(
 fn take_ahead<R: Wait>(
     rt: &R,
     alloc: Global,
-    held: &mut Held,
+    held: &mut ServerInHand,
     journal: &mut Vec<Entry>,
     scratch: &mut Scratch,
     server: u32,
@@ -78,7 +78,7 @@ fn take_ahead<R: Wait>(
     ahead: &Ahead,
 ) -> Result<Turned, StepFault>
     requires server { held.old.core.server ≡ server }
-    requires held { IsHeld held.old }
+    requires held { IsServerInHand held.old }
     requires stands { IsSomeServer held.old.core }
     requires suits { SuitsHeld (What.Take from) held.old }
     requires viewer { IsViewerOf held.old.publisher viewer.old }
@@ -86,7 +86,7 @@ fn take_ahead<R: Wait>(
     ensures answers { IfOk result (AnswersAhead phase (What.Take from) ahead.now held.old held.new journal.old.items journal.new.items) }
     ensures still { OnErr result (IsStill held.old held.new journal.old.items journal.new.items) }
     ensures worn { (s : ℕ) → IsErrOf result (StepFault.Worn s) → IsWorn (What.Take from) s held.old held.new }
-    ensures held { IsHeld held.new }
+    ensures held { IsServerInHand held.new }
     ensures same { IsSameViewer viewer.old viewer.new }
 {
     let _phase = phase;
@@ -102,7 +102,7 @@ fn take_ahead<R: Wait>(
 fn take_place_ahead<R: Wait>(
     rt: &R,
     alloc: Global,
-    held: &mut Held,
+    held: &mut ServerInHand,
     journal: &mut Vec<Entry>,
     scratch: &mut Scratch,
     server: u32,
@@ -112,14 +112,14 @@ fn take_place_ahead<R: Wait>(
 ) -> Result<Turned, StepFault>
     requires server { held.old.core.server ≡ server }
     requires place { place < length held.old.links.items }
-    requires held { IsHeld held.old }
+    requires held { IsServerInHand held.old }
     requires stands { IsSomeServer held.old.core }
     requires viewer { IsViewerOf held.old.publisher viewer.old }
     requires ahead { IsAheadOf held.old.publisher ahead.now }
     ensures taken { (phase : ℕ) → IfOk result (IsTakingAhead phase place ahead.now held.old held.new journal.old.items journal.new.items) }
     ensures still { OnErr result (IsStill held.old held.new journal.old.items journal.new.items) }
     ensures worn { (s : ℕ) → IsErrOf result (StepFault.Worn s) → IsWornAt place held.old.core.clock s held.new.links.items }
-    ensures held { IsHeld held.new }
+    ensures held { IsServerInHand held.new }
     ensures same { IsSameViewer viewer.old viewer.new }
 {
     let Some(seen) = look_at(rt, alloc, &mut held.links, place)? else {
@@ -155,7 +155,7 @@ fn take_place_ahead<R: Wait>(
 pub(crate) fn turn_held_ahead<R: Wait>(
     rt: &R,
     alloc: Global,
-    held: &mut Held,
+    held: &mut ServerInHand,
     journal: &mut Vec<Entry>,
     scratch: &mut Scratch,
     server: u32,
@@ -165,7 +165,7 @@ pub(crate) fn turn_held_ahead<R: Wait>(
     ahead: &Ahead,
 ) -> Result<Turned, StepFault>
     requires server { held.old.core.server ≡ server }
-    requires held { IsHeld held.old }
+    requires held { IsServerInHand held.old }
     requires stands { IsSomeServer held.old.core }
     requires suits { SuitsHeld what held.old }
     requires viewer { IsViewerOf held.old.publisher viewer.old }
@@ -173,7 +173,7 @@ pub(crate) fn turn_held_ahead<R: Wait>(
     ensures answers { IfOk result (AnswersAhead phase what ahead.now held.old held.new journal.old.items journal.new.items) }
     ensures still { OnErr result (IsStill held.old held.new journal.old.items journal.new.items) }
     ensures worn { (s : ℕ) → IsErrOf result (StepFault.Worn s) → IsWorn what s held.old held.new }
-    ensures held { IsHeld held.new }
+    ensures held { IsServerInHand held.new }
     ensures same { IsSameViewer viewer.old viewer.new }
 {
     match what {

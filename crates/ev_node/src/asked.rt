@@ -2,12 +2,12 @@
 ghost use Rattle.std.specs.Prelude.{◌≡◌, ◌↔◌, ℕ, IfOk, OnErr, IsErrOf, IsTrue};
 ghost use Rattle.ev_sets.specs.Sets.{Has};
 ghost use Rattle.ev_server.specs.Clients.{numbers_of};
-ghost use Rattle.ev_node.specs.Served.{IsSomeServer};
-ghost use Rattle.ev_node.specs.Cell.{IsHeld};
+ghost use Rattle.ev_net.specs.Kept.{IsSomeServer};
+ghost use Rattle.ev_node.specs.Cell.{IsServerInHand};
 ghost use Rattle.ev_node.specs.Turns.{HasCommand, IsStill};
 ghost use Rattle.ev_node.specs.Asked.{Answers, IsWorn, SuitsHeld};
 
-use crate::held::Held;
+use crate::held::ServerInHand;
 use crate::link::place_in;
 use crate::turn::{turn_command, turn_take, turn_version};
 use crate::what::{Turned, What};
@@ -32,7 +32,7 @@ pub(crate) fn is_of_phase(core: &Core, phase: u32, client: u32) -> bool
 /// The next command of a client, if it is of the phase.
 pub(crate) fn command_asked(
     alloc: Global,
-    held: &mut Held,
+    held: &mut ServerInHand,
     journal: &mut Vec<Entry>,
     scratch: &mut Scratch,
     server: u32,
@@ -40,13 +40,13 @@ pub(crate) fn command_asked(
     client: u32,
 ) -> Result<Turned, StepFault>
     requires server { held.old.core.server ≡ server }
-    requires held { IsHeld held.old }
+    requires held { IsServerInHand held.old }
     requires stands { IsSomeServer held.old.core }
     requires suits { SuitsHeld (What.Command client) held.old }
     ensures answers { IfOk result (Answers phase (What.Command client) held.old held.new journal.old.items journal.new.items) }
     ensures still { OnErr result (IsStill held.old held.new journal.old.items journal.new.items) }
     ensures worn { (s : ℕ) → IsErrOf result (StepFault.Worn s) → IsWorn (What.Command client) s held.old held.new }
-    ensures held { IsHeld held.new }
+    ensures held { IsServerInHand held.new }
 {
     if !is_of_phase(&held.core, phase, client) {
         return Ok(Turned::Idle);
@@ -59,7 +59,7 @@ pub(crate) fn command_asked(
 fn take_asked<R: Wait>(
     rt: &R,
     alloc: Global,
-    held: &mut Held,
+    held: &mut ServerInHand,
     journal: &mut Vec<Entry>,
     scratch: &mut Scratch,
     server: u32,
@@ -67,13 +67,13 @@ fn take_asked<R: Wait>(
     from: u32,
 ) -> Result<Turned, StepFault>
     requires server { held.old.core.server ≡ server }
-    requires held { IsHeld held.old }
+    requires held { IsServerInHand held.old }
     requires stands { IsSomeServer held.old.core }
     requires suits { SuitsHeld (What.Take from) held.old }
     ensures answers { IfOk result (Answers phase (What.Take from) held.old held.new journal.old.items journal.new.items) }
     ensures still { OnErr result (IsStill held.old held.new journal.old.items journal.new.items) }
     ensures worn { (s : ℕ) → IsErrOf result (StepFault.Worn s) → IsWorn (What.Take from) s held.old held.new }
-    ensures held { IsHeld held.new }
+    ensures held { IsServerInHand held.new }
 {
     let Some(place) = place_in(&held.links, from) else {
         unreachable!()
@@ -89,18 +89,18 @@ fn take_asked<R: Wait>(
 pub(crate) fn version_asked<R: Wait>(
     rt: &R,
     alloc: Global,
-    held: &mut Held,
+    held: &mut ServerInHand,
     journal: &mut Vec<Entry>,
     server: u32,
     phase: u32,
 ) -> Result<Turned, StepFault>
     requires server { held.old.core.server ≡ server }
-    requires held { IsHeld held.old }
+    requires held { IsServerInHand held.old }
     requires stands { IsSomeServer held.old.core }
     ensures answers { IfOk result (Answers phase What.Version held.old held.new journal.old.items journal.new.items) }
     ensures still { OnErr result (IsStill held.old held.new journal.old.items journal.new.items) }
     ensures worn { (s : ℕ) → IsErrOf result (StepFault.Worn s) → IsWorn What.Version s held.old held.new }
-    ensures held { IsHeld held.new }
+    ensures held { IsServerInHand held.new }
 {
     let _phase = phase;
     if turn_version(rt, alloc, held, journal, server)? {
@@ -115,7 +115,7 @@ pub(crate) fn version_asked<R: Wait>(
 pub(crate) fn turn_held<R: Wait>(
     rt: &R,
     alloc: Global,
-    held: &mut Held,
+    held: &mut ServerInHand,
     journal: &mut Vec<Entry>,
     scratch: &mut Scratch,
     server: u32,
@@ -123,13 +123,13 @@ pub(crate) fn turn_held<R: Wait>(
     what: What,
 ) -> Result<Turned, StepFault>
     requires server { held.old.core.server ≡ server }
-    requires held { IsHeld held.old }
+    requires held { IsServerInHand held.old }
     requires stands { IsSomeServer held.old.core }
     requires suits { SuitsHeld what held.old }
     ensures answers { IfOk result (Answers phase what held.old held.new journal.old.items journal.new.items) }
     ensures still { OnErr result (IsStill held.old held.new journal.old.items journal.new.items) }
     ensures worn { (s : ℕ) → IsErrOf result (StepFault.Worn s) → IsWorn what s held.old held.new }
-    ensures held { IsHeld held.new }
+    ensures held { IsServerInHand held.new }
 {
     match what {
         What::Command(client) => {

@@ -4,7 +4,7 @@ ghost use Rattle.std.specs.Prelude.{◌≡◌};
 use crate::ahead::turn_held_ahead;
 use crate::asked::turn_held;
 use crate::coming::next_of;
-use crate::held::{Held, Root};
+use crate::held::{Root, ServerInHand};
 use crate::link::Link;
 use crate::looking::look_from;
 use crate::naming::{are_neighbours, lives_at};
@@ -32,7 +32,7 @@ pub struct Cell<'a> {
     pub(crate) alloc: Global,
     pub(crate) net: &'a Net,
     pub(crate) root: Root,
-    pub(crate) held: Held,
+    pub(crate) held: ServerInHand,
     pub(crate) journal: Vec<Entry>,
     pub(crate) scratch: Scratch,
 }
@@ -71,7 +71,7 @@ impl<'a> Cell<'a> {
     ghost use Rattle.ev_versions.specs.Ends.{staged, published, IsAheadBy, IsSameViewer, IsViewerOf};
     ghost use Rattle.ev_node.specs.Links.{Each};
     ghost use Rattle.ev_node.specs.Lanes.{IsNew};
-    ghost use Rattle.ev_node.specs.Started.{IsFresh};
+    ghost use Rattle.ev_node.specs.Started.{IsFreshCell};
     ghost use Rattle.ev_node.specs.Asked.{Answers, IsWorn, Suits};
     ghost use Rattle.ev_node.specs.Ahead.{AnswersAhead};
     ghost use Rattle.ev_node.specs.Looking.{IsLookedFor};
@@ -97,7 +97,7 @@ impl<'a> Cell<'a> {
         requires new { Each IsNew links.items }
         requires publisher { (staged publisher ≡ []) × (published publisher ≡ []) }
         requires viewer { IsViewerOf publisher viewer.now }
-        ensures fresh { IsFresh net.now server links.items result }
+        ensures fresh { IsFreshCell net.now server links.items result }
         ensures viewer { result.root.viewer.value ≡ viewer.now }
     {
         let journal = Vec::new(alloc);
@@ -111,7 +111,7 @@ impl<'a> Cell<'a> {
             links: Snapshot::of(&links),
             viewer: Snapshot::of(viewer),
         };
-        let held = Held {
+        let held = ServerInHand {
             core,
             links,
             publisher,
@@ -137,7 +137,7 @@ impl<'a> Cell<'a> {
             journal: _journal,
             scratch: _scratch,
         } = self;
-        let Held {
+        let ServerInHand {
             core: _core,
             links: _links,
             publisher,

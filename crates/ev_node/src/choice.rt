@@ -3,8 +3,8 @@ ghost use Rattle.std.specs.Prelude.{◌≡◌};
 ghost use Rattle.ev_sets.specs.Sets.{Has};
 ghost use Rattle.ev_server.specs.Clients.{numbers_of};
 ghost use Rattle.ev_versions.specs.Ends.{IsAheadOf, IsSameViewer, IsViewerOf};
-ghost use Rattle.ev_node.specs.Served.{IsSomeServer};
-ghost use Rattle.ev_node.specs.Cell.{IsPublished};
+ghost use Rattle.ev_net.specs.Kept.{IsSomeServer};
+ghost use Rattle.ev_node.specs.Cell.{IsPublishedBy};
 ghost use Rattle.ev_node.specs.Ahead.{IsChoice, IsChoiceNext, IsChoiceOf};
 
 use crate::desk::notice_in;
@@ -59,7 +59,7 @@ pub(crate) fn choose_next<'a>(
     requires ahead { IsAheadOf publisher.now ahead.now }
     requires lives { Has client (numbers_of core.now.clients) }
     requires stands { IsSomeServer core.now }
-    requires published { IsPublished publisher.now core.now }
+    requires published { IsPublishedBy publisher.now core.now }
     ensures same { IsSameViewer viewer.old viewer.new }
     ensures choice { IsChoiceNext core.now publisher.now ahead.now client result }
 {
@@ -82,7 +82,7 @@ pub(crate) fn choose_of<'a>(
 ) -> Choice<'a>
     requires viewer { IsViewerOf publisher.now viewer.old }
     requires ahead { IsAheadOf publisher.now ahead.now }
-    requires published { IsPublished publisher.now core.now }
+    requires published { IsPublishedBy publisher.now core.now }
     ensures same { IsSameViewer viewer.old viewer.new }
     ensures choice { IsChoiceOf core.now publisher.now ahead.now message.now result }
 {

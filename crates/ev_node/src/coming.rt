@@ -4,7 +4,7 @@ ghost use Rattle.ev_sets.specs.Sets.{Has};
 ghost use Rattle.ev_model.specs.Nets.{clients_of};
 ghost use Rattle.ev_model.specs.Sound.{IsSound};
 ghost use Rattle.ev_server.specs.Clients.{numbers_of};
-ghost use Rattle.ev_node.specs.Served.{IsSomeServer};
+ghost use Rattle.ev_net.specs.Kept.{IsSomeServer};
 ghost use Rattle.ev_node.specs.Turns.{HasCommand};
 ghost use Rattle.ev_node.specs.Entered.{AreThrough};
 ghost use Rattle.ev_node.specs.Coming.{IsNoLater, IsFrom, AreFrom, IsOfSome, HaveCommand};

@@ -15,8 +15,8 @@ ghost use Rattle.ev_server.specs.Routed.{RoutesNext, RoutesMessage};
 ghost use Rattle.ev_server.specs.Step.{MakesStep, last_stamp};
 ghost use Rattle.ev_versions.specs.Pairs.{pairs_after};
 ghost use Rattle.ev_versions.specs.Ends.{published};
-ghost use Rattle.ev_node.specs.Served.{IsSomeServer};
-ghost use Rattle.ev_node.specs.Cell.{IsPublished};
+ghost use Rattle.ev_net.specs.Kept.{IsSomeServer};
+ghost use Rattle.ev_node.specs.Cell.{IsPublishedBy};
 
 use ev_counting::{Route, Scratch};
 use ev_memory::NoMemory;
@@ -65,12 +65,12 @@ fn command_by(
     requires lives { Has client (numbers_of core.old.clients) }
     requires left { (s : SessionParts) → Has s core.old.clients → s.client ≡ client → s.taken < length s.script }
     requires stands { IsSomeServer core.old }
-    requires published { IsPublished publisher.now core.old }
+    requires published { IsPublishedBy publisher.now core.old }
     requires route { RoutesNext core.old client route.now }
     ensures step { IfOk result (λ s. MakesStep (Does (NextCommand client)) 0 core.old core.new s.stamp s.sent.items) }
     ensures worn { (s : ℕ) → IsErrOf result (StepFault.Worn s) → (core.old.clock ≡ last_stamp) × (s ≡ last_stamp) }
     ensures low { IfOk result (λ s. s.stamp < 2 ^ 62) }
-    ensures published { IsPublished publisher.now core.new }
+    ensures published { IsPublishedBy publisher.now core.new }
     ensures err { OnErr result (core.new ≡ core.old) }
 {
     let _publisher = publisher;
@@ -90,12 +90,12 @@ pub(crate) fn take_command(
     requires lives { Has client (numbers_of core.old.clients) }
     requires left { (s : SessionParts) → Has s core.old.clients → s.client ≡ client → s.taken < length s.script }
     requires stands { IsSomeServer core.old }
-    requires published { IsPublished publisher.now core.old }
+    requires published { IsPublishedBy publisher.now core.old }
     requires known { IfSome known (λ r. RoutesNext core.old client r.now) }
     ensures step { IfOk result (λ s. MakesStep (Does (NextCommand client)) 0 core.old core.new s.stamp s.sent.items) }
     ensures worn { (s : ℕ) → IsErrOf result (StepFault.Worn s) → (core.old.clock ≡ last_stamp) × (s ≡ last_stamp) }
     ensures low { IfOk result (λ s. s.stamp < 2 ^ 62) }
-    ensures published { IsPublished publisher.now core.new }
+    ensures published { IsPublishedBy publisher.now core.new }
     ensures err { OnErr result (core.new ≡ core.old) }
 {
     if let Some(route) = known {
@@ -118,12 +118,12 @@ fn message_by(
     requires stamp { stamp < 2 ^ 62 }
     requires text { IsSendable message }
     requires stands { IsSomeServer core.old }
-    requires published { IsPublished publisher.now core.old }
+    requires published { IsPublishedBy publisher.now core.old }
     requires route { RoutesMessage core.old message route.now }
     ensures step { IfOk result (λ s. MakesStep (Takes from (message_of message)) stamp core.old core.new s.stamp s.sent.items) }
     ensures worn { (s : ℕ) → IsErrOf result (StepFault.Worn s) → (max core.old.clock stamp ≡ last_stamp) × (s ≡ last_stamp) }
     ensures low { IfOk result (λ s. s.stamp < 2 ^ 62) }
-    ensures published { IsPublished publisher.now core.new }
+    ensures published { IsPublishedBy publisher.now core.new }
     ensures err { OnErr result (core.new ≡ core.old) }
 {
     let _publisher = publisher;
@@ -146,12 +146,12 @@ pub(crate) fn take_message(
     requires stamp { stamp < 2 ^ 62 }
     requires text { IsSendable message }
     requires stands { IsSomeServer core.old }
-    requires published { IsPublished publisher.now core.old }
+    requires published { IsPublishedBy publisher.now core.old }
     requires known { IfSome known (λ r. RoutesMessage core.old message r.now) }
     ensures step { IfOk result (λ s. MakesStep (Takes from (message_of message)) stamp core.old core.new s.stamp s.sent.items) }
     ensures worn { (s : ℕ) → IsErrOf result (StepFault.Worn s) → (max core.old.clock stamp ≡ last_stamp) × (s ≡ last_stamp) }
     ensures low { IfOk result (λ s. s.stamp < 2 ^ 62) }
-    ensures published { IsPublished publisher.now core.new }
+    ensures published { IsPublishedBy publisher.now core.new }
     ensures err { OnErr result (core.new ≡ core.old) }
 {
     if let Some(route) = known {

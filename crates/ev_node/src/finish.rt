@@ -5,9 +5,9 @@ ghost use Rattle.ev_frame.specs.Frame.{FrameParts};
 ghost use Rattle.ev_model.specs.Parts.{NetParts};
 ghost use Rattle.ev_node.specs.declared.held.Root.{Root as RootParts};
 ghost use Rattle.ev_node.specs.Cell.{CellParts, IsKept, machine_in};
-ghost use Rattle.ev_node.specs.Links.{At, IsNextAt, IsOneLane, IsSettled};
+ghost use Rattle.ev_node.specs.Links.{At, IsNextAt, IsOneLane, IsSettledLane};
 ghost use Rattle.ev_node.specs.Together.{AreTogether, AreBegun, AreDone, IsCellDone, IsFinished, IsLaneOf, IsTakenUp, IsWornSomewhere, links_of, roots, sights};
-ghost use Rattle.ev_node.specs.InHand.{AreAllInHand, AreInOrder, IsTakenInOrder};
+ghost use Rattle.ev_node.specs.InHand.{AreAllInHand, AreTakenInOrder, IsTakenInOrder};
 
 use crate::cell::Cell;
 use crate::settling::settle_two;
@@ -30,7 +30,7 @@ fn settle_at(
         → At IsOneLane to (links_of a.root) from (links_of b.root) }
     ensures sights { sights cells.new ≡ sights cells.old }
     ensures settled { OnOk result ((a b : CellParts) × (slice_get cells.new giver ≡ Some a) × (slice_get cells.new taker ≡ Some b)
-        × At IsSettled to a.held.links.items from b.held.links.items) }
+        × At IsSettledLane to a.held.links.items from b.held.links.items) }
     ensures next { (b : CellParts) (frame : FrameParts) → slice_get cells.old taker ≡ Some b → IsNextAt from frame b.held.links.items
         → (c : CellParts) × (slice_get cells.new taker ≡ Some c) × IsNextAt from frame c.held.links.items }
 {
@@ -191,7 +191,7 @@ fn settle_one(cells: &mut [Cell<'_>], k: usize) -> Result<(), NoMemory>
 fn settle_all(cells: &mut [Cell<'_>]) -> Result<(), NoMemory>
     requires { (net : NetParts) × (phase : ℕ) × AreTogether net phase (roots cells.old) }
     ensures sights { sights cells.new ≡ sights cells.old }
-    ensures order { OnOk result (AreInOrder (sights cells.new)) }
+    ensures order { OnOk result (AreTakenInOrder (sights cells.new)) }
 {
     for k in 0..cells.len() {
         settle_one(cells, k)?;

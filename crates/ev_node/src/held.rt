@@ -8,7 +8,7 @@ use std::snapshot::Snapshot;
 
 /// A server in hand, with its lanes and its publisher. Of what is staged some changes may be handed to the publisher
 /// already, after a version that found no memory.
-pub struct Held {
+pub struct ServerInHand {
     pub(crate) core: Core,
     pub(crate) links: Vec<Link>,
     pub(crate) publisher: Publisher,

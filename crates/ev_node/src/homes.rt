@@ -1,5 +1,6 @@
 //! What the clients of each server hold together.
 ghost use Rattle.std.specs.Prelude.{◌≡◌, ◌≤◌, ◌++◌, ◌+◌, ℕ, true, false, [], length, Some, slice_get, IfOk, OnOk};
+ghost use Rattle.ev_routing.specs.Server.{client_interface};
 ghost use Rattle.ev_model.specs.Sound.{IsSound};
 ghost use Rattle.ev_control.specs.Control.{subs, advs, by_adverts};
 ghost use Rattle.ev_flow.specs.declared.home.Home.{Home as HomeParts};
@@ -12,12 +13,10 @@ use ev_flow::Home;
 use ev_memory::NoMemory;
 use ev_model::Net;
 use ev_notice::{Advert, Filter};
+use ev_routing::LAST_LINK;
 use ev_server::Core;
 use ev_wire::{Adverts, Filters, Semantics};
 use std::alloc::Global;
-
-/// The last number that a link may have; a client's interface is this and its number.
-const LAST_LINK: u32 = 64;
 
 /// Puts filters at the end of a list.
 fn put_filters(list: &mut Vec<Filter>, filters: Vec<Filter>) -> Result<(), NoMemory>
@@ -47,8 +46,8 @@ fn put_own(
     adverts: &mut Vec<Advert>,
 ) -> Result<(), NoMemory>
     requires { client ≤ 1024 }
-    ensures filters { OnOk result (filters.new.items ≡ filters.old.items ++ subs core.now.control (64 + client)) }
-    ensures adverts { OnOk result (adverts.new.items ≡ adverts.old.items ++ advs core.now.control (64 + client)) }
+    ensures filters { OnOk result (filters.new.items ≡ filters.old.items ++ subs core.now.control (client_interface client)) }
+    ensures adverts { OnOk result (adverts.new.items ≡ adverts.old.items ++ advs core.now.control (client_interface client)) }
 {
     let held = core.held(LAST_LINK + client)?;
     put_filters(filters, held.filters.into_vec())?;

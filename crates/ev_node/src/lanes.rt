@@ -2,7 +2,7 @@
 ghost use Rattle.std.specs.Prelude.{◌≡◌, ◌<◌, ◌≤◌, ◌↔◌, ◌∷◌, ℕ, suc, [], length, map, IfOk, OnOk, IsTrue};
 ghost use Rattle.ev_sets.specs.Sets.{Has};
 ghost use Rattle.ev_tree.specs.Tree.{IsServer, links_of};
-ghost use Rattle.ev_node.specs.Lanes.{AreBetween, AreNone, AreJoined, AreLanes, AreLanesOf};
+ghost use Rattle.ev_node.specs.Lanes.{AreBetween, AreNone, AreJoinedByLanes, AreLanes, AreLanesOf};
 
 use crate::link::Link;
 use ev_lane::lane;
@@ -33,7 +33,7 @@ fn between(alloc: Global, one: u32, other: u32) -> Result<(Link, Link), NoMemory
 fn join(alloc: Global, rows: &mut Vec<Vec<Link>>, one: u32, other: u32) -> Result<(), NoMemory>
     requires one { (1 ≤ one) × (one ≤ length rows.old.items) }
     requires other { (1 ≤ other) × (other ≤ length rows.old.items) }
-    ensures joined { OnOk result (AreJoined one other (map (λ r. r.items) rows.old.items) (map (λ r. r.items) rows.new.items)) }
+    ensures joined { OnOk result (AreJoinedByLanes one other (map (λ r. r.items) rows.old.items) (map (λ r. r.items) rows.new.items)) }
 {
     let (mine, theirs) = between(alloc, one, other)?;
     rows[one as usize - 1].push(mine)?;

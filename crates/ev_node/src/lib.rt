@@ -31,7 +31,7 @@ mod what;
 pub use cell::Cell;
 pub use coming::next_phase;
 pub use finish::finish_phase;
-pub use held::{Held, Root};
+pub use held::{Root, ServerInHand};
 pub use link::Link;
 pub use next::enter_next;
 pub use relinking::relink;

@@ -5,7 +5,7 @@ ghost use Rattle.ev_sets.specs.Sets.{Has};
 ghost use Rattle.ev_sets.specs.Numbers.{IsDistinct};
 ghost use Rattle.ev_wire.specs.declared.sent.Sent.{Sent as SentParts};
 ghost use Rattle.ev_frame.specs.Frame.{FrameParts, HasMessage};
-ghost use Rattle.ev_node.specs.Links.{Both, Each, At, IsNeighbour, IsNextAt, IsOneLane, IsUnmoved, IsSettled, IsRoomed, IsGiven, AreInOrder};
+ghost use Rattle.ev_node.specs.Links.{Both, Each, At, IsNeighbour, IsNextAt, IsOneLane, IsUnmoved, IsSettledLane, IsRoomed, IsGiven, AreInOrder};
 
 use ev_frame::Frame;
 use ev_lane::{LaneIn, LaneOut, settle};
@@ -104,7 +104,7 @@ pub(crate) fn settle_links(
     requires lane { At IsOneLane to giver.old.items from taker.old.items }
     ensures giver { Both IsUnmoved giver.old.items giver.new.items }
     ensures taker { Both IsUnmoved taker.old.items taker.new.items }
-    ensures settled { OnOk result (At IsSettled to giver.new.items from taker.new.items) }
+    ensures settled { OnOk result (At IsSettledLane to giver.new.items from taker.new.items) }
     ensures next { (frame : FrameParts) → IsNextAt from frame taker.old.items → IsNextAt from frame taker.new.items }
 {
     settle(&mut giver[to].enter, &mut taker[from].leave)

@@ -5,7 +5,7 @@ ghost use Rattle.ev_phases.specs.Trees.{trees_by};
 ghost use Rattle.ev_model.specs.Nets.{clients_of, later_trees};
 ghost use Rattle.ev_model.specs.Sound.{IsSound};
 ghost use Rattle.ev_server.specs.Clients.{numbers_of};
-ghost use Rattle.ev_node.specs.Served.{IsSomeServer};
+ghost use Rattle.ev_net.specs.Kept.{IsSomeServer};
 ghost use Rattle.ev_node.specs.Cell.{HasNoneBelow, IsPast};
 
 use ev_model::Net;

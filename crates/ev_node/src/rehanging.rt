@@ -5,14 +5,14 @@ ghost use Rattle.ev_counting.specs.declared.change.Change.TheVariants as changes
 ghost use Rattle.ev_model.specs.Parts.{EntryParts};
 ghost use Rattle.ev_server.specs.Linked.{AreHeldLinks};
 ghost use Rattle.ev_versions.specs.Ends.{staged, published, IsSamePublisher};
-ghost use Rattle.ev_node.specs.Served.{IsSomeServer};
+ghost use Rattle.ev_net.specs.Kept.{IsSomeServer};
 ghost use Rattle.ev_node.specs.Links.{Each};
 ghost use Rattle.ev_node.specs.Lanes.{IsNew, named};
-ghost use Rattle.ev_node.specs.Cell.{IsHeld};
+ghost use Rattle.ev_node.specs.Cell.{IsServerInHand};
 ghost use Rattle.ev_node.specs.Turns.{IsStill};
 ghost use Rattle.ev_node.specs.Relinking.{IsPutOn, additions, removals};
 
-use crate::held::Held;
+use crate::held::ServerInHand;
 use crate::link::Link;
 use crate::version::hand;
 use ev_control::HeldLink;
@@ -108,17 +108,17 @@ fn offer_all(
 pub(crate) fn put_on<R: Wait>(
     rt: &R,
     alloc: Global,
-    held: &mut Held,
+    held: &mut ServerInHand,
     given: &[HeldLink],
     links: Vec<Link>,
 ) -> Result<(), NoMemory>
-    requires held { IsHeld held.old }
+    requires held { IsServerInHand held.old }
     requires stands { IsSomeServer held.old.core }
     requires calm { held.old.core.staged ≡ [] }
     requires given { AreHeldLinks given.now }
     requires names { named links.items ≡ map (λ h. h.link) given.now }
     requires new { Each IsNew links.items }
-    ensures held { IsHeld held.new }
+    ensures held { IsServerInHand held.new }
     ensures put { OnOk result (IsPutOn given.now links.items held.old held.new) }
     ensures still { OnErr result ((journal : List EntryParts) → IsStill held.old held.new journal journal) }
 {

@@ -1,7 +1,7 @@
 //! Two of a slice at once: all that one put for the other is brought to its taking end.
 ghost use Rattle.std.specs.Prelude.{◌≡◌, ◌<◌, ℕ, false, length, map, OnOk, Some, slice_get};
 ghost use Rattle.ev_frame.specs.Frame.{FrameParts};
-ghost use Rattle.ev_node.specs.Links.{At, IsNextAt, IsOneLane, IsSettled};
+ghost use Rattle.ev_node.specs.Links.{At, IsNextAt, IsOneLane, IsSettledLane};
 ghost use Rattle.ev_node.specs.Together.{links_of, sight};
 
 use crate::cell::Cell;
@@ -12,7 +12,7 @@ pub(crate) trait Settles {
     ghost use Rattle.std.specs.Prelude.{◌≡◌, OnOk};
     ghost use Rattle.ev_frame.specs.Frame.{FrameParts};
     ghost use Rattle.ev_node.specs.Cell.{CellParts};
-    ghost use Rattle.ev_node.specs.Links.{At, IsNextAt, IsOneLane, IsSettled};
+    ghost use Rattle.ev_node.specs.Links.{At, IsNextAt, IsOneLane, IsSettledLane};
     ghost use Rattle.ev_node.specs.Together.{links_of, sight};
 
     /// The cell that it is.
@@ -23,7 +23,7 @@ pub(crate) trait Settles {
         requires lane { At IsOneLane to (links_of (cell self.old).root) from (links_of (cell taker.old).root) }
         ensures giver { sight (cell self.new) ≡ sight (cell self.old) }
         ensures taker { sight (cell taker.new) ≡ sight (cell taker.old) }
-        ensures settled { OnOk result (At IsSettled to (cell self.new).held.links.items from (cell taker.new).held.links.items) }
+        ensures settled { OnOk result (At IsSettledLane to (cell self.new).held.links.items from (cell taker.new).held.links.items) }
         ensures next { (frame : FrameParts) → IsNextAt from frame (cell taker.old).held.links.items
             → IsNextAt from frame (cell taker.new).held.links.items };
 }
@@ -51,7 +51,7 @@ pub(crate) fn settle_two<T: Settles>(
         → At IsOneLane to (links_of (T.cell a).root) from (links_of (T.cell b).root) }
     ensures sights { map (λ a. sight (T.cell a)) all.new ≡ map (λ a. sight (T.cell a)) all.old }
     ensures settled { OnOk result ((a b : T) × (slice_get all.new giver ≡ Some a) × (slice_get all.new taker ≡ Some b)
-        × At IsSettled to (T.cell a).held.links.items from (T.cell b).held.links.items) }
+        × At IsSettledLane to (T.cell a).held.links.items from (T.cell b).held.links.items) }
     ensures next { (b : T) (frame : FrameParts) → slice_get all.old taker ≡ Some b → IsNextAt from frame (T.cell b).held.links.items
         → (c : T) × (slice_get all.new taker ≡ Some c) × IsNextAt from frame (T.cell c).held.links.items }
 {

@@ -14,7 +14,7 @@ impl Link {
     ghost use Rattle.std.specs.Prelude.{◌≡◌, ◌<◌, length, IfOk};
     ghost use Rattle.ev_frame.specs.Frame.{FrameParts};
     ghost use Rattle.ev_lane.specs.Lane.{coming_list};
-    ghost use Rattle.ev_node.specs.Links.{ComesNext, IsLooked, IsTaken, IsUnmoved};
+    ghost use Rattle.ev_node.specs.Links.{ComesNext, IsLooked, IsFrameTaken, IsUnmoved};
 
     /// The stamp and the message of the next frame, which stays where it is; `None` where there is none.
     fn look<R: Wait>(&mut self, rt: &R, alloc: Global) -> Result<Option<(u64, Message)>, NoMemory>
@@ -31,7 +31,7 @@ impl Link {
     /// Takes the next frame, which is in sight.
     fn take_next<R: Wait>(&mut self, rt: &R)
         requires seen { 0 < length (coming_list self.old.leave) }
-        ensures taken { (frame : FrameParts) → ComesNext frame self.old → IsTaken self.old.neighbour frame self.old self.new }
+        ensures taken { (frame : FrameParts) → ComesNext frame self.old → IsFrameTaken self.old.neighbour frame self.old self.new }
     {
         let _taken = self.leave.take(rt);
     }

@@ -9,13 +9,13 @@ ghost use Rattle.ev_server.specs.Clients.{numbers_of};
 ghost use Rattle.ev_server.specs.Step.{MakesStep, last_stamp};
 ghost use Rattle.ev_server.specs.Routed.{RoutesNext, RoutesMessage};
 ghost use Rattle.ev_versions.specs.Ends.{staged, published, IsSamePublisher};
-ghost use Rattle.ev_node.specs.Served.{IsSomeServer};
+ghost use Rattle.ev_net.specs.Kept.{IsSomeServer};
 ghost use Rattle.ev_node.specs.Links.{IsSeenAt};
-ghost use Rattle.ev_node.specs.Cell.{IsHeld, IsPublished};
-ghost use Rattle.ev_node.specs.Turns.{HasCommand, IsTurn, IsStill, IsTaking, IsTakingFrom, IsVersion, IsWornAt, message_seen};
+ghost use Rattle.ev_node.specs.Cell.{IsServerInHand, IsPublishedBy};
+ghost use Rattle.ev_node.specs.Turns.{HasCommand, IsCellTurn, IsStill, IsTaking, IsTakingFrom, IsVersionTurn, IsWornAt, message_seen};
 
 use crate::desk::{take_command, take_message};
-use crate::held::Held;
+use crate::held::ServerInHand;
 use crate::step::{enter, make_room};
 use crate::taking::{look_at, take_at};
 use crate::version::{are_touched, hand_over};
@@ -34,7 +34,7 @@ const LAST_STAMP: u64 = (1 << 62) - 1;
 /// is known, if one is. After a fault all is as before.
 pub(crate) fn turn_command(
     alloc: Global,
-    held: &mut Held,
+    held: &mut ServerInHand,
     journal: &mut Vec<Entry>,
     scratch: &mut Scratch,
     server: u32,
@@ -42,16 +42,16 @@ pub(crate) fn turn_command(
     known: Option<&Route>,
 ) -> Result<(), StepFault>
     requires server { held.old.core.server ≡ server }
-    requires held { IsHeld held.old }
+    requires held { IsServerInHand held.old }
     requires stands { IsSomeServer held.old.core }
     requires lives { Has client (numbers_of held.old.core.clients) }
     requires left { (s : SessionParts) → Has s held.old.core.clients → s.client ≡ client → s.taken < length s.script }
     requires known { IfSome known (λ r. RoutesNext held.old.core client r.now) }
     ensures made { (phase : ℕ) → HasCommand held.old.core client phase
-        → OnOk result (IsTurn phase (Does (NextCommand client)) (acts.Command client) held.old held.new journal.old.items journal.new.items) }
+        → OnOk result (IsCellTurn phase (Does (NextCommand client)) (acts.Command client) held.old held.new journal.old.items journal.new.items) }
     ensures still { OnErr result (IsStill held.old held.new journal.old.items journal.new.items) }
     ensures worn { (s : ℕ) → IsErrOf result (StepFault.Worn s) → (held.old.core.clock ≡ last_stamp) × (s ≡ last_stamp) }
-    ensures held { IsHeld held.new }
+    ensures held { IsServerInHand held.new }
 {
     let outs = make_room(alloc, &mut held.links, journal)?;
     let stepped = take_command(
@@ -77,7 +77,7 @@ pub(crate) fn turn_command(
 pub(crate) fn turn_take<R: Wait>(
     rt: &R,
     alloc: Global,
-    held: &mut Held,
+    held: &mut ServerInHand,
     journal: &mut Vec<Entry>,
     scratch: &mut Scratch,
     server: u32,
@@ -85,12 +85,12 @@ pub(crate) fn turn_take<R: Wait>(
 ) -> Result<bool, StepFault>
     requires server { held.old.core.server ≡ server }
     requires place { place < length held.old.links.items }
-    requires held { IsHeld held.old }
+    requires held { IsServerInHand held.old }
     requires stands { IsSomeServer held.old.core }
     ensures made { (phase : ℕ) → IfOk result (λ made. IsTaking phase place held.old held.new journal.old.items journal.new.items made) }
     ensures still { OnErr result (IsStill held.old held.new journal.old.items journal.new.items) }
     ensures worn { (s : ℕ) → IsErrOf result (StepFault.Worn s) → IsWornAt place held.old.core.clock s held.new.links.items }
-    ensures held { IsHeld held.new }
+    ensures held { IsServerInHand held.new }
 {
     let Some(seen) = look_at(rt, alloc, &mut held.links, place)? else {
         return Ok(false);
@@ -104,7 +104,7 @@ pub(crate) fn turn_take<R: Wait>(
 pub(crate) fn take_seen<R: Wait>(
     rt: &R,
     alloc: Global,
-    held: &mut Held,
+    held: &mut ServerInHand,
     journal: &mut Vec<Entry>,
     scratch: &mut Scratch,
     server: u32,
@@ -115,13 +115,13 @@ pub(crate) fn take_seen<R: Wait>(
     requires server { held.old.core.server ≡ server }
     requires place { place < length held.old.links.items }
     requires seen { IsSeenAt place held.old.links.items seen }
-    requires held { IsHeld held.old }
+    requires held { IsServerInHand held.old }
     requires stands { IsSomeServer held.old.core }
     requires known { IfSome known (λ r. RoutesMessage held.old.core seen.1 r.now) }
     ensures made { (phase : ℕ) → OnOk result (IsTakingFrom phase place (message_seen seen) held.old held.new journal.old.items journal.new.items) }
     ensures still { OnErr result (IsStill held.old held.new journal.old.items journal.new.items) }
     ensures worn { (s : ℕ) → IsErrOf result (StepFault.Worn s) → IsWornAt place held.old.core.clock s held.new.links.items }
-    ensures held { IsHeld held.new }
+    ensures held { IsServerInHand held.new }
 {
     let outs = make_room(alloc, &mut held.links, journal)?;
     let from = held.links[place].neighbour;
@@ -169,17 +169,17 @@ fn is_calm(core: &Core) -> bool
 pub(crate) fn turn_version<R: Wait>(
     rt: &R,
     alloc: Global,
-    held: &mut Held,
+    held: &mut ServerInHand,
     journal: &mut Vec<Entry>,
     server: u32,
 ) -> Result<bool, StepFault>
     requires server { held.old.core.server ≡ server }
-    requires held { IsHeld held.old }
+    requires held { IsServerInHand held.old }
     requires stands { IsSomeServer held.old.core }
-    ensures made { (phase : ℕ) → IfOk result (λ made. IsVersion phase held.old held.new journal.old.items journal.new.items made) }
+    ensures made { (phase : ℕ) → IfOk result (λ made. IsVersionTurn phase held.old held.new journal.old.items journal.new.items made) }
     ensures still { OnErr result (IsStill held.old held.new journal.old.items journal.new.items) }
     ensures worn { (s : ℕ) → IsErrOf result (StepFault.Worn s) → (held.old.core.clock ≡ last_stamp) × (s ≡ last_stamp) }
-    ensures held { IsHeld held.new }
+    ensures held { IsServerInHand held.new }
 {
     if is_calm(&held.core) {
         return Ok(false);
@@ -202,9 +202,9 @@ pub(crate) fn turn_version<R: Wait>(
 }
 
 /// Hands what is staged to the publisher, publishes it, and has the core publish it.
-fn publish<R: Wait>(rt: &R, alloc: Global, held: &mut Held) -> Result<u64, NoMemory>
+fn publish<R: Wait>(rt: &R, alloc: Global, held: &mut ServerInHand) -> Result<u64, NoMemory>
     requires handed { staged held.old.publisher ≡ published held.old.publisher ++ held.old.handed.items }
-    requires shown { IsPublished held.old.publisher held.old.core }
+    requires shown { IsPublishedBy held.old.publisher held.old.core }
     requires stands { IsSomeServer held.old.core }
     requires some { (held.old.core.staged ≡ []) → ⊥ }
     requires low { held.old.core.clock < last_stamp }
@@ -213,7 +213,7 @@ fn publish<R: Wait>(rt: &R, alloc: Global, held: &mut Held) -> Result<u64, NoMem
     ensures step { IfOk result (λ stamp. MakesStep (Does Version) 0 held.old.core held.new.core stamp []) }
     ensures low { IfOk result (λ stamp. stamp < 2 ^ 62) }
     ensures handed { staged held.new.publisher ≡ published held.new.publisher ++ held.new.handed.items }
-    ensures shown { IsPublished held.new.publisher held.new.core }
+    ensures shown { IsPublishedBy held.new.publisher held.new.core }
     ensures err { OnErr result ((held.new.core ≡ held.old.core) × (published held.new.publisher ≡ published held.old.publisher)) }
 {
     if !are_touched(&held.handed, held.core.staged()) {

@@ -18,7 +18,7 @@ impl<'a> Cell<'a> {
     ghost use Rattle.std.specs.Prelude.{◌≡◌, ◌<◌, ◌≤◌, ℕ, suc, true, false, [], length, OnOk, IfOk, IfSome, IfNone, IsErrOf};
     ghost use Rattle.ev_sets.specs.Sets.{Has};
     ghost use Rattle.ev_model.specs.Nets.{clients_of};
-    ghost use Rattle.ev_node.specs.Links.{At, Both, HasMissed, IsNeighbour, IsNextAt, IsOneLane, IsSameLink, IsSettled};
+    ghost use Rattle.ev_node.specs.Links.{At, Both, HasMissed, IsNeighbour, IsNextAt, IsOneLane, IsSameLink, IsSettledLane};
     ghost use Rattle.ev_node.specs.Turns.{HasCommand, IsWornAt};
     ghost use Rattle.ev_server.specs.Step.{last_stamp};
     ghost use Rattle.ev_frame.specs.Frame.{FrameParts};
@@ -71,7 +71,7 @@ impl<'a> Cell<'a> {
         requires lane { At IsOneLane to (links_of self.old.root) from (links_of taker.old.root) }
         ensures giver { sight self.new ≡ sight self.old }
         ensures taker { sight taker.new ≡ sight taker.old }
-        ensures settled { OnOk result (At IsSettled to self.new.held.links.items from taker.new.held.links.items) }
+        ensures settled { OnOk result (At IsSettledLane to self.new.held.links.items from taker.new.held.links.items) }
         ensures next { (frame : FrameParts) → IsNextAt from frame taker.old.held.links.items → IsNextAt from frame taker.new.held.links.items }
     {
         settle_links(&mut self.held.links, to, &mut taker.held.links, from)

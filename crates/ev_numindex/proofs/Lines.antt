@@ -13,7 +13,7 @@ use Rattle.ev_numindex.specs.declared.sides.Sides.{Sides}
 use Rattle.std.proofs.lemmas.Bool.Decides.{nat_tests}
 use Rattle.ev_numindex.specs.Keys.{same_key}
 use Rattle.ev_numindex.proofs.Keys.{same-self}
-use Rattle.ev_numindex.specs.Lines.{key_in, id_in, IsRising, told, ids_in, ids_with, on_side}
+use Rattle.ev_numindex.specs.Lines.{key_in, id_in, HaveSortedKeys, told, ids_in, ids_with, on_side}
 
 abbrev Pairs : Type 0
 Pairs = List (ℤ × ℕ)
@@ -124,7 +124,7 @@ trichotomy : (a b : ℕ) → (a < b) ⊎ ((a ≡ b) ⊎ (b < a))
 trichotomy a b = elim (cases_eq a b) [ inl e ↦ inr (inl e) | inr n ↦ grind (arith, n) ]
 
 -- an insert between what is not greater and what is not less
-module _ (pairs : Pairs) (i : ℕ) (key : ℤ) (id : ℕ) (r : IsRising pairs) (l : i ≤ length pairs) where
+module _ (pairs : Pairs) (i : ℕ) (key : ℤ) (id : ℕ) (r : HaveSortedKeys pairs) (l : i ≤ length pairs) where
   abbrev new : Pairs
   new = insert pairs i (key, id)
 
@@ -137,7 +137,7 @@ module _ (pairs : Pairs) (i : ℕ) (key : ℤ) (id : ℕ) (r : IsRising pairs) (
   new-above : (k : ℕ) → i < k → key_in new k ≡ key_in pairs (k - 1)
   new-above k a = let e : k ≡ (k - 1) + 1 = omega (arith, a) in ap {B = ℤ} (key_in new) e ∙ ap {B = ℤ} (λ (x : ℤ × ℕ). x.0) (get_or-insert_above pairs i (key, id) (pos 0, 0) (k - 1) (omega (arith, a)) l)
 
-  pub insert-rising : ((k : ℕ) → k < i → int_lt key (key_in pairs k) ≡ false) → ((k : ℕ) → i ≤ k → k < length pairs → int_lt (key_in pairs k) key ≡ false) → IsRising (insert pairs i (key, id))
+  pub insert-rising : ((k : ℕ) → k < i → int_lt key (key_in pairs k) ≡ false) → ((k : ℕ) → i ≤ k → k < length pairs → int_lt (key_in pairs k) key ≡ false) → HaveSortedKeys (insert pairs i (key, id))
   insert-rising f g j k m n =
       let long = length-insert pairs i (key, id) l in
       elim (trichotomy k i) [
@@ -155,14 +155,14 @@ module _ (pairs : Pairs) (i : ℕ) (key : ℤ) (id : ℕ) (r : IsRising pairs) (
       ]
 
 -- a removal
-module _ (pairs : Pairs) (i : ℕ) (r : IsRising pairs) (l : i < length pairs) where
+module _ (pairs : Pairs) (i : ℕ) (r : HaveSortedKeys pairs) (l : i < length pairs) where
   old-below : (k : ℕ) → k < i → key_in (remove pairs i) k ≡ key_in pairs k
   old-below k a = ap {B = ℤ} (λ (x : ℤ × ℕ). x.0) (get_or-remove_below pairs i (pos 0, 0) k a l)
 
   old-above : (k : ℕ) → i ≤ k → key_in (remove pairs i) k ≡ key_in pairs (k + 1)
   old-above k a = ap {B = ℤ} (λ (x : ℤ × ℕ). x.0) (get_or-remove_above pairs i (pos 0, 0) k a l)
 
-  pub remove-rising : IsRising (remove pairs i)
+  pub remove-rising : HaveSortedKeys (remove pairs i)
   remove-rising j k m n =
       let long = length-remove pairs i l in
       elim (trichotomy k i) [

@@ -10,8 +10,8 @@ abbrev pub id_in : List (ℤ × ℕ) → ℕ → ℕ
 id_in pairs k = (slice_index_or pairs k (pos 0, 0)).1
 
 -- no key is less than an earlier one
-abbrev pub IsRising : List (ℤ × ℕ) → Type 0
-IsRising pairs = (j k : ℕ) → j ≤ k → k < length pairs → int_lt (key_in pairs k) (key_in pairs j) ≡ false
+abbrev pub HaveSortedKeys : List (ℤ × ℕ) → Type 0
+HaveSortedKeys pairs = (j k : ℕ) → j ≤ k → k < length pairs → int_lt (key_in pairs k) (key_in pairs j) ≡ false
 
 -- each id with what its key says
 abbrev pub told : {N : Type 0} → (ℤ → N) → List (ℤ × ℕ) → List (N × ℕ)

@@ -17,13 +17,13 @@ pub(crate) struct Line {
 
 impl Model for Line {
     ghost use Rattle.std.specs.Prelude.{List, ℕ, ℤ};
-    ghost use Rattle.ev_numindex.specs.Lines.{IsRising};
+    ghost use Rattle.ev_numindex.specs.Lines.{HaveSortedKeys};
 
     ghost Value = { List (ℤ × ℕ) };
 
     ghost view = { λ line. line.pairs.items };
 
-    ghost invariant = { λ line. IsRising line.pairs.items };
+    ghost invariant = { λ line. HaveSortedKeys line.pairs.items };
 }
 
 impl Line {

@@ -2,7 +2,7 @@
 ghost use Rattle.std.specs.Prelude.{◌≡◌, ◌<◌, ◌≤◌, ◌==◌, ◌&&◌, true, false, ℕ, int_lt, IfSome, IfNone, length};
 ghost use Rattle.ev_index.specs.Pairs.{tally};
 ghost use Rattle.ev_numindex.specs.Keys.{same_key};
-ghost use Rattle.ev_numindex.specs.Lines.{key_in, id_in, IsRising};
+ghost use Rattle.ev_numindex.specs.Lines.{key_in, id_in, HaveSortedKeys};
 
 /// Whether a pair's key is less than a number.
 fn is_under(pair: (i64, u32), x: i64) -> bool
@@ -28,7 +28,7 @@ fn is_before(x: (i64, u32), y: (i64, u32)) -> bool
 
 /// How many pairs come before this one.
 pub(crate) fn rank(pairs: &[(i64, u32)], key: i64, id: u32) -> usize
-    requires { IsRising pairs.now }
+    requires { HaveSortedKeys pairs.now }
     ensures within { result ≤ length pairs.now }
     ensures before { (k : ℕ) → k < result → int_lt key (key_in pairs.now k) ≡ false }
     ensures behind { (k : ℕ) → result ≤ k → k < length pairs.now → int_lt (key_in pairs.now k) key ≡ false }
@@ -48,7 +48,7 @@ pub(crate) fn rank(pairs: &[(i64, u32)], key: i64, id: u32) -> usize
 
 /// How many pairs have a key that is less.
 pub(crate) fn below(pairs: &[(i64, u32)], x: i64) -> usize
-    requires { IsRising pairs.now }
+    requires { HaveSortedKeys pairs.now }
     ensures within { result ≤ length pairs.now }
     ensures before { (k : ℕ) → k < result → int_lt (key_in pairs.now k) x ≡ true }
     ensures behind { (k : ℕ) → result ≤ k → k < length pairs.now → int_lt (key_in pairs.now k) x ≡ false }
@@ -68,7 +68,7 @@ pub(crate) fn below(pairs: &[(i64, u32)], x: i64) -> usize
 
 /// How many pairs have a key that is not greater. The first ones are known to have such a key.
 pub(crate) fn upto(pairs: &[(i64, u32)], first: usize, x: i64) -> usize
-    requires rising { IsRising pairs.now }
+    requires rising { HaveSortedKeys pairs.now }
     requires within { first ≤ length pairs.now }
     requires known { (k : ℕ) → k < first → int_lt x (key_in pairs.now k) ≡ false }
     ensures within { (first ≤ result) × (result ≤ length pairs.now) }
@@ -110,7 +110,7 @@ fn scan(pairs: &[(i64, u32)], key: i64, id: u32) -> Option<usize>
 
 /// The place of a pair: where the pairs rise, by a binary search if it is there.
 pub(crate) fn place_of(pairs: &[(i64, u32)], key: i64, id: u32) -> Option<usize>
-    requires { IsRising pairs.now }
+    requires { HaveSortedKeys pairs.now }
     ensures some { IfSome result (λ i. (i < length pairs.now) × (key_in pairs.now i ≡ key) × (id_in pairs.now i ≡ id)) }
     ensures none { IfNone result (tally (λ x. same_key key x.0 && (x.1 == id)) pairs.now ≡ 0) }
 {

@@ -3,7 +3,7 @@ use Rattle.std.specs.Prelude.{◌≡◌, ℕ, ◌≤◌, true, List, length}
 use Rattle.ev_sets.specs.Sets.{Has}
 use Rattle.ev_routing.specs.Theory.{Theory}
 use Rattle.ev_routing.specs.Server.{sent, sent_adverts, interfaces}
-use Rattle.ev_routing.specs.Rest.{IsWay, IsAtRest}
+use Rattle.ev_routing.specs.Rest.{IsOnwardWay, IsAtRest}
 use Rattle.ev_routing.specs.AsOf.{calm, back, as_of}
 use Rattle.ev_routing.specs.Flow.{flow, flow_ad}
 use Rattle.ev_phases.specs.Trees.{State, net_at, tree_at, is_one_tree}
@@ -54,7 +54,7 @@ module _ (theory : Theory) (run : PhasedRun theory) where
     pub before : ℕ
     pub server : ℕ
     pub path : List ℕ
-    pub way : IsWay theory (net_seen theory run moment) before server path
+    pub way : IsOnwardWay theory (net_seen theory run moment) before server path
 
   -- a quiet moment, and a link of the tree in force
   pub record IsQuietLink (n server neighbour : ℕ) : Type 0 where

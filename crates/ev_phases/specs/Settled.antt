@@ -3,8 +3,8 @@ use Rattle.std.specs.Prelude.{◌≡◌, ℕ, ◌+◌, true, List, [], ◌∷◌
 use Rattle.ev_sets.specs.Sets.{Has}
 use Rattle.ev_routing.specs.Theory.{Theory}
 use Rattle.ev_routing.specs.Net.{Net}
-use Rattle.ev_routing.specs.Server.{Publication}
-use Rattle.ev_routing.specs.Rest.{IsWay, end_of}
+use Rattle.ev_routing.specs.Server.{Publication, client_interface}
+use Rattle.ev_routing.specs.Rest.{IsOnwardWay, end_of}
 use Rattle.ev_routing.specs.AsOf.{IsSettled, IsTakenAlong}
 use Rattle.ev_phases.specs.Trees.{on, net_at, is_one_tree}
 use Rattle.ev_phases.specs.Runs.{PhasedRun}
@@ -27,7 +27,7 @@ module _ (theory : Theory) (run : PhasedRun theory) where
   -- a way from the publisher's home on the tree of a phase
   abbrev pub IsWayFromHome : ℕ → Publication theory → List ℕ → Type 0
   IsWayFromHome phase publication path =
-      IsWay theory (net_at theory run.net phase) (run.net.home publication.publisher) (run.net.home publication.publisher) path
+      IsOnwardWay theory (net_at theory run.net phase) (run.net.home publication.publisher) (run.net.home publication.publisher) path
 
   -- on the tree of a phase it is settled all along a way from there
   abbrev pub IsSettledFromHome : ℕ → Publication theory → ℕ → List ℕ → Type 0
@@ -45,7 +45,8 @@ module _ (theory : Theory) (run : PhasedRun theory) where
   pub record IsSettledTo (publication : Publication theory) (client : ℕ) : Type 0 where
     pub here : Has publication.publisher (run.net.clients (run.net.home publication.publisher))
     pub moment : ℕ
-    pub published : IsRoutedOn theory run (net_seen theory run moment) moment (run.net.home publication.publisher) (64 + publication.publisher) publication
+    pub published : IsRoutedOn theory run (net_seen theory run moment) moment (run.net.home publication.publisher)
+        (client_interface publication.publisher) publication
     pub path : List ℕ
     pub way : IsWayFromHome (phase_seen theory run moment) publication path
     pub lives : Has client (run.net.clients (end_of theory (net_seen theory run moment) (run.net.home publication.publisher) path))

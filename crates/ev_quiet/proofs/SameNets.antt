@@ -11,7 +11,7 @@ use Rattle.ev_model.specs.declared.turn.Turn.{Turn}
 use Rattle.ev_model.specs.Parts.{ClientParts, NetParts, net_parts}
 use Rattle.ev_model.specs.Nets.{script_of}
 use Rattle.ev_flood.specs.declared.owed.OwedRow.{OwedRow}
-use Rattle.ev_flood.specs.Flooding.{net_in, all_refused, IsRow, AreRows, IsFlooding}
+use Rattle.ev_flood.specs.Flooding.{net_in, all_refused, IsOwedRow, AreRows, IsFlooding}
 
 -- one net beside another of the same semantics and clients
 module _ (semantics : Semantics) (clients : List ClientParts) (v w : ℕ) (t u : List (ℕ × Topology)) (x y : List (ℕ × Turn)) where
@@ -59,7 +59,7 @@ module _ (semantics : Semantics) (clients : List ClientParts) (v w : ℕ) (t u :
 
 -- forth and back
 module _ (semantics : Semantics) (clients : List ClientParts) (v w : ℕ) (t u : List (ℕ × Topology)) (x y : List (ℕ × Turn)) where
-  row : (c : ℕ) (r : OwedRow) → IsRow (here semantics clients v w t u x y) c r → IsRow (there semantics clients v w t u x y) c r
+  row : (c : ℕ) (r : OwedRow) → IsOwedRow (here semantics clients v w t u x y) c r → IsOwedRow (there semantics clients v w t u x y) c r
   row c r h = record {
     phase = h.phase;
     notice = h.notice;

@@ -24,7 +24,7 @@ use Rattle.ev_quiet.specs.declared.words.Schedule.TheVariants.{Walk, Replay, Thr
 use Rattle.ev_quiet.specs.Words.{is_quiet}
 use Rattle.ev_quiet.specs.Runs.{turns_first, GoesBy}
 use Rattle.ev_quiet.specs.Faults.{StopsAtLine}
-use Rattle.ev_quiet.specs.Ran.{IsThrough}
+use Rattle.ev_quiet.specs.Ran.{IsRunThrough}
 use Rattle.ev_quiet.specs.Refusals.{refusal_of_turn}
 use Rattle.ev_quiet.specs.declared.refusal.Refusal.TheVariants as refusals
 
@@ -104,9 +104,9 @@ goes-by Threads quiet net turned made first walk = absurd cc
 goes-by Replay quiet net turned made first walk = record { turned = turned; walked = made; whole = refl; made = first; walk = walk }
 
 walked-on : (schedule : Schedule) → is_quiet schedule ≡ true → (net : NetParts) (mid end : NetworkParts) → mid.net ≡ net → AreMade net [] (turns_first schedule net) mid.journal → IsWalked mid end
-    → IsThrough schedule net end
+    → IsRunThrough schedule net end
 walked-on schedule quiet net mid end e made w =
-    subst (IsThrough schedule net) (sym w.later) (record {
+    subst (IsRunThrough schedule net) (sym w.later) (record {
       same = e;
       permitted = (mid.journal, made);
       goes_by = goes-by schedule quiet net mid.journal w.made made (subst (λ n. journal_of w.made ≡ walk_after n mid.journal) e w.walk);
@@ -115,7 +115,7 @@ walked-on schedule quiet net mid end e made w =
 
 -- a network that made its turns and then the walk is through
 pub through : (schedule : Schedule) → is_quiet schedule ≡ true → (net : NetParts) (start mid end : NetworkParts) (turns : List (ℕ × Turn)) → start ≡ network_parts net [] → turns ≡ turns_first schedule net
-    → AreReplayed turns start mid → IsWalked mid end → IsThrough schedule net end
+    → AreReplayed turns start mid → IsWalked mid end → IsRunThrough schedule net end
 through schedule quiet net start mid end turns e f r w =
     let s : AreReplayed (turns_first schedule net) (network_parts net []) mid =
     subst (λ z. AreReplayed z (network_parts net []) mid) f (subst (λ z. AreReplayed turns z mid) e r) in

@@ -6,7 +6,7 @@ use Rattle.ev_routing.specs.Server.{Publication}
 use Rattle.ev_routing.specs.Order.{IsStrictlyRising}
 use Rattle.ev_phases.specs.Trees.{PhasedNetLaws}
 use Rattle.ev_phases.specs.Runs.{PhasedRun}
-use Rattle.ev_phases.specs.Owing.{IsOwedTo, IsAllowedTo}
+use Rattle.ev_phases.specs.Owing.{IsOwedByScripts, IsAllowedByScripts}
 use Rattle.ev_phases.specs.Routes.{Routed, IsSentTo, IsWanted}
 use Rattle.ev_theory.specs.Real.{real}
 use Rattle.ev_wire.specs.NoticeText.{IsNoticeText}
@@ -57,12 +57,12 @@ ordinals_in publisher (d ∷ deliveries) =
 pub record IsAllowedDelivery (net : NetParts) (client : ℕ) (d : Delivery) : Type 0 where
   pub publication : Publication real
   pub id : d.id ≡ id_of publication
-  pub allowed : IsAllowedTo real (phased_net net) publication client
+  pub allowed : IsAllowedByScripts real (phased_net net) publication client
   pub text : IsNoticeText d.bytes publication.notice
 
 -- each publication that flooding owes to a client was delivered to it exactly once
 abbrev pub GivesOwedOnce : NetParts → List EntryParts → Type 0
-GivesOwedOnce net journal = (client : ℕ) (publication : Publication real) → IsOwedTo real (phased_net net) publication client
+GivesOwedOnce net journal = (client : ℕ) (publication : Publication real) → IsOwedByScripts real (phased_net net) publication client
     → times (id_of publication) (received_by net journal client) ≡ 1
 
 -- nothing was delivered that flooding does not allow, and each text is that of the notice published

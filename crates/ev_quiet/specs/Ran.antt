@@ -10,7 +10,7 @@ use Rattle.ev_quiet.specs.Runs.{turns_first, GoesBy, refused_in, received_in}
 use Rattle.ev_quiet.specs.Faults.{ArePermitted}
 
 -- a network of the net went by the schedule, whose turns were permitted, and is drained
-pub record IsThrough (schedule : Schedule) (net : NetParts) (network : NetworkParts) : Type 0 where
+pub record IsRunThrough (schedule : Schedule) (net : NetParts) (network : NetworkParts) : Type 0 where
   pub same : network.net ≡ net
   pub permitted : ArePermitted net (turns_first schedule net)
   pub goes_by : GoesBy schedule net network.journal

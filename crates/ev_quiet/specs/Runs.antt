@@ -1,6 +1,5 @@
 -- The run that is wanted of a document: its turns, and what the clients have by its end.
-use Rattle.std.specs.Prelude.{◌≡◌, ◌⊎◌, ℕ, ◌≤◌, ◌<◌, List, [], ◌∷◌, ◌++◌, length, map}
-use Rattle.std.specs.List.{range_with_len}
+use Rattle.std.specs.Prelude.{◌≡◌, ◌⊎◌, ℕ, ◌≤◌, ◌<◌, List, [], ◌∷◌, ◌++◌, length}
 use Rattle.ev_sets.specs.Sets.{Has}
 use Rattle.ev_wire.specs.declared.delivery.Delivery.{Delivery}
 use Rattle.ev_model.specs.declared.turn.Turn.{Turn}
@@ -11,6 +10,7 @@ use Rattle.ev_net.specs.Turns.{AreMade}
 use Rattle.ev_net.specs.Walked.{walk_after}
 use Rattle.ev_quiet.specs.declared.words.Schedule.{Schedule}
 use Rattle.ev_quiet.specs.declared.words.Schedule.TheVariants.{Walk, Replay, Threads}
+use Rattle.ev_model.specs.Nets.{of_clients}
 
 -- the turns that are made before the walk: for `replay` those of the document's schedule
 abbrev pub turns_first : Schedule → NetParts → List (ℕ × Turn)
@@ -43,10 +43,6 @@ GoesBy Threads net journal = IsByStamp journal
 -- a client of the net
 abbrev pub IsClient : NetParts → ℕ → Type 0
 IsClient net client = (1 ≤ client) × (client ≤ length net.clients)
-
--- something of each client of a net, in the order of the net
-abbrev pub of_clients : {A : Type 0} → NetParts → (ℕ → A) → List A
-of_clients net f = map f (range_with_len 1 (length net.clients))
 
 -- of each client the ordinals of its publishes that were refused in a run
 abbrev pub refused_in : NetParts → List EntryParts → List (List ℕ)

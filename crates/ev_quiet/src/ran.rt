@@ -2,10 +2,11 @@
 ghost use Rattle.std.specs.Prelude.{◌≡◌, ◌≤◌, ℕ, true, [], length, IfOk, IsErrOf};
 ghost use Rattle.ev_model.specs.Sound.{IsSound};
 ghost use Rattle.ev_net.specs.Network.{IsLegal, refused_by, received_by};
-ghost use Rattle.ev_quiet.specs.Runs.{turns_first, of_clients};
-ghost use Rattle.ev_quiet.specs.Ran.{IsRan, IsThrough};
+ghost use Rattle.ev_quiet.specs.Runs.{turns_first};
+ghost use Rattle.ev_quiet.specs.Ran.{IsRan, IsRunThrough};
 ghost use Rattle.ev_quiet.specs.Words.{is_quiet};
 ghost use Rattle.ev_quiet.specs.Faults.{StopsAtLine};
+ghost use Rattle.ev_model.specs.Nets.{of_clients};
 
 use crate::refusal::Refusal;
 use crate::words::Schedule;
@@ -42,7 +43,7 @@ fn turns_first(net: &Net, schedule: Schedule) -> &[(u32, Turn)]
 fn through<'a>(alloc: Global, net: &'a Net, schedule: Schedule) -> Result<Network<'a>, Refusal>
     requires sound { IsSound net.now }
     requires quiet { is_quiet schedule ≡ true }
-    ensures through { IfOk result (λ network. IsThrough schedule net.now network) }
+    ensures through { IfOk result (λ network. IsRunThrough schedule net.now network) }
     ensures bad { (line : ℕ) (kind : Fault) → IsErrOf result (Refusal.BadInput line kind)
         → (kind ≡ Fault.BadTurn) × StopsAtLine net.now [] (turns_first schedule net.now) line }
     ensures unread { IsErrOf result Refusal.ReadFault → ⊥ }

@@ -9,7 +9,7 @@ use Rattle.ev_notice.specs.Notice.{Attribute}
 use Rattle.ev_routing.specs.Owed.{IsPublication, IsOwed}
 use Rattle.ev_routing.proofs.Current.{one-publication}
 use Rattle.ev_routing.proofs.Listing.{get-has}
-use Rattle.ev_phases.specs.Owing.{IsOwedTo, IsAllowedTo}
+use Rattle.ev_phases.specs.Owing.{IsOwedByScripts, IsAllowedByScripts}
 use Rattle.ev_theory.specs.Real.{real}
 use Rattle.ev_wire.specs.declared.delivery.Delivery.{Delivery}
 use Rattle.ev_model.specs.Meaning.{deliveries_of}
@@ -60,7 +60,7 @@ same_notice net q o k l m n a b = (one-publication real (net_in net 0) q o k l m
 -- where all rows are owed, all that is allowed is owed
 all_owed : (net : NetParts) (place : ℕ) (client : ClientParts) (rows : List OwedRow) → slice_get net.clients place ≡ Some client → AreRows net (suc place) rows
     → ((row : OwedRow) → Has row rows → row.must ≡ true)
-    → (p : Publication real) → IsAllowedTo real (phased_net net) p (suc place) → IsOwedTo real (phased_net net) p (suc place)
+    → (p : Publication real) → IsAllowedByScripts real (phased_net net) p (suc place) → IsOwedByScripts real (phased_net net) p (suc place)
 all_owed net place client rows e are must p a =
     let r = are.whole p.publisher p.ordinal a.0 p.notice a.1 a.2 in
     let w = are.each (record { id = record { publisher = p.publisher; ordinal = p.ordinal }; must = r.0 }) r.1 in
@@ -86,8 +86,8 @@ one_more i = omega arith
 pub as_delivered : (net : NetParts) (rows : List (List OwedRow)) (refused : List (List ℕ)) → IsFlooding net rows refused → AllOwed rows
     → (box : ℕ → List (Publication real))
     → ((client : ℕ) → Has client (clients_of net (home_of net client))
-    → ((p : Publication real) → IsAllowedTo real (phased_net net) p client → IsOwedTo real (phased_net net) p client)
-    → (p : Publication real) → Has p (box client) ↔ IsAllowedTo real (phased_net net) p client)
+    → ((p : Publication real) → IsAllowedByScripts real (phased_net net) p client → IsOwedByScripts real (phased_net net) p client)
+    → (p : Publication real) → Has p (box client) ↔ IsAllowedByScripts real (phased_net net) p client)
     → (on : Net real) → ((client p o : ℕ) → times_delivered real on p o (box client) ≤ 1)
     → flood_text net refused rows ≡ deliveries_text net refused (inboxes (λ client. deliveries_of (box client)) 1 net.clients) true
 as_delivered net rows refused flooding owed box stable on once =

@@ -12,7 +12,7 @@ use Rattle.ev_routing.specs.Server.{Publication}
 use Rattle.ev_routing.specs.AsOf.{times_delivered}
 use Rattle.ev_routing.specs.Owed.{IsPublication}
 use Rattle.ev_routing.proofs.Listing.{has-map, map-has}
-use Rattle.ev_phases.specs.Owing.{IsAllowedTo}
+use Rattle.ev_phases.specs.Owing.{IsAllowedByScripts}
 use Rattle.ev_theory.specs.Real.{real}
 use Rattle.ev_wire.specs.NoticeText.{notice_text}
 use Rattle.ev_wire.specs.declared.command.Command.{Command as WireCommand}
@@ -196,7 +196,7 @@ once_apart net (x ∷ box) f = (
 -- what a client is given by its rows is what it received, by ids
 pub given_same : (net : NetParts) (place : ℕ) (client : ClientParts) (rows : List OwedRow) (box : List (Publication real))
     → AreRows net (suc place) rows
-    → ((p : Publication real) → Has p box ↔ IsAllowedTo real (phased_net net) p (suc place))
+    → ((p : Publication real) → Has p box ↔ IsAllowedByScripts real (phased_net net) p (suc place))
     → AreApart (deliveries_of box)
     → map (given_by (texts_in net.clients)) rows ≡ by_id (deliveries_of box)
 given_same net place client rows box are stable apart =

@@ -13,7 +13,7 @@ use Rattle.ev_routing.specs.Net.{Net, NetLaws}
 use Rattle.ev_routing.specs.Clients.{ordinal, commands_below}
 use Rattle.ev_routing.specs.Server.{Message, Publication, sent, sent_adverts}
 use Rattle.ev_routing.specs.Routing.{routing_machine, Network, NetEntry, opening}
-use Rattle.ev_routing.specs.Rest.{IsWay, end_of, IsAtRest}
+use Rattle.ev_routing.specs.Rest.{IsOnwardWay, end_of, IsAtRest}
 use Rattle.ev_routing.specs.AsOf.{calm, back, times_delivered}
 use Rattle.ev_routing.specs.Order.{IsStrictlyRising, ordinals_put, ordinals_delivered, IsOrderly, IsAccepted, IsAuthentic, ordinals_routed}
 use Rattle.ev_routing.specs.Start.{IsStart}
@@ -167,7 +167,7 @@ module _ (th : Theory) (laws : TheoryLaws th) (run : LegalRun th) where
       home : run.net.home c ≡ far
       home = run.laws.lives far c s.lives
 
-      not-interface : (path : List ℕ) → IsWay th run.net (run.net.home p.publisher) (run.net.home p.publisher) path → (u : ℕ) (more : List ℕ) → path ≡ u ∷ more → u ≡ 64 + p.publisher → ⊥
+      not-interface : (path : List ℕ) → IsOnwardWay th run.net (run.net.home p.publisher) (run.net.home p.publisher) path → (u : ℕ) (more : List ℕ) → path ≡ u ∷ more → u ≡ 64 + p.publisher → ⊥
       not-interface [] way u more e f = absurd cc
       not-interface (x ∷ path) way u more e f =
           let low : x ≤ 64 = run.laws.small (run.net.home p.publisher) x way.0 in

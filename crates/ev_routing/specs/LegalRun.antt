@@ -8,9 +8,9 @@ use Rattle.ev_run.specs.History.{state_at, phase_at}
 use Rattle.ev_routing.specs.Theory.{Theory}
 use Rattle.ev_routing.specs.Net.{Net, NetLaws, PhasedCommand}
 use Rattle.ev_routing.specs.Clients.{ordinal}
-use Rattle.ev_routing.specs.Server.{Publication, sent, sent_adverts}
+use Rattle.ev_routing.specs.Server.{Publication, sent, sent_adverts, client_interface}
 use Rattle.ev_routing.specs.Routing.{routing_machine, Network, NetEntry, measure, all_commands}
-use Rattle.ev_routing.specs.Rest.{filters_of, IsWay, end_of, IsAtRest, IsDrained}
+use Rattle.ev_routing.specs.Rest.{filters_of, IsOnwardWay, end_of, IsAtRest, IsDrained}
 use Rattle.ev_routing.specs.AsOf.{calm, back, as_of, IsRoutedAt, IsSettledAlong, IsTakenAlong, IsDeliveredAt, IsWantedBeyond, times_delivered}
 use Rattle.ev_routing.specs.Owed.{IsPublication, IsOwed, IsAllowed}
 use Rattle.ev_routing.specs.Start.{IsStart}
@@ -87,7 +87,7 @@ module _ (theory : Theory) (run : LegalRun theory) where
 
   -- a way from a publication's home that never turns back
   abbrev pub IsWayFromHome : Publication theory → List ℕ → Type 0
-  IsWayFromHome publication path = IsWay theory run.net (run.net.home publication.publisher) (run.net.home publication.publisher) path
+  IsWayFromHome publication path = IsOnwardWay theory run.net (run.net.home publication.publisher) (run.net.home publication.publisher) path
 
   -- along a way from its home a publication is settled, for a client, wherever an entry routes it
   abbrev pub IsSettledFromHome : Publication theory → ℕ → List ℕ → Type 0
@@ -106,7 +106,7 @@ module _ (theory : Theory) (run : LegalRun theory) where
   pub record IsSettledTo (publication : Publication theory) (client : ℕ) : Type 0 where
     pub here : Has publication.publisher (run.net.clients (run.net.home publication.publisher))
     pub moment : ℕ
-    pub published : IsRoutedAt theory run.net states run.journal moment (run.net.home publication.publisher) (64 + publication.publisher)
+    pub published : IsRoutedAt theory run.net states run.journal moment (run.net.home publication.publisher) (client_interface publication.publisher)
         publication.publisher publication.ordinal publication.notice
     pub path : List ℕ
     pub way : IsWayFromHome publication path
@@ -219,7 +219,7 @@ module _ (theory : Theory) (run : LegalRun theory) where
     pub before : ℕ
     pub server : ℕ
     pub path : List ℕ
-    pub way : IsWay theory run.net before server path
+    pub way : IsOnwardWay theory run.net before server path
 
   -- the inbox of a client after n entries
   abbrev pub inbox_at : ℕ → ℕ → ℕ → List (Publication theory)

@@ -5,7 +5,7 @@ use Rattle.ev_run.specs.Runs.{IsQuiet}
 use Rattle.ev_routing.specs.Theory.{Theory}
 use Rattle.ev_routing.specs.Net.{Net}
 use Rattle.ev_routing.specs.Clients.{filters_after, adverts_after}
-use Rattle.ev_routing.specs.Server.{sent, sent_adverts}
+use Rattle.ev_routing.specs.Server.{sent, sent_adverts, client_interface}
 use Rattle.ev_routing.specs.Routing.{routing_machine, Network}
 
 module _ (theory : Theory) (net : Net theory) where
@@ -18,9 +18,9 @@ module _ (theory : Theory) (net : Net theory) where
   adverts_of network client = adverts_after theory [] (take ((network.state (net.home client)).done client) (net.script client))
 
   -- a way from a server along neighbours that does not turn back, coming from before
-  abbrev pub IsWay : ℕ → ℕ → List ℕ → Type 0
-  IsWay before server [] = Unit {0}
-  IsWay before server (next ∷ path) = Has next (net.links server) × (next ≡ before → ⊥) × IsWay server next path
+  abbrev pub IsOnwardWay : ℕ → ℕ → List ℕ → Type 0
+  IsOnwardWay before server [] = Unit {0}
+  IsOnwardWay before server (next ∷ path) = Has next (net.links server) × (next ≡ before → ⊥) × IsOnwardWay server next path
 
   -- where a way from a server ends
   abbrev pub end_of : ℕ → List ℕ → ℕ
@@ -30,7 +30,7 @@ module _ (theory : Theory) (net : Net theory) where
   -- there is a way from a server to another
   pub record HasWay (server other : ℕ) : Type 0 where
     pub path : List ℕ
-    pub way : IsWay server server path
+    pub way : IsOnwardWay server server path
     pub end : end_of server path ≡ other
 
   -- nothing is on its way or staged, what is published is what is held, clients' sets are their lists, and what is held of a neighbour is what it sends
@@ -38,9 +38,9 @@ module _ (theory : Theory) (net : Net theory) where
     pub empty : (a b : ℕ) → network.taken a b ≡ length (network.put a b)
     pub unstaged : (server : ℕ) → (network.state server).staged ≡ false
     pub published : (server interface : ℕ) → (network.state server).published interface ≡ (network.state server).subs interface
-    pub filters : (server client : ℕ) → Has client (net.clients server) → (network.state server).subs (64 + client) ≡ filters_of network client
+    pub filters : (server client : ℕ) → Has client (net.clients server) → (network.state server).subs (client_interface client) ≡ filters_of network client
     pub adverts : (server client : ℕ) → Has client (net.clients server) → net.adverts ≡ true
-        → (network.state server).advs (64 + client) ≡ adverts_of network client
+        → (network.state server).advs (client_interface client) ≡ adverts_of network client
     pub subs : (from to : ℕ) → Has to (net.links from) → (network.state to).subs from ≡ sent theory net (network.state from) from to
     pub advs : (from to : ℕ) → Has to (net.links from) → (network.state to).advs from ≡ sent_adverts theory net (network.state from) from to
 

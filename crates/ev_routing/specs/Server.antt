@@ -17,7 +17,11 @@ pub record Publication (theory : Theory) : Type 0 where
   pub ordinal : ℕ
   pub notice : theory.Notice
 
--- what one server keeps. Its interfaces are its neighbours, and 64 + c for a client c
+-- the interface of a client: those of neighbours are their numbers, at most 64
+abbrev pub client_interface : ℕ → ℕ
+client_interface client = 64 + client
+
+-- what one server keeps. Its interfaces are its neighbours and its clients'
 pub record ServerState (theory : Theory) : Type 0 where
   -- the filters and the advertisements held from each interface
   pub subs : ℕ → List theory.Filter
@@ -43,7 +47,7 @@ union_except before sets but (i ∷ is) = cond (i == but) (union_except before s
 module _ (theory : Theory) (net : Net theory) where
   -- the interfaces of a server: its neighbours, then its clients
   abbrev pub interfaces : ℕ → List ℕ
-  interfaces server = net.links server ++ map (λ c. 64 + c) (net.clients server)
+  interfaces server = net.links server ++ map client_interface (net.clients server)
 
   -- the filters needed on a link: all that are held from elsewhere; under advertisement semantics those that overlap an advertisement held from there
   abbrev pub needed : ServerState theory → ℕ → ℕ → List theory.Filter

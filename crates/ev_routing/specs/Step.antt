@@ -5,7 +5,7 @@ use Rattle.ev_sets.specs.Sets.{union, minus, same_list}
 use Rattle.ev_routing.specs.Theory.{Theory}
 use Rattle.ev_routing.specs.Net.{Command, Subscribe, Unsubscribe, Advertise, Unadvertise, Publish, PhasedCommand, Net}
 use Rattle.ev_routing.specs.Clients.{some_pass, filters_after, adverts_after, accepts, ordinal}
-use Rattle.ev_routing.specs.Server.{Message, Subs, Advs, Noticed, Publication, ServerState, is_among, messages_to}
+use Rattle.ev_routing.specs.Server.{Message, Subs, Advs, Noticed, Publication, ServerState, is_among, messages_to, client_interface}
 
 -- a task of a server: the next command of a client, or a version
 pub data Task : Type 0 where
@@ -35,7 +35,7 @@ module _ (theory : Theory) (net : Net theory) where
   -- each client of the server with a published filter that matches has the publication delivered
   abbrev pub with_deliveries : ServerState theory → ℕ → Publication theory → ServerState theory
   with_deliveries state server publication = record state {
-    inbox = λ c. cond (is_among c (net.clients server) && some_pass (theory.matches publication.notice) (state.published (64 + c)))
+    inbox = λ c. cond (is_among c (net.clients server) && some_pass (theory.matches publication.notice) (state.published (client_interface c)))
         (state.inbox c ++ publication ∷ [])
         (state.inbox c);
   }
@@ -74,16 +74,16 @@ module _ (theory : Theory) (net : Net theory) where
 
   -- what a client's next command comes to, after its first count commands
   abbrev pub command_work : ℕ → ℕ → Command theory → Work theory
-  command_work client count (Subscribe f) = SetsFilters (64 + client) (filters_after theory [] (take (suc count) (net.script client)))
-  command_work client count (Unsubscribe f) = SetsFilters (64 + client) (filters_after theory [] (take (suc count) (net.script client)))
+  command_work client count (Subscribe f) = SetsFilters (client_interface client) (filters_after theory [] (take (suc count) (net.script client)))
+  command_work client count (Unsubscribe f) = SetsFilters (client_interface client) (filters_after theory [] (take (suc count) (net.script client)))
   command_work client count (Advertise a) =
-      cond net.adverts (SetsAdverts (64 + client) (adverts_after theory [] (take (suc count) (net.script client)))) Nothing
+      cond net.adverts (SetsAdverts (client_interface client) (adverts_after theory [] (take (suc count) (net.script client)))) Nothing
   command_work client count (Unadvertise a) =
-      cond net.adverts (SetsAdverts (64 + client) (adverts_after theory [] (take (suc count) (net.script client)))) Nothing
+      cond net.adverts (SetsAdverts (client_interface client) (adverts_after theory [] (take (suc count) (net.script client)))) Nothing
   -- an accepted publish is routed, a refused one does nothing
   command_work client count (Publish n) =
       cond (accepts theory net (adverts_after theory [] (take count (net.script client))) n)
-      (Routes (64 + client) client (ordinal theory (take (suc count) (net.script client))) n)
+      (Routes (client_interface client) client (ordinal theory (take (suc count) (net.script client))) n)
       Nothing
 
   -- what a message comes to: out are taken from what is held, and add added; a notice is routed

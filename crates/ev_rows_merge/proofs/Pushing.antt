@@ -4,7 +4,7 @@ use Rattle.std.proofs.lemmas.List.{map-append}
 use Rattle.ev_sets.specs.Sets.{Has}
 use Rattle.ev_run.proofs.Lists.{has-append}
 use Rattle.ev_model.specs.Parts.{EntryParts}
-use Rattle.ev_merge.specs.Merging.{IsJournalOf, AreJournals}
+use Rattle.ev_merge.specs.Merging.{IsJournalOf, AreServerJournals}
 
 -- all entries are below this stamp
 abbrev pub AllBelow : ℕ → List EntryParts → Type 0
@@ -42,7 +42,7 @@ at-place n (x ∷ ls) l h j (suc k) =
     shift : (i : ℕ) → n + suc i ≡ suc n + i
     shift i = omega arith
 
-journals-more : (ls : List (List EntryParts)) (l : List EntryParts) → AreJournals ls → IsJournalOf (length ls + 1) l → AreJournals (ls ++ l ∷ [])
+journals-more : (ls : List (List EntryParts)) (l : List EntryParts) → AreServerJournals ls → IsJournalOf (length ls + 1) l → AreServerJournals (ls ++ l ∷ [])
 journals-more ls l are j zero = tt
 journals-more ls l are j (suc k) =
     subst (λ s. IsJournalOf s (slice_index_or (ls ++ l ∷ []) k [])) (shift k)
@@ -52,7 +52,7 @@ journals-more ls l are j (suc k) =
     shift i = omega arith
 
 pub next-journal : {X : Type 0} (f : X → List EntryParts) (xs : List X) (x : X) (place : ℕ) → IsJournalOf (place + 1) (f x)
-    → AreJournals (map f xs) × (length (map f xs) ≡ place) → AreJournals (map f (xs ++ x ∷ [])) × (length (map f (xs ++ x ∷ [])) ≡ place + 1)
+    → AreServerJournals (map f xs) × (length (map f xs) ≡ place) → AreServerJournals (map f (xs ++ x ∷ [])) × (length (map f (xs ++ x ∷ [])) ≡ place + 1)
 next-journal f xs x place j h =
     rw (map-append f xs (x ∷ [])) (
       journals-more (map f xs) (f x) h.0 (subst (λ n. IsJournalOf (n + 1) (f x)) (sym h.1) j),

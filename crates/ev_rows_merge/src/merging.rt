@@ -1,6 +1,6 @@
 //! What merging gives.
 ghost use Rattle.std.specs.Prelude.{◌≡◌, ◌<◌, length, map, IfOk};
-ghost use Rattle.ev_merge.specs.Merging.{IsJournalOf, AreJournals};
+ghost use Rattle.ev_merge.specs.Merging.{IsJournalOf, AreServerJournals};
 
 use ev_merge::merge;
 use ev_model::{Act, Entry};
@@ -33,7 +33,7 @@ fn journal(alloc: Global, server: u32, first: u32, count: u32) -> Result<Vec<Ent
 // The journals of servers 1, 2, ..: of each its first stamp and how many entries it has.
 fn journals(alloc: Global, rows: &[(u32, u32)]) -> Result<Vec<Vec<Entry>>, Fail>
     requires { length rows.now < 100 }
-    ensures { IfOk result (λ all. AreJournals (map (λ entries. entries.items) all.items)) }
+    ensures { IfOk result (λ all. AreServerJournals (map (λ entries. entries.items) all.items)) }
 {
     let mut all = Vec::new(alloc);
     for (place, (first, count)) in rows.iter().enumerate() {

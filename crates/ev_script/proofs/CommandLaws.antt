@@ -15,8 +15,8 @@ use Rattle.ev_script.specs.declared.form.Given.{Given}
 use Rattle.ev_script.specs.declared.form.Given.TheVariants.{Fit, Wide}
 use Rattle.ev_script.specs.declared.form.Part.{Part}
 use Rattle.ev_script.specs.declared.form.Part.TheVariants.{Whole, Beyond, Empty}
-use Rattle.ev_script.specs.Form.{Form}
-use Rattle.ev_script.specs.Command.{is_beyond, is_empty, is_wide, wholes, fits, control_fault, publish_fault, fault_of_form, form_of, Answers, IsCommandOf}
+use Rattle.ev_script.specs.Form.{CommandForm}
+use Rattle.ev_script.specs.Command.{is_beyond, is_empty, is_wide, wholes, fits, control_fault, publish_fault, fault_of_form, form_of, AnswersLine, IsCommandOf}
 
 pub some_whole : (parts : List Part) → 0 < length parts → list_any is_beyond parts ≡ false → list_any is_empty parts ≡ false → wholes parts ≡ [] → ⊥
 some_whole [] s b e n = omega (arith, s)
@@ -80,7 +80,7 @@ publish_none attributes w l t =
     go (Some i) e k = absurd (k i e)
     go None e k = refl
 
-pub command_told : (version : ℕ) (line : List ℕ) (r : Result Command ScriptFault) (form : Option Form) (c : Command) → form_of version line ≡ form → Answers r form → r ≡ Ok c → IsCommandOf version line c
+pub command_told : (version : ℕ) (line : List ℕ) (r : Result Command ScriptFault) (form : Option CommandForm) (c : Command) → form_of version line ≡ form → AnswersLine r form → r ≡ Ok c → IsCommandOf version line c
 command_told version line (Ok d) None c f a e = absurd a
 command_told version line (Ok d) (Some form) c f a e = let same : d ≡ c = cc in rw (← same) (form, f, a.0, a.1)
 command_told version line (Err e) form c f a h = absurd cc
@@ -89,7 +89,7 @@ abbrev pub Told : ScriptFault → Option ScriptFault → Type 0
 Told faults.NoMemory fault = Unit {0}
 Told e fault = fault ≡ Some e
 
-pub fault_told : (r : Result Command ScriptFault) (form : Option Form) (e : ScriptFault) → Answers r form → r ≡ Err e → Told e (fault_of_form form)
+pub fault_told : (r : Result Command ScriptFault) (form : Option CommandForm) (e : ScriptFault) → AnswersLine r form → r ≡ Err e → Told e (fault_of_form form)
 fault_told (Ok c) form e a h = absurd cc
 fault_told (Err faults.NoMemory) form faults.NoMemory a h = tt
 fault_told (Err faults.NoMemory) form faults.Syntax a h = absurd cc

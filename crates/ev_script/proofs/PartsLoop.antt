@@ -6,7 +6,7 @@ use Rattle.ev_script.specs.declared.fault.ScriptFault.{ScriptFault}
 use Rattle.ev_script.specs.declared.fault.ScriptFault.TheVariants as faults
 use Rattle.ev_script.specs.Tokens.{Token}
 use Rattle.ev_script.specs.Form.{more_in, parts_in}
-use Rattle.ev_script.specs.Reading.{Fails}
+use Rattle.ev_script.specs.Reading.{FailsOnTokens}
 
 pub goes_on : {A : Type 0} (one : List Token → Option (A × List Token)) (most i : ℕ) (read : List A) (ts : List Token) (x : A) (after left : List Token) (total : Option (List A)) → i < most → one ts ≡ Some (x, after) → more_in after ≡ Some (true, left)
     → parts_in one (most - i) read ts ≡ total → parts_in one (most - (i + 1)) (read ++ x ∷ []) left ≡ total
@@ -24,8 +24,8 @@ stops one most i read ts x after left total lt h m so_far =
     let step : parts_in one (most - i) read ts ≡ Some (read ++ x ∷ []) = rw (k, h, m) refl in
     sym so_far ∙ step
 
-pub ends : {A : Type 0} (e : ScriptFault) (one : List Token → Option (A × List Token)) (most i : ℕ) (read : List A) (ts : List Token) (total : Option (List A)) → i < most → Fails e (one ts)
-    → parts_in one (most - i) read ts ≡ total → Fails e total
+pub ends : {A : Type 0} (e : ScriptFault) (one : List Token → Option (A × List Token)) (most i : ℕ) (read : List A) (ts : List Token) (total : Option (List A)) → i < most → FailsOnTokens e (one ts)
+    → parts_in one (most - i) read ts ≡ total → FailsOnTokens e total
 unfolding parts_in
 ends faults.NoMemory one most i read ts total lt h so_far = tt
 ends faults.Syntax one most i read ts total lt h so_far =
@@ -37,8 +37,8 @@ ends faults.Operand one most i read ts total lt h so_far = absurd h
 ends faults.Count one most i read ts total lt h so_far = absurd h
 ends faults.Repeat one most i read ts total lt h so_far = absurd h
 
-pub breaks : {A : Type 0} (e : ScriptFault) (one : List Token → Option (A × List Token)) (most i : ℕ) (read : List A) (ts : List Token) (x : A) (after : List Token) (total : Option (List A)) → i < most → one ts ≡ Some (x, after) → Fails e (more_in after)
-    → parts_in one (most - i) read ts ≡ total → Fails e total
+pub breaks : {A : Type 0} (e : ScriptFault) (one : List Token → Option (A × List Token)) (most i : ℕ) (read : List A) (ts : List Token) (x : A) (after : List Token) (total : Option (List A)) → i < most → one ts ≡ Some (x, after) → FailsOnTokens e (more_in after)
+    → parts_in one (most - i) read ts ≡ total → FailsOnTokens e total
 unfolding parts_in
 breaks faults.NoMemory one most i read ts x after total lt h m so_far = tt
 breaks faults.Syntax one most i read ts x after total lt h m so_far =

@@ -18,8 +18,8 @@ use Rattle.ev_script.specs.declared.form.Given.{Given}
 use Rattle.ev_script.specs.declared.form.Part.{Part}
 use Rattle.ev_script.specs.declared.verb.Verb.{Verb}
 use Rattle.ev_script.specs.declared.verb.Verb.TheVariants as verbs
-use Rattle.ev_script.specs.Form.{Form}
-use Rattle.ev_script.specs.Form.Form.{control, publish}
+use Rattle.ev_script.specs.Form.{CommandForm}
+use Rattle.ev_script.specs.Form.CommandForm.{control, publish}
 use Rattle.ev_script.specs.Command.{Spells, IsCommandOf, wholes, fits}
 
 has-contains : {X : Type 0} (x : X) (xs : List X) → Has x xs → Contains xs x
@@ -92,7 +92,7 @@ publish_is : (attributes : List (List ℕ × Given)) (c : Command) → Spells (p
 publish_is attributes (commands.Publish n) h = (n, refl, h)
 publish_is attributes c h = absurd h
 
-form_once : (form : Form) (c d : Command) → Spells form c → Spells form d → c ≡ d
+form_once : (form : CommandForm) (c d : Command) → Spells form c → Spells form d → c ≡ d
 form_once (control v parts) c d h k = control_is v parts c h ∙ sym (control_is v parts d k)
 form_once (publish attributes) c d h k =
     let m = publish_is attributes c h in
@@ -102,4 +102,4 @@ form_once (publish attributes) c d h k =
 pub command_once : (version : ℕ) (line : List ℕ) (c d : Command) → IsCommandOf version line c → IsCommandOf version line d → c ≡ d
 command_once version line c d h k =
     let same_form : k.0 ≡ h.0 = same_Some k.0 h.0 (sym k.1 ∙ h.1) in
-    form_once h.0 c d h.3 (subst (λ (f : Form). Spells f d) same_form k.3)
+    form_once h.0 c d h.3 (subst (λ (f : CommandForm). Spells f d) same_form k.3)

@@ -20,15 +20,15 @@ use Rattle.ev_script.specs.declared.form.Part.TheVariants.{Whole, Beyond, Empty}
 use Rattle.ev_script.specs.declared.verb.Verb.{Verb}
 use Rattle.ev_script.specs.declared.verb.Verb.TheVariants as verbs
 use Rattle.ev_script.specs.Tokens.{tokens}
-use Rattle.ev_script.specs.Form.{Form, verb_in, form_in}
-use Rattle.ev_script.specs.Form.Form.{control, publish}
+use Rattle.ev_script.specs.Form.{CommandForm, verb_in, form_in}
+use Rattle.ev_script.specs.Form.CommandForm.{control, publish}
 
 -- documents have the version 1 or 2
 abbrev pub IsVersion : ℕ → Type 0
 IsVersion version = IsInRange 1 2 version
 
 -- the form of a line in documents of the version; none has more parts than bytes
-unfoldable pub form_of : ℕ → List ℕ → Option Form
+unfoldable pub form_of : ℕ → List ℕ → Option CommandForm
 form_of version line = verb_in (tokens line) >>= λ v. form_in version (length line) v.0 v.1
 
 -- the operand is beyond the limits
@@ -91,12 +91,12 @@ publish_fault attributes =
     else None
 
 -- the first fault of a form
-abbrev pub fault_in : Form → Option ScriptFault
+abbrev pub fault_in : CommandForm → Option ScriptFault
 fault_in (control v parts) = control_fault (most v) parts
 fault_in (publish attributes) = publish_fault attributes
 
 -- a line without a form is at fault by that
-abbrev pub fault_of_form : Option Form → Option ScriptFault
+abbrev pub fault_of_form : Option CommandForm → Option ScriptFault
 fault_of_form None = Some faults.Syntax
 fault_of_form (Some form) = fault_in form
 
@@ -105,7 +105,7 @@ abbrev pub script_fault : ℕ → List ℕ → Option ScriptFault
 script_fault version line = fault_of_form (form_of version line)
 
 -- the command that a form without fault gives: equal constraints once, in canonical order; attributes by rising names
-abbrev pub Spells : Form → Command → Type 0
+abbrev pub Spells : CommandForm → Command → Type 0
 Spells (control verbs.Subscribe parts) (commands.Subscribe f) = f ≡ canonical (wholes parts)
 Spells (control verbs.Unsubscribe parts) (commands.Unsubscribe f) = f ≡ canonical (wholes parts)
 Spells (control verbs.Advertise parts) (commands.Advertise a) = a ≡ canonical (wholes parts)
@@ -114,12 +114,12 @@ Spells (publish attributes) (commands.Publish n) = IsPermutation (fits attribute
 Spells form command = ⊥
 
 -- the answer to a form: its first fault, or the command that it spells; want of memory tells nothing
-abbrev pub Answers : Result Command ScriptFault → Option Form → Type 0
-Answers (Ok c) None = ⊥
-Answers (Ok c) (Some form) = (fault_in form ≡ None) × Spells form c
-Answers (Err faults.NoMemory) form = Unit {0}
-Answers (Err e) form = fault_of_form form ≡ Some e
+abbrev pub AnswersLine : Result Command ScriptFault → Option CommandForm → Type 0
+AnswersLine (Ok c) None = ⊥
+AnswersLine (Ok c) (Some form) = (fault_in form ≡ None) × Spells form c
+AnswersLine (Err faults.NoMemory) form = Unit {0}
+AnswersLine (Err e) form = fault_of_form form ≡ Some e
 
 -- the command that a line spells in documents of the version
 abbrev pub IsCommandOf : ℕ → List ℕ → Command → Type 0
-IsCommandOf version line command = (form : Form) × (form_of version line ≡ Some form) × (fault_in form ≡ None) × Spells form command
+IsCommandOf version line command = (form : CommandForm) × (form_of version line ≡ Some form) × (fault_in form ≡ None) × Spells form command

@@ -133,19 +133,19 @@ abbrev pub verb_in : List Token → Option (Verb × List Token)
 verb_in ts = word_in ts >>= λ w. verb_named w.0 >>= λ v. Some (v, w.1)
 
 -- a command without limits
-pub data Form : Type 0 where
-  control : Verb → List Part → Form
-  publish : List (List ℕ × Given) → Form
+pub data CommandForm : Type 0 where
+  control : Verb → List Part → CommandForm
+  publish : List (List ℕ × Given) → CommandForm
 
 -- the parts of a control command
-abbrev pub control_in : ℕ → ℕ → Verb → List Token → Option Form
+abbrev pub control_in : ℕ → ℕ → Verb → List Token → Option CommandForm
 control_in version n v ts = parts_in (constraint_in version) n [] ts >>= λ p. Some (control v p)
 
 -- the parts of a publish command
-abbrev pub publish_in : ℕ → ℕ → List Token → Option Form
+abbrev pub publish_in : ℕ → ℕ → List Token → Option CommandForm
 publish_in version n ts = parts_in (attribute_in version) n [] ts >>= λ p. Some (publish p)
 
 -- what follows the first word
-abbrev pub form_in : ℕ → ℕ → Verb → List Token → Option Form
+abbrev pub form_in : ℕ → ℕ → Verb → List Token → Option CommandForm
 form_in version n verbs.Publish ts = publish_in version n ts
 form_in version n v ts = control_in version n v ts

@@ -9,20 +9,20 @@ use Rattle.ev_script.specs.Tokens.{Token}
 use Rattle.ev_script.specs.Seen.{seen}
 
 -- a fault told while reading: want of memory tells nothing, and else nothing is there to be read
-abbrev pub Fails : {Y : Type 0} → ScriptFault → Option Y → Type 0
-Fails faults.NoMemory read = Unit {0}
-Fails faults.Syntax read = read ≡ None
-Fails e read = ⊥
+abbrev pub FailsOnTokens : {Y : Type 0} → ScriptFault → Option Y → Type 0
+FailsOnTokens faults.NoMemory read = Unit {0}
+FailsOnTokens faults.Syntax read = read ≡ None
+FailsOnTokens e read = ⊥
 
 -- the result, seen by view, is what reading gives, unless memory ran out
-abbrev pub Gives : {X Y : Type 0} → (X → Y) → Result X ScriptFault → Option Y → Type 0
-Gives view (Ok x) read = read ≡ Some (view x)
-Gives view (Err e) read = Fails e read
+abbrev pub GivesFromTokens : {X Y : Type 0} → (X → Y) → Result X ScriptFault → Option Y → Type 0
+GivesFromTokens view (Ok x) read = read ≡ Some (view x)
+GivesFromTokens view (Err e) read = FailsOnTokens e read
 
 -- the same, and the tokens that are left then
-abbrev pub Reads : {X Y : Type 0} → (X → Y) → Result X ScriptFault → Option (Y × List Token) → List Token → Type 0
-Reads view (Ok x) read left = read ≡ Some (view x, left)
-Reads view (Err e) read left = Fails e read
+abbrev pub ReadsTokens : {X Y : Type 0} → (X → Y) → Result X ScriptFault → Option (Y × List Token) → List Token → Type 0
+ReadsTokens view (Ok x) read left = read ≡ Some (view x, left)
+ReadsTokens view (Err e) read left = FailsOnTokens e read
 
 -- the token in front is told, unless memory ran out
 abbrev pub Cuts : {E : Type 0} → Result Read E → Token × List ℕ → List ℕ → Type 0

@@ -22,7 +22,7 @@ behind None others = []
 behind (Some t) others = seen t ∷ others
 
 -- the token in front is taken, or there is none at the end of the line; want of memory takes nothing
-abbrev pub Takes : {E : Type 0} → Result (Option Read) E → List Token → List Token → Type 0
-Takes (Ok None) before after = (before ≡ []) × (after ≡ [])
-Takes (Ok (Some t)) before after = before ≡ seen t ∷ after
-Takes (Err e) before after = after ≡ before
+abbrev pub TakesToken : {E : Type 0} → Result (Option Read) E → List Token → List Token → Type 0
+TakesToken (Ok None) before after = (before ≡ []) × (after ≡ [])
+TakesToken (Ok (Some t)) before after = before ≡ seen t ∷ after
+TakesToken (Err e) before after = after ≡ before

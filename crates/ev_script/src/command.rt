@@ -2,8 +2,8 @@
 ghost use Rattle.std.specs.Prelude.{◌≡◌, ◌≢◌, ◌<◌, length, Some, IfOk, IsErrOf};
 ghost use Rattle.ev_script.specs.declared.verb.Verb.{Verb};
 ghost use Rattle.ev_script.specs.Form.{control_in, form_in, publish_in};
-ghost use Rattle.ev_script.specs.Form.Form.{control};
-ghost use Rattle.ev_script.specs.Command.{Answers, IsCommandOf, IsVersion, Spells, fault_in, script_fault};
+ghost use Rattle.ev_script.specs.Form.CommandForm.{control};
+ghost use Rattle.ev_script.specs.Command.{AnswersLine, IsCommandOf, IsVersion, Spells, fault_in, script_fault};
 ghost use Rattle.ev_script.specs.Reading.{Judges};
 
 use crate::fault::ScriptFault;
@@ -39,7 +39,7 @@ fn control_command(
     most: usize,
 ) -> Result<Command, ScriptFault>
     requires { verb ≢ Verb.Publish }
-    ensures { Answers result (control_in version most verb left.entry) }
+    ensures { AnswersLine result (control_in version most verb left.entry) }
 {
     let parts = left.parts(alloc, version, most)?;
     control(alloc, verb, parts)
@@ -52,7 +52,7 @@ fn publish_command(
     mut left: Tokens<'_>,
     most: usize,
 ) -> Result<Command, ScriptFault>
-    ensures { Answers result (publish_in version most left.entry) }
+    ensures { AnswersLine result (publish_in version most left.entry) }
 {
     let parts = left.parts(alloc, version, most)?;
     let notice = notice_of(alloc, parts)?;
@@ -67,7 +67,7 @@ pub(crate) fn command_behind(
     left: Tokens<'_>,
     most: usize,
 ) -> Result<Command, ScriptFault>
-    ensures { Answers result (form_in version most verb left.entry) }
+    ensures { AnswersLine result (form_in version most verb left.entry) }
 {
     match verb {
         Verb::Publish => publish_command(alloc, version, left, most),

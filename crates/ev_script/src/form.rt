@@ -1,7 +1,7 @@
 //! The form of a command, read from its tokens.
 ghost use Rattle.std.specs.Prelude.{◌≡◌, ◌<◌, [], length, IfOk};
 ghost use Rattle.ev_script.specs.Form.{attribute_in, constraint_in, given_in, head_in, kind_by, more_in, op_in, operand_in, part_of, parts_in, word_in};
-ghost use Rattle.ev_script.specs.Reading.{Gives, Reads};
+ghost use Rattle.ev_script.specs.Reading.{GivesFromTokens, ReadsTokens};
 
 use crate::fault::ScriptFault;
 use crate::number::int_given;
@@ -69,7 +69,7 @@ fn part_of(name: Name, kind: Kind, op: Op, operand: Option<Given>) -> Option<Par
 impl<'a> Tokens<'a> {
     /// A word.
     pub(crate) fn word(&mut self, alloc: Global) -> Result<&'a [u8], ScriptFault>
-        ensures { Reads (λ w. w.now) result (word_in self.old) self.new }
+        ensures { ReadsTokens (λ w. w.now) result (word_in self.old) self.new }
     {
         match self.next(alloc)? {
             Some(Token::Word(word)) => Ok(word),
@@ -80,7 +80,7 @@ impl<'a> Tokens<'a> {
     // A name and a kind.
     #[tactic(auto, unfolding(crate::specs::Form::head_in))]
     fn head(&mut self, alloc: Global, version: u32) -> Result<(Name, Kind), ScriptFault>
-        ensures { Reads (λ x. x) result (head_in version self.old) self.new }
+        ensures { ReadsTokens (λ x. x) result (head_in version self.old) self.new }
     {
         let word = self.word(alloc)?;
         let Some(kind) = kind_by(version, self.word(alloc)?) else {
@@ -96,7 +96,7 @@ impl<'a> Tokens<'a> {
     }
 
     fn op(&mut self, alloc: Global) -> Result<Op, ScriptFault>
-        ensures { Reads (λ o. o) result (op_in self.old) self.new }
+        ensures { ReadsTokens (λ o. o) result (op_in self.old) self.new }
     {
         match self.next(alloc)? {
             Some(Token::Word(word)) => match op_named(word) {
@@ -110,7 +110,7 @@ impl<'a> Tokens<'a> {
 
     // A value of this kind.
     fn given(&mut self, alloc: Global, kind: Kind) -> Result<Given, ScriptFault>
-        ensures { Reads (λ g. g) result (given_in kind self.old) self.new }
+        ensures { ReadsTokens (λ g. g) result (given_in kind self.old) self.new }
     {
         let token = self.next(alloc)?;
         let given = match (kind, token) {
@@ -131,7 +131,7 @@ impl<'a> Tokens<'a> {
     }
 
     fn operand(&mut self, alloc: Global, kind: Kind, op: Op) -> Result<Option<Given>, ScriptFault>
-        ensures { Reads (λ u. u) result (operand_in kind op self.old) self.new }
+        ensures { ReadsTokens (λ u. u) result (operand_in kind op self.old) self.new }
     {
         match op {
             Op::Any => Ok(None),
@@ -142,7 +142,7 @@ impl<'a> Tokens<'a> {
     /// A part of a control command.
     #[tactic(auto, unfolding(crate::specs::Form::constraint_in))]
     pub(crate) fn constraint(&mut self, alloc: Global, version: u32) -> Result<Part, ScriptFault>
-        ensures { Reads (λ p. p) result (constraint_in version self.old) self.new }
+        ensures { ReadsTokens (λ p. p) result (constraint_in version self.old) self.new }
     {
         let (name, kind) = self.head(alloc, version)?;
         let op = self.op(alloc)?;
@@ -160,7 +160,7 @@ impl<'a> Tokens<'a> {
         alloc: Global,
         version: u32,
     ) -> Result<(Name, Given), ScriptFault>
-        ensures { Reads (λ a. a) result (attribute_in version self.old) self.new }
+        ensures { ReadsTokens (λ a. a) result (attribute_in version self.old) self.new }
     {
         let (name, kind) = self.head(alloc, version)?;
         let given = self.given(alloc, kind)?;
@@ -169,7 +169,7 @@ impl<'a> Tokens<'a> {
 
     // Whether a semicolon follows, and not the end of the line.
     fn more(&mut self, alloc: Global) -> Result<bool, ScriptFault>
-        ensures { Reads (λ m. m) result (more_in self.old) self.new }
+        ensures { ReadsTokens (λ m. m) result (more_in self.old) self.new }
     {
         match self.next(alloc)? {
             None => Ok(false),
@@ -185,7 +185,7 @@ impl<'a> Tokens<'a> {
         version: u32,
         most: usize,
     ) -> Result<Vec<P>, ScriptFault>
-        ensures parts { Gives (λ v. v.items) result (parts_in (P.front version) most [] self.old) }
+        ensures parts { GivesFromTokens (λ v. v.items) result (parts_in (P.front version) most [] self.old) }
         ensures some { IfOk result (λ v. 0 < length v.items) }
     {
         let mut read = Vec::new(alloc);

@@ -35,7 +35,7 @@ impl<'a> Model for Line<'a> {
 }
 
 impl<'a> Line<'a> {
-    ghost use Rattle.ev_script.specs.Command.{Answers, IsCommandOf, IsVersion, form_of, script_fault};
+    ghost use Rattle.ev_script.specs.Command.{AnswersLine, IsCommandOf, IsVersion, form_of, script_fault};
     ghost use Rattle.ev_script.specs.Seen.{seen};
 
     /// The line with its first token cut off. It takes memory where that is a string.
@@ -66,7 +66,7 @@ impl<'a> Line<'a> {
 
     #[tactic(auto, unfolding(crate::specs::Command::form_of))]
     fn answered(self, alloc: Global, version: u32) -> Result<Command, ScriptFault>
-        ensures { Answers result (form_of version self.entry) }
+        ensures { AnswersLine result (form_of version self.entry) }
     {
         match self.first {
             Some(Token::Word(word)) => match verb_named(word) {

@@ -17,7 +17,7 @@ pub(crate) trait CommandPart: Drop {
     ghost use Rattle.std.specs.Prelude.{◌≡◌, ℕ, List};
     ghost use Rattle.std.specs.declared.option.Option.{Option};
     ghost use Rattle.ev_script.specs.Tokens.{Token};
-    ghost use Rattle.ev_script.specs.Reading.{Reads};
+    ghost use Rattle.ev_script.specs.Reading.{ReadsTokens};
 
     /// What it is within the limits.
     type Inside: Drop;
@@ -28,7 +28,7 @@ pub(crate) trait CommandPart: Drop {
 
     /// A part in front of what is left of the line, in documents of the version.
     fn read(left: &mut Tokens<'_>, alloc: Global, version: u32) -> Result<Self, ScriptFault>
-        ensures { Reads (λ p. p) result (front version left.old) left.new };
+        ensures { ReadsTokens (λ p. p) result (front version left.old) left.new };
 
     /// What it is, if it is within the limits.
     fn inside(self) -> Option<Self::Inside>

@@ -23,7 +23,7 @@ impl<'a> Model for Tokens<'a> {
 impl<'a> Tokens<'a> {
     ghost use Rattle.std.specs.Prelude.{◌≡◌};
     ghost use Rattle.ev_script.specs.Tokens.{tokens};
-    ghost use Rattle.ev_script.specs.Seen.{Takes};
+    ghost use Rattle.ev_script.specs.Seen.{TakesToken};
 
     /// The tokens of the line.
     pub fn new(line: &'a [u8]) -> Tokens<'a>
@@ -36,7 +36,7 @@ impl<'a> Tokens<'a> {
 
     /// The next token; `None` at the end of the line. Where memory runs out no token is cut off.
     pub fn next(&mut self, alloc: Global) -> Result<Option<Token<'a>>, NoMemory>
-        ensures { Takes result self.old self.new }
+        ensures { TakesToken result self.old self.new }
     {
         let mut cutter = Cutter {
             rest: self.cutter.rest,

@@ -40,7 +40,7 @@ use Rattle.ev_server.specs.Acting.{HasDone, planned_message, IsClear, IsRouted}
 use Rattle.ev_server.specs.Core.{CoreParts, core_parts, IsServerState}
 use Rattle.ev_server.specs.Kept.{IsCore}
 use Rattle.ev_server.specs.Routed.{RoutesNext}
-use Rattle.ev_server.specs.Step.{IsStep, MakesStep}
+use Rattle.ev_server.specs.Step.{IsServerStep, MakesStep}
 use Rattle.ev_server.proofs.Sessions.{has-map, map-has}
 use Rattle.ev_server.proofs.Steps.{IsDone, flat-none}
 use Rattle.ev_server.proofs.Made.{IsOwn, own-refl, filters-own, adverts-own, own-of, IsLeft, left-of, acted}
@@ -420,7 +420,7 @@ module _ (server clock stamp client : ℕ) (old new : LedgerParts) (clients mid 
           alike Subscription = refl
           alike Advertisement = refl
 
-      step : IsStep net state (Does (NextCommand client)) (core_parts server old (map bare clients) clock) (core_parts server new (map bare (at_client client stepped mid)) stamp) sent
+      step : IsServerStep net state (Does (NextCommand client)) (core_parts server old (map bare clients) clock) (core_parts server new (map bare (at_client client stepped mid)) stamp) sent
       step =
           let next = work-planned here.0 net same-semantics (stands.scripts here.0 here.1) (some-left here.0 here.1 here.2) p (planned here.0 here.1 here.2) in
           let w = plan_work net.adverts here.0 p in

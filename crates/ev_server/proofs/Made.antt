@@ -28,7 +28,7 @@ use Rattle.ev_server.specs.Acting.{HasActed, planned_message, IsClear, IsRouted}
 use Rattle.ev_server.specs.Core.{CoreParts, core_parts, IsServerState}
 use Rattle.ev_server.specs.Kept.{IsCore}
 use Rattle.ev_server.specs.Routed.{RoutesMessage}
-use Rattle.ev_server.specs.Step.{IsStep, MakesStep}
+use Rattle.ev_server.specs.Step.{IsServerStep, MakesStep}
 use Rattle.ev_server.proofs.Sessions.{map-has}
 use Rattle.ev_server.proofs.Steps.{IsDone, act_work, filters-done, adverts-done, spread-done, flat-none}
 
@@ -63,7 +63,7 @@ module _ (server clock stamp : ℕ) (old new : LedgerParts) (clients : List Sess
   no-message false = refl
 
   version-step : (old.staged ≡ [] → ⊥) → (net : Net real) (state : ServerState real) → IsServerState net (core_parts server old clients clock) state
-      → IsStep net state (Does Version) (core_parts server old clients clock) (core_parts server new clients stamp) []
+      → IsServerStep net state (Does Version) (core_parts server old clients clock) (core_parts server new clients stamp) []
   version-step some net state stands =
       let on : state.staged ≡ true = stands.staged ∙ some-staged old.staged some in
       record {
@@ -191,7 +191,7 @@ module _ (server clock clock_after from : ℕ) (old new : LedgerParts) (clients 
       front x (y ∷ xs) ys (inl q) = inl q
       front x (y ∷ xs) ys (inr k) = inr (front x xs ys k)
 
-      step : (net : Net real) (state : ServerState real) → IsServerState net (core_parts server old (map bare clients) clock) state → IsStep net state (Takes from (message_of m)) (core_parts server old (map bare clients) clock) (core_parts server new (map bare clients_new) clock_after) sent
+      step : (net : Net real) (state : ServerState real) → IsServerState net (core_parts server old (map bare clients) clock) state → IsServerStep net state (Takes from (message_of m)) (core_parts server old (map bare clients) clock) (core_parts server new (map bare clients_new) clock_after) sent
       step net state stands =
           let linked : Has from (net.links server) = subst (Has from) (sym stands.control.links) there in
           let reached : Has from (interfaces real net server) = front from (net.links server) (map (λ c. 64 + c) (net.clients server)) linked in

@@ -11,7 +11,7 @@ use Rattle.ev_poset.proofs.Names.{Has-map, map-Has}
 use Rattle.ev_counting.specs.declared.change.Change.{Change}
 use Rattle.ev_counting.specs.declared.change.Change.TheVariants.{Add, Remove}
 use Rattle.ev_control.proofs.Holdings.{split}
-use Rattle.ev_server.specs.Staged.{pair_of, is_earlier, with_one, staged_with, Turns, is_some_there}
+use Rattle.ev_server.specs.Staged.{pair_of, is_earlier, with_one, staged_with, StagedTurn, is_some_there}
 use Rattle.ev_server.proofs.Pairs.{one-or, has-one, rising-one}
 use Rattle.ev_routing.proofs.Listing.{has-either, has-left, has-right}
 
@@ -151,7 +151,7 @@ module _ (interface : ℕ) (held out add : Filters) where
             n (subst (λ z. Has z held) (sym same) (there (subst (λ z. Has z add) same x)))
 
     module _ (published holds then : ℕ → Filters) (staged : List Change) (rose : IsRising is_earlier staged) (here : holds interface ≡ held)
-        (now : then interface ≡ union list_before add (minus list_before held out)) (else : (i : ℕ) → i ≢ interface → then i ≡ holds i) (turns : Turns published holds staged) where
+        (now : then interface ≡ union list_before add (minus list_before held out)) (else : (i : ℕ) → i ≢ interface → then i ≡ holds i) (turns : StagedTurn published holds staged) where
       after-has : (f : List ConstraintParts) → Has f (then interface) → Has f add ⊎ (Has f held × (Has f out → ⊥))
       after-has f m = elim ((has-union sub_laws f add (minus list_before held out)).0 (subst (Has f) now m)) [ inl a ↦ inl a | inr k ↦ inr ((minus-iff sub_laws f held out).0 k) ]
 
@@ -220,7 +220,7 @@ module _ (interface : ℕ) (held out add : Filters) where
                   both (adds g p a n) = n (subst (λ z. Has z held) (item-of (Add interface f) (Add interface g) p) h)
 
       -- THE CHANGES TURN WHAT WAS PUBLISHED INTO WHAT IS HELD THEN
-      pub turned : Turns published then (staged_with made staged)
+      pub turned : StagedTurn published then (staged_with made staged)
       turned i f = elim (cases_eq i interface) [
         | inl e ↦ subst (λ z. Has f (then z) ↔ Answer z f) (sym e) (to-here f, from-here f)
         | inr n ↦

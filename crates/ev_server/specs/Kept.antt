@@ -2,6 +2,7 @@
 use Rattle.std.specs.Prelude.{◌≡◌, ℕ, true, ◌+◌, ◌<◌, ◌≤◌, ◌^◌, nat_lt}
 use Rattle.std.specs.Int.{IsInRange}
 use Rattle.ev_sets.specs.Sets.{Has, IsRising}
+use Rattle.ev_routing.specs.Server.{client_interface}
 use Rattle.ev_control.specs.Control.{subs, advs, by_adverts}
 use Rattle.ev_session.specs.Session.{SessionParts}
 use Rattle.ev_session.specs.Turn.{filter_set_at, advert_set_at}
@@ -15,6 +16,6 @@ pub record IsCore (core : CoreParts) : Type 0 where
   pub links_small : (link : ℕ) → Has link core.control.links → link ≤ 64
   pub one_semantics : (s : SessionParts) → Has s core.clients → s.semantics ≡ core.control.semantics
   pub ids : (s : SessionParts) → Has s core.clients → IsInRange 1 1024 s.client
-  pub own_filters : (s : SessionParts) → Has s core.clients → subs core.control (64 + s.client) ≡ filter_set_at s s.taken
+  pub own_filters : (s : SessionParts) → Has s core.clients → subs core.control (client_interface s.client) ≡ filter_set_at s s.taken
   pub own_adverts : (s : SessionParts) → Has s core.clients → by_adverts core.control.semantics ≡ true
-      → advs core.control (64 + s.client) ≡ advert_set_at s s.taken
+      → advs core.control (client_interface s.client) ≡ advert_set_at s s.taken

@@ -18,14 +18,14 @@ AreOnce [] = Unit {0}
 AreOnce (change ∷ changes) = ((other : Change) → Has other changes → pair_of change ≢ pair_of other) × AreOnce changes
 
 -- the changes turn what was published into what is held
-abbrev pub Turns : (ℕ → List (List ConstraintParts)) → (ℕ → List (List ConstraintParts)) → List Change → Type 0
-Turns published held staged = (i : ℕ) (f : List ConstraintParts)
+abbrev pub StagedTurn : (ℕ → List (List ConstraintParts)) → (ℕ → List (List ConstraintParts)) → List Change → Type 0
+StagedTurn published held staged = (i : ℕ) (f : List ConstraintParts)
     → Has f (held i) ↔ (Has (Add i f) staged ⊎ (Has f (published i) × (Has (Remove i f) staged → ⊥)))
 
 -- and no pair is changed twice
 pub record IsStaged (published held : ℕ → List (List ConstraintParts)) (staged : List Change) : Type 0 where
   pub once : AreOnce staged
-  pub turned : Turns published held staged
+  pub turned : StagedTurn published held staged
 
 -- whether there is a member
 abbrev pub is_some_there : {T : Type 0} → List T → Bool

@@ -12,7 +12,7 @@ use Rattle.ev_server.specs.Core.{CoreParts, IsServerState}
 
 -- in a net, for a state that the old core stands for: the step of the server by this input leads to a state that the new core stands for, and
 -- what is sent are the texts of the step's messages by rising neighbour
-pub record IsStep (net : Net real) (state : ServerState real) (input : Input Task (Message real)) (old new : CoreParts) (sent : List Sent) : Type 0 where
+pub record IsServerStep (net : Net real) (state : ServerState real) (input : Input Task (Message real)) (old new : CoreParts) (sent : List Sent) : Type 0 where
   pub outcome : Outcome (ServerState real) (Message real)
   pub step : local_step real net old.server state input ≡ Some outcome
   pub state_after : IsServerState net new outcome.state
@@ -30,7 +30,7 @@ last_stamp = 2 ^ 62 - 1
 -- THE CONTRACT OF A STEP: in each net and from each state that the core stands for it is the server's step; the clock is the step's stamp, and
 -- server and links stay
 pub record MakesStep (input : Input Task (Message real)) (taken : ℕ) (old new : CoreParts) (stamp : ℕ) (sent : List Sent) : Type 0 where
-  pub step : (net : Net real) (state : ServerState real) → IsServerState net old state → IsStep net state input old new sent
+  pub step : (net : Net real) (state : ServerState real) → IsServerState net old state → IsServerStep net state input old new sent
   pub stamp_is : stamp ≡ stamp_after old.clock taken
   pub clock_is : new.clock ≡ stamp
   pub same_server : new.server ≡ old.server

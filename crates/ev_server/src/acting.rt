@@ -14,12 +14,10 @@ use crate::due::Due;
 use crate::ledger::Ledger;
 use ev_counting::Route;
 use ev_memory::NoMemory;
+use ev_routing::LAST_LINK;
 use ev_session::Planned;
 use ev_wire::{Delivery, Id, Lists, Message, Semantics, Sent, SharedNotice, SharedText};
 use std::alloc::Global;
-
-/// The last number that a link may have; those above are clients.
-pub(crate) const LAST_LINK: u32 = 64;
 
 /// A delivery with its client.
 #[derive(Drop)]

@@ -33,13 +33,13 @@ impl Model for Ledger {
     ghost use Rattle.ev_control.specs.Holdings.{held_from};
     ghost use Rattle.ev_control.specs.Control.{subs};
     ghost use Rattle.ev_server.specs.Ledger.{LedgerParts};
-    ghost use Rattle.ev_server.specs.Staged.{Turns};
+    ghost use Rattle.ev_server.specs.Staged.{StagedTurn};
 
     ghost Value = { LedgerParts };
 
     ghost view = { λ l. record { control = l.control; published = l.published.value.filters; staged = l.staged.changes } };
 
-    ghost invariant = { λ l. Turns (λ i. held_from list_before i l.published.value.filters) (subs l.control) l.staged.changes };
+    ghost invariant = { λ l. StagedTurn (λ i. held_from list_before i l.published.value.filters) (subs l.control) l.staged.changes };
 }
 
 impl Ledger {

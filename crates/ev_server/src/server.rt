@@ -23,7 +23,7 @@ ghost use Rattle.ev_server.specs.Staged.{IsStaged};
 ghost use Rattle.ev_server.specs.Routed.{RoutesNext, RoutesMessage};
 ghost use Rattle.ev_server.specs.Linked.{AreHeldLinks, SuitsCore, IsLinked, IsOnLinks};
 
-use crate::acting::{LAST_LINK, act, act_on, spread};
+use crate::acting::{act, act_on, spread};
 use crate::clients::Clients;
 use crate::due::Due;
 use crate::ledger::Ledger;
@@ -34,6 +34,7 @@ use ev_control::HeldLink;
 use ev_counting::{Change, Route};
 use ev_memory::NoMemory;
 use ev_notice::{Advert, Notice, allows};
+use ev_routing::LAST_LINK;
 use ev_session::Session;
 use ev_wire::{Adverts, Command, Filters, Lists, Message, Semantics, Sent, SharedNotice};
 use std::alloc::Global;

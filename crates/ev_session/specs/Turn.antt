@@ -15,6 +15,6 @@ abbrev pub advert_set_at : SessionParts → ℕ → List (List ConstraintParts)
 advert_set_at session count = adverts_after real [] (first_commands session count)
 
 -- a change turns one set into another, and takes out nothing that it adds
-pub record Turns (now next out add : List (List ConstraintParts)) : Type 0 where
+pub record TurnsInto (now next out add : List (List ConstraintParts)) : Type 0 where
   pub turned : union list_before add (minus list_before now out) ≡ next
   pub apart : (x : List ConstraintParts) → Has x out → Has x add → ⊥

@@ -9,14 +9,14 @@ ghost use Rattle.ev_model.specs.Nets.{with_adverts};
 ghost use Rattle.ev_session.specs.declared.planned.Planned.TheVariants as plans;
 ghost use Rattle.ev_session.specs.Session.{SessionParts, net_under};
 ghost use Rattle.ev_session.specs.Plan.{next_plan};
-ghost use Rattle.ev_session.specs.Turn.{filter_set_at, advert_set_at, Turns};
+ghost use Rattle.ev_session.specs.Turn.{filter_set_at, advert_set_at, TurnsInto};
 
 /// A planned change turns the client's set, as a server holds it, into the next one.
 pub fn sets_turn()
     ensures filters { (s : SessionParts) (out add : List (List ConstraintParts)) → next_plan s ≡ Some (plans.Subs out add)
-        → Turns (filter_set_at s s.taken) (filter_set_at s (suc s.taken)) out add }
+        → TurnsInto (filter_set_at s s.taken) (filter_set_at s (suc s.taken)) out add }
     ensures adverts { (s : SessionParts) (out add : List (List ConstraintParts)) → next_plan s ≡ Some (plans.Advs out add)
-        → Turns (advert_set_at s s.taken) (advert_set_at s (suc s.taken)) out add }
+        → TurnsInto (advert_set_at s s.taken) (advert_set_at s (suc s.taken)) out add }
 {}
 
 /// What is accepted and what is refused in a net depends on its semantics alone.

@@ -12,7 +12,7 @@ use Rattle.ev_constraint.specs.Constraint.{value_satisfies}
 use Rattle.ev_constraint.proofs.BytesLemmas.{has_prefix-tells, has_suffix-tells, has_part-tells}
 use Rattle.ev_index.specs.Pairs.{Pair, Same, passes, ids_met}
 use Rattle.ev_textindex.specs.Keys.{key_of}
-use Rattle.ev_textindex.specs.Heads.{one, two, head_first, last_bytes, head_at, head_of, is_among, is_at_begin, is_at_end, is_inside, has_one, has_two, is_pattern, is_pattern_at, ids_headed, AreAllPatterns}
+use Rattle.ev_textindex.specs.Heads.{one, two, head_first, last_bytes, head_at, head_of, is_one_of_three, is_at_begin, is_at_end, is_inside, has_one, has_two, is_pattern, is_pattern_at, ids_headed, AreAllPatterns}
 use Rattle.ev_textindex.proofs.Headed.{counts, tally-met, tally-headed, tally-good}
 use Rattle.ev_textindex.proofs.Probed.{is_met}
 use Rattle.ev_textindex.proofs.Shelved.{number-told}
@@ -25,13 +25,13 @@ or-right : (a b : Bool) → b ≡ true → (a || b) ≡ true
 or-right true b e = refl
 or-right false b e = e
 
-is-first : (a b c h : ℕ) → a ≡ h → is_among a b c h ≡ true
+is-first : (a b c h : ℕ) → a ≡ h → is_one_of_three a b c h ≡ true
 is-first a b c h e = or-left (a == h) ((b == h) || (c == h)) (number-told a h e)
 
-is-second : (a b c h : ℕ) → b ≡ h → is_among a b c h ≡ true
+is-second : (a b c h : ℕ) → b ≡ h → is_one_of_three a b c h ≡ true
 is-second a b c h e = or-right (a == h) ((b == h) || (c == h)) (or-left (b == h) (c == h) (number-told b h e))
 
-is-third : (a b c h : ℕ) → c ≡ h → is_among a b c h ≡ true
+is-third : (a b c h : ℕ) → c ≡ h → is_one_of_three a b c h ≡ true
 is-third a b c h e = or-right (a == h) ((b == h) || (c == h)) (or-right (b == h) (c == h) (number-told c h e))
 
 begins : (u rest : List ℕ) → is_at_begin (u ++ rest) (head_first ops.Prefix u) ≡ true

@@ -16,7 +16,7 @@ use Rattle.ev_index.proofs.Keyed.{tally-said}
 use Rattle.ev_index.proofs.Members.{in-flat, in-keyed}
 use Rattle.ev_textindex.specs.declared.row.Row.{Row}
 use Rattle.ev_textindex.specs.Keys.{same_bytes, key_of, test_at, bytes_of}
-use Rattle.ev_textindex.specs.Rows.{HasAt, rows_pairs, row_pairs, said}
+use Rattle.ev_textindex.specs.Rows.{HasTextAt, rows_pairs, row_pairs, said}
 use Rattle.ev_textindex.proofs.Keys.{same-self}
 use Rattle.ev_textindex.proofs.Codes.{decode, encode}
 
@@ -27,7 +27,7 @@ itself k id = ap {B = Bool} (λ b. b && (id == id)) (same-self k) ∙ here id
     here n = grind (arith, nat_tests)
 
 -- a pair of the rows stands in a row of its operator, under its key
-in-rows : (c : ConstraintParts) (op : Op) (key : List ℕ) (id : ℕ) (rows : List Row) → c.kind ≡ kinds.Str → op ≡ c.op → key ≡ key_of c.operand → ((k : ℕ) → k < length rows → (d : Row) → HasAt op key id (get_or rows k d) → ⊥) → (d : Row) → IsIn (test_of c, id) (rows_pairs rows) → ⊥
+in-rows : (c : ConstraintParts) (op : Op) (key : List ℕ) (id : ℕ) (rows : List Row) → c.kind ≡ kinds.Str → op ≡ c.op → key ≡ key_of c.operand → ((k : ℕ) → k < length rows → (d : Row) → HasTextAt op key id (get_or rows k d) → ⊥) → (d : Row) → IsIn (test_of c, id) (rows_pairs rows) → ⊥
 in-rows c op key id rows n b e none d m =
     let r = in-flat row_pairs (test_of c, id) rows m in
     let row = get_or rows r.place d in
@@ -40,7 +40,7 @@ in-rows c op key id rows n b e none d m =
     under-bytes : (p : List ℕ × ℕ → Bool) (k : Vec ℕ Global) (id : ℕ) (es : List (Vec ℕ Global × Vec ℕ Global)) → p (k.items, id) ≡ true → IsIn (k, id) (keyed (λ j. j) es) → 1 ≤ tally p (keyed bytes_of es)
     under-bytes p k id es h m = omega (arith, tally-in (λ (x : Vec ℕ Global × ℕ). p (x.0.items, x.1)) (k, id) (keyed (λ j. j) es) h m, tally-said bytes_of p es)
 
-pub not-in-rows : (c : ConstraintParts) (op : Op) (key : List ℕ) (id : ℕ) (rows : List Row) → c.kind ≡ kinds.Str → op ≡ c.op → key ≡ key_of c.operand → ((k : ℕ) → k < length rows → (d : Row) → HasAt op key id (get_or rows k d) → ⊥) → IsIn (test_of c, id) (rows_pairs rows) → ⊥
+pub not-in-rows : (c : ConstraintParts) (op : Op) (key : List ℕ) (id : ℕ) (rows : List Row) → c.kind ≡ kinds.Str → op ≡ c.op → key ≡ key_of c.operand → ((k : ℕ) → k < length rows → (d : Row) → HasTextAt op key id (get_or rows k d) → ⊥) → IsIn (test_of c, id) (rows_pairs rows) → ⊥
 not-in-rows c op key id [] n b e none m = m
 not-in-rows c op key id (r ∷ rows) n b e none m = in-rows c op key id (r ∷ rows) n b e none r m
 

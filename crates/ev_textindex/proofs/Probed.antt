@@ -3,7 +3,7 @@ use Rattle.std.proofs.Common.{◌≡◌, ◌≤◌, ◌+◌, ◌*◌, ◌==◌, 
 use Rattle.std.proofs.lemmas.Bool.Decides.{nat_tests}
 use Rattle.ev_constraint.specs.declared.op.Op.{Op}
 use Rattle.ev_constraint.specs.declared.op.Op.TheVariants as ops
-use Rattle.ev_textindex.specs.Heads.{mark, one, two, head_first, head_at, head_of, last_bytes, is_part, is_part_op, is_among, is_at_begin, is_at_end, is_inside, has_one, has_two}
+use Rattle.ev_textindex.specs.Heads.{mark, one, two, head_first, head_at, head_of, last_bytes, is_part, is_part_op, is_one_of_three, is_at_begin, is_at_end, is_inside, has_one, has_two}
 use Rattle.ev_index.specs.Pairs.{Pair}
 use Rattle.ev_textindex.specs.Keys.{key_of}
 use Rattle.ev_textindex.proofs.Shelved.{number-tells}
@@ -28,7 +28,7 @@ one-more-head f k h = go (k == h) (f k) (f h) (λ w. ap f (number-tells k h w))
 pub one-more-pair : (a b : ℕ) (later rest : List ℕ) → later ≡ b ∷ rest → (h : ℕ) → cond (has_two (a ∷ later) h) 1 0 ≡ cond (not (has_two later (two ops.Contains a b)) && (two ops.Contains a b == h)) 1 0 + cond (has_two later h) 1 0
 one-more-pair a b later rest e h = subst (λ (l : List ℕ). ◌≡◌ {A = ℕ} (cond (has_two (a ∷ l) h) 1 0) (cond (not (has_two l (two ops.Contains a b)) && (two ops.Contains a b == h)) 1 0 + cond (has_two l h) 1 0)) (sym e) (one-more-head (has_two (b ∷ rest)) (two ops.Contains a b) h)
 
-pub any-of-three : (a b c h : ℕ) → cond (is_among a b c h) 1 0 ≡ cond (a == h) 1 0 + (cond (not (a == b || a == b) && (b == h)) 1 0 + cond (not (a == c || b == c) && (c == h)) 1 0)
+pub any-of-three : (a b c h : ℕ) → cond (is_one_of_three a b c h) 1 0 ≡ cond (a == h) 1 0 + (cond (not (a == b || a == b) && (b == h)) 1 0 + cond (not (a == c || b == c) && (c == h)) 1 0)
 any-of-three a b c h = grind (arith, nat_tests)
 
 pub no-one : (x : List ℕ) (h : ℕ) → length x ≡ 0 → has_one x h ≡ false
@@ -90,7 +90,7 @@ first-form op [] = record { rest = 0; tells = omega arith }
 first-form op (a ∷ []) = record { rest = 1 + 2 * a; tells = omega arith }
 first-form op (a ∷ b ∷ u) = record { rest = 2 + (512 * a + 2 * b); tells = omega arith }
 
-among-form : (m a b c h : ℕ) → IsMarked m a → IsMarked m b → IsMarked m c → is_among a b c h ≡ true → IsMarked m h
+among-form : (m a b c h : ℕ) → IsMarked m a → IsMarked m b → IsMarked m c → is_one_of_three a b c h ≡ true → IsMarked m h
 among-form m a b c h f g k e = either-true (a == h) ((b == h) || (c == h)) e (λ w. record { rest = f.rest; tells = sym (number-tells a h w) ∙ f.tells }) (λ d. either-true (b == h) (c == h) d (λ w. record { rest = g.rest; tells = sym (number-tells b h w) ∙ g.tells }) (λ w. record { rest = k.rest; tells = sym (number-tells c h w) ∙ k.tells }))
 
 begin-form : (x : List ℕ) (h : ℕ) → is_at_begin x h ≡ true → IsMarked 1 h

@@ -99,8 +99,8 @@ ids_headed s v [] = []
 ids_headed s v (x ∷ rest) = if s (head_of x) && passes v x.0 then x.1 ∷ ids_headed s v rest else ids_headed s v rest
 
 -- the head is one of three
-abbrev pub is_among : ℕ → ℕ → ℕ → ℕ → Bool
-is_among a b c h = (a == h) || ((b == h) || (c == h))
+abbrev pub is_one_of_three : ℕ → ℕ → ℕ → ℕ → Bool
+is_one_of_three a b c h = (a == h) || ((b == h) || (c == h))
 
 -- the head of a single byte of the text
 abbrev pub has_one : List ℕ → ℕ → Bool
@@ -115,11 +115,11 @@ has_two (a ∷ b ∷ x) h = (two ops.Contains a b == h) || has_two (b ∷ x) h
 
 -- the heads of operands that a text may begin with
 abbrev pub is_at_begin : List ℕ → ℕ → Bool
-is_at_begin x h = is_among (mark ops.Prefix) (head_first ops.Prefix (take 1 x)) (head_first ops.Prefix x) h
+is_at_begin x h = is_one_of_three (mark ops.Prefix) (head_first ops.Prefix (take 1 x)) (head_first ops.Prefix x) h
 
 -- of those that it may end with
 abbrev pub is_at_end : List ℕ → ℕ → Bool
-is_at_end x h = is_among (mark ops.Suffix) (head_first ops.Suffix (last_bytes 1 x)) (head_first ops.Suffix (last_bytes 2 x)) h
+is_at_end x h = is_one_of_three (mark ops.Suffix) (head_first ops.Suffix (last_bytes 1 x)) (head_first ops.Suffix (last_bytes 2 x)) h
 
 -- and of those that may stand in it
 abbrev pub is_inside : List ℕ → ℕ → Bool

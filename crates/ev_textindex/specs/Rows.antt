@@ -8,12 +8,12 @@ use Rattle.ev_textindex.specs.declared.row.Row.{Row}
 use Rattle.ev_textindex.specs.Keys.{test_at, same_bytes, bytes_of}
 
 -- the row has the id under the key
-abbrev pub HasUnder : List ℕ → ℕ → Row → Type 0
-HasUnder key id r = 1 ≤ tally (λ x. same_bytes key x.0 && (x.1 == id)) (keyed bytes_of r.groups.entries)
+abbrev pub HasIdUnder : List ℕ → ℕ → Row → Type 0
+HasIdUnder key id r = 1 ≤ tally (λ x. same_bytes key x.0 && (x.1 == id)) (keyed bytes_of r.groups.entries)
 
 -- the row is of this operator, and has the id under the key
-abbrev pub HasAt : Op → List ℕ → ℕ → Row → Type 0
-HasAt op key id r = (r.op ≡ op) × HasUnder key id r
+abbrev pub HasTextAt : Op → List ℕ → ℕ → Row → Type 0
+HasTextAt op key id r = (r.op ≡ op) × HasIdUnder key id r
 
 -- the test of a key of a row
 abbrev pub said : Op → Vec ℕ Global → Test

@@ -3,7 +3,7 @@ ghost use Rattle.std.specs.Prelude.{◌≡◌, ◌==◌, ◌&&◌, ◌||◌, not
 ghost use Rattle.ev_values.specs.declared.value.Value.{Value};
 ghost use Rattle.ev_constraint.specs.declared.op.Op.{Op};
 ghost use Rattle.ev_index.specs.Pairs.{Appends, tally, ids_met};
-ghost use Rattle.ev_textindex.specs.Heads.{mark, one, two, head_first, last_bytes, is_among, is_at_begin, is_at_end, is_inside, is_part};
+ghost use Rattle.ev_textindex.specs.Heads.{mark, one, two, head_first, last_bytes, is_one_of_three, is_at_begin, is_at_end, is_inside, is_part};
 ghost use Rattle.ev_textindex.specs.Heads.{has_one, has_two, ids_headed, AreAllPatterns};
 
 use crate::head::{has_one, has_two, head_first, last_bytes, mark, one, two};
@@ -44,7 +44,7 @@ fn meet_three(
     x: &[u8],
     found: &mut Vec<u32>,
 ) -> Result<(), NoMemory>
-    ensures { OnOk result (Appends found.old.items found.new.items (ids_headed (is_among a b c) (Value.Str x.now) heads.now)) }
+    ensures { OnOk result (Appends found.old.items found.new.items (ids_headed (is_one_of_three a b c) (Value.Str x.now) heads.now)) }
 {
     heads.meet(a, x, found)?;
     meet_other(heads, (a, a), b, x, found)?;

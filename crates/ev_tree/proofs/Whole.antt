@@ -4,7 +4,7 @@ use Rattle.std.proofs.Math.ListN.{get_or-eq_default}
 use Rattle.ev_sets.specs.Sets.{Has, IsRising}
 use Rattle.ev_tree.specs.Graph.{IsCount, servers_to, neighbours_by}
 use Rattle.ev_tree.specs.Hops.{AreHops, side}
-use Rattle.ev_tree.specs.Tree.{topology, links_of, entry, IsTable, IsSound}
+use Rattle.ev_tree.specs.Tree.{topology, links_of, entry, IsTable, IsSoundTree}
 use Rattle.ev_tree.proofs.Servers.{rising-neighbours, server-in}
 use Rattle.ev_tree.proofs.Hopping.{neighbours-by-hops}
 
@@ -31,7 +31,7 @@ module _ (n : ℕ) (edges : List (ℕ × ℕ)) (neighbours hops : List (List ℕ
       go (inl l) = by_hops (suc a) (omega arith) l ∙ neighbours-by-hops n edges (entry hops) good (suc a) (omega arith, l)
       go (inr l) = get_or-eq_default neighbours [] (omega (arith, rows)) ∙ sym (outside (suc a) (λ k h. omega arith))
 
-  pub sound : IsSound (topology n neighbours hops)
+  pub sound : IsSoundTree (topology n neighbours hops)
   sound =
       let links : neighbours_by n edges ≡ links_of (topology n neighbours hops) = sym (fun-ext (links_of (topology n neighbours hops)) (neighbours_by n edges) links-are) in
       record {

@@ -64,7 +64,7 @@ pub record IsTable (n : ℕ) (rows : List (List ℕ)) : Type 0 where
   pub places : (a : ℕ) → a ≤ n → length (slice_index_or rows a []) ≡ suc n
 
 -- the tables have their size, and the laws hold
-pub record IsSound (tree : Topology) : Type 0 where
+pub record IsSoundTree (tree : Topology) : Type 0 where
   pub laws : TreeLaws tree
   pub neighbour_rows : length tree.neighbours ≡ suc tree.count
   pub hop_rows : IsTable tree.count tree.hops

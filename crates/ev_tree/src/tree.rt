@@ -22,13 +22,13 @@ pub struct Tree {
 }
 
 impl Model for Tree {
-    ghost use Rattle.ev_tree.specs.Tree.{Topology, topology, IsSound};
+    ghost use Rattle.ev_tree.specs.Tree.{Topology, topology, IsSoundTree};
 
     ghost Value = { Topology };
 
     ghost view = { λ t. topology t.count t.neighbours.items t.hops.items };
 
-    ghost invariant = { λ t. IsSound (topology t.count t.neighbours.items t.hops.items) };
+    ghost invariant = { λ t. IsSoundTree (topology t.count t.neighbours.items t.hops.items) };
 }
 
 impl Tree {

@@ -32,16 +32,16 @@ abbrev pub Knows : Book → View → Type 0
 Knows b v = v.named ≡ true → view_book v ≡ b
 
 -- the rule: the version is folded, and all views name the book of its history
-abbrev pub Keeps : Version → List View → Type 0
-Keeps x views = IsFolded x × ((seat : ℕ) (v : View) → get_elem? views seat ≡ some v → Knows x.front.seen.book v)
+abbrev pub KeepsViews : Version → List View → Type 0
+KeepsViews x views = IsFolded x × ((seat : ℕ) (v : View) → get_elem? views seat ≡ some v → Knows x.front.seen.book v)
 
 -- what entering tells a viewer
 abbrev pub Sighted : View → Version → View → Type 0
 Sighted v x w = (w ≡ v) × IsFolded x × Knows x.front.seen.book v
 
 -- what publishing tells the publisher
-abbrev pub Shown : Version → View → Type 0
-Shown y w = IsFolded y × (w ≡ named_by y.front.seen.book)
+abbrev pub ShownView : Version → View → Type 0
+ShownView y w = IsFolded y × (w ≡ named_by y.front.seen.book)
 
 -- the changes of all steps
 abbrev pub changes_of : List Step → List Change

@@ -4,13 +4,13 @@ use Rattle.logbook.specs.Pages.{Cell, Step, View, Book, Named}
 use Rattle.ev_counting.specs.declared.change.Change.{Change}
 
 -- the first word is the history's length; a book has two words, and the second stays 0
-abbrev pub IsKept : List Cell → List Change → Type 0
-IsKept cells log = cells ≡ (length log, true) ∷ (0, true) ∷ []
+abbrev pub IsBookKept : List Cell → List Change → Type 0
+IsBookKept cells log = cells ≡ (length log, true) ∷ (0, true) ∷ []
 
 -- the word of the history's length
 abbrev pub head_of : Book → Named
 head_of b = record { tracked = true; key = 0; book = b }
 
 -- the change was added to all that had been seen, where the word was what the caller had seen
-abbrev pub Adds : Step Change → View Change ℕ → ℕ → View Change ℕ → Type 0
-Adds s v found w = MatchBool (found == s.old) (w.0 ≡ v.0 ++ s.ask ∷ []) (Unit {0})
+abbrev pub AddsToSeen : Step Change → View Change ℕ → ℕ → View Change ℕ → Type 0
+AddsToSeen s v found w = MatchBool (found == s.old) (w.0 ≡ v.0 ++ s.ask ∷ []) (Unit {0})

@@ -6,25 +6,25 @@ use Rattle.ev_notice.specs.Cover.{matches}
 use Rattle.ev_notice.specs.Before.{list_before}
 use Rattle.ev_counting.specs.declared.change.Change.{Change}
 use Rattle.ev_counting.specs.declared.change.Change.TheVariants.{Add, Remove}
-use Rattle.ev_counting.specs.Table.{Held}
+use Rattle.ev_counting.specs.Table.{HeldFilter}
 
 -- the canonical order of pairs: by the interface, then by the filter
-unfoldable pub pair_before : Held → Held → Bool
+unfoldable pub pair_before : HeldFilter → HeldFilter → Bool
 pair_before x y = nat_lt x.0 y.0 || ((x.0 == y.0) && list_before x.1 y.1)
 
 -- the set of a table's pairs
-unfoldable pub pair_set : List Held → List Held
+unfoldable pub pair_set : List HeldFilter → List HeldFilter
 pair_set held = set_of pair_before held
 
 -- what a change makes of a set of pairs
-abbrev pub changed : List Held → Change → List Held
+abbrev pub changed : List HeldFilter → Change → List HeldFilter
 changed held (Add iface filter) = put_in pair_before (iface, filter) held
 changed held (Remove iface filter) = minus pair_before held ((iface, filter) ∷ [])
 
 -- the set of pairs after these changes, from none on
-unfoldable pub pairs_after : List Change → List Held
+unfoldable pub pairs_after : List Change → List HeldFilter
 pairs_after changes = fold changed [] changes
 
 -- the interfaces with a filter that the notice matches, rising
-unfoldable pub route_of : List Attribute → List Held → List ℕ
+unfoldable pub route_of : List Attribute → List HeldFilter → List ℕ
 route_of n held = set_of nat_lt (map (λ x. x.0) (filter (λ x. matches n x.1) held))

@@ -10,9 +10,9 @@ pub struct Law;
 impl Rule<Change, u64> for Law {
     ghost use Rattle.std.specs.Prelude.{[]};
     ghost use base.Fml.{ftrue};
-    ghost use Rattle.ev_versions.specs.History.{IsKept};
+    ghost use Rattle.ev_versions.specs.History.{IsBookKept};
 
-    ghost holds = { IsKept };
+    ghost holds = { IsBookKept };
 
     ghost first = { [] };
 
@@ -38,9 +38,9 @@ impl Gain<Change, u64> for Nothing {
 struct Add;
 
 impl Play<Change, u64> for Add {
-    ghost use Rattle.ev_versions.specs.History.{Adds};
+    ghost use Rattle.ev_versions.specs.History.{AddsToSeen};
 
-    ghost then = { Adds };
+    ghost then = { AddsToSeen };
 }
 
 impl Plain<Change, Change, u64> for Add {

@@ -22,9 +22,9 @@ pub struct View {
 pub struct Published;
 
 impl Protocol<Version, View> for Published {
-    ghost use Rattle.ev_versions.specs.Chain.{Keeps, nobody};
+    ghost use Rattle.ev_versions.specs.Chain.{KeepsViews, nobody};
 
-    ghost holds = { Keeps };
+    ghost holds = { KeepsViews };
 
     ghost first = { nobody };
 }
@@ -42,9 +42,9 @@ impl Outcome<Version, View> for Sees {
 pub struct Shows;
 
 impl Outcome<Version, View> for Shows {
-    ghost use Rattle.ev_versions.specs.Chain.{Shown};
+    ghost use Rattle.ev_versions.specs.Chain.{ShownView};
 
-    ghost then = { λ v x y w. Shown y w };
+    ghost then = { λ v x y w. ShownView y w };
 }
 
 /// The publisher tells a viewer the book, and the viewer learns it.

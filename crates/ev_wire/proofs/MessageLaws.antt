@@ -10,7 +10,7 @@ use Rattle.ev_wire.specs.declared.id.Id.{Id}
 use Rattle.ev_wire.specs.declared.message.Message.{Message}
 use Rattle.ev_wire.specs.declared.message.Message.TheVariants as messages
 use Rattle.ev_wire.specs.NoticeText.{notice_text}
-use Rattle.ev_wire.specs.MessageText.{changes_text, id_text, message_text, IsId, IsChange, IsSendable, AreWhole, IsSound, IsMessageText}
+use Rattle.ev_wire.specs.MessageText.{changes_text, id_text, message_text, IsId, IsChange, IsSendable, AreWhole, IsSoundMessage, IsMessageText}
 use Rattle.ev_wire.specs.Reading.{◌>>=◌, whole}
 use Rattle.ev_wire.specs.Words.{word_at, space_at, number_at}
 use Rattle.ev_wire.specs.Notices.{notice_of}
@@ -61,7 +61,7 @@ starts [] [] = tt
 starts [] (f ∷ add) = refl
 starts (f ∷ out) add = refl
 
-pub message_again : (m : Message) → IsSound m → IsSendable m → message_of (message_text m) ≡ Some m
+pub message_again : (m : Message) → IsSoundMessage m → IsSendable m → message_of (message_text m) ≡ Some m
 unfolding message_of message_text
 message_again (messages.Notice id n) sound is =
     let e : codes "notice " ++ id_text id ++ 32 ∷ notice_text n ≡ codes "notice" ++ 32 ∷ (decimal id.publisher ++ 32 ∷ (decimal id.ordinal ++ 32 ∷ notice_text n)) = ap (λ (z : List ℕ). codes "notice " ++ z) (id_flat id (32 ∷ notice_text n)) in

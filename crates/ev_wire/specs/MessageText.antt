@@ -62,13 +62,13 @@ abbrev pub AreWhole : ℕ → List (List ConstraintParts) → Type 0
 AreWhole most fs = Each (IsWhole most) fs
 
 -- what a program's types keep of a message: its notice, its filters, its advertisements are well formed
-abbrev pub IsSound : Message → Type 0
-IsSound (messages.Notice id n) = IsNotice n
-IsSound (messages.Subs out add) = AreWhole 16 out × AreWhole 16 add
-IsSound (messages.Advs out add) = AreWhole 64 out × AreWhole 64 add
+abbrev pub IsSoundMessage : Message → Type 0
+IsSoundMessage (messages.Notice id n) = IsNotice n
+IsSoundMessage (messages.Subs out add) = AreWhole 16 out × AreWhole 16 add
+IsSoundMessage (messages.Advs out add) = AreWhole 64 out × AreWhole 64 add
 
 -- the bytes are the text of a message
 pub record IsMessageText (bytes : List ℕ) (m : Message) : Type 0 where
-  pub sound : IsSound m
+  pub sound : IsSoundMessage m
   pub sendable : IsSendable m
   pub text : bytes ≡ message_text m

@@ -6,13 +6,13 @@ use Rattle.ev_wire.specs.declared.message.Message.TheVariants as messages
 use Rattle.ev_wire.specs.MessageText.{message_text}
 
 -- a notice with the id of its publication
-pub record Publication : Type 0 where
+pub record SharedPublication : Type 0 where
   pub id : Id
   pub notice : List Attribute
 
-abbrev pub publication : Id → List Attribute → Publication
+abbrev pub publication : Id → List Attribute → SharedPublication
 publication id notice = record { id = id; notice = notice }
 
 -- the text of its message
-abbrev pub publication_text : Publication → List ℕ
+abbrev pub publication_text : SharedPublication → List ℕ
 publication_text publication = message_text (messages.Notice publication.id publication.notice)

@@ -27,9 +27,9 @@ pub struct SharedNotice {
 impl Model for SharedNotice {
     ghost use Rattle.ev_wire.specs.NoticeText.{IsNoticeText};
     ghost use Rattle.ev_wire.specs.MessageText.{IsId};
-    ghost use Rattle.ev_wire.specs.Shared.{Publication, publication};
+    ghost use Rattle.ev_wire.specs.Shared.{SharedPublication, publication};
 
-    ghost Value = { Publication };
+    ghost Value = { SharedPublication };
 
     ghost view = { λ shared. publication shared.id shared.notice };
 

@@ -5,7 +5,7 @@ ghost use Rattle.ev_wire.specs.declared.message.Message.{Message};
 ghost use Rattle.ev_wire.specs.declared.message.Message.TheVariants as messages;
 ghost use Rattle.ev_wire.specs.Reading.{Gives, Reads};
 ghost use Rattle.ev_wire.specs.NoticeText.{IsNoticeText};
-ghost use Rattle.ev_wire.specs.MessageText.{id_text, message_text, IsId, IsMessageText, IsSendable, IsSound};
+ghost use Rattle.ev_wire.specs.MessageText.{id_text, message_text, IsId, IsMessageText, IsSendable, IsSoundMessage};
 ghost use Rattle.ev_wire.specs.Changes.{closed_at, marked_at};
 ghost use Rattle.ev_wire.specs.Messages.{id_at, message_of, notice_message_of};
 
@@ -119,7 +119,7 @@ fn push_id(out: &mut Vec<u8>, id: Id) -> Result<(), NoMemory>
 #[tactic(auto, unfolding(crate::specs::MessageText::message_text, crate::specs::MessageText::changes_text))]
 fn push_message(text: &mut Vec<u8>, message: &Message) -> Result<(), NoMemory>
     ensures text { OnOk result (text.new.items ≡ text.old.items ++ message_text message.now) }
-    ensures sound { OnOk result (IsSound message.now) }
+    ensures sound { OnOk result (IsSoundMessage message.now) }
 {
     match message {
         Message::Notice { id, notice } => {

@@ -19,7 +19,7 @@ use Rattle.ev_model.specs.declared.turn.Act.TheVariants as acts
 use Rattle.ev_model.specs.Parts.{NetParts, EntryParts}
 use Rattle.ev_model.specs.Meaning.{journal_of, phased_command, act_of}
 use Rattle.ev_model.specs.Nets.{phased_net, clients_of}
-use Rattle.ev_node.specs.declared.held.Held.{Held}
+use Rattle.ev_node.specs.declared.held.ServerInHand.{ServerInHand}
 use Rattle.ev_node.specs.declared.held.Root.{Root}
 use Rattle.ev_node.specs.Cell.{IsKept, IsReplayed, HasNoneBelow}
 use Rattle.ev_node.proofs.Due.{map-get, session-of, done-of, script-of}
@@ -90,7 +90,7 @@ module _ (net : Net real) where
       replay-clock k t (cell_after (routing_machine real net) c d o) es e rest
       ∙ ap (λ n. last_or n es) (sym (ap (λ (z : NetEntry real net). z.stamp) w))
 
-module _ (net : NetParts) (root : Root) (journal : List EntryParts) (held : Held) (kept : IsKept net root journal held) where
+module _ (net : NetParts) (root : Root) (journal : List EntryParts) (held : ServerInHand) (kept : IsKept net root journal held) where
   abbrev here : Net real
   here = net_at real (phased_net net) root.phase
 

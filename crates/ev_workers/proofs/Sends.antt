@@ -72,7 +72,7 @@ use Rattle.atomic_table.proofs.badge.Badge.TheSendSync as badge
 use Rattle.ev_turnlock.specs.contracts.lock.TurnLock as TurnLock
 use Rattle.ev_turnlock.specs.contracts.lock.Pass as Pass
 use Rattle.ev_node.specs.contracts.link.Link as Link
-use Rattle.ev_node.specs.contracts.held.Held as Held
+use Rattle.ev_node.specs.contracts.held.ServerInHand as Held
 use Rattle.ev_node.specs.contracts.held.Root as Root
 use Rattle.ev_node.specs.contracts.cell.Cell as Cell
 use Rattle.ev_node.specs.contracts.cell.CellStanding.TheImpl as standing

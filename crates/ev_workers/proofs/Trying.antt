@@ -6,7 +6,7 @@ use Rattle.ev_model.specs.Parts.{EntryParts}
 use Rattle.ev_server.specs.declared.stepped.StepFault.{StepFault}
 use Rattle.ev_server.specs.declared.stepped.StepFault.TheVariants.{Worn}
 use Rattle.ev_versions.specs.declared.ahead.Ahead.{Ahead}
-use Rattle.ev_node.specs.declared.held.Held.{Held}
+use Rattle.ev_node.specs.declared.held.ServerInHand.{ServerInHand}
 use Rattle.ev_node.specs.declared.held.Root.{Root}
 use Rattle.ev_node.specs.declared.what.What.{What}
 use Rattle.ev_node.specs.declared.what.What.TheVariants.{Command}
@@ -20,7 +20,7 @@ use Rattle.ev_workers.specs.Journals.{IsWornBy}
 use Rattle.ev_workers.proofs.Counted.{clock-kept}
 use Rattle.ev_workers.proofs.Lists.{prefix-of, prefix-more}
 
-module _ (old new : Held) (before after : List EntryParts) where
+module _ (old new : ServerInHand) (before after : List EntryParts) where
   -- a turn only adds to the journal
   pub grows : (phase : ℕ) (what : What) (r : Result Turned StepFault) → IfOk r (Answers phase what old new before after) → OnErr r (IsStill old new before after) → IsPrefix before after
   grows phase what (Ok Made) a s = prefix-more before after _ a.turn.entry

@@ -9,7 +9,7 @@ use Rattle.ev_model.specs.Nets.{clients_of, topology_at}
 use Rattle.ev_session.specs.Session.{SessionParts}
 use Rattle.ev_server.specs.Core.{CoreParts}
 use Rattle.ev_server.specs.Clients.{numbers_of}
-use Rattle.ev_node.specs.declared.held.Held.{Held}
+use Rattle.ev_node.specs.declared.held.ServerInHand.{ServerInHand}
 use Rattle.ev_node.specs.declared.held.Root.{Root}
 use Rattle.ev_node.specs.declared.what.What.TheVariants.{Command}
 use Rattle.ev_node.specs.Asked.{Suits}
@@ -21,7 +21,7 @@ use Rattle.ev_node.proofs.Trees.{server-known}
 use Rattle.ev_workers.specs.Journals.{HasCommands}
 use Rattle.ev_workers.proofs.Counted.{has-commands}
 
-module _ (root : Root) (journal : List EntryParts) (held : Held) (kept : IsKept root.net.value root journal held) where
+module _ (root : Root) (journal : List EntryParts) (held : ServerInHand) (kept : IsKept root.net.value root journal held) where
   -- who lives there has a session in hand
   pub lives-here : (core : CoreParts) (client : ℕ) → core ≡ held.core → Suits (Command client) root → Has client (numbers_of core.clients)
   lives-here core client e suits = subst (λ (z : CoreParts). Has client (numbers_of z.clients)) (sym e) (suits-held root.net.value root journal held kept (Command client) suits refl)

@@ -11,7 +11,7 @@ use Rattle.ev_workers.specs.declared.crew.Spare.{Spare}
 use Rattle.ev_workers.specs.declared.crew.Eyes.{Eyes}
 use Rattle.ev_workers.specs.declared.ended.Ended.{Ended}
 use Rattle.ev_workers.specs.declared.jobs.Both.{Both}
-use Rattle.ev_workers.specs.Hands.{CellLock, AreFree, IsLockFor}
+use Rattle.ev_workers.specs.Hands.{CellLock, AreFreeHands, IsLockFor}
 
 -- lists of one length whose members fit, each the one at its place
 abbrev pub Pairwise : {A B : Type 0} → (A → B → Type 0) → List A → List B → Type 0
@@ -35,15 +35,15 @@ pub record IsSpareOf (net : NetParts) (phase : ℕ) (lock : CellLock) (spare : S
 -- the crew of a lock: each worker has a pass with nothing in hand, and a viewer of its cell's publisher
 pub record IsCrewOf (net : NetParts) (phase : ℕ) (lock : CellLock) (crew : Crew) : Type 0 where
   pub spare_of : IsSpareOf net phase lock crew.spare
-  pub commands : AreFree lock crew.commands.pass crew.commands.viewer
-  pub links : AreFree lock crew.links.pass crew.links.viewer
+  pub commands : AreFreeHands lock crew.commands.pass crew.commands.viewer
+  pub links : AreFreeHands lock crew.links.pass crew.links.viewer
 
 abbrev pub AreCrews : NetParts → ℕ → List CellLock → List Crew → Type 0
 AreCrews net phase locks crews = Pairwise (IsCrewOf net phase) locks crews
 
 -- what both workers of a lock gave back
 abbrev pub AreBackAt : CellLock → Both Ended → Type 0
-AreBackAt lock done = AreFree lock done.commands.pass done.commands.viewer × AreFree lock done.links.pass done.links.viewer
+AreBackAt lock done = AreFreeHands lock done.commands.pass done.commands.viewer × AreFreeHands lock done.links.pass done.links.viewer
 
 -- both workers of a server keep what their jobs do
 abbrev pub BothKeep : {Job : Type 0} → (Job → Ended → Type 0) → Both Job → Both Ended → Type 0

@@ -32,14 +32,14 @@ pub record IsLockFor (net : NetParts) (server phase : ℕ) (lock : CellLock) : T
   pub phase_is : (lock_root lock).phase ≡ phase
 
 -- a pass of a lock with nothing in hand, and a viewer of its cell's publisher
-pub record AreFree (lock : CellLock) (pass : Pass EntryParts Root) (viewer : Viewer) : Type 0 where
+pub record AreFreeHands (lock : CellLock) (pass : Pass EntryParts Root) (viewer : Viewer) : Type 0 where
   pub own : IsPassOf (λ (c : CellParts). c.root) lock pass
   pub free : has_in_hand pass ≡ false
   pub viewer_is : IsSameViewer (lock_root lock).viewer.value viewer
 
 -- the same of a worker's hands
 abbrev pub AreHands : CellLock → Hands → Type 0
-AreHands lock hands = AreFree lock hands.pass hands.viewer
+AreHands lock hands = AreFreeHands lock hands.pass hands.viewer
 
 -- the same hands later: the pass has seen at least what it had seen
 pub record AreLater (old new : Hands) : Type 0 where
@@ -54,7 +54,7 @@ IsPicked (Taken client turned) root journal = Unit {0}
 IsPicked (Ahead client notice) root journal = Suits (Command client) root
 
 -- what was looked at: who sent the notice is a neighbour
-abbrev pub IsLooked : Looked → Root → Type 0
-IsLooked (looks.Taken from turned) root = Unit {0}
-IsLooked (looks.Ahead from notice) root = Suits (Take from) root
-IsLooked (looks.Version turned) root = Unit {0}
+abbrev pub SuitsLooked : Looked → Root → Type 0
+SuitsLooked (looks.Taken from turned) root = Unit {0}
+SuitsLooked (looks.Ahead from notice) root = Suits (Take from) root
+SuitsLooked (looks.Version turned) root = Unit {0}

@@ -37,13 +37,13 @@ impl<'l, 'a, R: Wait, G: Gate> Desk<'l, 'a, R, G> {
     ghost use Rattle.ev_turnlock.specs.Passes.{IsPassOf, IsSamePass, has_in_hand, seen_by};
     ghost use Rattle.ev_versions.specs.Ends.{IsAheadBy};
     ghost use Rattle.ev_node.specs.Asked.{Suits};
-    ghost use Rattle.ev_workers.specs.Hands.{AreFree, AreHands, AreLater, IsLooked, IsPicked, lock_root};
+    ghost use Rattle.ev_workers.specs.Hands.{AreFreeHands, AreHands, AreLater, SuitsLooked, IsPicked, lock_root};
     ghost use Rattle.ev_workers.specs.Journals.{IsWornBy};
     ghost use Rattle.ev_workers.specs.Work.{Keeps};
 
     /// Works, and gives back the pass and the viewer.
     pub(crate) fn run(&self, pass: Pass<Entry, Root>, viewer: Viewer) -> Ended
-        requires { AreFree self.now.lock.now pass viewer }
+        requires { AreFreeHands self.now.lock.now pass viewer }
         ensures { Keeps self.now.worker pass viewer result }
     {
         let hands = Hands {
@@ -122,7 +122,7 @@ impl<'l, 'a, R: Wait, G: Gate> Desk<'l, 'a, R, G> {
         requires { AreHands self.now.lock.now hands.old }
         ensures hands { AreHands self.now.lock.now hands.new }
         ensures later { AreLater hands.old hands.new }
-        ensures looked { IfOk result (λ looked. IfSome looked (λ l. IsLooked l (lock_root self.now.lock.now))) }
+        ensures looked { IfOk result (λ looked. IfSome looked (λ l. SuitsLooked l (lock_root self.now.lock.now))) }
     {
         let Some(mut cell) = self.take(&mut hands.pass) else {
             return Ok(None);

@@ -4,7 +4,7 @@ ghost use mathlib.Core.List.{IsPrefix};
 ghost use Rattle.ev_versions.specs.Ends.{IsAheadBy, IsSameViewer};
 ghost use Rattle.ev_node.specs.Asked.{Suits};
 ghost use Rattle.ev_node.specs.Cell.{IsPast};
-ghost use Rattle.ev_workers.specs.Hands.{IsPicked, IsLooked};
+ghost use Rattle.ev_workers.specs.Hands.{IsPicked, SuitsLooked};
 ghost use Rattle.ev_workers.specs.Journals.{HasCommands, IsWornBy};
 
 use crate::tried::{Looked, Picked};
@@ -151,7 +151,7 @@ fn look_from<R: Wait>(rt: &R, cell: &mut Cell<'_>, from: u32) -> Result<Looked, 
     requires { Suits (What.Take from) cell.old.root }
     ensures root { cell.new.root ≡ cell.old.root }
     ensures grows { IsPrefix cell.old.journal cell.new.journal }
-    ensures looked { IfOk result (λ looked. IsLooked looked cell.new.root) }
+    ensures looked { IfOk result (λ looked. SuitsLooked looked cell.new.root) }
 {
     if let Some(notice) = cell.look(rt, from)? {
         return Ok(Looked::Ahead(from, notice));
@@ -172,7 +172,7 @@ pub(crate) fn look_at<R: Wait>(
     requires server { cell.old.root.server ≡ server }
     ensures root { cell.new.root ≡ cell.old.root }
     ensures grows { IsPrefix cell.old.journal cell.new.journal }
-    ensures looked { IfOk result (λ looked. IsLooked looked cell.new.root) }
+    ensures looked { IfOk result (λ looked. SuitsLooked looked cell.new.root) }
 {
     match neighbour_at(cell, net, server, place) {
         Some(from) => look_from(rt, cell, from),

@@ -1,7 +1,7 @@
 //! A worker with all that it is given.
 ghost use Rattle.std.specs.Prelude.{◌≡◌, ◌≤◌, [], length, vec_capacity};
 ghost use Rattle.ev_workers.specs.Crews.{AreCrews, IsSpareOf, Pairwise};
-ghost use Rattle.ev_workers.specs.Hands.{AreFree, IsLockFor};
+ghost use Rattle.ev_workers.specs.Hands.{AreFreeHands, IsLockFor};
 
 use crate::crew::{Crew, Seat, Spare};
 use crate::desk::Desk;
@@ -29,7 +29,7 @@ pub(crate) struct Site<'l, R: Wait, G: Gate> {
 pub(crate) struct Hire<'l, 'a, R: Wait, G: Gate> {
     pub(crate) desk: Desk<'l, 'a, R, G>,
     pub(crate) seat: Seat,
-    ghost free: { AreFree desk.lock.now seat.pass seat.viewer },
+    ghost free: { AreFreeHands desk.lock.now seat.pass seat.viewer },
 }
 
 impl<'l, 'a, R: Wait, G: Gate> Job for Hire<'l, 'a, R, G> {
@@ -53,7 +53,7 @@ fn hire_one<'l, 'a, R: Wait, G: Gate>(
     seat: Seat,
 ) -> Hire<'l, 'a, R, G>
     requires lock { IsLockFor site.now.net.now server site.now.phase lock.now }
-    requires free { AreFree lock.now seat.pass seat.viewer }
+    requires free { AreFreeHands lock.now seat.pass seat.viewer }
     ensures { result.seat ≡ seat }
 {
     Hire {
@@ -82,8 +82,8 @@ pub(crate) fn hire_all<'l, 'a, R: Wait, G: Gate>(
     requires crews { AreCrews site.now.net.now site.now.phase locks.now crews.items }
     requires empty { (jobs.old.items ≡ []) × (spares.old.items ≡ []) }
     requires room { (length locks.now ≤ vec_capacity jobs.old) × (length locks.now ≤ vec_capacity spares.old) }
-    ensures hired { Pairwise (λ lock both. AreFree lock both.commands.seat.pass both.commands.seat.viewer
-        × AreFree lock both.links.seat.pass both.links.seat.viewer) locks.now jobs.new.items }
+    ensures hired { Pairwise (λ lock both. AreFreeHands lock both.commands.seat.pass both.commands.seat.viewer
+        × AreFreeHands lock both.links.seat.pass both.links.seat.viewer) locks.now jobs.new.items }
     ensures spares { Pairwise (IsSpareOf site.now.net.now site.now.phase) locks.now spares.new.items }
     ensures capacity { (vec_capacity jobs.new ≡ vec_capacity jobs.old) × (vec_capacity spares.new ≡ vec_capacity spares.old) }
 {

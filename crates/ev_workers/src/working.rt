@@ -1,5 +1,5 @@
 //! One worker of a server.
-ghost use Rattle.ev_workers.specs.Hands.{AreFree, IsLockFor};
+ghost use Rattle.ev_workers.specs.Hands.{AreFreeHands, IsLockFor};
 ghost use Rattle.ev_workers.specs.Work.{Keeps};
 
 use crate::desk::Desk;
@@ -31,7 +31,7 @@ pub fn work<R: Wait, G: Gate>(
     gate: &G,
 ) -> Ended
     requires lock { IsLockFor net.now server phase lock.now }
-    requires free { AreFree lock.now pass viewer }
+    requires free { AreFreeHands lock.now pass viewer }
     ensures { Keeps worker pass viewer result }
 {
     let desk = Desk {

@@ -1,5 +1,5 @@
 use Rattle.std.proofs.Common.{◌∙◌, ap, sym, None}
-use Rattle.ev_counting.specs.Table.{Held}
+use Rattle.ev_counting.specs.Table.{HeldFilter}
 use Rattle.ev_counting.specs.Order.{nth, slot_behind}
 use Rattle.ev_counting.proofs.Standing.{stands-here}
 use Rattle.ev_counting.proofs.Order.{seek-here, seek-inner, seek-end, live-within}
@@ -10,7 +10,7 @@ pub returns-then-not-is_behind-clause-ok : goal.returns-then-not-is_behind-claus
 returns-then-not-is_behind-clause-ok c =
     let slots = c.args.slots.now in
     let sorted = c.args.sorted.now in
-    let pair : Held = (c.args.iface, c.args.filter.now) in
+    let pair : HeldFilter = (c.args.iface, c.args.filter.now) in
     let l = c.if-at-sorted.true in
     let here = stands-here slots (nth sorted c.rank-at.result) c.index-slots-sorted.result None (live-within slots sorted c.requires c.rank-at.result l) c.index-slots-sorted.is in
     seek-here slots sorted c.requires pair c.rank-at.result l (c.rank-at.ensures.at l) (ap (λ s. slot_behind s pair) here ∙ sym c.is_behind.ensures ∙ c.if-not-is_behind.true)
@@ -19,7 +19,7 @@ pub returns-else-at-sorted-clause-err : goal.returns-else-at-sorted-clause-err
 returns-else-at-sorted-clause-err c =
     let slots = c.args.slots.now in
     let sorted = c.args.sorted.now in
-    let pair : Held = (c.args.iface, c.args.filter.now) in
+    let pair : HeldFilter = (c.args.iface, c.args.filter.now) in
     elim c.else-at-sorted.branch [
       | else-at-sorted-via-then-at-sorted+else-not-is_behind w ↦ (
           let l = w.if-at-sorted.true in

@@ -1,11 +1,11 @@
 use Rattle.std.specs.Prelude.{Result, Ok, Err, IfOk}
 use Rattle.std.proofs.Common.{map, sym, subst}
-use Rattle.ev_merge.specs.Merging.{AreJournals, IsMergeOf}
+use Rattle.ev_merge.specs.Merging.{AreServerJournals, IsMergeOf}
 use Rattle.ev_course.specs.Course.{IsWholeMerge}
 use Rattle.ev_course.proofs.ran.merged.Goals as goal
 
 pub merge-requires : goal.merge-requires
-merge-requires c = let s = c.requires.stand in subst AreJournals (sym c.in_ok-journals.ensures) (c.whole_run.ensures.journals c.args.net.now s.0 s.1 c.args.cells.now s.2)
+merge-requires c = let s = c.requires.stand in subst AreServerJournals (sym c.in_ok-journals.ensures) (c.whole_run.ensures.journals c.args.net.now s.0 s.1 c.args.cells.now s.2)
 
 if-ok : {T E : Type 0} (r : Result T E) (P Q : T → Type 0) → ((x : T) → P x → Q x) → IfOk r P → IfOk r Q
 if-ok (Ok x) P Q f p = f x p

@@ -3,7 +3,7 @@ use Rattle.std.proofs.lemmas.Option.{slice_get_read, same_Some}
 use Rattle.ev_flood.specs.declared.phase.PhaseFilters.{PhaseFilters}
 use Rattle.ev_flood.specs.Held.{Script, every_filters, passing_filters}
 use Rattle.ev_flood.specs.Publications.{is_met}
-use Rattle.ev_flood.specs.Tables.{AreOf, AreAll, AllUpTo}
+use Rattle.ev_flood.specs.Tables.{AreFiltersOf, AreAll, AllUpTo}
 use Rattle.ev_flood.proofs.Finding.{length_set, upto_next, upto_all}
 use Rattle.ev_flood.proofs.tables.brought.Goals as goal
 
@@ -15,7 +15,7 @@ loop-place-preserved c =
     let list = c.in_ok-lists.lists in
     let at = slice_get_read clients (length clients) place client refl c.loop-place-test.true c.index-clients-place.is in
     let script : c.deref.result.now ≡ client.script = search rules in
-    let of : AreOf c.args.phase client.script list = record {
+    let of : AreFiltersOf c.args.phase client.script list = record {
       every = λ n. subst (λ (z : Script). is_met list.every.items n ≡ is_met (every_filters c.args.phase z) n) script (c.in_ok-lists.ensures.every n);
       passing = λ n. subst (λ (z : Script). is_met list.passing.items n ≡ is_met (passing_filters c.args.phase z) n) script (c.in_ok-lists.ensures.passing n);
     } in record {

@@ -1,21 +1,21 @@
 use Rattle.std.proofs.Common.{length, refl, sym, subst}
 use Rattle.std.proofs.lemmas.Option.{slice_get_read}
 use Rattle.ev_flood.specs.Held.{Owned}
-use Rattle.ev_flood.specs.Shown.{Shows, IsBrought}
+use Rattle.ev_flood.specs.Shown.{ShowsFilters, IsBrought}
 use Rattle.ev_flood.proofs.Finding.{shown_set}
 use Rattle.ev_flood.proofs.tables.with_lists.Goals as goal
 
 pub bring-requires : goal.bring-requires
 bring-requires c =
     let lists = c.args.tables.lists.items in
-    subst (λ (z : Owned). Shows c.args.tables.every c.args.place z) (sym c.deref.ensures.value)
+    subst (λ (z : Owned). ShowsFilters c.args.tables.every c.args.place z) (sym c.deref.ensures.value)
     (c.requires.shown.at_every c.args.place c.index-old.result.now
     (slice_get_read lists (length lists) c.args.place c.index-old.result.now refl c.requires.within c.index-old.ensures))
 
 pub bring-requires-2 : goal.bring-requires-2
 bring-requires-2 c =
     let lists = c.args.tables.lists.items in
-    subst (λ (z : Owned). Shows c.args.tables.passing c.args.place z) (sym c.deref-3.ensures.value)
+    subst (λ (z : Owned). ShowsFilters c.args.tables.passing c.args.place z) (sym c.deref-3.ensures.value)
     (c.requires.shown.at_some c.args.place c.index-old.result.now
     (slice_get_read lists (length lists) c.args.place c.index-old.result.now refl c.requires.within c.index-old.ensures))
 

@@ -1,5 +1,5 @@
 use Rattle.std.proofs.Common.{ℕ, ◌∙◌, ap, subst, sym}
-use Rattle.ev_input.specs.Answer.{Fails}
+use Rattle.ev_input.specs.Answer.{FailsByRule}
 use Rattle.ev_input.specs.Commands.{command_of}
 use Rattle.ev_input.proofs.Spelled.{command_told, told_fault}
 use Rattle.ev_input.proofs.scripts.command_of.Goals as goal
@@ -9,6 +9,6 @@ returns-in-Ok c = ap (λ (v : ℕ). command_of v c.args.line) (sym c.number.ensu
 
 pub returns-in-Err : goal.returns-in-Err
 returns-in-Err c =
-    subst (λ (v : ℕ). Fails c.line_fault.result (command_of v c.args.line)) c.number.ensures.value
+    subst (λ (v : ℕ). FailsByRule c.line_fault.result (command_of v c.args.line)) c.number.ensures.value
     (told_fault c.number.result c.args.line c.command.result c.in-Err.fault c.line_fault.result c.in-Err.is c.line_fault.ensures
     c.command.ensures.syntax c.command.ensures.value c.command.ensures.operand c.command.ensures.count c.command.ensures.repeat)

@@ -3,14 +3,14 @@ use Rattle.std.proofs.lemmas.List.{take_more}
 use Rattle.ev_tree.specs.Graph.{AreWithin, IsTree}
 use Rattle.ev_tree.specs.Tree.{Topology}
 use Rattle.ev_input.specs.Net.{AreTreesOf, IsTreeOf}
-use Rattle.ev_input.specs.Drawn.{Block, IsWhole}
+use Rattle.ev_input.specs.Drawn.{Block, IsWholeBlock}
 use Rattle.ev_input.proofs.Built.{trees_more}
 use Rattle.ev_input.proofs.trees.trees_of.Goals as goal
 
-whole : (c : goal.After-deref) → IsWhole c.args.servers (c.block.inside.phase, c.block.inside.edges.items)
+whole : (c : goal.After-deref) → IsWholeBlock c.args.servers (c.block.inside.phase, c.block.inside.edges.items)
 whole c =
-    subst (λ (b : Block). IsWhole c.args.servers b) (sym c.block.view_is)
-    (subst (λ (b : Block). IsWhole c.args.servers b) (sym c.block-item.is) (c.requires.whole c.loop-block.block-index c.block-item.result c.loop-block-test.true))
+    subst (λ (b : Block). IsWholeBlock c.args.servers b) (sym c.block.view_is)
+    (subst (λ (b : Block). IsWholeBlock c.args.servers b) (sym c.block-item.is) (c.requires.whole c.loop-block.block-index c.block-item.result c.loop-block-test.true))
 
 pub tree_of-requires-clause-within : goal.tree_of-requires-clause-within
 tree_of-requires-clause-within c = subst (λ (es : List (ℕ × ℕ)). AreWithin c.args.servers es) (sym c.deref.ensures.value) (whole c).within

@@ -1,7 +1,7 @@
 use Rattle.std.proofs.Common.{◌≡◌, ℕ, length, slice_get, Some}
 use Rattle.ev_server.specs.Core.{CoreParts}
 use Rattle.ev_net.specs.declared.relinking.Standing.{Standing}
-use Rattle.ev_net.specs.Begin.{IsMoved}
+use Rattle.ev_net.specs.Begin.{IsOnOtherLinks}
 use Rattle.ev_net.proofs.begin.all_moved.Given as goal
 
 abbrev pub invariant-loop-i : goal.invariant-loop-i
@@ -9,5 +9,5 @@ invariant-loop-i l = record {
   long : length l.standings.items ≡ l.i;
   clock : (place : ℕ) (standing : Standing) → slice_get l.standings.items place ≡ Some standing → standing.clock ≡ l.clock;
   links : (place : ℕ) (links : _) (core : CoreParts) (standing : Standing) → slice_get l.held place ≡ Some links
-      → slice_get l.places place ≡ Some core → slice_get l.standings.items place ≡ Some standing → IsMoved links.items core standing;
+      → slice_get l.places place ≡ Some core → slice_get l.standings.items place ≡ Some standing → IsOnOtherLinks links.items core standing;
 }

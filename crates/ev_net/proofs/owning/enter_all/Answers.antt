@@ -4,7 +4,7 @@ use Rattle.std.specs.List.{Contains}
 use Rattle.ev_sets.specs.Sets.{Has}
 use Rattle.ev_constraint.specs.Constraint.{ConstraintParts}
 use Rattle.ev_control.proofs.Taken.{take-all}
-use Rattle.ev_net.specs.Owned.{HasPair}
+use Rattle.ev_net.specs.Owned.{HasFilterBy}
 use Rattle.ev_net.proofs.Gathered.{links-step}
 use Rattle.ev_net.proofs.owning.enter_all.Goals as goal
 
@@ -16,5 +16,5 @@ loop-one-preserved c =
 
 pub returns : goal.returns
 returns c =
-    subst (λ z. (i : ℕ) (f : List ConstraintParts) → Contains c.loop-one.table (i, f) ↔ (Contains c.args.table.now (i, f) ⊎ HasPair z i f))
+    subst (λ z. (i : ℕ) (f : List ConstraintParts) → Contains c.loop-one.table (i, f) ↔ (Contains c.args.table.now (i, f) ⊎ HasFilterBy z i f))
     (take-all c.args.held.now c.loop-one.one-index c.loop-one-test.false) c.loop-one.invariant

@@ -1,7 +1,7 @@
 use Rattle.std.proofs.Common.{◌++◌, sym, ap, subst, ◌∙◌}
 use Rattle.ev_versions.specs.Ends.{published}
 use Rattle.ev_versions.specs.Pairs.{pairs_after}
-use Rattle.ev_node.specs.Served.{IsTableOf}
+use Rattle.ev_net.specs.Kept.{IsTableOf}
 use Rattle.ev_node.specs.Versions.{AreTouched}
 use Rattle.ev_node.proofs.Handed.{table_after_handed}
 use Rattle.ev_node.proofs.Shown.{never_publishes}

@@ -8,7 +8,7 @@ use Rattle.ev_lane.specs.Lane.{coming_list}
 use Rattle.ev_model.specs.declared.turn.Act.TheVariants as acts
 use Rattle.ev_model.specs.Parts.{entry_parts}
 use Rattle.ev_model.specs.Meaning.{message_of}
-use Rattle.ev_node.specs.Links.{Both, IsUnmoved, IsTaken}
+use Rattle.ev_node.specs.Links.{Both, IsUnmoved, IsFrameTaken}
 use Rattle.ev_node.proofs.Places.{has-name}
 use Rattle.ev_node.proofs.Unmoved.{unmoved-roomed}
 use Rattle.ev_node.proofs.Turning.{Found, found-roomed, some-first, still, held-still, held-after, took, took-links, room-taken, spare-taken, names-taken, distinct-left, neighbours-left, long-left, as-long, sends-texts, sends-in-order, on_err}
@@ -71,7 +71,7 @@ enter-requires-clause-spare g c =
     let u : Both IsUnmoved c.args.held.now.links.items c.make_room.new.links.items = unmoved-roomed _ _ c.make_room.ensures.roomed in
     let lt : c.args.place < length c.make_room.new.links.items = (let n = long-left c.args.held.now c.requires.held c.make_room.new.links.items u in let p = c.requires.place in omega (arith, n, p)) in
     let f : Found c.args.place c.args.held.now.links.items c.make_room.new.links.items c.args.seen.0 c.args.seen.1 c.index.result.now = found-roomed c.args.place c.args.held.now.links.items c.make_room.new.links.items c.args.seen c.index.result.now c.requires.seen c.make_room.ensures.roomed lt c.index.ensures in
-    let tk : Both (IsTaken c.index.result.now.neighbour f.seen.frame) c.make_room.new.links.items c.take_at.new.links.items = c.take_at.ensures.taken f.seen.frame c.index.result.now f.there f.seen.next in
+    let tk : Both (IsFrameTaken c.index.result.now.neighbour f.seen.frame) c.make_room.new.links.items c.take_at.new.links.items = c.take_at.ensures.taken f.seen.frame c.index.result.now f.there f.seen.next in
     spare-taken c.args.held.now c.requires.held c.make_room.new.links.items u _ _ c.take_at.new.links.items tk c.in_ok-outs.ensures.spare
 
 pub enter-requires-clause-few : goal.enter-requires-clause-few
@@ -79,7 +79,7 @@ enter-requires-clause-few g c =
     let u : Both IsUnmoved c.args.held.now.links.items c.make_room.new.links.items = unmoved-roomed _ _ c.make_room.ensures.roomed in
     let lt : c.args.place < length c.make_room.new.links.items = (let n = long-left c.args.held.now c.requires.held c.make_room.new.links.items u in let p = c.requires.place in omega (arith, n, p)) in
     let f : Found c.args.place c.args.held.now.links.items c.make_room.new.links.items c.args.seen.0 c.args.seen.1 c.index.result.now = found-roomed c.args.place c.args.held.now.links.items c.make_room.new.links.items c.args.seen c.index.result.now c.requires.seen c.make_room.ensures.roomed lt c.index.ensures in
-    let tk : Both (IsTaken c.index.result.now.neighbour f.seen.frame) c.make_room.new.links.items c.take_at.new.links.items = c.take_at.ensures.taken f.seen.frame c.index.result.now f.there f.seen.next in
+    let tk : Both (IsFrameTaken c.index.result.now.neighbour f.seen.frame) c.make_room.new.links.items c.take_at.new.links.items = c.take_at.ensures.taken f.seen.frame c.index.result.now f.there f.seen.next in
     room-taken c.args.held.now c.requires.held c.make_room.new.links.items u _ _ c.take_at.new.links.items tk
 
 pub enter-requires-clause-texts : goal.enter-requires-clause-texts
@@ -91,7 +91,7 @@ enter-requires-clause-distinct g c =
     let u : Both IsUnmoved c.args.held.now.links.items c.make_room.new.links.items = unmoved-roomed _ _ c.make_room.ensures.roomed in
     let lt : c.args.place < length c.make_room.new.links.items = (let n = long-left c.args.held.now c.requires.held c.make_room.new.links.items u in let p = c.requires.place in omega (arith, n, p)) in
     let f : Found c.args.place c.args.held.now.links.items c.make_room.new.links.items c.args.seen.0 c.args.seen.1 c.index.result.now = found-roomed c.args.place c.args.held.now.links.items c.make_room.new.links.items c.args.seen c.index.result.now c.requires.seen c.make_room.ensures.roomed lt c.index.ensures in
-    let tk : Both (IsTaken c.index.result.now.neighbour f.seen.frame) c.make_room.new.links.items c.take_at.new.links.items = c.take_at.ensures.taken f.seen.frame c.index.result.now f.there f.seen.next in
+    let tk : Both (IsFrameTaken c.index.result.now.neighbour f.seen.frame) c.make_room.new.links.items c.take_at.new.links.items = c.take_at.ensures.taken f.seen.frame c.index.result.now f.there f.seen.next in
     subst IsDistinct (sym (names-taken c.args.held.now c.requires.held c.make_room.new.links.items u _ _ c.take_at.new.links.items tk)) (distinct-left c.args.held.now c.requires.held c.make_room.new.links.items u c.requires.stands)
 
 pub enter-requires-clause-order : goal.enter-requires-clause-order
@@ -99,7 +99,7 @@ enter-requires-clause-order g c =
     let u : Both IsUnmoved c.args.held.now.links.items c.make_room.new.links.items = unmoved-roomed _ _ c.make_room.ensures.roomed in
     let lt : c.args.place < length c.make_room.new.links.items = (let n = long-left c.args.held.now c.requires.held c.make_room.new.links.items u in let p = c.requires.place in omega (arith, n, p)) in
     let f : Found c.args.place c.args.held.now.links.items c.make_room.new.links.items c.args.seen.0 c.args.seen.1 c.index.result.now = found-roomed c.args.place c.args.held.now.links.items c.make_room.new.links.items c.args.seen c.index.result.now c.requires.seen c.make_room.ensures.roomed lt c.index.ensures in
-    let tk : Both (IsTaken c.index.result.now.neighbour f.seen.frame) c.make_room.new.links.items c.take_at.new.links.items = c.take_at.ensures.taken f.seen.frame c.index.result.now f.there f.seen.next in
+    let tk : Both (IsFrameTaken c.index.result.now.neighbour f.seen.frame) c.make_room.new.links.items c.take_at.new.links.items = c.take_at.ensures.taken f.seen.frame c.index.result.now f.there f.seen.next in
     sends-in-order c.args.held.now.core c.take_message.new.core c.requires.stands (Takes c.index.result.now.neighbour (message_of c.args.seen.1)) c.args.seen.0 _ c.in_ok-stepped.stepped.sent.items c.in_ok-stepped.ensures.step c.take_at.new.links.items
     (names-taken c.args.held.now c.requires.held c.make_room.new.links.items u _ _ c.take_at.new.links.items tk ∙ neighbours-left c.args.held.now c.requires.held c.make_room.new.links.items u)
 
@@ -108,7 +108,7 @@ enter-requires-clause-outs g c =
     let u : Both IsUnmoved c.args.held.now.links.items c.make_room.new.links.items = unmoved-roomed _ _ c.make_room.ensures.roomed in
     let lt : c.args.place < length c.make_room.new.links.items = (let n = long-left c.args.held.now c.requires.held c.make_room.new.links.items u in let p = c.requires.place in omega (arith, n, p)) in
     let f : Found c.args.place c.args.held.now.links.items c.make_room.new.links.items c.args.seen.0 c.args.seen.1 c.index.result.now = found-roomed c.args.place c.args.held.now.links.items c.make_room.new.links.items c.args.seen c.index.result.now c.requires.seen c.make_room.ensures.roomed lt c.index.ensures in
-    let tk : Both (IsTaken c.index.result.now.neighbour f.seen.frame) c.make_room.new.links.items c.take_at.new.links.items = c.take_at.ensures.taken f.seen.frame c.index.result.now f.there f.seen.next in
+    let tk : Both (IsFrameTaken c.index.result.now.neighbour f.seen.frame) c.make_room.new.links.items c.take_at.new.links.items = c.take_at.ensures.taken f.seen.frame c.index.result.now f.there f.seen.next in
     let n = long-left c.args.held.now c.requires.held c.make_room.new.links.items u in
     let m = as-long c.make_room.new.links.items c.take_at.new.links.items (names-taken c.args.held.now c.requires.held c.make_room.new.links.items u _ _ c.take_at.new.links.items tk) in
     let o = c.in_ok-outs.ensures.outs in
@@ -119,7 +119,7 @@ returns-clause-made g c phase =
     let u : Both IsUnmoved c.args.held.now.links.items c.make_room.new.links.items = unmoved-roomed _ _ c.make_room.ensures.roomed in
     let lt : c.args.place < length c.make_room.new.links.items = (let n = long-left c.args.held.now c.requires.held c.make_room.new.links.items u in let p = c.requires.place in omega (arith, n, p)) in
     let f : Found c.args.place c.args.held.now.links.items c.make_room.new.links.items c.args.seen.0 c.args.seen.1 c.index.result.now = found-roomed c.args.place c.args.held.now.links.items c.make_room.new.links.items c.args.seen c.index.result.now c.requires.seen c.make_room.ensures.roomed lt c.index.ensures in
-    let tk : Both (IsTaken c.index.result.now.neighbour f.seen.frame) c.make_room.new.links.items c.take_at.new.links.items = c.take_at.ensures.taken f.seen.frame c.index.result.now f.there f.seen.next in
+    let tk : Both (IsFrameTaken c.index.result.now.neighbour f.seen.frame) c.make_room.new.links.items c.take_at.new.links.items = c.take_at.ensures.taken f.seen.frame c.index.result.now f.there f.seen.next in
     let turn = took phase c.index.result.now.neighbour c.args.seen.1 (acts.Take c.index.result.now.neighbour) c.args.held.now _ c.make_room.new.links.items c.take_at.new.links.items f.seen.frame c.args.journal.now.items c.enter.new.journal.items c.args.seen.0 c.in_ok-stepped.stepped.stamp c.in_ok-stepped.stepped.sent.items
     refl f.seen.stamped f.seen.text c.in_ok-stepped.ensures.step u tk c.enter.ensures.given
     (c.enter.ensures.entry ∙ ap (λ z. z ++ entry_parts c.in_ok-stepped.stepped.stamp c.args.server (acts.Take c.index.result.now.neighbour) (map (λ s. s.to) c.in_ok-stepped.stepped.sent.items) ∷ []) c.make_room.ensures.journal
@@ -133,7 +133,7 @@ returns-clause-held g c =
     let u : Both IsUnmoved c.args.held.now.links.items c.make_room.new.links.items = unmoved-roomed _ _ c.make_room.ensures.roomed in
     let lt : c.args.place < length c.make_room.new.links.items = (let n = long-left c.args.held.now c.requires.held c.make_room.new.links.items u in let p = c.requires.place in omega (arith, n, p)) in
     let f : Found c.args.place c.args.held.now.links.items c.make_room.new.links.items c.args.seen.0 c.args.seen.1 c.index.result.now = found-roomed c.args.place c.args.held.now.links.items c.make_room.new.links.items c.args.seen c.index.result.now c.requires.seen c.make_room.ensures.roomed lt c.index.ensures in
-    let tk : Both (IsTaken c.index.result.now.neighbour f.seen.frame) c.make_room.new.links.items c.take_at.new.links.items = c.take_at.ensures.taken f.seen.frame c.index.result.now f.there f.seen.next in
+    let tk : Both (IsFrameTaken c.index.result.now.neighbour f.seen.frame) c.make_room.new.links.items c.take_at.new.links.items = c.take_at.ensures.taken f.seen.frame c.index.result.now f.there f.seen.next in
     held-after c.args.held.now _ (Takes c.index.result.now.neighbour (message_of c.args.seen.1)) c.args.seen.0 c.in_ok-stepped.stepped.stamp c.in_ok-stepped.stepped.sent.items _ c.requires.held c.in_ok-stepped.ensures.step c.in_ok-stepped.ensures.low
     (took-links c.args.held.now.links.items c.make_room.new.links.items c.take_at.new.links.items c.enter.new.links.items _ _ c.in_ok-stepped.stepped.stamp c.in_ok-stepped.stepped.sent.items u tk c.enter.ensures.given)
     c.take_message.ensures.published c.requires.held.handed

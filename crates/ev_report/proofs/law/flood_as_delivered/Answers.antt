@@ -6,7 +6,7 @@ use Rattle.ev_routing.specs.AsOf.{times_delivered}
 use Rattle.ev_phases.specs.Trees.{PhasedNet}
 use Rattle.ev_phases.specs.Moments.{Moment}
 use Rattle.ev_phases.specs.AtMoments.{net_then, inbox_of}
-use Rattle.ev_phases.specs.Owing.{IsOwedTo, IsAllowedTo}
+use Rattle.ev_phases.specs.Owing.{IsOwedByScripts, IsAllowedByScripts}
 use Rattle.ev_theory.specs.Real.{real}
 use Rattle.ev_report.proofs.AsDelivered.{as_delivered}
 use Rattle.ev_report.proofs.law.flood_as_delivered.Goals as goal
@@ -16,8 +16,8 @@ returns c = λ net sound rows refused flooding owed run same drained.
     as_delivered net rows refused flooding owed (inbox_of real run)
     (λ client lives f.
     subst (λ (N : PhasedNet real). Has client (N.clients (N.home client))
-    → ((p : Publication real) → IsAllowedTo real N p client → IsOwedTo real N p client)
-    → (p : Publication real) → Has p (inbox_of real run client) ↔ IsAllowedTo real N p client) same
+    → ((p : Publication real) → IsAllowedByScripts real N p client → IsOwedByScripts real N p client)
+    → (p : Publication real) → Has p (inbox_of real run client) ↔ IsAllowedByScripts real N p client) same
     (λ here g. c.stable_inputs.ensures run drained client (record { lives = here; owed = g })) lives f)
     (net_then real run (length run.journal))
     (λ client p o.

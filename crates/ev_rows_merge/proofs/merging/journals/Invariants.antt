@@ -1,8 +1,8 @@
 use Rattle.std.proofs.Common.{◌≡◌, length, map}
-use Rattle.ev_merge.specs.Merging.{AreJournals}
+use Rattle.ev_merge.specs.Merging.{AreServerJournals}
 use Rattle.ev_rows_merge.proofs.merging.journals.Given as goal
 
 -- the journals so far, of the servers up to this place
 abbrev pub invariant-loop-place : goal.invariant-loop-place
 invariant-loop-place l =
-    AreJournals (map (λ entries. entries.items) l.all.items) × (length (map (λ entries. entries.items) l.all.items) ≡ l.place)
+    AreServerJournals (map (λ entries. entries.items) l.all.items) × (length (map (λ entries. entries.items) l.all.items) ≡ l.place)

@@ -1,7 +1,7 @@
 use Rattle.std.proofs.Common.{◌<◌, length, sym, subst, arith}
 use Rattle.ev_workers.specs.declared.crew.Seat.{Seat}
 use Rattle.ev_workers.specs.Crews.{IsCrewOf, IsSpareOf}
-use Rattle.ev_workers.specs.Hands.{AreFree}
+use Rattle.ev_workers.specs.Hands.{AreFreeHands}
 use Rattle.ev_workers.proofs.Pairs.{pairs-long}
 use Rattle.ev_workers.proofs.Rows.{beside-last, beside-back}
 use Rattle.ev_workers.proofs.hire.+hire_all.Goals as goal
@@ -57,6 +57,6 @@ pub returns-clause-hired : goal.returns-clause-hired
 returns-clause-hired g t c =
     let q = beside-last (IsCrewOf c.args.site.now.net.now c.args.site.now.phase) c.args.locks.now c.in-Some.others.now c.in-Some.lock.now c.args.crews.items c.pop.new.self.items c.in-Some-pop.crew c.in-Some.ensures.cases.0 c.in-Some-pop.ensures.items c.requires.crews in
     beside-back _ c.args.locks.now c.in-Some.others.now c.in-Some.lock.now c.hire_all.new.jobs.items _ (record { commands = c.hire_one-commands.result; links = c.hire_one-links.result }) c.in-Some.ensures.cases.0 c.push_reserved.ensures.items c.hire_all.ensures.hired (
-      subst (λ (z : Seat). AreFree c.in-Some.lock.now z.pass z.viewer) (sym c.hire_one-commands.ensures) q.1.commands,
-      subst (λ (z : Seat). AreFree c.in-Some.lock.now z.pass z.viewer) (sym c.hire_one-links.ensures) q.1.links,
+      subst (λ (z : Seat). AreFreeHands c.in-Some.lock.now z.pass z.viewer) (sym c.hire_one-commands.ensures) q.1.commands,
+      subst (λ (z : Seat). AreFreeHands c.in-Some.lock.now z.pass z.viewer) (sym c.hire_one-links.ensures) q.1.links,
     )

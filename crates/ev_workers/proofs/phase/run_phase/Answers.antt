@@ -7,7 +7,7 @@ use Rattle.ev_versions.specs.declared.viewer.Viewer.{Viewer}
 use Rattle.ev_node.specs.declared.held.Root.{Root}
 use Rattle.ev_workers.specs.declared.ended.Ended.{Ended}
 use Rattle.ev_workers.specs.Crews.{AreBackAt, Pairwise}
-use Rattle.ev_workers.specs.Hands.{CellLock, AreFree}
+use Rattle.ev_workers.specs.Hands.{CellLock, AreFreeHands}
 use Rattle.ev_workers.specs.Work.{Keeps}
 use Rattle.ev_workers.proofs.Pairs.{pairs-over}
 use Rattle.ev_workers.proofs.Rows.{eyes-long, locks-long}
@@ -15,7 +15,7 @@ use Rattle.ev_workers.proofs.Sends.{hire_send}
 use Rattle.ev_workers.proofs.phase.run_phase.Goals as goal
 
 -- what a worker gives back is as free as what it was given
-free-back : (lock : CellLock) (pass : Pass EntryParts Root) (viewer : Viewer) (worker : Worker) (ended : Ended) → AreFree lock pass viewer → Keeps worker pass viewer ended → AreFree lock ended.pass ended.viewer
+free-back : (lock : CellLock) (pass : Pass EntryParts Root) (viewer : Viewer) (worker : Worker) (ended : Ended) → AreFreeHands lock pass viewer → Keeps worker pass viewer ended → AreFreeHands lock ended.pass ended.viewer
 free-back lock pass viewer worker ended f k = record { own = (k.same.0 ∙ f.own.0, k.same.1 ∙ f.own.1); free = k.free; viewer_is = k.viewer_is ∙ f.viewer_is }
 
 pub run_all-done-requires-send-J : goal.run_all-done-requires-send-J

@@ -1,6 +1,6 @@
 use Rattle.std.proofs.Common.{◌≡◌, ℕ, subst, arith, List}
 use Rattle.ev_counting.specs.Slots.{Slot}
-use Rattle.ev_counting.specs.Table.{Held}
+use Rattle.ev_counting.specs.Table.{HeldFilter}
 use Rattle.ev_counting.specs.Order.{nth, IsHere}
 use Rattle.ev_counting.proofs.Standing.{stands-here}
 use Rattle.ev_counting.proofs.Kept.{kept-taken, taken-gone}
@@ -8,7 +8,7 @@ use Rattle.ev_counting.proofs.places.Places.take.Goals as goal
 
 here : (c : goal.After-push_reserved) → IsHere c.self.inside.slots.items c.self.inside.sorted.items (c.args.iface, c.args.filter.now) c.in-Ok.i
 here c =
-    let pair : Held = (c.args.iface, c.args.filter.now) in
+    let pair : HeldFilter = (c.args.iface, c.args.filter.now) in
     subst (λ (xs : List Slot). IsHere xs c.self.inside.sorted.items pair c.in-Ok.i) c.deref.ensures.value (subst (λ (ks : List ℕ). IsHere c.deref.result.now ks pair c.in-Ok.i) c.deref-2.ensures.value c.in-Ok.ensures.ok)
 
 is : (c : goal.After-push_reserved) → nth c.self.inside.sorted.items c.in-Ok.i ≡ c.remove-id.result

@@ -1,7 +1,7 @@
 use Rattle.std.proofs.Common.{ap, arith, length, subst, sym, List}
 use Rattle.std.proofs.lemmas.Bool.Decides.{nat_tests}
 use Rattle.std.specs.List.{Contains}
-use Rattle.ev_counting.specs.Table.{Held}
+use Rattle.ev_counting.specs.Table.{HeldFilter}
 use Rattle.ev_counting.proofs.Without.{undone-in, in-undone}
 use Rattle.ev_counting.proofs.Changes.{all-applied}
 use Rattle.ev_counting.proofs.table.Table.apply_all.Goals as goal
@@ -15,6 +15,6 @@ returns-clause-applied c =
     all-applied c.args.changes.now c.args.self.now middle new
     (λ e. let n = ap length e in let some = c.if-is_empty.ensures in let no = c.if-is_empty.false in grind (arith, nat_tests, n, some, no)) c.in_default.ensures.entered
     (λ x. (
-      (λ h. (let r = undone-in pairs middle x (subst (λ (xs : List Held). Contains xs x) is h) in (r.0, λ w. r.1 ((c.in_ok-withdrawn.ensures x).1 w)))),
-      λ h. subst (λ (xs : List Held). Contains xs x) (sym is) (in-undone pairs middle x h.0 (λ m. h.1 ((c.in_ok-withdrawn.ensures x).0 m))),
+      (λ h. (let r = undone-in pairs middle x (subst (λ (xs : List HeldFilter). Contains xs x) is h) in (r.0, λ w. r.1 ((c.in_ok-withdrawn.ensures x).1 w)))),
+      λ h. subst (λ (xs : List HeldFilter). Contains xs x) (sym is) (in-undone pairs middle x h.0 (λ m. h.1 ((c.in_ok-withdrawn.ensures x).0 m))),
     ))

@@ -1,7 +1,7 @@
 use Rattle.std.proofs.Common.{◌+◌, ◌∙◌, ◌∷◌, ap, sym, subst, List, drop}
 use Rattle.std.proofs.lemmas.List.{drop_more, drop_all}
 use Rattle.ev_counting.specs.declared.change.Change.{Change}
-use Rattle.ev_counting.specs.Table.{Held}
+use Rattle.ev_counting.specs.Table.{HeldFilter}
 use Rattle.ev_counting.proofs.Steps.{Enters, enters-more, enters-pass, enters-end, adds-not}
 use Rattle.ev_counting.proofs.table.Table.enter_all.Goals.{in-Add+in_ok-enter_noting, in_default}
 use Rattle.ev_counting.proofs.table.Table.enter_all.Goals as goal
@@ -18,7 +18,7 @@ loop-change-preserved c =
     let h = subst (λ (cs : List Change). Enters now cs old changes) e c.loop-change.invariant.entered in
     elim c.match-change.branch [
       | in-Add+in_ok-enter_noting w ↦ (
-          let pair : Held = (w.in-Add.iface, w.in-Add.filter) in
+          let pair : HeldFilter = (w.in-Add.iface, w.in-Add.filter) in
           let more = enters-more item pair now w.enter_noting.new.self old rest changes w.in-Add.is w.in_ok-enter_noting.ensures.entered h in
           rw (w.self-is, w.fresh-is) (record { entered = more; back = w.enter_noting.ensures.back ∙ c.loop-change.invariant.back }))
       | in_default w ↦ (

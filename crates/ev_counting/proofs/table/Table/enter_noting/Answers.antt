@@ -1,6 +1,6 @@
 use Rattle.std.proofs.Common.{◌∙◌, ◌++◌, ◌∷◌, [], ap, List}
 use Rattle.ev_constraint.specs.Constraint.{ConstraintParts}
-use Rattle.ev_counting.specs.Table.{Held}
+use Rattle.ev_counting.specs.Table.{HeldFilter}
 use Rattle.ev_counting.specs.Changes.{without, undone}
 use Rattle.ev_counting.proofs.Without.{undone-push}
 use Rattle.ev_counting.proofs.Steps.{added-entered}
@@ -13,7 +13,7 @@ pub returns-clause-back : goal.returns-clause-back
 returns-clause-back c =
     let new = c.enter.new.self in
     let fresh = c.args.fresh.now.items in
-    let pair : Held = (c.args.iface, c.in_ok-copy.copy) in
-    let items = c.push_reserved.ensures.items ∙ ap (λ (xs : List Held). xs ++ pair ∷ []) c.in_ok-reserve.ensures.items in
+    let pair : HeldFilter = (c.args.iface, c.in_ok-copy.copy) in
+    let items = c.push_reserved.ensures.items ∙ ap (λ (xs : List HeldFilter). xs ++ pair ∷ []) c.in_ok-reserve.ensures.items in
     let rest = ap (λ (f : List ConstraintParts). without (c.args.iface, f) new) c.in_ok-copy.ensures ∙ c.in_ok-enter.ensures.rest in
-    ap (λ (xs : List Held). undone xs new) items ∙ undone-push fresh pair new ∙ ap (undone fresh) rest
+    ap (λ (xs : List HeldFilter). undone xs new) items ∙ undone-push fresh pair new ∙ ap (undone fresh) rest

@@ -1,6 +1,6 @@
 use Rattle.std.proofs.Common.{subst, ℕ, List}
 use Rattle.ev_index.specs.Pairs.{Appends}
-use Rattle.ev_counting.specs.Table.{Held, AreMatched}
+use Rattle.ev_counting.specs.Table.{HeldFilter, AreMatched}
 use Rattle.ev_counting.specs.Index.{ids_satisfied}
 use Rattle.ev_counting.specs.Counting.{AreFull}
 use Rattle.ev_counting.proofs.Sets.{to-route}
@@ -31,5 +31,5 @@ returns c =
     let tell = hits-tell n slots index found c.self.invariant.indexed app in
     let full : AreFull goals ifaces found matched = subst (λ (x : List ℕ). AreFull goals x found matched) c.numbers-interfaces.ensures (subst (λ (x : List ℕ). AreFull goals c.numbers-interfaces.result.now x matched) c.deref.ensures.value c.in_ok-ifaces.ensures) in
     let a = full-matched n slots goals ifaces found matched c.goals-goals.ensures c.self.invariant.placed tell full in
-    let b = subst (λ (held : List Held). AreMatched n held matched) c.self.view_is a in
+    let b = subst (λ (held : List HeldFilter). AreMatched n held matched) c.self.view_is a in
     to-route n c.args.self.now matched c.to.result b c.to.ensures.rising c.to.ensures.same

@@ -1,5 +1,5 @@
 use Rattle.std.proofs.Common.{◌∙◌, ap, sym, List}
-use Rattle.ev_counting.specs.Table.{Held}
+use Rattle.ev_counting.specs.Table.{HeldFilter}
 use Rattle.ev_counting.specs.Changes.{undone}
 use Rattle.ev_counting.proofs.Without.{undone-push}
 use Rattle.ev_counting.proofs.table.Table.take_back.Goals as goal
@@ -8,5 +8,5 @@ pub loop-iface-preserved : goal.loop-iface-preserved
 loop-iface-preserved c =
     let now = c.loop-iface.self in
     let left = c.pop.new.self.items in
-    let pair : Held = (c.in-Some.iface, c.in-Some.filter) in
-    ap (undone left) c.take.ensures.rest ∙ sym (undone-push left pair now) ∙ ap (λ (xs : List Held). undone xs now) (sym c.in-Some.ensures.items) ∙ c.loop-iface.invariant
+    let pair : HeldFilter = (c.in-Some.iface, c.in-Some.filter) in
+    ap (undone left) c.take.ensures.rest ∙ sym (undone-push left pair now) ∙ ap (λ (xs : List HeldFilter). undone xs now) (sym c.in-Some.ensures.items) ∙ c.loop-iface.invariant

@@ -1,6 +1,6 @@
 use Rattle.std.proofs.Common.{sym, subst}
 use Rattle.ev_server.specs.Core.{CoreParts}
-use Rattle.ev_net.specs.Begin.{Fits}
+use Rattle.ev_net.specs.Begin.{FitsCore}
 use Rattle.ev_net.proofs.Fitting.{table-on, table-back}
 use Rattle.ev_net.proofs.place.Place.relink.Goals as goal
 
@@ -9,5 +9,5 @@ invariant_of-self c = table-on c.relink-control.new.self c.links.inside.control 
 
 pub invariant_of-result : goal.invariant_of-result
 invariant_of-result c =
-    let fits = subst (λ (z : CoreParts). Fits z c.args.links) (sym c.self.view_is) c.requires in
+    let fits = subst (λ (z : CoreParts). FitsCore z c.args.links) (sym c.self.view_is) c.requires in
     table-back c.self.inside.core c.relink-control.result c.self.invariant fits.published c.replace-table.ensures.value c.relink-control.ensures.back

@@ -3,18 +3,18 @@ use Rattle.ev_notice.specs.Before.{list_before}
 use Rattle.ev_control.specs.Control.{by_adverts}
 use Rattle.ev_control.proofs.Holdings.{split}
 use Rattle.ev_control.specs.Holdings.{held_from}
-use Rattle.ev_server.specs.Staged.{Turns}
+use Rattle.ev_server.specs.Staged.{StagedTurn}
 use Rattle.ev_server.specs.Ledger.{AdvertsSet}
 use Rattle.ev_server.proofs.ledger.Ledger.set_adverts.Goals as goal
 
 pub invariant_of-self : goal.invariant_of-self
-invariant_of-self c = subst (λ z. Turns (λ i. held_from list_before i c.self.inside.published.value.filters) (λ i. held_from list_before i z.filters) c.self.inside.staged.changes) (sym c.in_err-sent.ensures.err) c.self.invariant
+invariant_of-self c = subst (λ z. StagedTurn (λ i. held_from list_before i c.self.inside.published.value.filters) (λ i. held_from list_before i z.filters) c.self.inside.staged.changes) (sym c.in_err-sent.ensures.err) c.self.invariant
 
 pub invariant_of-self-2 : goal.invariant_of-self-2
-invariant_of-self-2 c = subst (λ z. Turns (λ i. held_from list_before i c.self.inside.published.value.filters) (λ i. held_from list_before i z) c.self.inside.staged.changes) (sym (ap (λ z. z.filters) c.in_ok-sent.ensures.same)) c.self.invariant
+invariant_of-self-2 c = subst (λ z. StagedTurn (λ i. held_from list_before i c.self.inside.published.value.filters) (λ i. held_from list_before i z) c.self.inside.staged.changes) (sym (ap (λ z. z.filters) c.in_ok-sent.ensures.same)) c.self.invariant
 
 pub invariant_of-self-then-not-steer : goal.invariant_of-self-then-not-steer
-invariant_of-self-then-not-steer c = subst (λ z. Turns (λ i. held_from list_before i c.self.inside.published.value.filters) (λ i. held_from list_before i z) c.self.inside.staged.changes) (sym (ap (λ z. z.filters) c.in_ok-sent.ensures.same)) c.self.invariant
+invariant_of-self-then-not-steer c = subst (λ z. StagedTurn (λ i. held_from list_before i c.self.inside.published.value.filters) (λ i. held_from list_before i z) c.self.inside.staged.changes) (sym (ap (λ z. z.filters) c.in_ok-sent.ensures.same)) c.self.invariant
 
 pub returns-then-not-steer-clause-set : goal.returns-then-not-steer-clause-set
 returns-then-not-steer-clause-set c =

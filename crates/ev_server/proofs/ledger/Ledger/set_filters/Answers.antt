@@ -6,18 +6,18 @@ use Rattle.ev_counting.specs.declared.change.Change.TheVariants.{Add, Remove}
 use Rattle.ev_control.specs.Holdings.{held_from}
 use Rattle.ev_control.specs.Control.{subs}
 use Rattle.ev_control.proofs.Holdings.{rising-where}
-use Rattle.ev_server.specs.Staged.{staged_with, Turns, is_some_there}
+use Rattle.ev_server.specs.Staged.{staged_with, StagedTurn, is_some_there}
 use Rattle.ev_server.specs.Ledger.{FiltersSet}
 use Rattle.ev_server.proofs.Turning.{made, turned, flag}
 use Rattle.ev_server.proofs.ledger.Ledger.set_filters.Goals as goal
 
 pub invariant_of-self : goal.invariant_of-self
-invariant_of-self c = subst (λ z. Turns (λ i. held_from list_before i c.self.inside.published.value.filters) (subs c.self.inside.control) z) (sym c.in_err-reserve.ensures.changes) c.self.invariant
+invariant_of-self c = subst (λ z. StagedTurn (λ i. held_from list_before i c.self.inside.published.value.filters) (subs c.self.inside.control) z) (sym c.in_err-reserve.ensures.changes) c.self.invariant
 
 pub invariant_of-self-in_err-sent : goal.invariant_of-self-in_err-sent
 invariant_of-self-in_err-sent c =
-    subst (λ z. Turns (λ i. held_from list_before i c.self.inside.published.value.filters) (subs z) c.reserve.new.self.changes) (sym c.in_err-sent.ensures.err)
-    (subst (λ z. Turns (λ i. held_from list_before i c.self.inside.published.value.filters) (subs c.self.inside.control) z) (sym c.in_ok-reserve.ensures.changes) c.self.invariant)
+    subst (λ z. StagedTurn (λ i. held_from list_before i c.self.inside.published.value.filters) (subs z) c.reserve.new.self.changes) (sym c.in_err-sent.ensures.err)
+    (subst (λ z. StagedTurn (λ i. held_from list_before i c.self.inside.published.value.filters) (subs c.self.inside.control) z) (sym c.in_ok-reserve.ensures.changes) c.self.invariant)
 
 pub invariant_of-self-2 : goal.invariant_of-self-2
 invariant_of-self-2 c =
@@ -33,7 +33,7 @@ invariant_of-self-2 c =
     let listed : c.additions.new.changes.items ≡ made i held out add = more ∙ ap (λ z. z ++ map (Add i) (filter (λ f. not (member list_before f held)) add)) first in
     let staged : c.put_all.new.self.changes ≡ staged_with (made i held out add) c.self.inside.staged.changes =
     c.put_all.ensures.changes ∙ ap (λ z. staged_with c.additions.new.changes.items z) c.in_ok-reserve.ensures.changes ∙ ap (λ z. staged_with z c.self.inside.staged.changes) listed in
-    subst (λ z. Turns (λ i. held_from list_before i c.self.inside.published.value.filters) (subs c.change_subs.new.self) z) (sym staged)
+    subst (λ z. StagedTurn (λ i. held_from list_before i c.self.inside.published.value.filters) (subs c.change_subs.new.self) z) (sym staged)
     (turned i held out add c.requires (λ i. held_from list_before i c.self.inside.published.value.filters) (subs old) (subs c.change_subs.new.self) c.self.inside.staged.changes c.in_ok-reserve.ensures.rising refl c.in_ok-sent.ensures.held c.in_ok-sent.ensures.others c.self.invariant)
 
 pub returns-clause-set : goal.returns-clause-set
