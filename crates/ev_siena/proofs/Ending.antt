@@ -1,14 +1,15 @@
 -- A phase that is entered and ended leaves a team between two phases.
-use Rattle.std.proofs.Common.{◌≡◌, ℕ, suc, List, sym, subst}
+use Rattle.std.proofs.Common.{◌≡◌, ℕ, suc, List, sym, subst, ◌∙◌}
 use Rattle.ev_run.specs.Journals.{Cell}
 use Rattle.ev_model.specs.Parts.{NetParts}
 use Rattle.ev_node.specs.Cell.{CellParts, machine_in}
 use Rattle.ev_node.specs.Coming.{HaveCommand}
+use Rattle.ev_node.specs.InHand.{AreAllInHand}
 use Rattle.ev_node.specs.Together.{AreBegun, AreTogether, IsFinished, roots}
-use Rattle.ev_course.specs.Course.{AreInHand, AreKept, IsPhaseDone, StandBetween}
+use Rattle.ev_course.specs.Course.{AreInHand, AreKept, IsPhaseBegun, IsPhaseDone, StandBetween}
 use Rattle.ev_workers.specs.declared.crew.Eyes.{Eyes}
 use Rattle.ev_workers.specs.Crews.{AreEyesOf, Pairwise}
-use Rattle.ev_siena.specs.Teams.{HaveStarted, IsTeam}
+use Rattle.ev_siena.specs.Teams.{AreUnderWay, HaveStarted, IsTeam}
 
 pub phase-ended : (net : NetParts) (last phase : ℕ) (old started now : List CellParts) (eyes : List Eyes) → AreInHand net last old → HaveStarted net last phase old started → HaveCommand old phase
     → roots now ≡ roots started → AreKept now → ((begun : ℕ → Cell (machine_in net phase)) → AreBegun net phase now begun → IsFinished net phase now begun) → Pairwise AreEyesOf (roots now) eyes
@@ -30,4 +31,16 @@ phase-ended net last phase old started now eyes hand have some stay kept finishe
     hand = record { sound = hand.sound; together = subst (AreTogether net phase) (sym stay) have.together; kept = kept };
   };
   eyes_of = looks;
+}
+
+-- with all cells in hand a phase that is under way has begun
+pub phase-begun : (net : NetParts) (last phase : ℕ) (before started handed now : List CellParts) → AreUnderWay net last phase before started handed → roots now ≡ roots handed
+    → (AreTogether net phase (roots handed) → (begun : ℕ → Cell (machine_in net phase)) → AreBegun net phase now begun → AreAllInHand net phase now begun)
+    → IsPhaseBegun net last phase before started now
+phase-begun net last phase before started handed now way same reached = record {
+  hand = way.hand;
+  stood = way.have.stood;
+  enters = way.have.enters;
+  roots_stay = same ∙ way.roots_stay;
+  reached = reached (subst (AreTogether net phase) (sym way.roots_stay) way.have.together);
 }

@@ -3,8 +3,8 @@ use Rattle.std.specs.Prelude.{◌≡◌}
 use Rattle.ev_model.specs.Parts.{NetParts}
 use Rattle.ev_net.specs.Network.{IsLegal, IsDrainedBy, refused_by, received_by}
 use Rattle.ev_course.specs.declared.ran.Ran.{Ran}
-use Rattle.ev_course.specs.Course.{of_clients}
 use Rattle.ev_quiet.specs.Runs.{IsByStamp}
+use Rattle.ev_model.specs.Nets.{of_clients}
 
 -- THE RUN WITH THREADS: its journal, in the order of stamps and servers, is a legal run of the net with a drained end, and each client has what it has by then
 pub record IsThreaded (net : NetParts) (ran : Ran) : Type 0 where

@@ -11,14 +11,14 @@ use Rattle.ev_workers.specs.declared.crew.Eyes.{Eyes}
 use Rattle.ev_workers.specs.Crews.{AreEyesOf, Pairwise}
 
 -- the cells of a net are in hand between two phases
-pub record AreBetween (net : NetParts) (last : ℕ) (cells : List CellParts) : Type 0 where
+pub record AreBetweenPhases (net : NetParts) (last : ℕ) (cells : List CellParts) : Type 0 where
   pub next : ℕ
   pub stand : StandBetween net last next cells
   pub hand : AreInHand net last cells
 
 -- and two viewers are there of the publisher of each
 pub record IsTeam (net : NetParts) (last : ℕ) (cells : List CellParts) (eyes : List Eyes) : Type 0 where
-  pub between : AreBetween net last cells
+  pub between : AreBetweenPhases net last cells
   pub eyes_of : Pairwise AreEyesOf (roots cells) eyes
 
 -- viewers that come with a cell are of its publisher
@@ -37,3 +37,9 @@ pub record HaveStarted (net : NetParts) (last phase : ℕ) (old new : List CellP
   pub starts : AreAtStart new
   pub together : AreTogether net phase (roots new)
   pub viewers : map (λ cell. cell.root.viewer.value) new ≡ map (λ cell. cell.root.viewer.value) old
+
+-- cells that stood before a phase entered it, and workers may have made turns of it since
+pub record AreUnderWay (net : NetParts) (last phase : ℕ) (old started now : List CellParts) : Type 0 where
+  pub hand : AreInHand net last old
+  pub have : HaveStarted net last phase old started
+  pub roots_stay : roots now ≡ roots started

@@ -1,22 +1,23 @@
 //! A run phase by phase.
-ghost use Rattle.std.specs.Prelude.{◌≡◌, ℕ, OnOk};
+ghost use Rattle.std.specs.Prelude.{◌≡◌, ℕ, List, OnOk};
 ghost use Rattle.ev_run.specs.Journals.{Cell as RunCell};
 ghost use Rattle.ev_model.specs.Nets.{phases_of};
 ghost use Rattle.ev_model.specs.Parts.{NetParts};
 ghost use Rattle.ev_model.specs.Sound.{IsSound};
 ghost use Rattle.ev_course.specs.Course.{AreInHand, AreKept, StandBetween};
-ghost use Rattle.ev_node.specs.Cell.{machine_in};
+ghost use Rattle.ev_node.specs.Cell.{CellParts, machine_in};
 ghost use Rattle.ev_node.specs.Coming.{HaveCommand};
 ghost use Rattle.ev_node.specs.Entered.{AreThrough};
 ghost use Rattle.ev_node.specs.Together.{AreBegun, AreTogether, IsFinished, roots};
-ghost use Rattle.ev_siena.specs.Teams.{AreBetween, HaveStarted, IsTeam};
+ghost use Rattle.ev_siena.specs.Teams.{AreBetweenPhases, AreUnderWay, HaveStarted, IsTeam};
 
 use crate::team::tell_all;
-use ev_course::law::{calm, phase_done, stand_later};
+use ev_course::law::{calm, never_worn, phase_done, stand_later};
 use ev_memory::NoMemory;
 use ev_model::Net;
 use ev_node::{Cell, enter_next, finish_phase, next_phase};
 use ev_outside::Gate;
+use ev_server::StepFault;
 use ev_workers::{Eyes, run_phase};
 use std::alloc::Global;
 use std::sync::Wait;
@@ -43,19 +44,21 @@ fn enter<R: Wait>(
     enter_next(alloc, rt, net, cells, last, phase)
 }
 
-/// Makes the rest of the phase that the cells are in. No stamp reaches its bound; that it might would be told as want of memory.
+/// Makes the rest of the phase that the cells entered. No stamp reaches its bound, since all entries together are a run.
 fn end_phase<R: Wait>(rt: &R, cells: &mut Vec<Cell<'_>>) -> Result<(), NoMemory>
-    requires { (net : NetParts) × (phase : ℕ) × AreTogether net phase (roots cells.old.items) }
+    requires { (net : NetParts) × (last phase : ℕ) × (before started : List CellParts) × AreUnderWay net last phase before started cells.old.items }
     ensures roots { roots cells.new.items ≡ roots cells.old.items }
     ensures kept { AreKept cells.new.items }
     ensures finished { OnOk result ((net : NetParts) (phase : ℕ) → AreTogether net phase (roots cells.old.items)
         → (begun : ℕ → RunCell (machine_in net phase)) → AreBegun net phase cells.new.items begun → IsFinished net phase cells.new.items begun) }
 {
+    never_worn();
     let answer = finish_phase(rt, cells);
     tell_all(cells);
     match answer {
         Ok(()) => Ok(()),
-        Err(_) => Err(NoMemory),
+        Err(StepFault::NoMemory) => Err(NoMemory),
+        Err(StepFault::Worn(_)) => unreachable!(),
     }
 }
 
@@ -92,7 +95,7 @@ pub(crate) fn run_phases<R: Threads + Wait + Sync, G: Gate + Sync>(
     eyes: &mut Vec<Eyes>,
 ) -> Result<(), NoMemory>
     requires { IsTeam net.now 0 cells.old.items eyes.old.items }
-    ensures between { OnOk result ((last : ℕ) × AreBetween net.now last cells.new.items) }
+    ensures between { OnOk result ((last : ℕ) × AreBetweenPhases net.now last cells.new.items) }
     ensures through { OnOk result (AreThrough (phases_of net.now) cells.new.items) }
 {
     let mut last = 0;
