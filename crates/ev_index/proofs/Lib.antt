@@ -4,3 +4,4 @@ pub mod Keyed
 pub mod Rows
 pub mod Members
 pub mod Found
+pub mod Begins

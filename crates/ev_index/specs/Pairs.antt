@@ -42,6 +42,15 @@ pub record Appends (old new ids : List ℕ) : Type 0 where
   pub whole : new ≡ old ++ tail
   pub same : Same tail ids
 
+-- the list begins with these
+pub record BeginsWith (first ids : List ℕ) : Type 0 where
+  pub tail : List ℕ
+  pub whole : ids ≡ first ++ tail
+
+-- whatever the old list begins with, the new one begins with too
+abbrev pub KeepsBeginning : List ℕ → List ℕ → Type 0
+KeepsBeginning old new = (first : List ℕ) → BeginsWith first old → BeginsWith first new
+
 -- the list has the member
 abbrev pub IsIn : {X : Type 0} → X → List X → Type 0
 IsIn x [] = ⊥

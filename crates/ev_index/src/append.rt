@@ -1,11 +1,13 @@
 //! Appending the ids of a group.
 ghost use Rattle.std.specs.Prelude.{◌≡◌, ◌++◌, OnOk};
+ghost use Rattle.ev_index.specs.Pairs.{KeepsBeginning};
 
 use ev_memory::NoMemory;
 
 /// Appends the ids of a group to those that were found. Most groups have one or two, so it pushes them one by one.
 pub fn append_ids(found: &mut Vec<u32>, ids: &[u32]) -> Result<(), NoMemory>
-    ensures { OnOk result (found.new.items ≡ found.old.items ++ ids.now) }
+    ensures ok { OnOk result (found.new.items ≡ found.old.items ++ ids.now) }
+    ensures begins { KeepsBeginning found.old.items found.new.items }
 {
     for id in ids {
         found.push(*id)?;

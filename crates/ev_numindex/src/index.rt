@@ -73,7 +73,8 @@ impl NumIndex {
 
     /// Appends the ids of the pairs whose constraint the value satisfies.
     pub fn hits(&self, value: &Value, found: &mut Vec<u32>) -> Result<(), NoMemory>
-        ensures { OnOk result (found.new.items ≡ found.old.items ++ ids_met value.now self.now) }
+        ensures ok { OnOk result (found.new.items ≡ found.old.items ++ ids_met value.now self.now) }
+        ensures begins { KeepsBeginning found.old.items found.new.items }
     {
         for row in &self.rows {
             row.meet(value, found)?;

@@ -75,7 +75,8 @@ impl Line {
 
     /// Appends the ids of the keys on some sides of a number.
     pub(crate) fn meet(&self, sides: Sides, x: Key, found: &mut Vec<u32>) -> Result<(), NoMemory>
-        ensures { OnOk result (found.new.items ≡ found.old.items ++ ids_with (on_side sides x) self.now) }
+        ensures ok { OnOk result (found.new.items ≡ found.old.items ++ ids_with (on_side sides x) self.now) }
+        ensures begins { KeepsBeginning found.old.items found.new.items }
     {
         let least = below(&self.pairs, x);
         let most = upto(&self.pairs, least, x);
@@ -90,7 +91,8 @@ ghost use Rattle.ev_numindex.specs.Lines.{ids_in};
 
 /// Appends the ids of some pairs, after room for all of them was made.
 fn append_ids(found: &mut Vec<u32>, pairs: &[(Key, u32)]) -> Result<(), NoMemory>
-    ensures { OnOk result (found.new.items ≡ found.old.items ++ ids_in pairs.now) }
+    ensures ok { OnOk result (found.new.items ≡ found.old.items ++ ids_in pairs.now) }
+    ensures begins { KeepsBeginning found.old.items found.new.items }
 {
     found.reserve(pairs.len())?;
     for pair in pairs {
@@ -101,7 +103,8 @@ fn append_ids(found: &mut Vec<u32>, pairs: &[(Key, u32)]) -> Result<(), NoMemory
 
 /// The same, if they are asked for.
 fn append_some(found: &mut Vec<u32>, asked: bool, pairs: &[(Key, u32)]) -> Result<(), NoMemory>
-    ensures { OnOk result (found.new.items ≡ found.old.items ++ cond asked (ids_in pairs.now) []) }
+    ensures ok { OnOk result (found.new.items ≡ found.old.items ++ cond asked (ids_in pairs.now) []) }
+    ensures begins { KeepsBeginning found.old.items found.new.items }
 {
     if asked {
         append_ids(found, pairs)

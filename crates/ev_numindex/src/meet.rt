@@ -59,7 +59,8 @@ fn sides(op: Op) -> Sides
 
 /// Appends the ids of the keys that a number finds by its own, in a row of an operator.
 fn meet_key(line: &Line, op: Op, x: i64, found: &mut Vec<u32>) -> Result<(), NoMemory>
-    ensures { OnOk result (found.new.items ≡ found.old.items ++ ids_with (key_meets op x) line.now) }
+    ensures ok { OnOk result (found.new.items ≡ found.old.items ++ ids_with (key_meets op x) line.now) }
+    ensures begins { KeepsBeginning found.old.items found.new.items }
 {
     match op {
         Op::Any => line.meet(EQUAL, 0, found),
@@ -69,21 +70,24 @@ fn meet_key(line: &Line, op: Op, x: i64, found: &mut Vec<u32>) -> Result<(), NoM
 
 /// Appends the ids of an int row whose test the number passes.
 pub(crate) fn meet_number(line: &Line, op: Op, x: i64, found: &mut Vec<u32>) -> Result<(), NoMemory>
-    ensures { OnOk result (found.new.items ≡ found.old.items ++ ids_met (Value.Int x) (told (test_at Kind.Int op) line.now)) }
+    ensures ok { OnOk result (found.new.items ≡ found.old.items ++ ids_met (Value.Int x) (told (test_at Kind.Int op) line.now)) }
+    ensures begins { KeepsBeginning found.old.items found.new.items }
 {
     meet_key(line, op, x, found)
 }
 
 /// Appends the ids of a time row whose test the time passes.
 pub(crate) fn meet_time(line: &Line, op: Op, x: u64, found: &mut Vec<u32>) -> Result<(), NoMemory>
-    ensures { OnOk result (found.new.items ≡ found.old.items ++ ids_met (Value.Time x) (told (test_at Kind.Time op) line.now)) }
+    ensures ok { OnOk result (found.new.items ≡ found.old.items ++ ids_met (Value.Time x) (told (test_at Kind.Time op) line.now)) }
+    ensures begins { KeepsBeginning found.old.items found.new.items }
 {
     meet_key(line, op, time_key(x), found)
 }
 
 /// Appends the ids of a bool row whose test the truth value passes.
 pub(crate) fn meet_truth(line: &Line, op: Op, x: bool, found: &mut Vec<u32>) -> Result<(), NoMemory>
-    ensures { OnOk result (found.new.items ≡ found.old.items ++ ids_met (Value.Bool x) (told (test_at Kind.Bool op) line.now)) }
+    ensures ok { OnOk result (found.new.items ≡ found.old.items ++ ids_met (Value.Bool x) (told (test_at Kind.Bool op) line.now)) }
+    ensures begins { KeepsBeginning found.old.items found.new.items }
 {
     match op {
         Op::Any => line.meet(EQUAL, 0, found),

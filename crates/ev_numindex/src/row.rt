@@ -93,7 +93,8 @@ impl Row {
 
     /// Appends the ids of the row whose test the value passes.
     pub(crate) fn meet(&self, value: &Value, found: &mut Vec<u32>) -> Result<(), NoMemory>
-        ensures { OnOk result (found.new.items ≡ found.old.items ++ ids_met value.now (row_pairs self.now)) }
+        ensures ok { OnOk result (found.new.items ≡ found.old.items ++ ids_met value.now (row_pairs self.now)) }
+        ensures begins { KeepsBeginning found.old.items found.new.items }
     {
         match (self.kind, value) {
             (Kind::Bool, Value::Bool(x)) => meet_truth(&self.line, self.op, *x, found),

@@ -80,7 +80,8 @@ impl Counted {
 
     /// Appends the ids of the pairs whose test the text passes.
     pub(crate) fn meet(&self, text: &[u8], found: &mut Vec<u32>) -> Result<(), NoMemory>
-        ensures { OnOk result (Appends found.old.items found.new.items (ids_met (Value.Str text.now) self.now)) }
+        ensures ok { OnOk result (Appends found.old.items found.new.items (ids_met (Value.Str text.now) self.now)) }
+        ensures begins { KeepsBeginning found.old.items found.new.items }
     {
         self.pairs.meet(text, found)
     }

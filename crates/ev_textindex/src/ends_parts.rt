@@ -74,7 +74,8 @@ impl Patterns {
     /// Appends the ids of the pairs whose test the text passes.
     pub(crate) fn meet(&self, text: &[u8], found: &mut Vec<u32>) -> Result<(), NoMemory>
         requires { AreAllPatterns self.now }
-        ensures { OnOk result (Appends found.old.items found.new.items (ids_met (Value.Str text.now) self.now)) }
+        ensures ok { OnOk result (Appends found.old.items found.new.items (ids_met (Value.Str text.now) self.now)) }
+        ensures begins { KeepsBeginning found.old.items found.new.items }
     {
         meet_ends(&self.ends, text, found)?;
         meet_parts(&self.parts, text, found)

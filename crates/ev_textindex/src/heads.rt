@@ -130,7 +130,8 @@ fn meet_each(
     text: &[u8],
     found: &mut Vec<u32>,
 ) -> Result<(), NoMemory>
-    ensures { OnOk result (Appends found.old.items found.new.items (ids_met (Value.Str text.now) (shelved shelves.now.entries))) }
+    ensures ok { OnOk result (Appends found.old.items found.new.items (ids_met (Value.Str text.now) (shelved shelves.now.entries))) }
+    ensures begins { KeepsBeginning found.old.items found.new.items }
 {
     for (_, shelf) in shelves {
         shelf.meet(text, found)?;
@@ -185,7 +186,8 @@ impl Heads {
 
     /// Appends the ids of the pairs of one head whose test the text passes.
     pub(crate) fn meet(&self, head: u32, text: &[u8], found: &mut Vec<u32>) -> Result<(), NoMemory>
-        ensures { OnOk result (Appends found.old.items found.new.items (ids_headed (λ h. head == h) (Value.Str text.now) self.now)) }
+        ensures ok { OnOk result (Appends found.old.items found.new.items (ids_headed (λ h. head == h) (Value.Str text.now) self.now)) }
+        ensures begins { KeepsBeginning found.old.items found.new.items }
     {
         // The keys rise, so there is no other shelf of that head.
         let _size = self.shelves.len();
@@ -197,7 +199,8 @@ impl Heads {
 
     /// Appends the ids of all pairs whose test the text passes.
     pub(crate) fn meet_all(&self, text: &[u8], found: &mut Vec<u32>) -> Result<(), NoMemory>
-        ensures { OnOk result (Appends found.old.items found.new.items (ids_met (Value.Str text.now) self.now)) }
+        ensures ok { OnOk result (Appends found.old.items found.new.items (ids_met (Value.Str text.now) self.now)) }
+        ensures begins { KeepsBeginning found.old.items found.new.items }
     {
         meet_each(&self.shelves, text, found)
     }

@@ -70,7 +70,8 @@ impl TextIndex {
 
     /// Appends the ids of the pairs whose constraint the value satisfies.
     pub fn hits(&self, value: &Value, found: &mut Vec<u32>) -> Result<(), NoMemory>
-        ensures { OnOk result (Appends found.old.items found.new.items (ids_met value.now self.now)) }
+        ensures ok { OnOk result (Appends found.old.items found.new.items (ids_met value.now self.now)) }
+        ensures begins { KeepsBeginning found.old.items found.new.items }
     {
         match value {
             Value::Str(text) => {

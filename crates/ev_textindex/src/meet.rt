@@ -24,7 +24,8 @@ pub(crate) fn meet(
     found: &mut Vec<u32>,
 ) -> Result<(), NoMemory>
     requires { ids_beyond longest groups.now.entries ≡ 0 }
-    ensures { OnOk result (Appends found.old.items found.new.items (ids_met (Value.Str x.now) (keyed (said op) groups.now.entries))) }
+    ensures ok { OnOk result (Appends found.old.items found.new.items (ids_met (Value.Str x.now) (keyed (said op) groups.now.entries))) }
+    ensures begins { KeepsBeginning found.old.items found.new.items }
 {
     match op {
         Op::Lt => walk_above(groups, x, Edge::Excluded, found),

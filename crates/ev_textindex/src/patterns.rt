@@ -26,8 +26,9 @@ fn meet_other(
     x: &[u8],
     found: &mut Vec<u32>,
 ) -> Result<(), NoMemory>
-    ensures { OnOk result (Appends found.old.items found.new.items
+    ensures ok { OnOk result (Appends found.old.items found.new.items
         (ids_headed (λ h. not (others.0 == head || others.1 == head) && (head == h)) (Value.Str x.now) heads.now)) }
+    ensures begins { KeepsBeginning found.old.items found.new.items }
 {
     if is_either(others, head) {
         return Ok(());
@@ -44,7 +45,8 @@ fn meet_three(
     x: &[u8],
     found: &mut Vec<u32>,
 ) -> Result<(), NoMemory>
-    ensures { OnOk result (Appends found.old.items found.new.items (ids_headed (is_one_of_three a b c) (Value.Str x.now) heads.now)) }
+    ensures ok { OnOk result (Appends found.old.items found.new.items (ids_headed (is_one_of_three a b c) (Value.Str x.now) heads.now)) }
+    ensures begins { KeepsBeginning found.old.items found.new.items }
 {
     heads.meet(a, x, found)?;
     meet_other(heads, (a, a), b, x, found)?;
@@ -53,7 +55,8 @@ fn meet_three(
 
 /// Appends the ids of the heads of what a text begins with.
 fn meet_begin(heads: &Heads, x: &[u8], found: &mut Vec<u32>) -> Result<(), NoMemory>
-    ensures { OnOk result (Appends found.old.items found.new.items (ids_headed (is_at_begin x.now) (Value.Str x.now) heads.now)) }
+    ensures ok { OnOk result (Appends found.old.items found.new.items (ids_headed (is_at_begin x.now) (Value.Str x.now) heads.now)) }
+    ensures begins { KeepsBeginning found.old.items found.new.items }
 {
     let single = head_first(Op::Prefix, &x[..x.len().min(1)]);
     let double = head_first(Op::Prefix, x);
@@ -62,7 +65,8 @@ fn meet_begin(heads: &Heads, x: &[u8], found: &mut Vec<u32>) -> Result<(), NoMem
 
 /// Appends the ids of the heads of what a text ends with.
 fn meet_end(heads: &Heads, x: &[u8], found: &mut Vec<u32>) -> Result<(), NoMemory>
-    ensures { OnOk result (Appends found.old.items found.new.items (ids_headed (is_at_end x.now) (Value.Str x.now) heads.now)) }
+    ensures ok { OnOk result (Appends found.old.items found.new.items (ids_headed (is_at_end x.now) (Value.Str x.now) heads.now)) }
+    ensures begins { KeepsBeginning found.old.items found.new.items }
 {
     let single = head_first(Op::Suffix, last_bytes(x, 1));
     let double = head_first(Op::Suffix, last_bytes(x, 2));
@@ -77,8 +81,9 @@ fn meet_one(
     x: &[u8],
     found: &mut Vec<u32>,
 ) -> Result<(), NoMemory>
-    ensures { OnOk result (Appends found.old.items found.new.items
+    ensures ok { OnOk result (Appends found.old.items found.new.items
         (ids_headed (λ h. not (has_one later.now (one Op.Contains a)) && (one Op.Contains a == h)) (Value.Str x.now) heads.now)) }
+    ensures begins { KeepsBeginning found.old.items found.new.items }
 {
     let head = one(Op::Contains, a);
     if has_one(later, head) {
@@ -95,8 +100,9 @@ fn meet_two(
     x: &[u8],
     found: &mut Vec<u32>,
 ) -> Result<(), NoMemory>
-    ensures { OnOk result (Appends found.old.items found.new.items
+    ensures ok { OnOk result (Appends found.old.items found.new.items
         (ids_headed (λ h. not (has_two later.now (two Op.Contains bytes.0 bytes.1)) && (two Op.Contains bytes.0 bytes.1 == h)) (Value.Str x.now) heads.now)) }
+    ensures begins { KeepsBeginning found.old.items found.new.items }
 {
     let head = two(Op::Contains, bytes.0, bytes.1);
     if has_two(later, head) {
@@ -107,7 +113,8 @@ fn meet_two(
 
 /// Appends the ids of the heads of the single bytes of a text.
 fn meet_ones(heads: &Heads, x: &[u8], found: &mut Vec<u32>) -> Result<(), NoMemory>
-    ensures { OnOk result (Appends found.old.items found.new.items (ids_headed (has_one x.now) (Value.Str x.now) heads.now)) }
+    ensures ok { OnOk result (Appends found.old.items found.new.items (ids_headed (has_one x.now) (Value.Str x.now) heads.now)) }
+    ensures begins { KeepsBeginning found.old.items found.new.items }
 {
     let mut left = x;
     while let Some((a, later)) = left.split_first() {
@@ -119,7 +126,8 @@ fn meet_ones(heads: &Heads, x: &[u8], found: &mut Vec<u32>) -> Result<(), NoMemo
 
 /// Appends the ids of the heads of each two neighbouring bytes of a text.
 fn meet_twos(heads: &Heads, x: &[u8], found: &mut Vec<u32>) -> Result<(), NoMemory>
-    ensures { OnOk result (Appends found.old.items found.new.items (ids_headed (has_two x.now) (Value.Str x.now) heads.now)) }
+    ensures ok { OnOk result (Appends found.old.items found.new.items (ids_headed (has_two x.now) (Value.Str x.now) heads.now)) }
+    ensures begins { KeepsBeginning found.old.items found.new.items }
 {
     let mut left = x;
     while let Some((a, later)) = left.split_first() {
@@ -134,7 +142,8 @@ fn meet_twos(heads: &Heads, x: &[u8], found: &mut Vec<u32>) -> Result<(), NoMemo
 
 /// Appends the ids of the heads of what stands in a text.
 fn meet_inside(heads: &Heads, x: &[u8], found: &mut Vec<u32>) -> Result<(), NoMemory>
-    ensures { OnOk result (Appends found.old.items found.new.items (ids_headed (is_inside x.now) (Value.Str x.now) heads.now)) }
+    ensures ok { OnOk result (Appends found.old.items found.new.items (ids_headed (is_inside x.now) (Value.Str x.now) heads.now)) }
+    ensures begins { KeepsBeginning found.old.items found.new.items }
 {
     heads.meet(mark(Op::Contains), x, found)?;
     meet_ones(heads, x, found)?;
@@ -145,7 +154,8 @@ fn meet_inside(heads: &Heads, x: &[u8], found: &mut Vec<u32>) -> Result<(), NoMe
 pub(crate) fn meet_ends(heads: &Heads, x: &[u8], found: &mut Vec<u32>) -> Result<(), NoMemory>
     requires patterns { AreAllPatterns heads.now }
     requires ends { tally is_part heads.now ≡ 0 }
-    ensures { OnOk result (Appends found.old.items found.new.items (ids_met (Value.Str x.now) heads.now)) }
+    ensures ok { OnOk result (Appends found.old.items found.new.items (ids_met (Value.Str x.now) heads.now)) }
+    ensures begins { KeepsBeginning found.old.items found.new.items }
 {
     meet_begin(heads, x, found)?;
     meet_end(heads, x, found)
@@ -159,7 +169,8 @@ const TESTS: usize = 4;
 pub(crate) fn meet_parts(heads: &Heads, x: &[u8], found: &mut Vec<u32>) -> Result<(), NoMemory>
     requires patterns { AreAllPatterns heads.now }
     requires parts { tally (λ y. not (is_part y)) heads.now ≡ 0 }
-    ensures { OnOk result (Appends found.old.items found.new.items (ids_met (Value.Str x.now) heads.now)) }
+    ensures ok { OnOk result (Appends found.old.items found.new.items (ids_met (Value.Str x.now) heads.now)) }
+    ensures begins { KeepsBeginning found.old.items found.new.items }
 {
     if heads.count() / TESTS <= x.len() {
         return heads.meet_all(x, found);

@@ -74,7 +74,8 @@ impl Rows {
 
     /// Appends the ids of the pairs whose test the text passes.
     pub(crate) fn meet(&self, text: &[u8], found: &mut Vec<u32>) -> Result<(), NoMemory>
-        ensures { OnOk result (Appends found.old.items found.new.items (ids_met (Value.Str text.now) self.now)) }
+        ensures ok { OnOk result (Appends found.old.items found.new.items (ids_met (Value.Str text.now) self.now)) }
+        ensures begins { KeepsBeginning found.old.items found.new.items }
     {
         walk(&self.rows, text, found)
     }
@@ -87,7 +88,8 @@ ghost use Rattle.ev_textindex.specs.Rows.{rows_pairs};
 
 /// Appends the ids of the rows whose test the text passes.
 fn walk(rows: &[Row], text: &[u8], found: &mut Vec<u32>) -> Result<(), NoMemory>
-    ensures { OnOk result (Appends found.old.items found.new.items (ids_met (Value.Str text.now) (rows_pairs rows.now))) }
+    ensures ok { OnOk result (Appends found.old.items found.new.items (ids_met (Value.Str text.now) (rows_pairs rows.now))) }
+    ensures begins { KeepsBeginning found.old.items found.new.items }
 {
     for row in rows {
         row.meet(text, found)?;

@@ -96,7 +96,8 @@ impl Row {
 
     /// Appends the ids of the row whose test the text passes.
     pub(crate) fn meet(&self, text: &[u8], found: &mut Vec<u32>) -> Result<(), NoMemory>
-        ensures { OnOk result (Appends found.old.items found.new.items (ids_met (Value.Str text.now) (row_pairs self.now))) }
+        ensures ok { OnOk result (Appends found.old.items found.new.items (ids_met (Value.Str text.now) (row_pairs self.now))) }
+        ensures begins { KeepsBeginning found.old.items found.new.items }
     {
         meet(&self.groups, self.longest.bytes, self.op, text, found)
     }

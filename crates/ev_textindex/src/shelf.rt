@@ -77,7 +77,8 @@ fn remove_other(others: &mut Option<Box<Counted>>, constraint: &Constraint, id: 
 
 /// Appends the id of the first pattern, if there is one and the text passes its test.
 fn meet_first(first: Option<Short>, text: &[u8], found: &mut Vec<u32>) -> Result<(), NoMemory>
-    ensures { OnOk result (Appends found.old.items found.new.items (ids_met (Value.Str text.now) (first_pairs first))) }
+    ensures ok { OnOk result (Appends found.old.items found.new.items (ids_met (Value.Str text.now) (first_pairs first))) }
+    ensures begins { KeepsBeginning found.old.items found.new.items }
 {
     if let Some(short) = first {
         if short.meets(text) {
@@ -93,7 +94,8 @@ fn meet_others(
     text: &[u8],
     found: &mut Vec<u32>,
 ) -> Result<(), NoMemory>
-    ensures { OnOk result (Appends found.old.items found.new.items (ids_met (Value.Str text.now) (other_pairs others.now))) }
+    ensures ok { OnOk result (Appends found.old.items found.new.items (ids_met (Value.Str text.now) (other_pairs others.now))) }
+    ensures begins { KeepsBeginning found.old.items found.new.items }
 {
     match others {
         Some(counted) => counted.meet(text, found),
@@ -157,7 +159,8 @@ impl Shelf {
 
     /// Appends the ids of the pairs whose test the text passes.
     pub(crate) fn meet(&self, text: &[u8], found: &mut Vec<u32>) -> Result<(), NoMemory>
-        ensures { OnOk result (Appends found.old.items found.new.items (ids_met (Value.Str text.now) self.now)) }
+        ensures ok { OnOk result (Appends found.old.items found.new.items (ids_met (Value.Str text.now) self.now)) }
+        ensures begins { KeepsBeginning found.old.items found.new.items }
     {
         meet_first(self.first, text, found)?;
         meet_others(&self.others, text, found)

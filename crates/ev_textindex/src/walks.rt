@@ -28,7 +28,8 @@ pub(crate) fn walk_one(
     key: &[u8],
     found: &mut Vec<u32>,
 ) -> Result<(), NoMemory>
-    ensures { OnOk result (found.new.items ≡ found.old.items ++ ids_of (filter (λ e. at_key key.now e.0) groups.now.entries)) }
+    ensures ok { OnOk result (found.new.items ≡ found.old.items ++ ids_of (filter (λ e. at_key key.now e.0) groups.now.entries)) }
+    ensures begins { KeepsBeginning found.old.items found.new.items }
 {
     // The keys rise, so there is no other such group.
     let _size = groups.len();
@@ -45,7 +46,8 @@ pub(crate) fn walk_others(
     key: &[u8],
     found: &mut Vec<u32>,
 ) -> Result<(), NoMemory>
-    ensures { OnOk result (found.new.items ≡ found.old.items ++ ids_of (filter (λ e. not (bytes_eq key.now e.0.items)) groups.now.entries)) }
+    ensures ok { OnOk result (found.new.items ≡ found.old.items ++ ids_of (filter (λ e. not (bytes_eq key.now e.0.items)) groups.now.entries)) }
+    ensures begins { KeepsBeginning found.old.items found.new.items }
 {
     for (other, ids) in groups {
         if key != other.as_slice() {
@@ -62,7 +64,8 @@ pub(crate) fn walk_below(
     edge: Edge,
     found: &mut Vec<u32>,
 ) -> Result<(), NoMemory>
-    ensures { OnOk result (found.new.items ≡ found.old.items ++ ids_of (filter (λ e. is_below edge x.now e.0.items) groups.now.entries)) }
+    ensures ok { OnOk result (found.new.items ≡ found.old.items ++ ids_of (filter (λ e. is_below edge x.now e.0.items) groups.now.entries)) }
+    ensures begins { KeepsBeginning found.old.items found.new.items }
 {
     for (key, ids) in groups.iter() {
         if !is_below(key, x, edge) {
@@ -80,7 +83,8 @@ pub(crate) fn walk_above(
     edge: Edge,
     found: &mut Vec<u32>,
 ) -> Result<(), NoMemory>
-    ensures { OnOk result (Appends found.old.items found.new.items (ids_of (filter (λ e. is_above edge x.now e.0.items) groups.now.entries))) }
+    ensures ok { OnOk result (Appends found.old.items found.new.items (ids_of (filter (λ e. is_above edge x.now e.0.items) groups.now.entries))) }
+    ensures begins { KeepsBeginning found.old.items found.new.items }
 {
     for (key, ids) in groups.iter().rev() {
         if !is_above(key, x, edge) {
@@ -100,7 +104,8 @@ fn probe_prefixes(
     found: &mut Vec<u32>,
 ) -> Result<(), NoMemory>
     requires { ids_beyond longest groups.now.entries ≡ 0 }
-    ensures { OnOk result (Appends found.old.items found.new.items (ids_of (filter (λ e. has_prefix x.now e.0.items) groups.now.entries))) }
+    ensures ok { OnOk result (Appends found.old.items found.new.items (ids_of (filter (λ e. has_prefix x.now e.0.items) groups.now.entries))) }
+    ensures begins { KeepsBeginning found.old.items found.new.items }
 {
     let most = x.len().min(longest);
     for n in 0..most + 1 {
@@ -118,7 +123,8 @@ fn probe_suffixes(
     found: &mut Vec<u32>,
 ) -> Result<(), NoMemory>
     requires { ids_beyond longest groups.now.entries ≡ 0 }
-    ensures { OnOk result (Appends found.old.items found.new.items (ids_of (filter (λ e. has_suffix x.now e.0.items) groups.now.entries))) }
+    ensures ok { OnOk result (Appends found.old.items found.new.items (ids_of (filter (λ e. has_suffix x.now e.0.items) groups.now.entries))) }
+    ensures begins { KeepsBeginning found.old.items found.new.items }
 {
     let most = x.len().min(longest);
     for n in 0..most + 1 {
@@ -133,7 +139,8 @@ pub(crate) fn walk_parts(
     x: &[u8],
     found: &mut Vec<u32>,
 ) -> Result<(), NoMemory>
-    ensures { OnOk result (found.new.items ≡ found.old.items ++ ids_of (filter (λ e. has_part x.now e.0.items) groups.now.entries)) }
+    ensures ok { OnOk result (found.new.items ≡ found.old.items ++ ids_of (filter (λ e. has_part x.now e.0.items) groups.now.entries)) }
+    ensures begins { KeepsBeginning found.old.items found.new.items }
 {
     for (key, ids) in groups {
         if has_part(x, key) {
@@ -149,7 +156,8 @@ fn test_prefixes(
     x: &[u8],
     found: &mut Vec<u32>,
 ) -> Result<(), NoMemory>
-    ensures { OnOk result (found.new.items ≡ found.old.items ++ ids_of (filter (λ e. has_prefix x.now e.0.items) groups.now.entries)) }
+    ensures ok { OnOk result (found.new.items ≡ found.old.items ++ ids_of (filter (λ e. has_prefix x.now e.0.items) groups.now.entries)) }
+    ensures begins { KeepsBeginning found.old.items found.new.items }
 {
     for (key, ids) in groups {
         if begins_with(x, key) {
@@ -165,7 +173,8 @@ fn test_suffixes(
     x: &[u8],
     found: &mut Vec<u32>,
 ) -> Result<(), NoMemory>
-    ensures { OnOk result (found.new.items ≡ found.old.items ++ ids_of (filter (λ e. has_suffix x.now e.0.items) groups.now.entries)) }
+    ensures ok { OnOk result (found.new.items ≡ found.old.items ++ ids_of (filter (λ e. has_suffix x.now e.0.items) groups.now.entries)) }
+    ensures begins { KeepsBeginning found.old.items found.new.items }
 {
     for (key, ids) in groups {
         if ends_with(x, key) {
@@ -183,7 +192,8 @@ pub(crate) fn walk_prefixes(
     found: &mut Vec<u32>,
 ) -> Result<(), NoMemory>
     requires { ids_beyond longest groups.now.entries ≡ 0 }
-    ensures { OnOk result (Appends found.old.items found.new.items (ids_of (filter (λ e. has_prefix x.now e.0.items) groups.now.entries))) }
+    ensures ok { OnOk result (Appends found.old.items found.new.items (ids_of (filter (λ e. has_prefix x.now e.0.items) groups.now.entries))) }
+    ensures begins { KeepsBeginning found.old.items found.new.items }
 {
     if is_sooner_tested(groups.len(), x.len().min(longest)) {
         test_prefixes(groups, x, found)
@@ -200,7 +210,8 @@ pub(crate) fn walk_suffixes(
     found: &mut Vec<u32>,
 ) -> Result<(), NoMemory>
     requires { ids_beyond longest groups.now.entries ≡ 0 }
-    ensures { OnOk result (Appends found.old.items found.new.items (ids_of (filter (λ e. has_suffix x.now e.0.items) groups.now.entries))) }
+    ensures ok { OnOk result (Appends found.old.items found.new.items (ids_of (filter (λ e. has_suffix x.now e.0.items) groups.now.entries))) }
+    ensures begins { KeepsBeginning found.old.items found.new.items }
 {
     if is_sooner_tested(groups.len(), x.len().min(longest)) {
         test_suffixes(groups, x, found)

@@ -1,0 +1,25 @@
+-- What a list keeps at its beginning.
+use Rattle.std.proofs.Common.{◌≡◌, ◌∙◌, ap, refl, sym, List, [], ◌∷◌, ◌++◌, ℕ, append-nil, append_assoc, take, length, zero, suc}
+use Rattle.ev_index.specs.Pairs.{BeginsWith, KeepsBeginning}
+
+pub begins-itself : (xs : List ℕ) → BeginsWith xs xs
+begins-itself xs = record { tail = []; whole = sym (append-nil xs) }
+
+-- what is appended changes no beginning
+pub append-keeps : (old new ids : List ℕ) → new ≡ old ++ ids → KeepsBeginning old new
+append-keeps old new ids h = λ first b. record { tail = b.tail ++ ids; whole = h ∙ ap (λ xs. xs ++ ids) b.whole ∙ append_assoc first b.tail ids }
+
+pub same-keeps : (old new : List ℕ) → new ≡ old → KeepsBeginning old new
+same-keeps old new h = λ first b. record { tail = b.tail; whole = h ∙ b.whole }
+
+pub keeps-then : (old between new : List ℕ) → KeepsBeginning old between → KeepsBeginning between new → KeepsBeginning old new
+keeps-then old between new h g = λ first b. g first (h first b)
+
+take-first : (xs ys : List ℕ) → take (length xs) (xs ++ ys) ≡ xs
+take-first [] [] = refl
+take-first [] (y ∷ ys) = refl
+take-first (x ∷ xs) ys = ap (λ zs. x ∷ zs) (take-first xs ys)
+
+-- cut to its old length, the list is as it was
+pub cut-back : (old new : List ℕ) → KeepsBeginning old new → take (length old) new ≡ old
+cut-back old new h = let b = h old (begins-itself old) in ap (take (length old)) b.whole ∙ take-first old b.tail
