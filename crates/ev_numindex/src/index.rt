@@ -26,7 +26,7 @@ impl Model for NumIndex {
 
 impl NumIndex {
     ghost use Rattle.std.specs.Prelude.{◌≡◌, ◌++◌, ◌∷◌, [], true, false, OnOk, OnErr};
-    ghost use Rattle.ev_index.specs.Pairs.{Same, IsIn, test_of, ids_met};
+    ghost use Rattle.ev_index.specs.Pairs.{Same, IsIn, test_of, KeepsBeginning, ids_met};
     ghost use Rattle.ev_numindex.specs.Rows.{IsNumeric};
 
     /// An index of nothing.
@@ -71,8 +71,8 @@ impl NumIndex {
         }
     }
 
-    /// Appends the ids of the pairs whose constraint the value satisfies.
-    pub fn hits(&self, value: &Value, found: &mut Vec<u32>) -> Result<(), NoMemory>
+    /// Appends the ids of the pairs whose constraint the value satisfies. Where memory runs out, some may have been appended.
+    fn meet(&self, value: &Value, found: &mut Vec<u32>) -> Result<(), NoMemory>
         ensures ok { OnOk result (found.new.items ≡ found.old.items ++ ids_met value.now self.now) }
         ensures begins { KeepsBeginning found.old.items found.new.items }
     {
@@ -80,5 +80,20 @@ impl NumIndex {
             row.meet(value, found)?;
         }
         Ok(())
+    }
+
+    /// Appends the ids of the pairs whose constraint the value satisfies. After want of memory the list is as before.
+    pub fn hits(&self, value: &Value, found: &mut Vec<u32>) -> Result<(), NoMemory>
+        ensures ok { OnOk result (found.new.items ≡ found.old.items ++ ids_met value.now self.now) }
+        ensures err { OnErr result (found.new.items ≡ found.old.items) }
+    {
+        let before = found.len();
+        match self.meet(value, found) {
+            Ok(()) => Ok(()),
+            Err(e) => {
+                found.truncate(before);
+                Err(e)
+            }
+        }
     }
 }

@@ -28,7 +28,7 @@ impl Model for Line {
 
 impl Line {
     ghost use Rattle.std.specs.Prelude.{◌≡◌, ◌++◌, ◌∷◌, ◌==◌, ◌&&◌, [], true, false, nat_lt, OnOk, OnErr};
-    ghost use Rattle.ev_index.specs.Pairs.{tally, Same};
+    ghost use Rattle.ev_index.specs.Pairs.{tally, Same, KeepsBeginning};
     ghost use Rattle.ev_numindex.specs.Keys.{same_key};
     ghost use Rattle.ev_numindex.specs.Lines.{ids_with, on_side};
 
@@ -87,6 +87,7 @@ impl Line {
 }
 
 ghost use Rattle.std.specs.Prelude.{◌≡◌, ◌++◌, [], cond, OnOk};
+ghost use Rattle.ev_index.specs.Pairs.{KeepsBeginning};
 ghost use Rattle.ev_numindex.specs.Lines.{ids_in};
 
 /// Appends the ids of some pairs, after room for all of them was made.

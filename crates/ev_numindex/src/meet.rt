@@ -2,7 +2,7 @@
 ghost use Rattle.std.specs.Prelude.{◌≡◌, ◌≢◌, ◌++◌, ℤ, pos, Bool, true, false, not, OnOk};
 ghost use Rattle.ev_values.specs.declared.value.Kind.{Kind};
 ghost use Rattle.ev_values.specs.declared.value.Value.{Value};
-ghost use Rattle.ev_index.specs.Pairs.{ids_met};
+ghost use Rattle.ev_index.specs.Pairs.{KeepsBeginning, ids_met};
 ghost use Rattle.ev_constraint.specs.declared.op.Op.{Op};
 ghost use Rattle.ev_numindex.specs.Lines.{told, ids_with, on_side};
 ghost use Rattle.ev_numindex.specs.Keys.{test_at, truth_key, time_key, key_meets};

@@ -55,7 +55,7 @@ impl Row {
     }
 
     ghost use Rattle.std.specs.Prelude.{◌≡◌, ◌++◌, ◌&&◌, ◌↔◌, OnOk, IsTrue};
-    ghost use Rattle.ev_index.specs.Pairs.{ids_met};
+    ghost use Rattle.ev_index.specs.Pairs.{KeepsBeginning, ids_met};
     ghost use Rattle.ev_values.specs.Value.{same_kind};
     ghost use Rattle.ev_numindex.specs.Rows.{row_pairs, IsRowOf};
 

@@ -1,4 +1,5 @@
 use Rattle.std.proofs.Common.{◌∙◌, ◌++◌, ◌∷◌, [], ap, sym, take, ℕ, List, append_assoc, arith}
+use Rattle.ev_index.proofs.Begins.{keeps-then, append-keeps}
 use Rattle.ev_numindex.specs.Lines.{id_in, ids_in}
 use Rattle.ev_numindex.proofs.Lines.{ids-more}
 use Rattle.ev_numindex.proofs.line.append_ids.Goals as goal
@@ -8,7 +9,9 @@ loop-pair-preserved c =
     let pairs = c.args.pairs.now in
     let i = c.loop-pair.pair-index in
     let old = c.args.found.now.items in
-    let last = id_in pairs i ∷ [] in (
-      c.push_reserved.ensures.items ∙ ap {B = List ℕ} (λ xs. xs ++ last) c.loop-pair.invariant.0 ∙ append_assoc old (ids_in (take i pairs)) last ∙ ap {B = List ℕ} (λ xs. old ++ xs) (sym (ids-more pairs i c.loop-pair-test.true)),
-      omega (arith, c.push_reserved.ensures.len, c.push_reserved.ensures.capacity, c.loop-pair.invariant.1, c.loop-pair-test.true),
-    )
+    let last = id_in pairs i ∷ [] in
+    record {
+      appended = c.push_reserved.ensures.items ∙ ap {B = List ℕ} (λ xs. xs ++ last) c.loop-pair.invariant.appended ∙ append_assoc old (ids_in (take i pairs)) last ∙ ap {B = List ℕ} (λ xs. old ++ xs) (sym (ids-more pairs i c.loop-pair-test.true));
+      room = omega (arith, c.push_reserved.ensures.len, c.push_reserved.ensures.capacity, c.loop-pair.invariant.room, c.loop-pair-test.true);
+      begins = keeps-then old c.loop-pair.found.items c.push_reserved.new.self.items c.loop-pair.invariant.begins (append-keeps c.loop-pair.found.items c.push_reserved.new.self.items last c.push_reserved.ensures.items);
+    }

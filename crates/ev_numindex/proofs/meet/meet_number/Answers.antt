@@ -11,11 +11,11 @@ use Rattle.ev_numindex.specs.Keys.{test_at, key_meets}
 use Rattle.ev_numindex.proofs.Meets.{number-meets}
 use Rattle.ev_numindex.proofs.meet.meet_number.Goals as goal
 
-pub returns : goal.returns
-returns c =
+pub returns-clause-ok : goal.returns-clause-ok
+returns-clause-ok c =
     let found = c.args.found.now.items in
     let line = c.args.line.now in
     let z = to_z-of_z w64 c.args.x (search rules) in
-    let h = subst (λ (x : ℤ). OnOk c.meet_key.result (c.meet_key.new.found.items ≡ found ++ ids_with (key_meets c.args.op x) line)) z c.meet_key.ensures in
+    let h = subst (λ (x : ℤ). OnOk c.meet_key.result (c.meet_key.new.found.items ≡ found ++ ids_with (key_meets c.args.op x) line)) z c.meet_key.ensures.ok in
     let e = met-told (values.Int c.args.x) (test_at kinds.Int c.args.op) (key_meets c.args.op c.args.x) line (number-meets c.args.op c.args.x) in
     on_ok_weaker c.meet_key.result (λ w. w ∙ ap (λ (ids : List ℕ). found ++ ids) e) h

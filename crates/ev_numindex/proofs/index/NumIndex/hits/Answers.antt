@@ -1,18 +1,10 @@
-use Rattle.std.proofs.Common.{◌≡◌, ◌++◌, ◌∙◌, ap, sym, append_assoc, List, ℕ, drop, ◌+◌}
-use Rattle.std.proofs.lemmas.List.{drop_more}
-use Rattle.ev_index.specs.Pairs.{ids_met}
-use Rattle.ev_index.proofs.Rows.{met-append}
-use Rattle.ev_numindex.specs.declared.row.Row.{Row}
-use Rattle.ev_numindex.specs.Rows.{rows_pairs, row_pairs}
+use Rattle.std.proofs.Common.{◌≡◌, ◌∙◌, ap, arith, take, length, ℕ, List}
+use Rattle.ev_index.proofs.Begins.{cut-back}
 use Rattle.ev_numindex.proofs.index.NumIndex.hits.Goals as goal
 
-pub loop-row-preserved : goal.loop-row-preserved
-loop-row-preserved c =
-    let e = drop_more c.deref-row-items.result.now c.loop-row.row-index c.row-item.result c.loop-row-test.true in
-    let g = ap {B = List ℕ} (λ (rows : List Row). ids_met c.args.value.now (rows_pairs rows)) e in
-    let r = c.row-item.result in
-    let rest = rows_pairs (drop (c.loop-row.row-index + 1) c.deref-row-items.result.now) in
-    let m = met-append c.args.value.now (row_pairs r) rest in
-    let h : ids_met c.args.value.now (rows_pairs (drop c.loop-row.row-index c.deref-row-items.result.now)) ≡ ids_met c.args.value.now (row_pairs r) ++ ids_met c.args.value.now rest = g ∙ ap {B = List ℕ} (λ (x : Row). ids_met c.args.value.now (row_pairs x ++ rest)) (sym c.row-item.is) ∙ m in
-    let a = append_assoc c.loop-row.found.items (ids_met c.args.value.now (row_pairs r)) (ids_met c.args.value.now rest) in
-    ap (λ xs. xs ++ ids_met c.args.value.now rest) c.in_ok-meet.ensures ∙ a ∙ ap (λ xs. c.loop-row.found.items ++ xs) (sym h) ∙ c.loop-row.invariant
+pub returns-in-Err-clause-err : goal.returns-in-Err-clause-err
+returns-in-Err-clause-err c =
+    let old = c.args.found.now.items in
+    let new = c.meet.new.found.items in
+    let all : c.len-before.result ≡ length old = omega (arith, c.len-before.ensures, c.args.found.now.ok.0) in
+    c.truncate.ensures.items ∙ ap {B = List ℕ} (λ n. take n new) all ∙ cut-back old new c.meet.ensures.begins

@@ -9,8 +9,8 @@ use Rattle.ev_numindex.proofs.line.Line.meet.Goals as goal
 pub upto-most-requires-clause-known : goal.upto-most-requires-clause-known
 upto-most-requires-clause-known c = λ k l. not-both (key_in c.deref-2.result.now k) (to_z w64 (of_z w64 c.args.x)) (rw (sym (c.deref-2.ensures.value ∙ sym c.deref.ensures.value)) at (c.below-least.ensures.before k l))
 
-pub returns : goal.returns
-returns c =
+pub returns-clause-ok : goal.returns-clause-ok
+returns-clause-ok c =
     let pairs = c.self.inside.pairs.items in
     let s = c.args.sides in
     let x : ℤ = to_z w64 (of_z w64 c.args.x) in
@@ -28,4 +28,4 @@ returns c =
     (λ k l m. side-equal s x (key_in pairs k) (below.behind k l (omega (arith, m, upto.within.1))) (upto.before k m))
     (λ k l m. side-above s x (key_in pairs k) (below.behind k (omega (arith, l, upto.within.0)) m) (upto.behind k l m)) in
     let e : a ++ (b ++ d) ≡ ids_with (on_side s c.args.x) c.args.self.now = ap {B = List ℕ} (λ (q : List (ℤ × ℕ)). a ++ (b ++ cond s.above (ids_in q) [])) (rest-of pairs most) ∙ sym all ∙ ap {B = List ℕ} (λ (y : ℤ). ids_with (on_side s y) pairs) z ∙ ap {B = List ℕ} (ids_with (on_side s c.args.x)) c.self.view_is in
-    on_ok_weaker c.append_some-3.result (λ h. three-parts old c.append_some.new.found.items c.append_some-2.new.found.items c.append_some-3.new.found.items a b d (rw c.deref-3.ensures.value at c.in_ok-append_some.ensures) (rw c.deref-4.ensures.value at c.in_ok-append_some-2.ensures) (rw c.deref-5.ensures.value at h) ∙ ap {B = List ℕ} (λ xs. old ++ xs) e) c.append_some-3.ensures
+    on_ok_weaker c.append_some-3.result (λ h. three-parts old c.append_some.new.found.items c.append_some-2.new.found.items c.append_some-3.new.found.items a b d (rw c.deref-3.ensures.value at c.in_ok-append_some.ensures.ok) (rw c.deref-4.ensures.value at c.in_ok-append_some-2.ensures.ok) (rw c.deref-5.ensures.value at h) ∙ ap {B = List ℕ} (λ xs. old ++ xs) e) c.append_some-3.ensures.ok
