@@ -27,7 +27,7 @@ impl Counted {
     ghost use Rattle.std.specs.Prelude.{◌≡◌, ◌↔◌, ◌∷◌, [], true, false, OnOk, OnErr, IsTrue};
     ghost use Rattle.ev_values.specs.declared.value.Kind.{Kind};
     ghost use Rattle.ev_values.specs.declared.value.Value.{Value};
-    ghost use Rattle.ev_index.specs.Pairs.{Same, IsIn, Appends, test_of, ids_met};
+    ghost use Rattle.ev_index.specs.Pairs.{Same, IsIn, Appends, KeepsBeginning, test_of, ids_met};
 
     /// No patterns.
     pub(crate) fn new(alloc: Global) -> Counted

@@ -32,7 +32,7 @@ impl Patterns {
     ghost use Rattle.std.specs.Prelude.{◌≡◌, ◌∷◌, [], true, false, OnOk, OnErr};
     ghost use Rattle.ev_values.specs.declared.value.Kind.{Kind};
     ghost use Rattle.ev_values.specs.declared.value.Value.{Value};
-    ghost use Rattle.ev_index.specs.Pairs.{Same, Appends, IsIn, test_of, ids_met};
+    ghost use Rattle.ev_index.specs.Pairs.{Same, Appends, KeepsBeginning, IsIn, test_of, ids_met};
     ghost use Rattle.ev_textindex.specs.Heads.{AreAllPatterns};
 
     /// No patterns.

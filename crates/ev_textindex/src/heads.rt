@@ -3,7 +3,7 @@ ghost use Rattle.std.specs.Prelude.{◌≡◌, ◌∷◌, [], true, false, OnOk,
 ghost use Rattle.ev_constraint.specs.declared.op.Op.{Op};
 ghost use Rattle.ev_values.specs.declared.value.Kind.{Kind};
 ghost use Rattle.ev_values.specs.declared.value.Value.{Value};
-ghost use Rattle.ev_index.specs.Pairs.{Same, IsIn, Appends, test_of, ids_met};
+ghost use Rattle.ev_index.specs.Pairs.{Same, IsIn, Appends, KeepsBeginning, test_of, ids_met};
 ghost use Rattle.ev_textindex.specs.Heads.{head_of, shelved, AreFiled, AreUsed, AreUsedBut};
 
 use crate::head::head_at;
@@ -143,7 +143,7 @@ impl Heads {
     ghost use Rattle.std.specs.Prelude.{◌≡◌, ◌∷◌, ◌==◌, [], true, false, OnOk, OnErr};
     ghost use Rattle.ev_values.specs.declared.value.Kind.{Kind};
     ghost use Rattle.ev_values.specs.declared.value.Value.{Value};
-    ghost use Rattle.ev_index.specs.Pairs.{Same, Appends, IsIn, tally, test_of};
+    ghost use Rattle.ev_index.specs.Pairs.{Same, Appends, KeepsBeginning, IsIn, tally, test_of};
     ghost use Rattle.ev_textindex.specs.Heads.{ids_headed};
 
     /// No patterns.

@@ -30,7 +30,7 @@ impl Model for TextIndex {
 impl TextIndex {
     ghost use Rattle.std.specs.Prelude.{◌≡◌, ◌∷◌, [], true, false, OnOk, OnErr};
     ghost use Rattle.ev_values.specs.declared.value.Kind.{Kind};
-    ghost use Rattle.ev_index.specs.Pairs.{Same, Appends, IsIn, test_of, ids_met};
+    ghost use Rattle.ev_index.specs.Pairs.{Same, Appends, KeepsBeginning, IsIn, test_of, ids_met};
 
     /// An index of nothing.
     pub fn new(alloc: Global) -> TextIndex
@@ -68,8 +68,8 @@ impl TextIndex {
         }
     }
 
-    /// Appends the ids of the pairs whose constraint the value satisfies.
-    pub fn hits(&self, value: &Value, found: &mut Vec<u32>) -> Result<(), NoMemory>
+    /// Appends the ids of the pairs whose constraint the value satisfies. Where memory runs out, some may have been appended.
+    fn meet(&self, value: &Value, found: &mut Vec<u32>) -> Result<(), NoMemory>
         ensures ok { OnOk result (Appends found.old.items found.new.items (ids_met value.now self.now)) }
         ensures begins { KeepsBeginning found.old.items found.new.items }
     {
@@ -79,6 +79,21 @@ impl TextIndex {
                 self.patterns.meet(text.bytes(), found)
             }
             _ => Ok(()),
+        }
+    }
+
+    /// Appends the ids of the pairs whose constraint the value satisfies. After want of memory the list is as before.
+    pub fn hits(&self, value: &Value, found: &mut Vec<u32>) -> Result<(), NoMemory>
+        ensures ok { OnOk result (Appends found.old.items found.new.items (ids_met value.now self.now)) }
+        ensures err { OnErr result (found.new.items ≡ found.old.items) }
+    {
+        let before = found.len();
+        match self.meet(value, found) {
+            Ok(()) => Ok(()),
+            Err(e) => {
+                found.truncate(before);
+                Err(e)
+            }
         }
     }
 }

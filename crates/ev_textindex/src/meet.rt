@@ -1,7 +1,7 @@
 //! The ids of the groups whose test a text passes.
 ghost use Rattle.std.specs.Prelude.{◌≡◌, OnOk};
 ghost use Rattle.ev_values.specs.declared.value.Value.{Value};
-ghost use Rattle.ev_index.specs.Pairs.{Appends, ids_met};
+ghost use Rattle.ev_index.specs.Pairs.{Appends, KeepsBeginning, ids_met};
 ghost use Rattle.ev_index.specs.Groups.{keyed};
 ghost use Rattle.ev_textindex.specs.Keys.{ids_beyond};
 ghost use Rattle.ev_textindex.specs.Rows.{said};

@@ -2,7 +2,7 @@
 ghost use Rattle.std.specs.Prelude.{◌≡◌, ◌==◌, ◌&&◌, ◌||◌, not, OnOk};
 ghost use Rattle.ev_values.specs.declared.value.Value.{Value};
 ghost use Rattle.ev_constraint.specs.declared.op.Op.{Op};
-ghost use Rattle.ev_index.specs.Pairs.{Appends, tally, ids_met};
+ghost use Rattle.ev_index.specs.Pairs.{Appends, KeepsBeginning, tally, ids_met};
 ghost use Rattle.ev_textindex.specs.Heads.{mark, one, two, head_first, last_bytes, is_one_of_three, is_at_begin, is_at_end, is_inside, is_part};
 ghost use Rattle.ev_textindex.specs.Heads.{has_one, has_two, ids_headed, AreAllPatterns};
 

@@ -28,7 +28,7 @@ impl Rows {
     ghost use Rattle.std.specs.Prelude.{◌≡◌, ◌∷◌, [], true, false, OnOk, OnErr};
     ghost use Rattle.ev_values.specs.declared.value.Kind.{Kind};
     ghost use Rattle.ev_values.specs.declared.value.Value.{Value};
-    ghost use Rattle.ev_index.specs.Pairs.{Same, Appends, IsIn, test_of, ids_met};
+    ghost use Rattle.ev_index.specs.Pairs.{Same, Appends, KeepsBeginning, IsIn, test_of, ids_met};
 
     /// No rows.
     pub(crate) fn new(alloc: Global) -> Rows
@@ -83,7 +83,7 @@ impl Rows {
 
 ghost use Rattle.std.specs.Prelude.{◌≡◌, OnOk};
 ghost use Rattle.ev_values.specs.declared.value.Value.{Value};
-ghost use Rattle.ev_index.specs.Pairs.{Appends, ids_met};
+ghost use Rattle.ev_index.specs.Pairs.{Appends, KeepsBeginning, ids_met};
 ghost use Rattle.ev_textindex.specs.Rows.{rows_pairs};
 
 /// Appends the ids of the rows whose test the text passes.

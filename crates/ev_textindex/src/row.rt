@@ -34,7 +34,7 @@ pub(crate) fn key_of<'a>(operand: Option<&'a Value>) -> &'a [u8]
 impl Row {
     ghost use Rattle.std.specs.Prelude.{◌∷◌, ◌++◌, ◌==◌, ◌&&◌, ◌↔◌, [], IfOk, OnOk, OnErr, IsTrue, nat_lt, true, false};
     ghost use Rattle.ev_values.specs.declared.value.Value.{Value};
-    ghost use Rattle.ev_index.specs.Pairs.{Same, Appends, tally, ids_met};
+    ghost use Rattle.ev_index.specs.Pairs.{Same, Appends, KeepsBeginning, tally, ids_met};
     ghost use Rattle.ev_index.specs.Groups.{keyed};
     ghost use Rattle.ev_textindex.specs.Keys.{test_at, same_bytes, bytes_of};
     ghost use Rattle.ev_textindex.specs.Rows.{row_pairs};

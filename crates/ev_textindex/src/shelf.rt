@@ -3,7 +3,7 @@ ghost use Rattle.std.specs.Prelude.{◌≡◌, ◌↔◌, ◌∷◌, [], true, f
 ghost use Rattle.std.specs.Option.{option_copied};
 ghost use Rattle.ev_values.specs.declared.value.Kind.{Kind};
 ghost use Rattle.ev_values.specs.declared.value.Value.{Value};
-ghost use Rattle.ev_index.specs.Pairs.{Same, IsIn, Appends, test_of, ids_met};
+ghost use Rattle.ev_index.specs.Pairs.{Same, IsIn, Appends, KeepsBeginning, test_of, ids_met};
 ghost use Rattle.ev_textindex.specs.Shorts.{first_pairs, other_pairs};
 
 use crate::counted::Counted;
@@ -107,7 +107,7 @@ impl Shelf {
     ghost use Rattle.std.specs.Prelude.{◌≡◌, ◌↔◌, ◌∷◌, [], true, false, OnOk, OnErr, IsTrue};
     ghost use Rattle.ev_values.specs.declared.value.Kind.{Kind};
     ghost use Rattle.ev_values.specs.declared.value.Value.{Value};
-    ghost use Rattle.ev_index.specs.Pairs.{Same, IsIn, Appends, test_of, ids_met};
+    ghost use Rattle.ev_index.specs.Pairs.{Same, IsIn, Appends, KeepsBeginning, test_of, ids_met};
 
     /// A shelf of nothing. It takes no memory.
     pub(crate) fn new(alloc: Global) -> Shelf

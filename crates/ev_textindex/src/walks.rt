@@ -3,7 +3,7 @@ ghost use Rattle.std.specs.Prelude.{◌≡◌, ◌++◌, not, OnOk};
 ghost use Rattle.std.specs.List.{filter};
 ghost use Rattle.std.specs.Str.{bytes_eq};
 ghost use Rattle.ev_constraint.specs.Bytes.{has_prefix, has_suffix, has_part};
-ghost use Rattle.ev_index.specs.Pairs.{Appends};
+ghost use Rattle.ev_index.specs.Pairs.{Appends, KeepsBeginning};
 ghost use Rattle.ev_index.specs.Groups.{ids_of};
 ghost use Rattle.ev_textindex.specs.Keys.{at_key, ids_beyond, is_below, is_above};
 

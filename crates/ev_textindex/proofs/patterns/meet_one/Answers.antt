@@ -7,8 +7,8 @@ use Rattle.ev_textindex.proofs.Headed.{headed-none}
 use Rattle.ev_textindex.proofs.Probed.{passed-over}
 use Rattle.ev_textindex.proofs.patterns.meet_one.Goals as goal
 
-pub returns-then-has_one : goal.returns-then-has_one
-returns-then-has_one c =
+pub returns-then-has_one-clause-ok : goal.returns-then-has_one-clause-ok
+returns-then-has_one-clause-ok c =
     let k = one ops.Contains c.args.a in
     let skip = has_one c.args.later.now k in
     let s = λ (h : ℕ). not skip && (k == h) in

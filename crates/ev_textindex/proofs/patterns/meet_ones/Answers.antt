@@ -17,11 +17,14 @@ loop-a-preserved c =
     let k = one ops.Contains a in
     let s = λ (h : ℕ). not (has_one later k) && (k == h) in
     let ids = λ (l : List ℕ). ids_headed (has_one l) v pairs in
-    fewer-left c.args.found.now.items c.loop-a.found.items c.meet_one.new.found.items (ids c.loop-a.left.now) (ids later) (ids c.args.x.now) (ids_headed s v pairs) c.loop-a.invariant c.in_ok-meet_one.ensures (λ p. ap {B = ℕ} (λ (l : List ℕ). tally p (ids_headed (has_one l) v pairs)) c.in-Some.ensures.cases.0 ∙ headed-either (λ h. (k == h) || has_one later h) s (has_one later) v p pairs (one-more-head (has_one later) k))
+    record {
+      appended = fewer-left c.args.found.now.items c.loop-a.found.items c.meet_one.new.found.items (ids c.loop-a.left.now) (ids later) (ids c.args.x.now) (ids_headed s v pairs) c.loop-a.invariant.appended c.in_ok-meet_one.ensures.ok (λ p. ap {B = ℕ} (λ (l : List ℕ). tally p (ids_headed (has_one l) v pairs)) c.in-Some.ensures.cases.0 ∙ headed-either (λ h. (k == h) || has_one later h) s (has_one later) v p pairs (one-more-head (has_one later) k));
+      begins = λ first b. c.in_ok-meet_one.ensures.begins first (c.loop-a.invariant.begins first b);
+    }
 
-pub returns : goal.returns
-returns c =
+pub returns-clause-ok : goal.returns-clause-ok
+returns-clause-ok c =
     let v = values.Str c.args.x.now in
     let pairs = c.args.heads.now in
     let ids = λ (l : List ℕ). ids_headed (has_one l) v pairs in
-    nothing-left c.args.found.now.items c.loop-a.found.items (ids c.loop-a.left.now) (ids c.args.x.now) c.loop-a.invariant (headed-none (has_one c.loop-a.left.now) v pairs (λ h. no-one c.loop-a.left.now h c.in_default.ensures.cases))
+    nothing-left c.args.found.now.items c.loop-a.found.items (ids c.loop-a.left.now) (ids c.args.x.now) c.loop-a.invariant.appended (headed-none (has_one c.loop-a.left.now) v pairs (λ h. no-one c.loop-a.left.now h c.in_default.ensures.cases))

@@ -6,8 +6,8 @@ use Rattle.ev_textindex.proofs.Headed.{headed-none}
 use Rattle.ev_textindex.proofs.Probed.{passed-over}
 use Rattle.ev_textindex.proofs.patterns.meet_other.Goals as goal
 
-pub returns-then-is_either : goal.returns-then-is_either
-returns-then-is_either c =
+pub returns-then-is_either-clause-ok : goal.returns-then-is_either-clause-ok
+returns-then-is_either-clause-ok c =
     let k = c.args.head in
     let skip = c.args.others.0 == k || c.args.others.1 == k in
     let s = λ (h : ℕ). not skip && (k == h) in

@@ -7,8 +7,8 @@ use Rattle.ev_textindex.proofs.Headed.{headed-none}
 use Rattle.ev_textindex.proofs.Probed.{passed-over}
 use Rattle.ev_textindex.proofs.patterns.meet_two.Goals as goal
 
-pub returns-then-has_two : goal.returns-then-has_two
-returns-then-has_two c =
+pub returns-then-has_two-clause-ok : goal.returns-then-has_two-clause-ok
+returns-then-has_two-clause-ok c =
     let k = two ops.Contains c.args.bytes.0 c.args.bytes.1 in
     let skip = has_two c.args.later.now k in
     let s = λ (h : ℕ). not skip && (k == h) in

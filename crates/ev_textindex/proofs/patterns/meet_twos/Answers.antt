@@ -17,20 +17,23 @@ loop-a-preserved c =
     let k = two ops.Contains a c.in-Some-split_first.b.now in
     let s = λ (h : ℕ). not (has_two later k) && (k == h) in
     let ids = λ (l : List ℕ). ids_headed (has_two l) v pairs in
-    fewer-left c.args.found.now.items c.loop-a.found.items c.meet_two.new.found.items (ids c.loop-a.left.now) (ids later) (ids c.args.x.now) (ids_headed s v pairs) c.loop-a.invariant c.in_ok-meet_two.ensures (λ p. ap {B = ℕ} (λ (l : List ℕ). tally p (ids_headed (has_two l) v pairs)) c.in-Some.ensures.cases.0 ∙ headed-either (has_two (a ∷ later)) s (has_two later) v p pairs (one-more-pair a c.in-Some-split_first.b.now later c.in-Some-split_first.field-0-1.now c.in-Some-split_first.ensures.cases.0))
+    record {
+      appended = fewer-left c.args.found.now.items c.loop-a.found.items c.meet_two.new.found.items (ids c.loop-a.left.now) (ids later) (ids c.args.x.now) (ids_headed s v pairs) c.loop-a.invariant.appended c.in_ok-meet_two.ensures.ok (λ p. ap {B = ℕ} (λ (l : List ℕ). tally p (ids_headed (has_two l) v pairs)) c.in-Some.ensures.cases.0 ∙ headed-either (has_two (a ∷ later)) s (has_two later) v p pairs (one-more-pair a c.in-Some-split_first.b.now later c.in-Some-split_first.field-0-1.now c.in-Some-split_first.ensures.cases.0));
+      begins = λ first b. c.in_ok-meet_two.ensures.begins first (c.loop-a.invariant.begins first b);
+    }
 
-pub returns : goal.returns
-returns c =
+pub returns-clause-ok : goal.returns-clause-ok
+returns-clause-ok c =
     let v = values.Str c.args.x.now in
     let pairs = c.args.heads.now in
     let ids = λ (l : List ℕ). ids_headed (has_two l) v pairs in
-    nothing-left c.args.found.now.items c.loop-a.found.items (ids c.loop-a.left.now) (ids c.args.x.now) c.loop-a.invariant (headed-none (has_two c.loop-a.left.now) v pairs (λ h. no-two c.loop-a.left.now h c.in_default.ensures.cases))
+    nothing-left c.args.found.now.items c.loop-a.found.items (ids c.loop-a.left.now) (ids c.args.x.now) c.loop-a.invariant.appended (headed-none (has_two c.loop-a.left.now) v pairs (λ h. no-two c.loop-a.left.now h c.in_default.ensures.cases))
 
-pub returns-in_default-split_first : goal.returns-in_default-split_first
-returns-in_default-split_first c =
+pub returns-in_default-split_first-clause-ok : goal.returns-in_default-split_first-clause-ok
+returns-in_default-split_first-clause-ok c =
     let v = values.Str c.args.x.now in
     let pairs = c.args.heads.now in
     let a = c.in-Some.a.now in
     let later = c.in-Some.later.now in
     let ids = λ (l : List ℕ). ids_headed (has_two l) v pairs in
-    nothing-left c.args.found.now.items c.loop-a.found.items (ids c.loop-a.left.now) (ids c.args.x.now) c.loop-a.invariant (ap {B = List ℕ} ids c.in-Some.ensures.cases.0 ∙ headed-none (has_two (a ∷ later)) v pairs (λ h. no-two-of-one a later h c.in_default-split_first.ensures.cases))
+    nothing-left c.args.found.now.items c.loop-a.found.items (ids c.loop-a.left.now) (ids c.args.x.now) c.loop-a.invariant.appended (ap {B = List ℕ} ids c.in-Some.ensures.cases.0 ∙ headed-none (has_two (a ∷ later)) v pairs (λ h. no-two-of-one a later h c.in_default-split_first.ensures.cases))

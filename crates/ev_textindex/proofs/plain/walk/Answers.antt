@@ -18,4 +18,7 @@ loop-row-preserved c =
     let rest = drop (c.loop-row.row-index + 1) c.args.rows.now in
     let more = drop_more c.args.rows.now c.loop-row.row-index r c.loop-row-test.true in
     let both : met left ≡ ids ++ met rest = ap {B = List ℕ} met more ∙ ap {B = List ℕ} (λ (x : Row). ids_met (values.Str c.args.text.now) (row_pairs x ++ rows_pairs rest)) (sym c.row-item.is) ∙ met-append (values.Str c.args.text.now) (row_pairs r) (rows_pairs rest) in
-    fewer-left c.args.found.now.items c.loop-row.found.items c.meet.new.found.items (met left) (met rest) (met c.args.rows.now) ids c.loop-row.invariant c.in_ok-meet.ensures (λ p. ap (tally p) both ∙ tally-append p ids (met rest))
+    record {
+      appended = fewer-left c.args.found.now.items c.loop-row.found.items c.meet.new.found.items (met left) (met rest) (met c.args.rows.now) ids c.loop-row.invariant.appended c.in_ok-meet.ensures.ok (λ p. ap (tally p) both ∙ tally-append p ids (met rest));
+      begins = λ first b. c.in_ok-meet.ensures.begins first (c.loop-row.invariant.begins first b);
+    }

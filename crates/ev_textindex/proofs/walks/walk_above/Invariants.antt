@@ -3,8 +3,13 @@ use Rattle.std.specs.List.Sorted.{IsStrictlySortedBy}
 use Rattle.std.specs.Map.{keys_of}
 use Rattle.ev_index.specs.Groups.{ids_of}
 use Rattle.ev_textindex.specs.Keys.{is_above, key_cmp}
+use Rattle.ev_index.specs.Pairs.{KeepsBeginning}
 use Rattle.ev_textindex.proofs.Appended.{Leaves}
 use Rattle.ev_textindex.proofs.walks.walk_above.Given as goal
 
 abbrev pub invariant-loop-key : goal.invariant-loop-key
-invariant-loop-key l = Leaves l.fn.found.items l.found.items (ids_of (filter (λ e. is_above l.fn.edge l.x e.0.items) l.key-iterator.iter)) (ids_of (filter (λ e. is_above l.fn.edge l.x e.0.items) l.groups.entries)) × IsStrictlySortedBy key_cmp (keys_of l.key-iterator.iter)
+invariant-loop-key l = record {
+  appended : Leaves l.fn.found.items l.found.items (ids_of (filter (λ e. is_above l.fn.edge l.x e.0.items) l.key-iterator.iter)) (ids_of (filter (λ e. is_above l.fn.edge l.x e.0.items) l.groups.entries));
+  rising : IsStrictlySortedBy key_cmp (keys_of l.key-iterator.iter);
+  begins : KeepsBeginning l.fn.found.items l.found.items;
+}

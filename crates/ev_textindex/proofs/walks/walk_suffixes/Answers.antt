@@ -7,5 +7,5 @@ use Rattle.ev_textindex.proofs.Appended.{appended}
 use Rattle.ev_index.proofs.Found.{ids_at}
 use Rattle.ev_textindex.proofs.walks.walk_suffixes.Goals as goal
 
-pub returns-then-is_sooner_tested : goal.returns-then-is_sooner_tested
-returns-then-is_sooner_tested c = on_ok_weaker c.test_suffixes.result (appended c.args.found.now.items c.test_suffixes.new.found.items (ids_at (λ (k : Vec ℕ Global). has_suffix c.args.x.now k.items) c.args.groups.now.entries)) c.test_suffixes.ensures
+pub returns-then-is_sooner_tested-clause-ok : goal.returns-then-is_sooner_tested-clause-ok
+returns-then-is_sooner_tested-clause-ok c = on_ok_weaker c.test_suffixes.result (appended c.args.found.now.items c.test_suffixes.new.found.items (ids_at (λ (k : Vec ℕ Global). has_suffix c.args.x.now k.items) c.args.groups.now.entries)) c.test_suffixes.ensures.ok

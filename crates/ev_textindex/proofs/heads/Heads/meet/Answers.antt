@@ -11,17 +11,17 @@ use Rattle.ev_textindex.proofs.Appended.{nothing-appended, the-same-appended}
 use Rattle.ev_textindex.proofs.Headed.{meets-shelf, meets-none}
 use Rattle.ev_textindex.proofs.heads.Heads.meet.Goals as goal
 
-pub returns-in-Some : goal.returns-in-Some
-returns-in-Some c =
+pub returns-in-Some-clause-ok : goal.returns-in-Some-clause-ok
+returns-in-Some-clause-ok c =
     let v = values.Str c.args.text.now in
     let h = c.args.head in
     let pairs = c.in-Some.shelf.now in
     let es = c.self.inside.shelves.entries in
     let same = subst (λ (view : List Pair). Same (ids_met v pairs) (ids_headed (λ k. h == k) v view)) c.self.view_is (meets-shelf h v pairs es c.self.invariant.filed (IsDistinct-from_sorted nat_cmp (keys_of es) c.len-size.ensures.ordered) (sym c.get.ensures.value ∙ ap option_copied c.in-Some.is)) in
-    on_ok_weaker c.meet.result (λ a. the-same-appended c.args.found.now.items c.meet.new.found.items (ids_met v pairs) (ids_headed (λ k. h == k) v c.args.self.now) a same) c.meet.ensures
+    on_ok_weaker c.meet.result (λ a. the-same-appended c.args.found.now.items c.meet.new.found.items (ids_met v pairs) (ids_headed (λ k. h == k) v c.args.self.now) a same) c.meet.ensures.ok
 
-pub returns-in-None : goal.returns-in-None
-returns-in-None c =
+pub returns-in-None-clause-ok : goal.returns-in-None-clause-ok
+returns-in-None-clause-ok c =
     let v = values.Str c.args.text.now in
     let h = c.args.head in
     let old = c.args.found.now.items in

@@ -1,30 +1,10 @@
-use Rattle.std.proofs.Common.{◌≡◌, ◌∙◌, ◌++◌, ap, sym, List, ℕ}
-use Rattle.std.proofs.lemmas.Result.{on_ok_weaker}
-use Rattle.ev_values.specs.declared.value.Value.{Value}
-use Rattle.ev_values.specs.declared.value.Value.TheVariants as values
-use Rattle.ev_index.specs.Pairs.{ids_met}
-use Rattle.ev_index.proofs.Rows.{met-append}
-use Rattle.ev_index.proofs.Tallies.{Appends-append}
-use Rattle.ev_textindex.proofs.Appended.{those-appended, nothing-appended}
-use Rattle.ev_textindex.proofs.Apart.{nothing-met}
+use Rattle.std.proofs.Common.{◌≡◌, ◌∙◌, ap, arith, take, length, ℕ, List}
+use Rattle.ev_index.proofs.Begins.{cut-back}
 use Rattle.ev_textindex.proofs.index.TextIndex.hits.Goals as goal
 
-pub returns-in_ok-meet-in-Str : goal.returns-in_ok-meet-in-Str
-returns-in_ok-meet-in-Str c =
-    let v = c.args.value.now in
+pub returns-in-Err-clause-err : goal.returns-in-Err-clause-err
+returns-in-Err-clause-err c =
     let old = c.args.found.now.items in
-    let between = c.meet.new.found.items in
-    let new = c.meet-in-Str.new.found.items in
-    let rows = c.self.inside.rows in
-    let patterns = c.self.inside.patterns in
-    let a = ids_met (values.Str c.bytes.result.now) rows in
-    let b = ids_met (values.Str c.bytes-in-Str.result.now) patterns in
-    let s : values.Str c.bytes.result.now ≡ v = ap values.Str c.bytes.ensures.bytes ∙ sym c.in-Str.is in
-    let t : values.Str c.bytes-in-Str.result.now ≡ v = ap values.Str c.bytes-in-Str.ensures.bytes ∙ sym c.in-Str.is in
-    let e : a ++ b ≡ ids_met v c.args.self.now = ap {B = List ℕ} (λ (x : Value). ids_met x rows ++ b) s ∙ ap {B = List ℕ} (λ (x : Value). ids_met v rows ++ ids_met x patterns) t ∙ sym (met-append v rows patterns) ∙ ap (ids_met v) c.self.view_is in
-    on_ok_weaker c.meet-in-Str.result (λ h. those-appended old new (a ++ b) (ids_met v c.args.self.now) (Appends-append old between new a b c.in_ok-meet-in-Str.ensures h) e) c.meet-in-Str.ensures
-
-pub returns-in_default : goal.returns-in_default
-returns-in_default c =
-    let v = c.args.value.now in
-    nothing-appended c.args.found.now.items (ids_met v c.args.self.now) (ap (ids_met v) (sym c.self.view_is) ∙ nothing-met v c.in_default.not-Str c.self.inside.rows c.self.inside.patterns c.self.invariant)
+    let new = c.meet.new.found.items in
+    let all : c.len-before.result ≡ length old = omega (arith, c.len-before.ensures, c.args.found.now.ok.0) in
+    c.truncate.ensures.items ∙ ap {B = List ℕ} (λ n. take n new) all ∙ cut-back old new c.meet.ensures.begins
