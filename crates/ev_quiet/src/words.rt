@@ -1,5 +1,5 @@
 //! What the words of the command line ask for.
-ghost use Rattle.std.specs.Prelude.{◌≡◌, true};
+ghost use Rattle.std.specs.Prelude.{◌≡◌, ◌↔◌, IsTrue};
 ghost use Rattle.std.specs.Str.{bytes_eq};
 ghost use Rattle.ev_quiet.specs.Words.{AreNoneOfRun, alone, asked, generate_by, is_summary, joined_seed, options, parted_seed};
 ghost use Rattle.ev_quiet.specs.Words.{plain, run_by, wanted_by, with_option};
@@ -195,7 +195,7 @@ pub fn read_words(words: &[Word]) -> Option<Wanted>
 
 /// Whether the words are none of `run`, so that no threads are asked for.
 pub fn is_quiet(words: &[Word]) -> bool
-    ensures { result ≡ true → AreNoneOfRun (wanted_by words.now) }
+    ensures { IsTrue result ↔ AreNoneOfRun (wanted_by words.now) }
 {
     match read_words(words) {
         Some(Wanted::Document(Query::Run(Schedule::Threads, _))) => false,
