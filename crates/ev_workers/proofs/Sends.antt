@@ -79,6 +79,7 @@ use Rattle.ev_node.specs.contracts.cell.CellStanding.TheImpl as standing
 use Rattle.ev_workers.specs.contracts.crew.Seat as OwnSeat
 use Rattle.ev_workers.specs.contracts.desk.Desk as OwnDesk
 use Rattle.ev_workers.specs.contracts.hire.Hire as Hire
+use Rattle.ev_workers.specs.contracts.pace.Pace as Pace
 
 ruleset ours = (sendable, crosses, end.the_send, seat.the_send, shared.the_send, shared.the_sync, lease.the_send, lease.the_sync, heap.the_field_send, seen.the_send, seen.the_sync, word.the_send, part.the_send, part.the_sync, deed.the_send)
 
@@ -349,10 +350,13 @@ pass_send I R = struct_send (shape (Pass.the_type I R)) (search (sendable, badge
 pub seat_send : IsSend OwnSeat.the_field.row
 seat_send = let a = viewer_send in search (sendable, pass_send) depth 20
 
+pub pace_sync : IsSync Pace.the_field.row
+pace_sync = search (sendable, crosses) depth 20
+
 pub desk_is_send : (κ ν : NamedLft) (R G : RattleType) → IsSync R → IsSync G → IsSend (OwnDesk.the_field κ ν R G).row
-desk_is_send κ ν R G r h = let a = lock_sync ν standing.ghosts in let b = net_sync in
+desk_is_send κ ν R G r h = let a = lock_sync ν standing.ghosts in let b = net_sync in let e = pace_sync in
     struct_send (shape (OwnDesk.the_type κ ν R G))
-    (search sendable depth 20, (search ours depth 20, (search sendable depth 20, (search sendable depth 20, (search sendable depth 20, (search sendable depth 20, (search sendable depth 20, (search sendable depth 20, tt))))))))
+    (search sendable depth 20, (search ours depth 20, (search sendable depth 20, (search sendable depth 20, (search sendable depth 20, (search sendable depth 20, (search sendable depth 20, (search sendable depth 20, (search sendable depth 20, tt)))))))))
 
 pub hire_send : (κ ν : NamedLft) (R G : RattleType) → IsSync R → IsSync G → IsSend (Hire.the_field κ ν R G).row
 hire_send κ ν R G r h = let a = desk_is_send κ ν R G r h in let b = seat_send in struct_send (shape (Hire.the_type κ ν R G)) (search sendable depth 20, (search sendable depth 20, tt))

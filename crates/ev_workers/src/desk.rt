@@ -4,6 +4,7 @@ ghost use Rattle.ev_workers.specs.Hands.{IsLockFor};
 use crate::ended::Ended;
 use crate::hand::{look_at, make_turn_ahead, pick_command};
 use crate::hands::Hands;
+use crate::pace::Pace;
 use crate::tried::{Looked, Picked};
 use ev_counting::Scratch;
 use ev_memory::NoMemory;
@@ -17,7 +18,7 @@ use ev_versions::{Ahead, Viewer, match_ahead};
 use std::alloc::Global;
 use std::sync::Wait;
 
-/// What a worker is given that stays: its net, its server, the phase, which worker it is, its lock and the gate.
+/// What a worker is given that stays: its net, its server, the phase and how far it is, which worker it is, its lock and the gate.
 #[derive(Drop)]
 pub(crate) struct Desk<'l, 'a, R: Wait, G: Gate> {
     pub(crate) rt: &'l R,
@@ -28,6 +29,7 @@ pub(crate) struct Desk<'l, 'a, R: Wait, G: Gate> {
     pub(crate) worker: Worker,
     pub(crate) lock: &'l TurnLock<Cell<'a>>,
     pub(crate) gate: &'l G,
+    pub(crate) pace: &'l Pace,
     ghost lock_for: { IsLockFor net.now server phase lock.now },
 }
 
@@ -52,7 +54,11 @@ impl<'l, 'a, R: Wait, G: Gate> Desk<'l, 'a, R, G> {
             scratch: Scratch::new(self.alloc),
         };
         match self.worker {
-            Worker::Commands => self.take_commands(hands),
+            Worker::Commands => {
+                let ended = self.take_commands(hands);
+                self.pace.note_end();
+                ended
+            }
             Worker::Links => self.take_links(hands),
         }
     }

@@ -7,6 +7,7 @@ use crate::crew::{Crew, Seat, Spare};
 use crate::desk::Desk;
 use crate::ended::Ended;
 use crate::jobs::{Both, Job};
+use crate::pace::Pace;
 use ev_model::Net;
 use ev_node::Cell;
 use ev_outside::{Gate, Worker};
@@ -22,6 +23,7 @@ pub(crate) struct Site<'l, R: Wait, G: Gate> {
     pub(crate) net: &'l Net,
     pub(crate) phase: u32,
     pub(crate) gate: &'l G,
+    pub(crate) pace: &'l Pace,
 }
 
 /// A worker with its desk and its seat.
@@ -66,6 +68,7 @@ fn hire_one<'l, 'a, R: Wait, G: Gate>(
             worker,
             lock,
             gate: site.gate,
+            pace: site.pace,
         },
         seat,
     }

@@ -11,6 +11,7 @@ mod hire;
 mod jobs;
 mod links;
 mod locking;
+mod pace;
 mod phase;
 mod tried;
 mod working;

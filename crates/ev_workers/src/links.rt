@@ -7,10 +7,14 @@ use ev_node::{Turned, What};
 use ev_outside::{Gate, Worker};
 use ev_server::StepFault;
 use std::sync::Wait;
-use std::thread::yield_now;
+use std::thread::{Parker, yield_now};
+use std::time::Duration;
 
 // So many looks in a row that made no turn end the worker.
 const LOOKS: u32 = 100;
+
+// So long at most, in microseconds, it sleeps between two looks.
+const LONGEST: u64 = 5_000;
 
 impl<'l, 'a, R: Wait, G: Gate> Desk<'l, 'a, R, G> {
     ghost use Rattle.ev_workers.specs.Hands.{AreHands, AreLater};
@@ -35,6 +39,19 @@ impl<'l, 'a, R: Wait, G: Gate> Desk<'l, 'a, R, G> {
         }
     }
 
+    /// Rests after so many looks in a row that made no turn. While commands are taken somewhere a message may be long on its
+    /// way, and the cell may be in the hand of a worker that is off its processor: so it sleeps, the longer the more looks there
+    /// were. Later it gives way alone, and so ends soon where nothing is left.
+    fn rest(&self, idle: u32) {
+        if self.pace.is_late() {
+            yield_now();
+            return;
+        }
+        let idle = u64::from(idle);
+        let sleep = idle.saturating_mul(idle).min(LONGEST);
+        Parker::new().park_timeout(self.rt, Duration::from_micros(sleep));
+    }
+
     /// Takes from each neighbour in turn and publishes what is staged, until a hundred looks in a row made no turn, or until a
     /// fault. A worn clock is none.
     pub(crate) fn take_links(&self, mut hands: Hands) -> Ended
@@ -55,7 +72,7 @@ impl<'l, 'a, R: Wait, G: Gate> Desk<'l, 'a, R, G> {
                     if idle >= LOOKS {
                         return hands.ended(None);
                     }
-                    yield_now();
+                    self.rest(idle);
                 }
                 Err(StepFault::NoMemory) => return hands.ended(Some(StepFault::NoMemory)),
                 Err(StepFault::Worn(_)) => return hands.ended(None),

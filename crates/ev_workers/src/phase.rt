@@ -7,6 +7,7 @@ use crate::crew::Eyes;
 use crate::hire::{Site, hire_all};
 use crate::jobs::run_all;
 use crate::locking::{lock_all, unlock_all};
+use crate::pace::Pace;
 use ev_memory::NoMemory;
 use ev_model::Net;
 use ev_node::Cell;
@@ -45,12 +46,14 @@ pub fn run_phase<'a, R: Threads + Wait + Sync, G: Gate + Sync>(
         locks.destroy_empty();
         return Err(NoMemory);
     }
+    let pace = Pace::new(count as u64);
     let site = Site {
         rt,
         alloc,
         net,
         phase,
         gate,
+        pace: &pace,
     };
     hire_all(&site, &locks, crews, &mut jobs, &mut spares);
     let done = run_all(rt, jobs, done);

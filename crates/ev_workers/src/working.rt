@@ -4,6 +4,7 @@ ghost use Rattle.ev_workers.specs.Work.{Keeps};
 
 use crate::desk::Desk;
 use crate::ended::Ended;
+use crate::pace::Pace;
 use ev_model::{Entry, Net};
 use ev_node::{Cell, Root};
 use ev_outside::{Gate, Worker};
@@ -34,6 +35,7 @@ pub fn work<R: Wait, G: Gate>(
     requires free { AreFreeHands lock.now pass viewer }
     ensures { Keeps worker pass viewer result }
 {
+    let pace = Pace::new(0);
     let desk = Desk {
         rt,
         alloc,
@@ -43,6 +45,7 @@ pub fn work<R: Wait, G: Gate>(
         worker,
         lock,
         gate,
+        pace: &pace,
     };
     desk.run(pass, viewer)
 }
