@@ -113,6 +113,83 @@ truth-told op k t n e = go (int_eq k (pos 1)) (int_eq k (pos 0)) refl refl e
 bare : (op : Op) → (op ≡ ops.Any → ⊥) → (t : Test) → IsTest t.kind t.op t.operand → t ≡ record { kind = kinds.Time; op = op; operand = None } → ⊥
 bare op h t w e = h (subst (λ (s : Test). IsTest s.kind s.op s.operand) e w)
 
+-- a key tells a test of a number, a truth value or a time, or no constraint
+abbrev IsOfNumberOrLost : Test → Type 0
+IsOfNumberOrLost t = IsNumber t.kind ⊎ ((j : ℤ) × (t ≡ no_test j))
+
+any-of-number : (kind : Kind) (k : ℤ) → IsNumber kind → IsOfNumberOrLost (any_test kind k)
+any-of-number kind k n = go (int_eq k (pos 0))
+  where
+    go : (b : Bool) → IsOfNumberOrLost (if b then record { kind = kind; op = ops.Any; operand = None } else no_test k)
+    go true = inl n
+    go false = inr (k, refl)
+
+truth-of-number : (op : Op) (k : ℤ) → IsOfNumberOrLost (truth_test op k)
+truth-of-number op k = go (int_eq k (pos 1)) (int_eq k (pos 0))
+  where
+    go : (a b : Bool) → IsOfNumberOrLost (if a then record { kind = kinds.Bool; op = op; operand = Some (values.Bool true) }
+        else if b then record { kind = kinds.Bool; op = op; operand = Some (values.Bool false) } else no_test k)
+    go true b = inl (inr (inl refl))
+    go false true = inl (inr (inl refl))
+    go false false = inr (k, refl)
+
+below-of-number : (op : Op) (j : ℤ) → IsOfNumberOrLost (below_test op j)
+below-of-number ops.Ne j = inl (inr (inr refl))
+below-of-number ops.Gt j = inl (inr (inr refl))
+below-of-number ops.Ge j = inl (inr (inr refl))
+below-of-number ops.Eq j = inr (j, refl)
+below-of-number ops.Lt j = inr (j, refl)
+below-of-number ops.Le j = inr (j, refl)
+below-of-number ops.Any j = inr (j, refl)
+below-of-number ops.Contains j = inr (j, refl)
+below-of-number ops.Prefix j = inr (j, refl)
+below-of-number ops.Suffix j = inr (j, refl)
+
+time-of-number : (op : Op) (z : ℤ) → IsOfNumberOrLost (time_test op z)
+time-of-number op (pos n) = inl (inr (inr refl))
+time-of-number op (negsuc n) = below-of-number op (negsuc n)
+
+of-number : (kind : Kind) (op : Op) (k : ℤ) → IsOfNumberOrLost (test_at kind op k)
+of-number kinds.Str op k = inr (k, refl)
+of-number kinds.Bool ops.Any k = any-of-number kinds.Bool k (inr (inl refl))
+of-number kinds.Bool ops.Eq k = truth-of-number ops.Eq k
+of-number kinds.Bool ops.Ne k = truth-of-number ops.Ne k
+of-number kinds.Bool ops.Lt k = inr (k, refl)
+of-number kinds.Bool ops.Le k = inr (k, refl)
+of-number kinds.Bool ops.Gt k = inr (k, refl)
+of-number kinds.Bool ops.Ge k = inr (k, refl)
+of-number kinds.Bool ops.Contains k = inr (k, refl)
+of-number kinds.Bool ops.Prefix k = inr (k, refl)
+of-number kinds.Bool ops.Suffix k = inr (k, refl)
+of-number kinds.Int ops.Any k = any-of-number kinds.Int k (inl refl)
+of-number kinds.Int ops.Eq k = inl (inl refl)
+of-number kinds.Int ops.Ne k = inl (inl refl)
+of-number kinds.Int ops.Lt k = inl (inl refl)
+of-number kinds.Int ops.Le k = inl (inl refl)
+of-number kinds.Int ops.Gt k = inl (inl refl)
+of-number kinds.Int ops.Ge k = inl (inl refl)
+of-number kinds.Int ops.Contains k = inl (inl refl)
+of-number kinds.Int ops.Prefix k = inl (inl refl)
+of-number kinds.Int ops.Suffix k = inl (inl refl)
+of-number kinds.Time ops.Any k = any-of-number kinds.Time k (inr (inr refl))
+of-number kinds.Time ops.Eq k = time-of-number ops.Eq (k +ℤ pos (2 ^ 63))
+of-number kinds.Time ops.Ne k = time-of-number ops.Ne (k +ℤ pos (2 ^ 63))
+of-number kinds.Time ops.Lt k = time-of-number ops.Lt (k +ℤ pos (2 ^ 63))
+of-number kinds.Time ops.Le k = time-of-number ops.Le (k +ℤ pos (2 ^ 63))
+of-number kinds.Time ops.Gt k = time-of-number ops.Gt (k +ℤ pos (2 ^ 63))
+of-number kinds.Time ops.Ge k = time-of-number ops.Ge (k +ℤ pos (2 ^ 63))
+of-number kinds.Time ops.Contains k = time-of-number ops.Contains (k +ℤ pos (2 ^ 63))
+of-number kinds.Time ops.Prefix k = time-of-number ops.Prefix (k +ℤ pos (2 ^ 63))
+of-number kinds.Time ops.Suffix k = time-of-number ops.Suffix (k +ℤ pos (2 ^ 63))
+
+-- a constraint that a key tells is one on a number, a truth value or a time
+pub tells-a-number : (kind : Kind) (op : Op) (k : ℤ) (t : Test) → IsTest t.kind t.op t.operand → t ≡ test_at kind op k → IsNumber t.kind
+tells-a-number kind op k t w e = go (of-number kind op k)
+  where
+    go : IsOfNumberOrLost (test_at kind op k) → IsNumber t.kind
+    go (inl n) = subst IsNumber (ap (λ (s : Test). s.kind) (sym e)) n
+    go (inr (j, f)) = absurd (subst (λ (s : Test). IsTest s.kind s.op s.operand) (e ∙ f) w)
+
 -- a key that is less than that of each time tells no constraint
 below-lost : (op : Op) (j : ℤ) (t : Test) → IsNumber t.kind → IsTest t.kind t.op t.operand → t ≡ below_test op j → ⊥
 below-lost ops.Ne j t n w e = bare ops.Ne (λ f. cc) t w e

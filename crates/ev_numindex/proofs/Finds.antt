@@ -13,13 +13,22 @@ use Rattle.ev_numindex.specs.Keys.{same_key, key_of, test_at}
 use Rattle.ev_numindex.specs.Rows.{HasAt, IsNumeric, rows_pairs, row_pairs}
 use Rattle.ev_numindex.proofs.Keys.{same-self}
 use Rattle.ev_numindex.proofs.Lines.{in-told}
-use Rattle.ev_numindex.proofs.Codes.{decode, encode}
+use Rattle.ev_numindex.proofs.Codes.{decode, encode, tells-a-number}
 
 itself : (k : ℤ) (id : ℕ) → (same_key k k && (id == id)) ≡ true
 itself k id = ap {B = Bool} (λ b. b && (id == id)) (same-self k) ∙ here id
   where
     here : (n : ℕ) → (n == n) ≡ true
     here n = grind (arith, nat_tests)
+
+-- the rows have no pair of a constraint on a str
+pub no-text-in-rows : (c : ConstraintParts) (id : ℕ) (rows : List Row) → IsConstraint c → IsIn (test_of c, id) (rows_pairs rows) → IsNumeric c
+no-text-in-rows c id (r ∷ rows) w m =
+    let f = in-flat row_pairs (test_of c, id) (r ∷ rows) m in
+    let row = get_or (r ∷ rows) f.place r in
+    let g = in-told (test_at row.kind row.op) (test_of c, id) row.line (f.there r) in
+    tells-a-number row.kind row.op g.key (test_of c) w g.tells
+no-text-in-rows c id [] w m = absurd m
 
 -- a pair of the rows stands in a row of its kind and operator, under its key
 in-rows : (c : ConstraintParts) (kind : Kind) (op : Op) (key : ℤ) (id : ℕ) (rows : List Row) → IsNumeric c → IsConstraint c → kind ≡ c.kind → op ≡ c.op → key ≡ key_of c.operand → ((k : ℕ) → k < length rows → (d : Row) → HasAt kind op key id (get_or rows k d) → ⊥) → (d : Row) → IsIn (test_of c, id) (rows_pairs rows) → ⊥

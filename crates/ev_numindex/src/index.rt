@@ -1,10 +1,23 @@
 //! The index of int, bool and time constraints.
+ghost use Rattle.std.specs.Prelude.{◌↔◌, IsTrue};
+ghost use Rattle.ev_numindex.specs.Rows.{IsNumeric};
+
 use crate::row::{Row, find, key_of, place};
 use ev_constraint::Constraint;
 use ev_memory::NoMemory;
-use ev_values::Value;
+use ev_values::{Kind, Value};
 use std::alloc::Global;
 use std::marker::Model;
+
+/// Whether a constraint is on an int, a bool or a time.
+fn is_numeric(constraint: &Constraint) -> bool
+    ensures { IsTrue result ↔ IsNumeric constraint.now }
+{
+    match constraint.kind() {
+        Kind::Bool | Kind::Int | Kind::Time => true,
+        Kind::Str => false,
+    }
+}
 
 /// An index of int, bool and time constraints: pairs of a constraint without its name and an id.
 #[derive(Drop)]
@@ -59,11 +72,15 @@ impl NumIndex {
 
     /// Takes a pair away; whether it was there.
     pub fn remove(&mut self, constraint: &Constraint, id: u32) -> bool
-        requires { IsNumeric constraint.now }
         ensures there { result ≡ true → Same self.old ((test_of constraint.now, id) ∷ self.new) }
         ensures none { result ≡ false → (self.new ≡ self.old) × (IsIn (test_of constraint.now, id) self.old → ⊥) }
     {
         let op = constraint.op();
+        // No key of a row says a constraint of another kind.
+        let _rows = &self.rows;
+        if !is_numeric(constraint) {
+            return false;
+        }
         let key = key_of(constraint.operand());
         match find(&self.rows, constraint.kind(), op, &key, id) {
             Some(i) => self.rows[i].take(&key, id),

@@ -25,6 +25,18 @@ not-other kinds.Bool op h = refl
 not-other kinds.Int op h = refl
 not-other kinds.Time op h = refl
 
+no-other-kind : (kind : Kind) (op : Op) → (kind ≡ kinds.Str → ⊥) → not (is_other_at kind op) ≡ true
+no-other-kind kinds.Str op h = absurd (h refl)
+no-other-kind kinds.Bool op h = refl
+no-other-kind kinds.Int op h = refl
+no-other-kind kinds.Time op h = refl
+
+no-pattern-kind : (kind : Kind) (op : Op) → (kind ≡ kinds.Str → ⊥) → not (is_pattern_at kind op) ≡ true
+no-pattern-kind kinds.Str op h = absurd (h refl)
+no-pattern-kind kinds.Bool op h = refl
+no-pattern-kind kinds.Int op h = refl
+no-pattern-kind kinds.Time op h = refl
+
 -- the pairs of both are v
 module _ (a b v : List Pair) (e : a ++ b ≡ v) (x : Pair) (new : List Pair) where
   pub more-others : Same new (x ∷ a) → Same (new ++ b) (x ∷ v)
@@ -51,6 +63,13 @@ module _ (a b v : List Pair) (e : a ++ b ≡ v) (x : Pair) where
     | inl h ↦ absurd (omega (arith, t, tally-in (λ y. not (is_other y)) x a (not-other x.0.kind x.0.op k) h))
     | inr h ↦ n h
   ]
+
+-- neither list has a test of another kind
+pub no-number : (a b v : List Pair) → a ++ b ≡ v → AreApart a b → (x : Pair) → (x.0.kind ≡ kinds.Str → ⊥) → IsIn x v → ⊥
+no-number a b v e s x h m = elim (in-append x a b (subst (IsIn x) (sym e) m)) [
+  | inl i ↦ absurd (omega (arith, s.others_only, tally-in (λ y. not (is_other y)) x a (no-other-kind x.0.kind x.0.op h) i))
+  | inr i ↦ absurd (omega (arith, s.patterns_only, tally-in (λ y. not (is_pattern y)) x b (no-pattern-kind x.0.kind x.0.op h) i))
+]
 
 -- a value of another kind passes no test of strs
 other-kind : (v : Value) → ((t : List ℕ) → v ≡ values.Str t → ⊥) → (op : Op) (operand : Option Value) → value_satisfies kinds.Str op operand v ≡ false

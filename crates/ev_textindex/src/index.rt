@@ -1,12 +1,25 @@
 //! The index of str constraints.
+ghost use Rattle.std.specs.Prelude.{◌≡◌, ◌↔◌, IsTrue};
+ghost use Rattle.ev_values.specs.declared.value.Kind.{Kind};
+
 use crate::ends_parts::Patterns;
 use crate::head::is_pattern;
 use crate::plain::Rows;
 use ev_constraint::Constraint;
 use ev_memory::NoMemory;
-use ev_values::Value;
+use ev_values::{Kind, Value};
 use std::alloc::Global;
 use std::marker::Model;
+
+/// Whether a constraint is on a str.
+fn is_on_text(constraint: &Constraint) -> bool
+    ensures { IsTrue result ↔ (constraint.now.kind ≡ Kind.Str) }
+{
+    match constraint.kind() {
+        Kind::Str => true,
+        _ => false,
+    }
+}
 
 /// An index of str constraints: pairs of a constraint without its name and an id.
 #[derive(Drop)]
@@ -57,10 +70,14 @@ impl TextIndex {
 
     /// Takes a pair away; whether it was there.
     pub fn remove(&mut self, constraint: &Constraint, id: u32) -> bool
-        requires { constraint.now.kind ≡ Kind.Str }
         ensures there { result ≡ true → Same self.old ((test_of constraint.now, id) ∷ self.new) }
         ensures none { result ≡ false → (self.new ≡ self.old) × (IsIn (test_of constraint.now, id) self.old → ⊥) }
     {
+        // Neither rows nor patterns have a constraint of another kind.
+        let _rows = &self.rows;
+        if !is_on_text(constraint) {
+            return false;
+        }
         if is_pattern(constraint.op()) {
             self.patterns.remove(constraint, id)
         } else {
