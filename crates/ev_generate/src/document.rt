@@ -5,7 +5,8 @@ ghost use Rattle.ev_generate.specs.Lines.{numbered, edge_line, client_line, subs
 ghost use Rattle.ev_generate.specs.Document.{publications, script_draws, script_text, generated};
 
 use crate::draws::Draws;
-use crate::lines::{push_client, push_edge, push_number, push_publish, push_subscribe};
+use crate::lines::{push_client, push_edge, push_publish, push_subscribe};
+use ev_decimal::push_number;
 use ev_memory::NoMemory;
 use std::alloc::Global;
 

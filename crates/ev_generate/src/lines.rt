@@ -1,21 +1,12 @@
 //! The lines of a document.
-ghost use Rattle.std.specs.Prelude.{◌≡◌, ◌++◌, ◌<◌, ℕ, decimal, OnOk};
+ghost use Rattle.std.specs.Prelude.{◌≡◌, ◌++◌, ◌<◌, ℕ, OnOk};
 ghost use Rattle.ev_generate.specs.Draws.{after};
 ghost use Rattle.ev_generate.specs.Lines.{labelled, edge_line, client_line, test_text, prefix_text};
 ghost use Rattle.ev_generate.specs.Lines.{subscribe_text, subscribe_line, attribute_text, publish_line};
 
 use crate::draws::Draws;
+use ev_decimal::push_number;
 use ev_memory::NoMemory;
-use itoa::Buffer;
-
-/// A number in decimal.
-pub(crate) fn push_number(out: &mut Vec<u8>, number: u64) -> Result<(), NoMemory>
-    ensures { OnOk result (out.new.items ≡ out.old.items ++ decimal number) }
-{
-    let mut buffer = Buffer::new();
-    out.extend_from_slice(buffer.format(number).as_bytes())?;
-    Ok(())
-}
 
 // A number behind a label.
 #[tactic(auto, unfolding(crate::specs::Lines::labelled))]

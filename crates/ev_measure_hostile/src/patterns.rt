@@ -10,7 +10,7 @@ use std::alloc::Global;
 const LETTERS: [u8; 26] = *b"abcdefghijklmnopqrstuvwxyz";
 
 /// The letters of a number, put behind some bytes.
-fn push_number(bytes: &mut Vec<u8>, number: usize) -> Result<(), Fault> {
+fn push_letters(bytes: &mut Vec<u8>, number: usize) -> Result<(), Fault> {
     bytes.push(LETTERS[number / 676 % 26])?;
     bytes.push(LETTERS[number / 26 % 26])?;
     bytes.push(LETTERS[number % 26])?;
@@ -22,12 +22,12 @@ fn push_number(bytes: &mut Vec<u8>, number: usize) -> Result<(), Fault> {
 pub fn pattern(alloc: Global, op: Op, head: usize, number: usize) -> Result<Vec<u8>, Fault> {
     let mut bytes = Vec::new(alloc);
     if op == Op::Suffix {
-        push_number(&mut bytes, number)?;
+        push_letters(&mut bytes, number)?;
     }
     bytes.push(LETTERS[head / 26 % 26])?;
     bytes.push(LETTERS[head % 26])?;
     if op != Op::Suffix {
-        push_number(&mut bytes, number)?;
+        push_letters(&mut bytes, number)?;
     }
     Ok(bytes)
 }

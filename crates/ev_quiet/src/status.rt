@@ -3,9 +3,9 @@ ghost use Rattle.std.specs.Prelude.{◌≡◌, ◌++◌, ◌∷◌, [], IfOk, On
 ghost use Rattle.std.specs.Fmt.{decimal};
 ghost use Rattle.ev_quiet.specs.Status.{kind_text, status_number, status_text};
 
+use ev_decimal::push_number;
 use ev_input::Fault;
 use ev_memory::NoMemory;
-use itoa::Buffer;
 use std::alloc::Global;
 
 /// How a run ended. A bad input is told with the number of its line: the end counts as the line behind the last, and 0
@@ -77,9 +77,8 @@ fn kind_text(kind: Fault) -> &'static [u8]
 fn push_bad_input(out: &mut Vec<u8>, line: u32, kind: Fault) -> Result<(), NoMemory>
     ensures { OnOk result (out.new.items ≡ out.old.items ++ codes "siena: line " ++ decimal line ++ codes ": " ++ kind_text kind ++ 10 ∷ []) }
 {
-    let mut buffer = Buffer::new();
     out.extend_from_slice(b"siena: line ")?;
-    out.extend_from_slice(buffer.format(line).as_bytes())?;
+    push_number(out, u64::from(line))?;
     out.extend_from_slice(b": ")?;
     out.extend_from_slice(kind_text(kind))?;
     out.extend_from_slice(b"\n")?;

@@ -1,14 +1,13 @@
 //! Parts of lines.
 ghost use Rattle.std.specs.Prelude.{◌≡◌, ◌++◌, OnOk};
 ghost use Rattle.std.specs.List.{flat_map};
-ghost use Rattle.std.specs.Fmt.{decimal};
 ghost use Rattle.ev_report.specs.Lines.{name_of, client_line, refused_line, publication_line};
 
+use ev_decimal::push_number;
 use ev_memory::NoMemory;
 use ev_model::Client;
 use ev_values::Name;
 use ev_wire::Id;
-use itoa::Buffer;
 
 /// The name of a client, by its number from 1.
 pub(crate) fn name_of(clients: &[Client], number: u32) -> &[u8]
@@ -21,15 +20,6 @@ pub(crate) fn name_of(clients: &[Client], number: u32) -> &[u8]
         Some(client) => client.name.bytes(),
         None => &[],
     }
-}
-
-/// A number in decimal.
-pub(crate) fn push_number(out: &mut Vec<u8>, number: u64) -> Result<(), NoMemory>
-    ensures { OnOk result (out.new.items ≡ out.old.items ++ decimal number) }
-{
-    let mut buffer = Buffer::new();
-    out.extend_from_slice(buffer.format(number).as_bytes())?;
-    Ok(())
 }
 
 /// The line before what a client receives.

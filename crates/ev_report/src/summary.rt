@@ -9,7 +9,7 @@ ghost use Rattle.ev_model.specs.Nets.{first_tree};
 ghost use Rattle.ev_model.specs.Sound.{IsSound, publishes, controls};
 ghost use Rattle.ev_report.specs.Summary.{labelled, counts_text, check_text, summary_text};
 
-use crate::lines::push_number;
+use ev_decimal::push_number;
 use ev_memory::NoMemory;
 use ev_model::{Client, Command, Net};
 use std::alloc::Global;

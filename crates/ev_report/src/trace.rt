@@ -3,7 +3,8 @@ ghost use Rattle.std.specs.Prelude.{◌≡◌, ◌++◌, length, IfOk, OnOk};
 ghost use Rattle.std.specs.List.{flat_map};
 ghost use Rattle.ev_report.specs.Trace.{act_text, entry_line, sent_line, entry_text, trace_text, trace_head};
 
-use crate::lines::{name_of, push_number};
+use crate::lines::name_of;
+use ev_decimal::push_number;
 use ev_memory::NoMemory;
 use ev_model::{Act, Client, Entry, Net, Sent};
 use ev_wire::Lists;

@@ -10,9 +10,9 @@ use crate::int::int_of;
 use crate::reader::Reader;
 use crate::string::push_string;
 use crate::time::time_of;
+use ev_decimal::{push_int, push_number};
 use ev_memory::NoMemory;
 use ev_values::{Kind, Name, Value};
-use itoa::Buffer;
 use std::alloc::Global;
 
 /// The truth value of this word.
@@ -85,15 +85,9 @@ pub fn push_value(out: &mut Vec<u8>, value: &Value) -> Result<(), NoMemory>
     match value {
         Value::Bool(true) => out.extend_from_slice(b"true")?,
         Value::Bool(false) => out.extend_from_slice(b"false")?,
-        Value::Int(n) => {
-            let mut buffer = Buffer::new();
-            out.extend_from_slice(buffer.format(*n).as_bytes())?;
-        }
+        Value::Int(n) => push_int(out, *n)?,
         Value::Str(t) => push_string(out, t)?,
-        Value::Time(seconds) => {
-            let mut buffer = Buffer::new();
-            out.extend_from_slice(buffer.format(*seconds).as_bytes())?;
-        }
+        Value::Time(seconds) => push_number(out, *seconds)?,
     }
     Ok(())
 }

@@ -16,8 +16,8 @@ use crate::lists::Lists;
 use crate::message::Message;
 use crate::notice::push_notice;
 use crate::reader::Reader;
+use ev_decimal::push_number;
 use ev_memory::NoMemory;
-use itoa::Buffer;
 use std::alloc::Global;
 
 impl<'a> Reader<'a> {
@@ -109,11 +109,9 @@ const ID_ROOM: usize = 24;
 fn push_id(out: &mut Vec<u8>, id: Id) -> Result<(), NoMemory>
     ensures { OnOk result (out.new.items ≡ out.old.items ++ id_text id) }
 {
-    let mut buffer = Buffer::new();
-    out.extend_from_slice(buffer.format(id.publisher).as_bytes())?;
+    push_number(out, u64::from(id.publisher))?;
     out.push(b' ')?;
-    out.extend_from_slice(buffer.format(id.ordinal).as_bytes())?;
-    Ok(())
+    push_number(out, u64::from(id.ordinal))
 }
 
 #[tactic(auto, unfolding(crate::specs::MessageText::message_text, crate::specs::MessageText::changes_text))]

@@ -1,0 +1,26 @@
+//! Numbers in decimal.
+#![tactic(auto)]
+
+ghost use Rattle.std.specs.Prelude.{◌≡◌, ◌++◌, OnOk};
+ghost use Rattle.std.specs.Fmt.{decimal, signed_decimal};
+
+use ev_memory::NoMemory;
+use itoa::Buffer;
+
+/// Puts a number in decimal at the end.
+pub fn push_number(out: &mut Vec<u8>, number: u64) -> Result<(), NoMemory>
+    ensures { OnOk result (out.new.items ≡ out.old.items ++ decimal number) }
+{
+    let mut buffer = Buffer::new();
+    out.extend_from_slice(buffer.format(number).as_bytes())?;
+    Ok(())
+}
+
+/// Puts an integer in decimal at the end, with a minus sign where it is below zero.
+pub fn push_int(out: &mut Vec<u8>, int: i64) -> Result<(), NoMemory>
+    ensures { OnOk result (out.new.items ≡ out.old.items ++ signed_decimal int) }
+{
+    let mut buffer = Buffer::new();
+    out.extend_from_slice(buffer.format(int).as_bytes())?;
+    Ok(())
+}
