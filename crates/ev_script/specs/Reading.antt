@@ -2,6 +2,7 @@
 use Rattle.std.specs.Prelude.{◌≡◌, List, [], ◌∷◌, ℕ, Some, None, Ok, Err}
 use Rattle.std.specs.declared.option.Option.{Option}
 use Rattle.std.specs.declared.result.Result.{Result}
+use Rattle.ev_wire.specs.Reading.{GivesAs, ReadsAs}
 use Rattle.ev_script.specs.declared.fault.ScriptFault.{ScriptFault}
 use Rattle.ev_script.specs.declared.fault.ScriptFault.TheVariants as faults
 use Rattle.ev_script.specs.declared.token.Token.{Token as Read}
@@ -16,13 +17,11 @@ FailsOnTokens e read = ⊥
 
 -- the result, seen by view, is what reading gives, unless memory ran out
 abbrev pub GivesFromTokens : {X Y : Type 0} → (X → Y) → Result X ScriptFault → Option Y → Type 0
-GivesFromTokens view (Ok x) read = read ≡ Some (view x)
-GivesFromTokens view (Err e) read = FailsOnTokens e read
+GivesFromTokens view result read = GivesAs FailsOnTokens view result read
 
 -- the same, and the tokens that are left then
 abbrev pub ReadsTokens : {X Y : Type 0} → (X → Y) → Result X ScriptFault → Option (Y × List Token) → List Token → Type 0
-ReadsTokens view (Ok x) read left = read ≡ Some (view x, left)
-ReadsTokens view (Err e) read left = FailsOnTokens e read
+ReadsTokens view result read left = ReadsAs FailsOnTokens view result read left
 
 -- the token in front is told, unless memory ran out
 abbrev pub Cuts : {E : Type 0} → Result Read E → Token × List ℕ → List ℕ → Type 0

@@ -16,7 +16,7 @@ use Rattle.ev_wire.specs.Words.{word_at, space_at, number_at}
 use Rattle.ev_wire.specs.Notices.{notice_of}
 use Rattle.ev_notice.specs.Before.{list_before}
 use Rattle.ev_wire.specs.Filters.{list_at}
-use Rattle.ev_wire.specs.Changes.{both_at, is_change, changed, change_of}
+use Rattle.ev_wire.specs.Changes.{both_at, is_change, when_change, change_of}
 use Rattle.ev_wire.specs.Messages.{Lists, lists_of, id_at, notice_message_of, as_subs, as_advs, tagged_of, message_of}
 use Rattle.ev_wire.proofs.Options.{bind_some, pair_in, choose, tested, none_not, whole_is}
 use Rattle.ev_wire.proofs.WordLaws.{IsStopped, word_again, word_spelled, space_spelled, number_again, number_spelled}
@@ -96,7 +96,7 @@ notice_message_spelled bytes m e =
 lists_spelled : (most : ℕ) (bytes : List ℕ) (l : Lists × Lists) → lists_of most bytes ≡ Some l → (AreWhole most l.0 × AreWhole most l.1) × IsChange l.0 l.1 × (bytes ≡ changes_text l.0 l.1)
 unfolding change_of
 lists_spelled most bytes l e =
-    let w = bind_some (whole (both_at (list_at most) bytes)) (changed list_before) l e in
+    let w = bind_some (whole (both_at (list_at most) bytes)) (when_change list_before) l e in
     let t = tested (is_change list_before w.0.0 w.0.1) w.0 l w.2 in
     let s = both_spelled most bytes w.0 (whole_is (both_at (list_at most) bytes) w.0 w.1) in
     subst (λ (z : Lists × Lists). (AreWhole most z.0 × AreWhole most z.1) × IsChange z.0 z.1 × (bytes ≡ changes_text z.0 z.1)) t.1 ((s.0, s.1), change_tells w.0.0 w.0.1 t.0, s.2)

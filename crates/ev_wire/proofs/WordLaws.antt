@@ -19,7 +19,7 @@ use Rattle.ev_values.specs.declared.value.Kind.TheVariants as kinds
 use Rattle.ev_notice.proofs.Lists.{both}
 use Rattle.ev_wire.specs.ValueText.{kind_word}
 use Rattle.ev_wire.specs.Reading.{◌>>=◌}
-use Rattle.ev_wire.specs.Words.{is_stop, word_at, space_at, name_at, kind_named, kind_at, head_at, int_of, counted, number_at}
+use Rattle.ev_wire.specs.Words.{is_stop, word_at, space_at, name_at, kind_named, kind_at, head_at, int_of, when_within, number_at}
 use Rattle.ev_wire.proofs.Options.{bind_some, pair_in, choose, tested, none_not}
 use Rattle.ev_wire.proofs.IntLaws.{int_again, int_spelled}
 
@@ -173,8 +173,8 @@ number_again most n tail small is s =
     let fits : FitsSigned w64 (pos n) = search (rules, arith) in
     rw (word_again [] (decimal n) tail (int_word (pos n) fits) s, int_again (pos n) fits, a, b) refl
 
-counted_is : (most : ℕ) (z : ℤ) (n : ℕ) → counted most z ≡ Some n → IsInRange 1 most n × (z ≡ pos n)
-counted_is most (pos m) n e =
+within_is : (most : ℕ) (z : ℤ) (n : ℕ) → when_within most z ≡ Some n → IsInRange 1 most n × (z ≡ pos n)
+within_is most (pos m) n e =
     let w = tested (nat_lt 0 m && nat_le m most) m n e in
     let h = both (nat_lt 0 m) (nat_le m most) w.0 in
     let a : nat_lt 0 m ≡ true = h.0 in
@@ -182,14 +182,14 @@ counted_is most (pos m) n e =
     let lo : 1 ≤ m = grind (arith, nat_tests) in
     let hi : m ≤ most = grind (arith, nat_tests) in
     (subst (IsInRange 1 most) w.1 (lo, hi), ap pos w.1)
-counted_is most (negsuc m) n e = none_not n e
+within_is most (negsuc m) n e = none_not n e
 
 pub number_spelled : (most : ℕ) (bytes : List ℕ) (n : ℕ) (rest : List ℕ) → number_at most bytes ≡ Some (n, rest) → IsInRange 1 most n × (bytes ≡ decimal n ++ rest)
 unfolding number_at
 number_spelled most bytes n rest e =
-    let z = bind_some (int_of (word_at [] bytes).0) (λ z. counted most z >>= λ n. Some (n, (word_at [] bytes).1)) (n, rest) e in
-    let m = bind_some (counted most z.0) (λ n. Some (n, (word_at [] bytes).1)) (n, rest) z.2 in
+    let z = bind_some (int_of (word_at [] bytes).0) (λ z. when_within most z >>= λ n. Some (n, (word_at [] bytes).1)) (n, rest) e in
+    let m = bind_some (when_within most z.0) (λ n. Some (n, (word_at [] bytes).1)) (n, rest) z.2 in
     let p = pair_in m.0 (word_at [] bytes).1 n rest m.2 in
-    let is = counted_is most z.0 m.0 m.1 in
+    let is = within_is most z.0 m.0 m.1 in
     let spelled = int_spelled (word_at [] bytes).0 z.0 z.1 in
     (subst (IsInRange 1 most) p.0 is.0, word_spelled bytes (decimal n) rest (spelled.1 ∙ ap signed_decimal (is.1 ∙ ap pos p.0)) p.1)

@@ -61,9 +61,9 @@ unfoldable pub is_change : {A : Type 0} → (A → A → Bool) → List A → Li
 is_change before out add = rises before out && (rises before add && (apart before out add && nat_lt 0 (length out + length add)))
 
 -- lists that are a change
-abbrev pub changed : {A : Type 0} → (A → A → Bool) → List A × List A → Option (List A × List A)
-changed before l = if is_change before l.0 l.1 then Some l else None
+abbrev pub when_change : {A : Type 0} → (A → A → Bool) → List A × List A → Option (List A × List A)
+when_change before l = if is_change before l.0 l.1 then Some l else None
 
 -- the change that the bytes spell
 unfoldable pub change_of : {A : Type 0} → (A → A → Bool) → (List ℕ → Option (A × List ℕ)) → List ℕ → Option (List A × List A)
-change_of before one bytes = whole (both_at one bytes) >>= changed before
+change_of before one bytes = whole (both_at one bytes) >>= when_change before

@@ -16,15 +16,23 @@ abbrev pub Fails : {Y : Type 0} → WireFault → Option Y → Type 0
 Fails faults.NoMemory read = Unit {0}
 Fails faults.Outside read = read ≡ None
 
+-- the result, seen by view, is what reading gives, or a fault of which what was read says so much
+abbrev pub GivesAs : {E X Y : Type 0} → (E → Option Y → Type 0) → (X → Y) → Result X E → Option Y → Type 0
+GivesAs fails view (Ok x) read = read ≡ Some (view x)
+GivesAs fails view (Err e) read = fails e read
+
+-- the same, and what is left then
+abbrev pub ReadsAs : {E X Y L : Type 0} → (E → Option (Y × L) → Type 0) → (X → Y) → Result X E → Option (Y × L) → L → Type 0
+ReadsAs fails view (Ok x) read left = read ≡ Some (view x, left)
+ReadsAs fails view (Err e) read left = fails e read
+
 -- the result, seen by view, is what reading gives, unless memory ran out
 abbrev pub Gives : {X Y : Type 0} → (X → Y) → Result X WireFault → Option Y → Type 0
-Gives view (Ok x) read = read ≡ Some (view x)
-Gives view (Err e) read = Fails e read
+Gives view result read = GivesAs Fails view result read
 
 -- the result, seen by view, and the bytes that are left then are what reading gives, unless memory ran out
 abbrev pub Reads : {X Y : Type 0} → (X → Y) → Result X WireFault → Option (Y × List ℕ) → List ℕ → Type 0
-Reads view (Ok x) read left = read ≡ Some (view x, left)
-Reads view (Err e) read left = Fails e read
+Reads view result read left = ReadsAs Fails view result read left
 
 -- what was read, where nothing follows it
 abbrev pub whole : {A : Type 0} → Option (A × List ℕ) → Option A

@@ -10,8 +10,8 @@ pub record SharedPublication : Type 0 where
   pub id : Id
   pub notice : List Attribute
 
-abbrev pub publication : Id → List Attribute → SharedPublication
-publication id notice = record { id = id; notice = notice }
+abbrev pub shared_publication : Id → List Attribute → SharedPublication
+shared_publication id notice = record { id = id; notice = notice }
 
 -- the text of its message
 abbrev pub publication_text : SharedPublication → List ℕ

@@ -33,12 +33,12 @@ kind_named w =
     else None
 
 -- a word that is a name
-abbrev pub named : List ℕ × List ℕ → Option (List ℕ × List ℕ)
-named w = if is_name w.0 then Some w else None
+abbrev pub when_name : List ℕ × List ℕ → Option (List ℕ × List ℕ)
+when_name w = if is_name w.0 then Some w else None
 
 -- a name in front, and what follows it
 unfoldable pub name_at : List ℕ → Option (List ℕ × List ℕ)
-name_at bytes = named (word_at [] bytes)
+name_at bytes = when_name (word_at [] bytes)
 
 -- a kind in front, and what follows it
 unfoldable pub kind_at : List ℕ → Option (Kind × List ℕ)
@@ -68,10 +68,10 @@ time_of bytes =
     else None
 
 -- a number from 1 to the greatest
-abbrev pub counted : ℕ → ℤ → Option ℕ
-counted most (pos n) = if nat_lt 0 n && nat_le n most then Some n else None
-counted most (negsuc n) = None
+abbrev pub when_within : ℕ → ℤ → Option ℕ
+when_within most (pos n) = if nat_lt 0 n && nat_le n most then Some n else None
+when_within most (negsuc n) = None
 
 -- a number from 1 to the greatest in front, and what follows it
 unfoldable pub number_at : ℕ → List ℕ → Option (ℕ × List ℕ)
-number_at most bytes = int_of (word_at [] bytes).0 >>= λ z. counted most z >>= λ n. Some (n, (word_at [] bytes).1)
+number_at most bytes = int_of (word_at [] bytes).0 >>= λ z. when_within most z >>= λ n. Some (n, (word_at [] bytes).1)

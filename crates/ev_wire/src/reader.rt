@@ -1,7 +1,7 @@
 //! A reader over bytes: words, names, kinds and numbers.
 ghost use Rattle.std.specs.Prelude.{◌≡◌, []};
 ghost use Rattle.ev_wire.specs.Reading.{Reads};
-ghost use Rattle.ev_wire.specs.Words.{is_stop, word_at, space_at, kind_named, name_at, kind_at, head_at, number_at, counted};
+ghost use Rattle.ev_wire.specs.Words.{is_stop, word_at, space_at, kind_named, name_at, kind_at, head_at, number_at, when_within};
 ghost use Rattle.ev_wire.specs.Items.{more_at};
 
 use crate::fault::WireFault;
@@ -40,8 +40,8 @@ pub fn kind_named(word: &[u8]) -> Option<Kind>
 }
 
 // The number, from 1 to the greatest.
-fn counted(most: u32, number: i64) -> Option<u32>
-    ensures { result ≡ counted most number }
+fn when_within(most: u32, number: i64) -> Option<u32>
+    ensures { result ≡ when_within most number }
 {
     if number >= 1 && number <= i64::from(most) {
         Some(number as u32)
@@ -145,7 +145,7 @@ impl<'a> Reader<'a> {
         let Some(number) = int_of(self.word()) else {
             return Err(WireFault::Outside);
         };
-        match counted(most, number) {
+        match when_within(most, number) {
             Some(number) => Ok(number),
             None => Err(WireFault::Outside),
         }

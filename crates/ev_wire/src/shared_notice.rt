@@ -3,7 +3,7 @@ ghost use Rattle.std.specs.Prelude.{◌≡◌, IfOk};
 ghost use Rattle.ev_wire.specs.declared.message.Message.TheVariants as messages;
 ghost use Rattle.ev_wire.specs.NoticeText.{IsNoticeText, notice_text};
 ghost use Rattle.ev_wire.specs.MessageText.{IsId, IsMessageText, message_text};
-ghost use Rattle.ev_wire.specs.Shared.{publication, publication_text};
+ghost use Rattle.ev_wire.specs.Shared.{shared_publication, publication_text};
 
 use crate::id::Id;
 use crate::notice::write_notice;
@@ -27,11 +27,11 @@ pub struct SharedNotice {
 impl Model for SharedNotice {
     ghost use Rattle.ev_wire.specs.NoticeText.{IsNoticeText};
     ghost use Rattle.ev_wire.specs.MessageText.{IsId};
-    ghost use Rattle.ev_wire.specs.Shared.{SharedPublication, publication};
+    ghost use Rattle.ev_wire.specs.Shared.{SharedPublication, shared_publication};
 
     ghost Value = { SharedPublication };
 
-    ghost view = { λ shared. publication shared.id shared.notice };
+    ghost view = { λ shared. shared_publication shared.id shared.notice };
 
     ghost invariant = { λ shared. IsId shared.id × IsNoticeText shared.text shared.notice };
 }
@@ -41,7 +41,7 @@ impl SharedNotice {
     /// 100,000.
     pub fn of(alloc: Global, id: Id, notice: Notice) -> Result<SharedNotice, NoMemory>
         requires { IsId id }
-        ensures { IfOk result (λ shared. shared ≡ publication id notice) }
+        ensures { IfOk result (λ shared. shared ≡ shared_publication id notice) }
     {
         let text = write_notice(alloc, &notice)?;
         let text = SharedText::of(alloc, text)?;
