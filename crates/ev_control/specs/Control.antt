@@ -14,6 +14,7 @@ use Rattle.ev_routing.specs.Server.{Message, Subs, Advs, Noticed}
 use Rattle.ev_theory.specs.Real.{real}
 use Rattle.ev_poset.specs.Poset.{Held, held_by_others}
 use Rattle.ev_control.specs.declared.control.HeldLink.{HeldLink}
+use Rattle.ev_wire.specs.Messages.{Lists}
 use Rattle.ev_control.specs.Stock.{left_for, stays, held_without}
 use Rattle.ev_control.specs.Holdings.{Holding, held_from, held_elsewhere}
 
@@ -98,10 +99,7 @@ text_to link (Some bytes) = record { to = link; bytes = bytes } ∷ []
 abbrev pub HaveTexts : List (Message real) → Type 0
 HaveTexts messages = (m : Message real) → Has m messages → IsMessageText (message_text (wired m)) (wired m)
 
--- lists of filters, of advertisements, and of pairs of an interface and one of them
-abbrev pub Lists : Type 0
-Lists = List (List ConstraintParts)
-
+-- pairs of an interface and a filter or an advertisement
 abbrev pub Pairs : Type 0
 Pairs = List (Held (List ConstraintParts))
 

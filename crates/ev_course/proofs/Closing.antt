@@ -28,7 +28,7 @@ use Rattle.ev_net.proofs.Among.{server_low}
 use Rattle.ev_node.specs.Cell.{CellParts, HasNoneBelow}
 use Rattle.ev_node.specs.Coming.{HaveCommand}
 use Rattle.ev_node.specs.Entered.{AreThrough, AreCalm, state_of}
-use Rattle.ev_node.specs.Together.{AreTogether, roots}
+use Rattle.ev_node.specs.Together.{AreTogether, cell_roots}
 use Rattle.ev_node.proofs.Gathered.{map-found, found-map, found-within}
 use Rattle.ev_node.proofs.Due.{session-of, script-of, done-of, map-get}
 use Rattle.ev_course.proofs.Going.{through-tells, command-at}
@@ -44,14 +44,14 @@ through-each net state phase (client ∷ clients) f = both (slice_get (net.scrip
     both None e q = rw (e, q) refl
     both (Some c) e q = let le = f client (inl refl) c e in let t : nat_le phase c.phase ≡ true = grind (arith, nat_tests, le) in rw (e, q, t) refl
 
-module _ (net : NetParts) (last next : ℕ) (cells : List CellParts) (sound : IsSound net) (stood : StandBetween net last next cells) (together : AreTogether net last (roots cells)) (kept : AreKept cells) where
+module _ (net : NetParts) (last next : ℕ) (cells : List CellParts) (sound : IsSound net) (stood : StandBetween net last next cells) (together : AreTogether net last (cell_roots cells)) (kept : AreKept cells) where
   abbrev here : Net real
   here = net_at real (phased_net net) last
 
   as-many : length cells ≡ (first_tree net.trees).count
   as-many = sym (len cells) ∙ together.all
     where
-      len : (cells : List CellParts) → length (roots cells) ≡ length cells
+      len : (cells : List CellParts) → length (cell_roots cells) ≡ length cells
       len [] = refl
       len (c ∷ cells) = ap suc (len cells)
 

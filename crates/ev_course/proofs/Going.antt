@@ -22,11 +22,11 @@ use Rattle.ev_model.specs.Nets.{phased_net}
 use Rattle.ev_merge.specs.Merging.{journals_in}
 use Rattle.ev_session.specs.Session.{SessionParts}
 use Rattle.ev_server.specs.Core.{CoreParts, IsServerState}
-use Rattle.ev_server.specs.Clients.{numbers_of}
+use Rattle.ev_server.specs.Clients.{client_numbers}
 use Rattle.ev_node.specs.declared.held.Root.{Root}
 use Rattle.ev_node.specs.Cell.{CellParts, IsCellOf, machine_in}
 use Rattle.ev_node.specs.Entered.{IsEntered, state_of}
-use Rattle.ev_node.specs.Together.{AreBegun, IsFinished, roots, entries_in, journals}
+use Rattle.ev_node.specs.Together.{AreBegun, IsFinished, cell_roots, phase_entries, journals}
 use Rattle.ev_node.specs.Turns.{HasCommand}
 use Rattle.ev_node.proofs.Gathered.{map-found, found-map, there-or-not}
 use Rattle.ev_node.proofs.Due.{next-of-phase}
@@ -77,14 +77,14 @@ pub command-at : (net : Net real) (core : CoreParts) (state : ServerState real) 
     → Has client (net.clients core.server) × (c : PhasedCommand real) × (slice_get (net.script client) (state.done client) ≡ Some c) × (c.phase ≡ phase)
 command-at net core state client phase stands h =
     let n = next-of-phase net core state stands phase client h in (
-      subst (Has client) (sym stands.clients) (subst (λ n. Has n (numbers_of core.clients)) h.2 (has-map (λ (s : SessionParts). s.client) h.0 core.clients h.1)),
+      subst (Has client) (sym stands.clients) (subst (λ n. Has n (client_numbers core.clients)) h.2 (has-map (λ (s : SessionParts). s.client) h.0 core.clients h.1)),
       n.0,
       n.1,
       n.2,
     )
 
 -- cells that entered a phase, and those cells later
-module _ (net : NetParts) (last phase : ℕ) (end : State real) (started now : List CellParts) (enters : IsEntered net last phase end started) (roots_stay : roots now ≡ roots started) where
+module _ (net : NetParts) (last phase : ℕ) (end : State real) (started now : List CellParts) (enters : IsEntered net last phase end started) (roots_stay : cell_roots now ≡ cell_roots started) where
   -- a cell now was one as it entered, with the same root
   first-cell : (k : ℕ) (cell : CellParts) → slice_get now k ≡ Some cell → (first : CellParts) × (slice_get started k ≡ Some first) × (first.root ≡ cell.root)
   first-cell k cell e = found-map (λ (c : CellParts). c.root) k started cell.root (ap (λ l. slice_get l k) (sym roots_stay) ∙ map-found (λ (c : CellParts). c.root) k now cell e)
@@ -92,7 +92,7 @@ module _ (net : NetParts) (last phase : ℕ) (end : State real) (started now : L
   same-many : length now ≡ length started
   same-many = sym (len now) ∙ ap (λ (l : List Root). length l) roots_stay ∙ len started
     where
-      len : (cells : List CellParts) → length (roots cells) ≡ length cells
+      len : (cells : List CellParts) → length (cell_roots cells) ≡ length cells
       len [] = refl
       len (c ∷ cells) = ap suc (len cells)
 
@@ -138,7 +138,7 @@ module _ (net : NetParts) (last phase : ℕ) (old started now : List CellParts) 
       (b.0, b.1, (done.kept k cell e).before ∙ ap (λ (r : Root). r.before.value.items) (sym f.2) ∙ (done.starts k f.0 f.1).before ∙ sym b.2)
 
   journal-now : (k : ℕ) (cell before : CellParts) → slice_get now k ≡ Some cell → take cell.root.entries cell.journal ≡ before.journal
-      → journal_of cell.journal ≡ journal_of before.journal ++ entries_off real (phased_net net) phase (entries_in net phase cell)
+      → journal_of cell.journal ≡ journal_of before.journal ++ entries_off real (phased_net net) phase (phase_entries net phase cell)
   journal-now k cell before e q =
       ap journal_of (sym (take-append-drop cell.root.entries cell.journal)) ∙ map-append entry_of (take cell.root.entries cell.journal) (drop cell.root.entries cell.journal)
       ∙ ap (λ l. journal_of l ++ journal_of (drop cell.root.entries cell.journal)) q
@@ -162,12 +162,12 @@ module _ (net : NetParts) (last phase : ℕ) (old started now : List CellParts) 
           let b = journal-before k cell e in
           ap journal_of (at-found (journals_by now) k cell.journal [] (map-found (λ (c : CellParts). c.journal) k now cell e))
           ∙ journal-now k cell b.0 e b.2
-          ∙ ap (λ l. journal_of l ++ entries_off real (phased_net net) phase (entries_in net phase cell)) (sym (at-found (journals_by old) k b.0.journal [] (map-found (λ (c : CellParts). c.journal) k old b.0 b.1)))
-          ∙ ap (λ l. journals_in (journals_by old) (suc k) ++ entries_off real (phased_net net) phase l) (sym (at-found (map (entries_in net phase) now) k (entries_in net phase cell) [] (map-found (entries_in net phase) k now cell e)))
+          ∙ ap (λ l. journal_of l ++ entries_off real (phased_net net) phase (phase_entries net phase cell)) (sym (at-found (journals_by old) k b.0.journal [] (map-found (λ (c : CellParts). c.journal) k old b.0 b.1)))
+          ∙ ap (λ l. journals_in (journals_by old) (suc k) ++ entries_off real (phased_net net) phase l) (sym (at-found (map (phase_entries net phase) now) k (phase_entries net phase cell) [] (map-found (phase_entries net phase) k now cell e)))
       go (inr e) =
           ap journal_of (at-none (journals_by now) k [] (map-none (λ (c : CellParts). c.journal) now k e))
           ∙ sym (ap (λ l. journal_of l ++ entries_off real (phased_net net) phase (journals net phase now (suc k))) (at-none (journals_by old) k [] (map-none (λ (c : CellParts). c.journal) old k (no-more now old k old-many e)))
-          ∙ ap (λ l. entries_off real (phased_net net) phase l) (at-none (map (entries_in net phase) now) k [] (map-none (entries_in net phase) now k e)))
+          ∙ ap (λ l. entries_off real (phased_net net) phase l) (at-none (map (phase_entries net phase) now) k [] (map-none (phase_entries net phase) now k e)))
 
   -- some entry is made in it
   some-entry : ended.merged ≡ [] → ⊥

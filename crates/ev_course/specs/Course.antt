@@ -13,7 +13,7 @@ use Rattle.ev_net.specs.Kept.{AreServers}
 use Rattle.ev_node.specs.Cell.{CellParts, IsKept, machine_in}
 use Rattle.ev_node.specs.Coming.{HaveCommand}
 use Rattle.ev_node.specs.Entered.{StandFor, IsEntered, state_of}
-use Rattle.ev_node.specs.Together.{AreTogether, AreBegun, IsFinished, roots}
+use Rattle.ev_node.specs.Together.{AreTogether, AreBegun, IsFinished, cell_roots}
 use Rattle.ev_node.specs.InHand.{AreAllInHand}
 use Rattle.ev_course.specs.declared.ran.Ran.{Ran}
 
@@ -47,7 +47,7 @@ AreKept cells = (k : ℕ) (cell : CellParts) → slice_get cells k ≡ Some cell
 -- all cells of a net are in hand, in one phase
 pub record AreInHand (net : NetParts) (phase : ℕ) (cells : List CellParts) : Type 0 where
   pub sound : IsSound net
-  pub together : AreTogether net phase (roots cells)
+  pub together : AreTogether net phase (cell_roots cells)
   pub kept : AreKept cells
 
 -- A PHASE HAS BEGUN: cells that stood before it have entered it, and all of them are in hand
@@ -55,7 +55,7 @@ pub record IsPhaseBegun (net : NetParts) (last phase : ℕ) (old started now : L
   pub hand : AreInHand net last old
   pub stood : StandBetween net last phase old
   pub enters : IsEntered net last phase (state_of net last stood.ends) started
-  pub roots_stay : roots now ≡ roots started
+  pub roots_stay : cell_roots now ≡ cell_roots started
   pub reached : (begun : ℕ → Cell (machine_in net phase)) → AreBegun net phase now begun → AreAllInHand net phase now begun
 
 -- A PHASE IS DONE: cells that stood before it, one with a command of it, have entered it, and it is ended with all of them in hand
@@ -66,7 +66,7 @@ pub record IsPhaseDone (net : NetParts) (last phase : ℕ) (old started now : Li
   pub enters : IsEntered net last phase (state_of net last stood.ends) started
   pub journals : journals_by started ≡ journals_by old
   pub starts : AreAtStart started
-  pub roots_stay : roots now ≡ roots started
+  pub roots_stay : cell_roots now ≡ cell_roots started
   pub kept : AreKept now
   pub finished : (begun : ℕ → Cell (machine_in net phase)) → AreBegun net phase now begun → IsFinished net phase now begun
 

@@ -24,7 +24,7 @@ use Rattle.ev_flood.specs.declared.phase.PhaseFilters.{PhaseFilters}
 use Rattle.ev_flood.specs.declared.publication.Publication.{Publication}
 use Rattle.ev_flood.specs.declared.tables.Tables.{Tables}
 use Rattle.ev_flood.specs.declared.tables.Met.{Met}
-use Rattle.ev_flood.specs.Held.{Owned}
+use Rattle.ev_wire.specs.Messages.{Lists}
 use Rattle.ev_flood.specs.Publications.{is_met}
 use Rattle.ev_flood.specs.Shown.{ShowsFilters, IsBrought}
 use Rattle.ev_flood.specs.Tables.{AreShown, AreFiltersOf, AreAll, AllUpTo, AreTables, is_found, Meets, MeetsAt, AllMeet, ordered_from}
@@ -87,10 +87,10 @@ length_set (x ∷ xs) (suc k) v = ap suc (length_set xs k v)
 nothing : {X : Type 0} (x : X) → Contains [] x → ⊥
 nothing x h = omega (arith, h.1)
 
-pub shows_none : (place : ℕ) (filters : Owned) → filters ≡ [] → ShowsFilters [] place filters
+pub shows_none : (place : ℕ) (filters : Lists) → filters ≡ [] → ShowsFilters [] place filters
 shows_none place filters e = record {
   sound = λ f h. absurd (nothing (place, f) h);
-  whole = λ f h. absurd (subst (λ (z : Owned). Has f z) e h);
+  whole = λ f h. absurd (subst (λ (z : Lists). Has f z) e h);
 }
 
 pub shown_none : AreShown [] [] []
@@ -116,13 +116,13 @@ shown_more lists more list e p push s = subst (λ (z : List PhaseFilters). AreSh
 })
 
 -- a client's lists are others
-elsewhere : (place q : ℕ) (filters : Owned) (t u : List HeldFilter) (list : Owned) → (q ≡ place → ⊥) → IsBrought place filters t u → ShowsFilters t q list → ShowsFilters u q list
+elsewhere : (place q : ℕ) (filters : Lists) (t u : List HeldFilter) (list : Lists) → (q ≡ place → ⊥) → IsBrought place filters t u → ShowsFilters t q list → ShowsFilters u q list
 elsewhere place q filters t u list n b s = record {
   sound = λ f h. s.sound f ((b.others (q, f) n).0 h);
   whole = λ f h. (b.others (q, f) n).1 (s.whole f h);
 }
 
-brought_at : (lists : List PhaseFilters) (place : ℕ) (list : PhaseFilters) (of : PhaseFilters → Owned) (t u : List HeldFilter) → IsBrought place (of list) t u
+brought_at : (lists : List PhaseFilters) (place : ℕ) (list : PhaseFilters) (of : PhaseFilters → Lists) (t u : List HeldFilter) → IsBrought place (of list) t u
     → ((q : ℕ) (l : PhaseFilters) → slice_get lists q ≡ Some l → ShowsFilters t q (of l))
     → (q : ℕ) (l : PhaseFilters) → slice_get (slice_set lists place list) q ≡ Some l → ShowsFilters u q (of l)
 brought_at lists place list of t u b s q l at = elim (same_or q place) [
@@ -211,7 +211,7 @@ plain : (n : List Attribute) (f : List ConstraintParts) → AreValues n → real
 plain n f v = ap (λ m. m f) (matches_plain n v)
 
 -- a place is on a route exactly where one of its filters matches
-found_at : (n : List Attribute) (table : List HeldFilter) (route : List ℕ) (place : ℕ) (list : Owned) → AreValues n → ShowsFilters table place list → IsRouteOf n table route
+found_at : (n : List Attribute) (table : List HeldFilter) (route : List ℕ) (place : ℕ) (list : Lists) → AreValues n → ShowsFilters table place list → IsRouteOf n table route
     → is_found place route ≡ is_met list n
 found_at n table route place list v s r = same_test (is_found place route) (is_met list n) to back
   where

@@ -10,10 +10,11 @@ use Rattle.ev_theory.specs.Real.{real, real_laws}
 use Rattle.ev_wire.specs.declared.command.Command.{Command}
 use Rattle.ev_wire.specs.declared.command.Command.TheVariants as commands
 use Rattle.ev_model.specs.Meaning.{command_of}
-use Rattle.ev_flood.specs.Held.{Script, Owned, advert_step, held_adverts, unadvertises, unadvertised}
+use Rattle.ev_wire.specs.Messages.{Lists}
+use Rattle.ev_flood.specs.Held.{Script, advert_step, held_adverts, unadvertises, unadvertised}
 use Rattle.ev_flood.proofs.Moments.{Same, ps}
 
-pub step_same : (c : Command) (xs ys : Owned) → Same xs ys → Same (advert_step xs c) (adverts_step real ys (command_of c))
+pub step_same : (c : Command) (xs ys : Lists) → Same xs ys → Same (advert_step xs c) (adverts_step real ys (command_of c))
 step_same (commands.Advertise f) xs ys same = λ x. (to x, from x)
   where
     to : (x : List ConstraintParts) → Has x (xs ++ f ∷ []) → Has x (adverts_step real ys (command_of (commands.Advertise f)))
@@ -35,23 +36,23 @@ step_same (commands.Subscribe a) xs ys same = same
 step_same (commands.Unsubscribe a) xs ys same = same
 step_same (commands.Publish n) xs ys same = same
 
-pub held_adverts_same : (cs : Script) (xs ys : Owned) → Same xs ys → Same (held_adverts xs cs) (adverts_after real ys (ps cs))
+pub held_adverts_same : (cs : Script) (xs ys : Lists) → Same xs ys → Same (held_adverts xs cs) (adverts_after real ys (ps cs))
 held_adverts_same [] xs ys same = same
 held_adverts_same (s ∷ cs) xs ys same = held_adverts_same cs (advert_step xs s.1) (adverts_step real ys (command_of s.1)) (step_same s.1 xs ys same)
 
-pub after_append : (one more : Script) (ys : Owned) → adverts_after real ys (ps one ++ ps more) ≡ adverts_after real (adverts_after real ys (ps one)) (ps more)
+pub after_append : (one more : Script) (ys : Lists) → adverts_after real ys (ps one ++ ps more) ≡ adverts_after real (adverts_after real ys (ps one)) (ps more)
 after_append [] more ys = refl
 after_append (s ∷ one) more ys = after_append one more (adverts_step real ys (command_of s.1))
 
 -- what is in the list at every moment is in it at first and is not unadvertised
-stays : (c : Command) (ys : Owned) (f : List ConstraintParts) → Has f ys → unadvertises c f ≡ false → Has f (adverts_step real ys (command_of c))
+stays : (c : Command) (ys : Lists) (f : List ConstraintParts) → Has f ys → unadvertises c f ≡ false → Has f (adverts_step real ys (command_of c))
 stays (commands.Advertise g) ys f h e = (added real_laws.adverts ys g f).1 (inr h)
 stays (commands.Unadvertise g) ys f h e = (kept advert_covers ys g f).1 (h, e)
 stays (commands.Subscribe a) ys f h e = h
 stays (commands.Unsubscribe a) ys f h e = h
 stays (commands.Publish n) ys f h e = h
 
-stayed : (c : Command) (ys : Owned) (f : List ConstraintParts) → Has f (adverts_step real ys (command_of c)) → unadvertises c f ≡ false
+stayed : (c : Command) (ys : Lists) (f : List ConstraintParts) → Has f (adverts_step real ys (command_of c)) → unadvertises c f ≡ false
 stayed (commands.Advertise g) ys f h = refl
 stayed (commands.Unadvertise g) ys f h = ((kept advert_covers ys g f).0 h).1
 stayed (commands.Subscribe a) ys f h = refl
@@ -69,14 +70,14 @@ right_false : (a b : Bool) → a || b ≡ false → b ≡ false
 right_false true b e = absurd cc
 right_false false b e = e
 
-pub every_to : (cs : Script) (ys : Owned) (f : List ConstraintParts)
+pub every_to : (cs : Script) (ys : Lists) (f : List ConstraintParts)
     → ((n : ℕ) → n ≤ length cs → Has f (adverts_after real ys (take n (ps cs)))) → Has f ys × (unadvertised f cs ≡ false)
 every_to [] ys f h = (h zero zero-le, refl)
 every_to (s ∷ cs) ys f h =
     let ih = every_to cs (adverts_step real ys (command_of s.1)) f (λ n l. h (suc n) (suc-le-suc l)) in
     (h zero zero-le, neither (unadvertises s.1 f) (unadvertised f cs) (stayed s.1 ys f ih.0) ih.1)
 
-pub every_from : (cs : Script) (ys : Owned) (f : List ConstraintParts) → Has f ys → unadvertised f cs ≡ false
+pub every_from : (cs : Script) (ys : Lists) (f : List ConstraintParts) → Has f ys → unadvertised f cs ≡ false
     → (n : ℕ) → Has f (adverts_after real ys (take n (ps cs)))
 every_from [] ys f h e zero = h
 every_from [] ys f h e (suc n) = h

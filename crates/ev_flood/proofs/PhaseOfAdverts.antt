@@ -5,12 +5,13 @@ use Rattle.ev_sets.proofs.Roots.{Has-filter, filter-Has}
 use Rattle.ev_constraint.specs.Constraint.{ConstraintParts}
 use Rattle.ev_routing.specs.Clients.{adverts_after}
 use Rattle.ev_theory.specs.Real.{real}
-use Rattle.ev_flood.specs.Held.{Script, Owned, below, before, within, held_adverts, unadvertised, every_adverts}
+use Rattle.ev_wire.specs.Messages.{Lists}
+use Rattle.ev_flood.specs.Held.{Script, below, before, within, held_adverts, unadvertised, every_adverts}
 use Rattle.ev_flood.proofs.Below.{below_rises}
 use Rattle.ev_flood.proofs.Moments.{Same, ps, take_most, at_moment, take_ps}
 use Rattle.ev_flood.proofs.OwnAdverts.{held_adverts_same, after_append, every_to, every_from}
 
-abbrev at_first : ℕ → Script → Owned
+abbrev at_first : ℕ → Script → Lists
 at_first k script = adverts_after real [] (ps (before k script))
 
 same_held : (k : ℕ) (script : Script) → Same (held_adverts [] (before k script)) (at_first k script)

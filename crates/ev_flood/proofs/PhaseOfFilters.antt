@@ -6,15 +6,16 @@ use Rattle.ev_constraint.specs.Constraint.{ConstraintParts}
 use Rattle.ev_routing.specs.Clients.{filters_after}
 use Rattle.ev_routing.proofs.Listing.{has-left, has-right, has-either}
 use Rattle.ev_theory.specs.Real.{real}
-use Rattle.ev_flood.specs.Held.{Script, Owned, below, before, within, held, subscribed, withdrawn, some_filters, every_filters}
+use Rattle.ev_wire.specs.Messages.{Lists}
+use Rattle.ev_flood.specs.Held.{Script, below, before, within, filters_held, subscribed, withdrawn, some_filters, every_filters}
 use Rattle.ev_flood.proofs.Below.{below_rises}
 use Rattle.ev_flood.proofs.Moments.{Same, ps, take_most, at_moment, take_ps}
 use Rattle.ev_flood.proofs.OwnFilters.{held_same, after_append, every_to, every_from, some_to, some_from}
 
-abbrev at_first : ℕ → Script → Owned
+abbrev at_first : ℕ → Script → Lists
 at_first k script = filters_after real [] (ps (before k script))
 
-same_held : (k : ℕ) (script : Script) → Same (held [] (before k script)) (at_first k script)
+same_held : (k : ℕ) (script : Script) → Same (filters_held [] (before k script)) (at_first k script)
 same_held k script = held_same (before k script) [] [] (λ x. ((λ h. h), (λ h. h)))
 
 at_count : (k n : ℕ) (script : Script) → n ≤ below (k + 1) script - below k script
@@ -57,7 +58,7 @@ pub throughout_to : (k : ℕ) (script : Script) (f : List ConstraintParts) → H
     → (count : ℕ) → below k script ≤ count → count ≤ below (k + 1) script → Has f (filters_after real [] (take count (ps script)))
 unfolding every_filters
 throughout_to k script f h count from upto =
-    let r = filter-Has (λ g. not (withdrawn g (within k script))) f (held [] (before k script)) h in
+    let r = filter-Has (λ g. not (withdrawn g (within k script))) f (filters_held [] (before k script)) h in
     outside k count script f from upto
     (every_from (within k script) (at_first k script) f ((same_held k script f).0 r.0) (unnot (withdrawn f (within k script)) r.1) (count - below k script))
 
@@ -69,7 +70,7 @@ throughout_from k script f h =
     let r = every_to (within k script) (at_first k script) f (λ n l.
     subst (Has f) (at_count k n script (short k n script l))
     (h (below k script + n) (omega arith) (omega (arith, short k n script l, below_rises k script)))) in
-    Has-filter (λ g. not (withdrawn g (within k script))) f (held [] (before k script)) ((same_held k script f).1 r.0) (tonot (withdrawn f (within k script)) r.1)
+    Has-filter (λ g. not (withdrawn g (within k script))) f (filters_held [] (before k script)) ((same_held k script f).1 r.0) (tonot (withdrawn f (within k script)) r.1)
 
 pub record Sometime (k : ℕ) (script : Script) (f : List ConstraintParts) : Type 0 where
   pub count : ℕ
@@ -79,9 +80,9 @@ pub record Sometime (k : ℕ) (script : Script) (f : List ConstraintParts) : Typ
 
 pub sometime_to : (k : ℕ) (script : Script) (f : List ConstraintParts) → Has f (some_filters k script) → Sometime k script f
 unfolding some_filters
-sometime_to k script f h = go (some_from (within k script) (at_first k script) f (first (has-either f (held [] (before k script)) (subscribed (within k script)) h)))
+sometime_to k script f h = go (some_from (within k script) (at_first k script) f (first (has-either f (filters_held [] (before k script)) (subscribed (within k script)) h)))
   where
-    first : Has f (held [] (before k script)) ⊎ Has f (subscribed (within k script)) → Has f (at_first k script) ⊎ Has f (subscribed (within k script))
+    first : Has f (filters_held [] (before k script)) ⊎ Has f (subscribed (within k script)) → Has f (at_first k script) ⊎ Has f (subscribed (within k script))
     first (inl a) = inl ((same_held k script f).0 a)
     first (inr b) = inr b
 
@@ -97,6 +98,6 @@ pub sometime_from : (k : ℕ) (script : Script) (f : List ConstraintParts) → S
 unfolding some_filters
 sometime_from k script f m =
     elim (some_to (within k script) (at_first k script) (m.count - below k script) f (inside k m.count script f m.from m.upto m.listed)) [
-      | inl a ↦ has-left f (held [] (before k script)) (subscribed (within k script)) ((same_held k script f).1 a)
-      | inr b ↦ has-right f (held [] (before k script)) (subscribed (within k script)) b
+      | inl a ↦ has-left f (filters_held [] (before k script)) (subscribed (within k script)) ((same_held k script f).1 a)
+      | inr b ↦ has-right f (filters_held [] (before k script)) (subscribed (within k script)) b
     ]

@@ -8,15 +8,16 @@ use Rattle.ev_notice.specs.Cover.{filter_covers}
 use Rattle.ev_routing.specs.Clients.{some_pass}
 use Rattle.ev_routing.proofs.Listing.{pass-by, by-pass, has-either, get-has}
 use Rattle.ev_theory.specs.Real.{real, real_laws}
-use Rattle.ev_flood.specs.Held.{Script, Owned, before, within, held, subscribed, withdrawn, some_filters, every_filters, passing_filters}
+use Rattle.ev_wire.specs.Messages.{Lists}
+use Rattle.ev_flood.specs.Held.{Script, before, within, filters_held, subscribed, withdrawn, some_filters, every_filters, passing_filters}
 use Rattle.ev_flood.specs.Publications.{is_met}
 use Rattle.ev_flood.specs.Pruned.{is_single, is_covered, uncovered}
 use Rattle.ev_flood.proofs.Passing.{same_test}
 
 -- one more filter with a single constraint
-pub wide_more : (filters : Owned) (i : ℕ) (f : List ConstraintParts) (wide more : Owned) → slice_get filters i ≡ Some f → is_single f ≡ true → more ≡ wide ++ f ∷ []
+pub wide_more : (filters : Lists) (i : ℕ) (f : List ConstraintParts) (wide more : Lists) → slice_get filters i ≡ Some f → is_single f ≡ true → more ≡ wide ++ f ∷ []
     → ((g : List ConstraintParts) → Has g wide → Has g filters × (is_single g ≡ true)) → (g : List ConstraintParts) → Has g more → Has g filters × (is_single g ≡ true)
-wide_more filters i f wide more at single push own g h = elim (has-either g wide (f ∷ []) (subst (λ (z : Owned). Has g z) push h)) [
+wide_more filters i f wide more at single push own g h = elim (has-either g wide (f ∷ []) (subst (λ (z : Lists). Has g z) push h)) [
   | inl a ↦ own g a
   | inr b ↦ elim b [
     | inl e ↦ (subst (λ z. Has z filters) (sym e) (get-has filters i f at), subst (λ z. is_single z ≡ true) (sym e) single)
@@ -25,7 +26,7 @@ wide_more filters i f wide more at single push own g h = elim (has-either g wide
 ]
 
 -- a filter stands in for those that it covers
-pub uncovered_met : (wide filters : Owned) → ((g : List ConstraintParts) → Has g wide → Has g filters × (is_single g ≡ true)) → (n : List Attribute)
+pub uncovered_met : (wide filters : Lists) → ((g : List ConstraintParts) → Has g wide → Has g filters × (is_single g ≡ true)) → (n : List Attribute)
     → is_met (uncovered wide filters) n ≡ is_met filters n
 uncovered_met wide filters own n = same_test (is_met (uncovered wide filters) n) (is_met filters n) to from
   where
@@ -90,7 +91,7 @@ pub some_either : (phase : ℕ) (script : Script) (n : List Attribute)
 unfolding some_filters every_filters passing_filters
 some_either phase script n =
     let t : List ConstraintParts → Bool = λ f. real.matches n f in
-    let first = held [] (before phase script) in
+    let first = filters_held [] (before phase script) in
     let gone : List ConstraintParts → Bool = λ f. withdrawn f (within phase script) in
     let more = subscribed (within phase script) in
     pass_append t first more

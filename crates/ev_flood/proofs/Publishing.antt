@@ -14,8 +14,9 @@ use Rattle.ev_wire.specs.declared.id.Id.{Id}
 use Rattle.ev_model.specs.Meaning.{command_of}
 use Rattle.ev_model.specs.Nets.{with_adverts}
 use Rattle.ev_flood.specs.declared.publication.Publication.{Publication}
+use Rattle.ev_wire.specs.Messages.{Lists}
 use Rattle.ev_flood.specs.Flooding.{id_before}
-use Rattle.ev_flood.specs.Held.{Script, Owned, advert_step}
+use Rattle.ev_flood.specs.Held.{Script, advert_step}
 use Rattle.ev_flood.specs.Publications.{is_free, publication_of, add_accepted, add_refusal, ordinal_step, accepted_from, refusals_from}
 use Rattle.ev_flood.proofs.Moments.{Same, ps}
 use Rattle.ev_flood.proofs.Passing.{same_pass}
@@ -26,7 +27,7 @@ abbrev pub publish_at : ℕ → List Attribute → PhasedCommand real
 publish_at phase notice = record { phase = phase; command = Publish notice }
 
 -- an accepted publish among steps of a client's script, with these advertisements and so many publishes before them
-pub record Accepted (semantics : Semantics) (q : ℕ) (script : Script) (adverts : Owned) (before : ℕ) (steps : Script) (p : Publication) : Type 0 where
+pub record Accepted (semantics : Semantics) (q : ℕ) (script : Script) (adverts : Lists) (before : ℕ) (steps : Script) (p : Publication) : Type 0 where
   pub index : ℕ
   pub phase : ℕ
   pub notice : List Attribute
@@ -35,7 +36,7 @@ pub record Accepted (semantics : Semantics) (q : ℕ) (script : Script) (adverts
   pub free : is_free semantics (adverts_after real adverts (take index (ps steps))) notice ≡ true
   pub is : p ≡ publication_of semantics q script p.id.ordinal phase notice
 
-same_free : (semantics : Semantics) (xs ys : Owned) (n : List Attribute) → Same xs ys → is_free semantics xs n ≡ is_free semantics ys n
+same_free : (semantics : Semantics) (xs ys : Lists) (n : List Attribute) → Same xs ys → is_free semantics xs n ≡ is_free semantics ys n
 same_free semantics xs ys n same = ap (λ b. not (with_adverts semantics) || b) (same_pass (λ a. real.allows a n) xs ys same)
 
 count_step : (o : ℕ) (c : WireCommand) (m : ℕ) → ordinal_step o c + m ≡ o + cond (is_publish real (command_of c)) (suc m) m
@@ -53,13 +54,13 @@ ordinal_next o (commands.Unadvertise a) = refl
 ordinal_next o (commands.Publish n) = omega arith
 
 -- what one step puts in front
-pub record Here (semantics : Semantics) (q : ℕ) (script : Script) (xs : Owned) (o phase : ℕ) (c : WireCommand) (p : Publication) : Type 0 where
+pub record Here (semantics : Semantics) (q : ℕ) (script : Script) (xs : Lists) (o phase : ℕ) (c : WireCommand) (p : Publication) : Type 0 where
   pub notice : List Attribute
   pub publishes : c ≡ commands.Publish notice
   pub free : is_free semantics xs notice ≡ true
   pub is : p ≡ publication_of semantics q script (o + 1) phase notice
 
-split : (semantics : Semantics) (q : ℕ) (script : Script) (xs : Owned) (o phase : ℕ) (c : WireCommand) (rest : List Publication) (p : Publication)
+split : (semantics : Semantics) (q : ℕ) (script : Script) (xs : Lists) (o phase : ℕ) (c : WireCommand) (rest : List Publication) (p : Publication)
     → Has p (add_accepted semantics q script xs o phase c rest) → Has p rest ⊎ Here semantics q script xs o phase c p
 split semantics q script xs o phase (commands.Subscribe f) rest p h = inl h
 split semantics q script xs o phase (commands.Unsubscribe f) rest p h = inl h
@@ -73,7 +74,7 @@ split semantics q script xs o phase (commands.Publish n) rest p h = go (is_free 
     go true e (inr r) = inl r
     go false e r = inl r
 
-keeps : (semantics : Semantics) (q : ℕ) (script : Script) (xs : Owned) (o phase : ℕ) (c : WireCommand) (rest : List Publication) (p : Publication)
+keeps : (semantics : Semantics) (q : ℕ) (script : Script) (xs : Lists) (o phase : ℕ) (c : WireCommand) (rest : List Publication) (p : Publication)
     → Has p rest → Has p (add_accepted semantics q script xs o phase c rest)
 keeps semantics q script xs o phase (commands.Subscribe f) rest p h = h
 keeps semantics q script xs o phase (commands.Unsubscribe f) rest p h = h
@@ -94,7 +95,7 @@ command_at phase c = record { phase = phase; command = command_of c }
 phased_at : (phase : ℕ) (c : WireCommand) (n : List Attribute) → c ≡ commands.Publish n → command_at phase c ≡ publish_at phase n
 phased_at phase c n e = ap (command_at phase) e
 
-pub accepted_to : (semantics : Semantics) (q : ℕ) (script steps : Script) (xs ys : Owned) → Same xs ys → (o : ℕ) (p : Publication)
+pub accepted_to : (semantics : Semantics) (q : ℕ) (script steps : Script) (xs ys : Lists) → Same xs ys → (o : ℕ) (p : Publication)
     → Has p (accepted_from semantics q script xs o steps) → Accepted semantics q script ys o steps p
 accepted_to semantics q script [] xs ys same o p h = absurd h
 accepted_to semantics q script (s ∷ steps) xs ys same o p h =
@@ -141,7 +142,7 @@ publish_back (commands.Publish m) n e = ap commands.Publish (same m n e)
     same : (m n : List Attribute) → command_of (commands.Publish m) ≡ Publish n → m ≡ n
     same m n e = cc
 
-pub accepted_has : (semantics : Semantics) (q : ℕ) (script steps : Script) (xs ys : Owned) → Same xs ys → (o i phase : ℕ) (n : List Attribute) (r : ℕ)
+pub accepted_has : (semantics : Semantics) (q : ℕ) (script steps : Script) (xs ys : Lists) → Same xs ys → (o i phase : ℕ) (n : List Attribute) (r : ℕ)
     → slice_get (ps steps) i ≡ Some (publish_at phase n) → o + ordinal real (take (suc i) (ps steps)) ≡ r
     → is_free semantics (adverts_after real ys (take i (ps steps))) n ≡ true
     → Has (publication_of semantics q script r phase n) (accepted_from semantics q script xs o steps)
@@ -178,7 +179,7 @@ step_up o (commands.Advertise a) = omega arith
 step_up o (commands.Unadvertise a) = omega arith
 step_up o (commands.Publish n) = omega arith
 
-pub accepted_above : (semantics : Semantics) (q : ℕ) (script steps : Script) (xs : Owned) (o : ℕ) (p : Publication)
+pub accepted_above : (semantics : Semantics) (q : ℕ) (script steps : Script) (xs : Lists) (o : ℕ) (p : Publication)
     → Has p (accepted_from semantics q script xs o steps) → (o < p.id.ordinal) × (p.id.publisher ≡ q)
 accepted_above semantics q script [] xs o p h = absurd h
 accepted_above semantics q script (s ∷ steps) xs o p h =
@@ -197,7 +198,7 @@ p_before p r = id_before p.id r.id
 next_after : (q o : ℕ) (a : Id) → o < a.ordinal → a.publisher ≡ q → id_before (record { publisher = q; ordinal = o }) a ≡ true
 next_after q o a l e = grind (arith, nat_tests, l, e)
 
-add_rising : (semantics : Semantics) (q : ℕ) (script : Script) (xs : Owned) (o phase : ℕ) (c : WireCommand) (rest : List Publication)
+add_rising : (semantics : Semantics) (q : ℕ) (script : Script) (xs : Lists) (o phase : ℕ) (c : WireCommand) (rest : List Publication)
     → IsRising p_before rest → ((p : Publication) → Has p rest → (ordinal_step o c < p.id.ordinal) × (p.id.publisher ≡ q))
     → IsRising p_before (add_accepted semantics q script xs o phase c rest)
 add_rising semantics q script xs o phase (commands.Subscribe f) rest r above = r
@@ -210,7 +211,7 @@ add_rising semantics q script xs o phase (commands.Publish n) rest r above = go 
     go true = ((λ p h. next_after q (o + 1) p.id (above p h).0 (above p h).1), r)
     go false = r
 
-pub accepted_rising : (semantics : Semantics) (q : ℕ) (script steps : Script) (xs : Owned) (o : ℕ) → IsRising p_before (accepted_from semantics q script xs o steps)
+pub accepted_rising : (semantics : Semantics) (q : ℕ) (script steps : Script) (xs : Lists) (o : ℕ) → IsRising p_before (accepted_from semantics q script xs o steps)
 accepted_rising semantics q script [] xs o = tt
 accepted_rising semantics q script (s ∷ steps) xs o =
     add_rising semantics q script xs o s.0 s.1 (accepted_from semantics q script (advert_step xs s.1) (ordinal_step o s.1) steps)
@@ -218,7 +219,7 @@ accepted_rising semantics q script (s ∷ steps) xs o =
     (accepted_above semantics q script steps (advert_step xs s.1) (ordinal_step o s.1))
 
 -- refused ordinals
-add_same : (semantics : Semantics) (net : Net real) → net.adverts ≡ with_adverts semantics → (xs ys : Owned) → Same xs ys → (o : ℕ) (c : WireCommand) (rest more : List ℕ)
+add_same : (semantics : Semantics) (net : Net real) → net.adverts ≡ with_adverts semantics → (xs ys : Lists) → Same xs ys → (o : ℕ) (c : WireCommand) (rest more : List ℕ)
     → rest ≡ more → add_refusal semantics xs o c rest ≡ add_refused real net ys o (command_of c) more
 add_same semantics net e xs ys same o (commands.Subscribe f) rest more r = r
 add_same semantics net e xs ys same o (commands.Unsubscribe f) rest more r = r
@@ -232,7 +233,7 @@ add_same semantics net e xs ys same o (commands.Publish n) rest more r =
     next : (o : ℕ) → o + 1 ≡ suc o
     next o = omega arith
 
-pub refusals_same : (semantics : Semantics) (net : Net real) → net.adverts ≡ with_adverts semantics → (steps : Script) (xs ys : Owned) → Same xs ys → (o : ℕ)
+pub refusals_same : (semantics : Semantics) (net : Net real) → net.adverts ≡ with_adverts semantics → (steps : Script) (xs ys : Lists) → Same xs ys → (o : ℕ)
     → refusals_from semantics xs o steps ≡ refused_from real net ys o (ps steps)
 refusals_same semantics net e [] xs ys same o = refl
 refusals_same semantics net e (s ∷ steps) xs ys same o =

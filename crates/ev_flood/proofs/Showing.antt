@@ -6,7 +6,7 @@ use Rattle.ev_sets.specs.Sets.{Has}
 use Rattle.ev_constraint.specs.Constraint.{ConstraintParts}
 use Rattle.ev_routing.proofs.Listing.{has-left, has-right, has-either, take-one, get-has}
 use Rattle.ev_counting.specs.Table.{HeldFilter, IsAdded, IsTaken}
-use Rattle.ev_flood.specs.Held.{Owned}
+use Rattle.ev_wire.specs.Messages.{Lists}
 use Rattle.ev_flood.specs.Shown.{ShowsFilters, IsLeft, IsLeaving, HaveCome, IsBrought}
 
 next : (k : ℕ) → suc k ≡ k + 1
@@ -21,14 +21,14 @@ pub drop_get : {X : Type 0} (xs : List X) (k : ℕ) (x : X) → slice_get xs k �
 drop_get xs k x e = drop_suc xs k x e ∙ ap (λ z. x ∷ drop z xs) (next k)
 
 -- the first of those that are left, and the others
-split : (f g : List ConstraintParts) (filters : Owned) (k : ℕ) → slice_get filters k ≡ Some g → Has f (drop k filters) → (f ≡ g) ⊎ Has f (drop (k + 1) filters)
-split f g filters k e h = subst (λ (z : Owned). Has f z) (drop_get filters k g e) h
+split : (f g : List ConstraintParts) (filters : Lists) (k : ℕ) → slice_get filters k ≡ Some g → Has f (drop k filters) → (f ≡ g) ⊎ Has f (drop (k + 1) filters)
+split f g filters k e h = subst (λ (z : Lists). Has f z) (drop_get filters k g e) h
 
-first : (f : List ConstraintParts) (filters : Owned) (k : ℕ) → slice_get filters k ≡ Some f → Has f (drop k filters)
-first f filters k e = subst (λ (z : Owned). Has f z) (sym (drop_get filters k f e)) (inl refl)
+first : (f : List ConstraintParts) (filters : Lists) (k : ℕ) → slice_get filters k ≡ Some f → Has f (drop k filters)
+first f filters k e = subst (λ (z : Lists). Has f z) (sym (drop_get filters k f e)) (inl refl)
 
-later : (f g : List ConstraintParts) (filters : Owned) (k : ℕ) → slice_get filters k ≡ Some g → Has f (drop (k + 1) filters) → Has f (drop k filters)
-later f g filters k e h = subst (λ (z : Owned). Has f z) (sym (drop_get filters k g e)) (inr h)
+later : (f g : List ConstraintParts) (filters : Lists) (k : ℕ) → slice_get filters k ≡ Some g → Has f (drop (k + 1) filters) → Has f (drop k filters)
+later f g filters k e h = subst (λ (z : Lists). Has f z) (sym (drop_get filters k g e)) (inr h)
 
 pair_place : (x y : HeldFilter) → x ≡ y → x.0 ≡ y.0
 pair_place x y e = ap (λ (z : HeldFilter). z.0) e
@@ -41,7 +41,7 @@ clash true p q = absurd cc
 clash false p q = absurd cc
 
 -- at first
-pub leaving_first : (place : ℕ) (old new : Owned) (t : List HeldFilter) → ShowsFilters t place old → IsLeaving place new new old t t
+pub leaving_first : (place : ℕ) (old new : Lists) (t : List HeldFilter) → ShowsFilters t place old → IsLeaving place new new old t t
 leaving_first place old new t s = record {
   only = λ f h. inr (s.sound f h);
   most = λ f h. inl h;
@@ -50,7 +50,7 @@ leaving_first place old new t s = record {
 }
 
 -- an old filter is the next of the new ones
-pub leaving_next : (place : ℕ) (old new : Owned) (i k : ℕ) (f : List ConstraintParts) (t0 t : List HeldFilter) → slice_get old i ≡ Some f → slice_get new k ≡ Some f
+pub leaving_next : (place : ℕ) (old new : Lists) (i k : ℕ) (f : List ConstraintParts) (t0 t : List HeldFilter) → slice_get old i ≡ Some f → slice_get new k ≡ Some f
     → IsLeaving place new (drop k new) (drop i old) t0 t → IsLeaving place new (drop (k + 1) new) (drop (i + 1) old) t0 t
 leaving_next place old new i k f t0 t at to s = record {
   only = λ g h. elim (s.only g h) [
@@ -69,7 +69,7 @@ leaving_next place old new i k f t0 t at to s = record {
 }
 
 -- it is one of the new ones
-pub leaving_kept : (place : ℕ) (old new left : Owned) (i : ℕ) (f : List ConstraintParts) (t0 t : List HeldFilter) → slice_get old i ≡ Some f → Has f new
+pub leaving_kept : (place : ℕ) (old new left : Lists) (i : ℕ) (f : List ConstraintParts) (t0 t : List HeldFilter) → slice_get old i ≡ Some f → Has f new
     → IsLeaving place new left (drop i old) t0 t → IsLeaving place new left (drop (i + 1) old) t0 t
 leaving_kept place old new left i f t0 t at mine s = record {
   only = λ g h. elim (s.only g h) [
@@ -82,7 +82,7 @@ leaving_kept place old new left i f t0 t at mine s = record {
 }
 
 -- it is none of them, and is taken away
-pub leaving_taken : (place : ℕ) (old new left : Owned) (i : ℕ) (f : List ConstraintParts) (t0 t u : List HeldFilter) → slice_get old i ≡ Some f → (Has f new → ⊥)
+pub leaving_taken : (place : ℕ) (old new left : Lists) (i : ℕ) (f : List ConstraintParts) (t0 t u : List HeldFilter) → slice_get old i ≡ Some f → (Has f new → ⊥)
     → IsTaken t u (place, f) → IsLeaving place new left (drop i old) t0 t → IsLeaving place new left (drop (i + 1) old) t0 u
 leaving_taken place old new left i f t0 t u at none k s = record {
   only = λ g h. elim (s.only g (k.only (place, g) h)) [
@@ -101,19 +101,19 @@ leaving_taken place old new left i f t0 t u at none k s = record {
     stays g h c = elim (k.kept (place, g) c) [ inl q ↦ absurd (none (subst (λ (z : List ConstraintParts). Has z new) (pair_filter (place, g) (place, f) q) h)) | inr r ↦ r ]
 
 -- at the end
-pub left_then : (place : ℕ) (old new left : Owned) (t0 t : List HeldFilter) → IsLeaving place new left (drop (length old) old) t0 t → IsLeft place new left t0 t
+pub left_then : (place : ℕ) (old new left : Lists) (t0 t : List HeldFilter) → IsLeaving place new left (drop (length old) old) t0 t → IsLeft place new left t0 t
 left_then place old new left t0 t s = record {
   only = λ f h. elim (s.only f h) [ inl a ↦ a | inr b ↦ absurd (nothing old f b) ];
   most = s.most;
   others = s.others;
 }
   where
-    nothing : (xs : Owned) (f : List ConstraintParts) → Has f (drop (length xs) xs) → ⊥
+    nothing : (xs : Lists) (f : List ConstraintParts) → Has f (drop (length xs) xs) → ⊥
     nothing [] f h = h
     nothing (x ∷ xs) f h = nothing xs f h
 
 -- one more is
-pub entered_next : (place : ℕ) (filters : Owned) (i : ℕ) (f : List ConstraintParts) (t0 t u : List HeldFilter) → slice_get filters i ≡ Some f → IsAdded t u (place, f)
+pub entered_next : (place : ℕ) (filters : Lists) (i : ℕ) (f : List ConstraintParts) (t0 t u : List HeldFilter) → slice_get filters i ≡ Some f → IsAdded t u (place, f)
     → HaveCome place (take i filters) t0 t → HaveCome place (take (i + 1) filters) t0 u
 entered_next place filters i f t0 t u at a s = record {
   kept = λ x h. a.kept x (s.kept x h);
@@ -122,8 +122,8 @@ entered_next place filters i f t0 t u at a s = record {
     | inr e ↦ subst (λ z. Contains u (place, z)) (sym e) a.there
   ];
   only = λ x h. elim (a.only x h) [
-    | inl c ↦ elim (s.only x c) [ inl o ↦ inl o | inr p ↦ inr (p.0, subst (λ (z : Owned). Has x.1 z) (sym more) (has-left x.1 (take i filters) (f ∷ []) p.1)) ]
-    | inr e ↦ inr (pair_place x (place, f) e, subst (λ (z : Owned). Has x.1 z) (sym more) (has-right x.1 (take i filters) (f ∷ []) (inl (pair_filter x (place, f) e))))
+    | inl c ↦ elim (s.only x c) [ inl o ↦ inl o | inr p ↦ inr (p.0, subst (λ (z : Lists). Has x.1 z) (sym more) (has-left x.1 (take i filters) (f ∷ []) p.1)) ]
+    | inr e ↦ inr (pair_place x (place, f) e, subst (λ (z : Lists). Has x.1 z) (sym more) (has-right x.1 (take i filters) (f ∷ []) (inl (pair_filter x (place, f) e))))
   ];
 }
   where
@@ -131,7 +131,7 @@ entered_next place filters i f t0 t u at a s = record {
     more = ap (λ z. take z filters) (sym (next i)) ∙ take-one filters i f at
 
     parts : (g : List ConstraintParts) → Has g (take (i + 1) filters) → Has g (take i filters) ⊎ (g ≡ f)
-    parts g h = elim (has-either g (take i filters) (f ∷ []) (subst (λ (z : Owned). Has g z) more h)) [
+    parts g h = elim (has-either g (take i filters) (f ∷ []) (subst (λ (z : Lists). Has g z) more h)) [
       | inl b ↦ inl b
       | inr c ↦ elim c [ inl e ↦ inr e | inr z ↦ absurd z ]
     ]
@@ -150,7 +150,7 @@ take_long (suc n) (x ∷ xs) l = ap (λ z. x ∷ z) (take_long n xs (omega (arit
 pub take_rest : {X : Type 0} (k : ℕ) (xs : List X) → take (length xs - k) (drop k xs) ≡ drop k xs
 take_rest k xs = take_long (length xs - k) (drop k xs) (drop_long k xs)
 
-pub brought_by : (place : ℕ) (new : Owned) (kept : ℕ) (t u v : List HeldFilter) → IsLeft place new (drop kept new) t u → HaveCome place (drop kept new) u v → IsBrought place new t v
+pub brought_by : (place : ℕ) (new : Lists) (kept : ℕ) (t u v : List HeldFilter) → IsLeft place new (drop kept new) t u → HaveCome place (drop kept new) u v → IsBrought place new t v
 brought_by place new kept t u v a b = record {
   shows = record {
     sound = λ f h. elim (b.only (place, f) h) [ inl c ↦ a.only f c | inr p ↦ dropped kept new f p.1 ];
@@ -162,7 +162,7 @@ brought_by place new kept t u v a b = record {
   );
 }
   where
-    dropped : (k : ℕ) (xs : Owned) (f : List ConstraintParts) → Has f (drop k xs) → Has f xs
+    dropped : (k : ℕ) (xs : Lists) (f : List ConstraintParts) → Has f (drop k xs) → Has f xs
     dropped zero xs f h = h
     dropped (suc k) [] f h = h
     dropped (suc k) (x ∷ xs) f h = inr (dropped k xs f h)

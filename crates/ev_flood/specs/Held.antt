@@ -2,6 +2,7 @@
 use Rattle.std.specs.Prelude.{ℕ, suc, ◌+◌, ◌-◌, Bool, false, cond, not, ◌||◌, nat_lt, List, [], ◌∷◌, ◌++◌, filter, take, drop}
 use Rattle.ev_constraint.specs.Constraint.{ConstraintParts}
 use Rattle.ev_notice.specs.Cover.{filter_covers, advert_covers}
+use Rattle.ev_wire.specs.Messages.{Lists}
 use Rattle.ev_wire.specs.declared.command.Command.{Command}
 use Rattle.ev_wire.specs.declared.command.Command.TheVariants as commands
 
@@ -9,43 +10,39 @@ use Rattle.ev_wire.specs.declared.command.Command.TheVariants as commands
 abbrev pub Script : Type 0
 Script = List (ℕ × Command)
 
--- filters, or advertisements
-abbrev pub Owned : Type 0
-Owned = List (List ConstraintParts)
-
 -- a client's filters after one command, in any order, some of them perhaps twice
-abbrev pub filter_step : Owned → Command → Owned
+abbrev pub filter_step : Lists → Command → Lists
 filter_step filters (commands.Subscribe f) = filters ++ f ∷ []
 filter_step filters (commands.Unsubscribe f) = filter (λ g. not (filter_covers f g)) filters
 filter_step filters (commands.Advertise a) = filters
 filter_step filters (commands.Unadvertise a) = filters
 filter_step filters (commands.Publish n) = filters
 
-abbrev pub held : Owned → Script → Owned
-held filters [] = filters
-held filters (step ∷ steps) = held (filter_step filters step.1) steps
+abbrev pub filters_held : Lists → Script → Lists
+filters_held filters [] = filters
+filters_held filters (step ∷ steps) = filters_held (filter_step filters step.1) steps
 
 -- its advertisements
-abbrev pub advert_step : Owned → Command → Owned
+abbrev pub advert_step : Lists → Command → Lists
 advert_step adverts (commands.Subscribe f) = adverts
 advert_step adverts (commands.Unsubscribe f) = adverts
 advert_step adverts (commands.Advertise a) = adverts ++ a ∷ []
 advert_step adverts (commands.Unadvertise a) = filter (λ b. not (advert_covers a b)) adverts
 advert_step adverts (commands.Publish n) = adverts
 
-abbrev pub held_adverts : Owned → Script → Owned
+abbrev pub held_adverts : Lists → Script → Lists
 held_adverts adverts [] = adverts
 held_adverts adverts (step ∷ steps) = held_adverts (advert_step adverts step.1) steps
 
 -- the filters that commands add
-abbrev pub with_filter : Command → Owned → Owned
+abbrev pub with_filter : Command → Lists → Lists
 with_filter (commands.Subscribe f) filters = f ∷ filters
 with_filter (commands.Unsubscribe f) filters = filters
 with_filter (commands.Advertise a) filters = filters
 with_filter (commands.Unadvertise a) filters = filters
 with_filter (commands.Publish n) filters = filters
 
-abbrev pub subscribed : Script → Owned
+abbrev pub subscribed : Script → Lists
 subscribed [] = []
 subscribed (step ∷ steps) = with_filter step.1 (subscribed steps)
 
@@ -86,16 +83,16 @@ abbrev pub within : ℕ → Script → Script
 within phase script = take (below (phase + 1) script - below phase script) (drop (below phase script) script)
 
 -- a client's filters at some moment of a phase, and at each
-unfoldable pub some_filters : ℕ → Script → Owned
-some_filters phase script = held [] (before phase script) ++ subscribed (within phase script)
+unfoldable pub some_filters : ℕ → Script → Lists
+some_filters phase script = filters_held [] (before phase script) ++ subscribed (within phase script)
 
-unfoldable pub every_filters : ℕ → Script → Owned
-every_filters phase script = filter (λ f. not (withdrawn f (within phase script))) (held [] (before phase script))
+unfoldable pub every_filters : ℕ → Script → Lists
+every_filters phase script = filter (λ f. not (withdrawn f (within phase script))) (filters_held [] (before phase script))
 
 -- those that come or go within it
-unfoldable pub passing_filters : ℕ → Script → Owned
-passing_filters phase script = filter (λ f. withdrawn f (within phase script)) (held [] (before phase script)) ++ subscribed (within phase script)
+unfoldable pub passing_filters : ℕ → Script → Lists
+passing_filters phase script = filter (λ f. withdrawn f (within phase script)) (filters_held [] (before phase script)) ++ subscribed (within phase script)
 
 -- its advertisements at each moment of a phase
-unfoldable pub every_adverts : ℕ → Script → Owned
+unfoldable pub every_adverts : ℕ → Script → Lists
 every_adverts phase script = filter (λ a. not (unadvertised a (within phase script))) (held_adverts [] (before phase script))

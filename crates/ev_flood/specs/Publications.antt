@@ -12,14 +12,15 @@ use Rattle.ev_model.specs.Parts.{ClientParts}
 use Rattle.ev_model.specs.Nets.{with_adverts}
 use Rattle.ev_flood.specs.declared.owed.OwedRow.{OwedRow}
 use Rattle.ev_flood.specs.declared.publication.Publication.{Publication}
-use Rattle.ev_flood.specs.Held.{Script, Owned, advert_step, some_filters, every_filters, every_adverts}
+use Rattle.ev_wire.specs.Messages.{Lists}
+use Rattle.ev_flood.specs.Held.{Script, advert_step, some_filters, every_filters, every_adverts}
 
 -- some advertisement allows the notice, where one must
-abbrev pub is_free : Semantics → Owned → List Attribute → Bool
+abbrev pub is_free : Semantics → Lists → List Attribute → Bool
 is_free semantics adverts notice = not (with_adverts semantics) || some_pass (λ a. real.allows a notice) adverts
 
 -- some filter matches the notice
-abbrev pub is_met : Owned → List Attribute → Bool
+abbrev pub is_met : Lists → List Attribute → Bool
 is_met filters notice = some_pass (λ f. real.matches notice f) filters
 
 -- a publication of a client by this ordinal
@@ -36,7 +37,7 @@ abbrev pub publishes_in : Script → ℕ
 publishes_in script = sum_over (λ step. count (is_publish real (command_of step.1))) script
 
 -- what one step adds to the accepted publications behind it
-abbrev pub add_accepted : Semantics → ℕ → Script → Owned → ℕ → ℕ → Command → List Publication → List Publication
+abbrev pub add_accepted : Semantics → ℕ → Script → Lists → ℕ → ℕ → Command → List Publication → List Publication
 add_accepted semantics client script adverts ordinal phase (commands.Subscribe f) rest = rest
 add_accepted semantics client script adverts ordinal phase (commands.Unsubscribe f) rest = rest
 add_accepted semantics client script adverts ordinal phase (commands.Advertise a) rest = rest
@@ -45,7 +46,7 @@ add_accepted semantics client script adverts ordinal phase (commands.Publish n) 
     cond (is_free semantics adverts n) (publication_of semantics client script (ordinal + 1) phase n ∷ rest) rest
 
 -- what one step adds to the refused ordinals behind it
-abbrev pub add_refusal : Semantics → Owned → ℕ → Command → List ℕ → List ℕ
+abbrev pub add_refusal : Semantics → Lists → ℕ → Command → List ℕ → List ℕ
 add_refusal semantics adverts ordinal (commands.Subscribe f) rest = rest
 add_refusal semantics adverts ordinal (commands.Unsubscribe f) rest = rest
 add_refusal semantics adverts ordinal (commands.Advertise a) rest = rest
@@ -61,14 +62,14 @@ ordinal_step ordinal (commands.Unadvertise a) = ordinal
 ordinal_step ordinal (commands.Publish n) = ordinal + 1
 
 -- the accepted publications of a client's steps, with these advertisements and so many publishes before them
-abbrev pub accepted_from : Semantics → ℕ → Script → Owned → ℕ → Script → List Publication
+abbrev pub accepted_from : Semantics → ℕ → Script → Lists → ℕ → Script → List Publication
 accepted_from semantics client script adverts ordinal [] = []
 accepted_from semantics client script adverts ordinal (step ∷ steps) =
     add_accepted semantics client script adverts ordinal step.0 step.1
     (accepted_from semantics client script (advert_step adverts step.1) (ordinal_step ordinal step.1) steps)
 
 -- the ordinals of the refused ones
-abbrev pub refusals_from : Semantics → Owned → ℕ → Script → List ℕ
+abbrev pub refusals_from : Semantics → Lists → ℕ → Script → List ℕ
 refusals_from semantics adverts ordinal [] = []
 refusals_from semantics adverts ordinal (step ∷ steps) =
     add_refusal semantics adverts ordinal step.1 (refusals_from semantics (advert_step adverts step.1) (ordinal_step ordinal step.1) steps)

@@ -5,7 +5,8 @@ use Rattle.std.specs.List.Sorted.{IsStrictlyIncreasing}
 use Rattle.ev_notice.specs.Notice.{Attribute}
 use Rattle.ev_counting.specs.Table.{HeldFilter}
 use Rattle.ev_model.specs.Parts.{ClientParts}
-use Rattle.ev_flood.specs.Held.{Script, Owned, every_filters, passing_filters}
+use Rattle.ev_wire.specs.Messages.{Lists}
+use Rattle.ev_flood.specs.Held.{Script, every_filters, passing_filters}
 use Rattle.ev_flood.specs.Publications.{is_met}
 use Rattle.ev_flood.specs.Shown.{ShowsFilters}
 use Rattle.ev_flood.specs.declared.phase.PhaseFilters.{PhaseFilters}
@@ -45,7 +46,7 @@ abbrev pub is_found : ℕ → List ℕ → Bool
 is_found place places = list_any (λ y. nat_eq y place) places
 
 -- the places are exactly those of clients of whose lists some filter matches the notice
-abbrev pub FindsClients : (Script → Owned) → List ClientParts → List Attribute → List ℕ → Type 0
+abbrev pub FindsClients : (Script → Lists) → List ClientParts → List Attribute → List ℕ → Type 0
 FindsClients lists clients notice places =
     (place : ℕ) (client : ClientParts) → slice_get clients place ≡ Some client → is_found place places ≡ is_met (lists client.script) notice
 

@@ -1,7 +1,7 @@
 //! A client's filters through its script.
 ghost use Rattle.std.specs.Prelude.{◌≡◌, ◌++◌, [], filter, not, IfOk, OnOk};
 ghost use Rattle.ev_notice.specs.Cover.{filter_covers};
-ghost use Rattle.ev_flood.specs.Held.{filter_step, held, subscribed, withdraws, withdrawn};
+ghost use Rattle.ev_flood.specs.Held.{filter_step, filters_held, subscribed, withdraws, withdrawn};
 
 use ev_cover::filter_covers;
 use ev_memory::NoMemory;
@@ -35,7 +35,7 @@ fn step(alloc: Global, filters: &mut Vec<Filter>, command: &Command) -> Result<(
 
 /// The filters after these commands.
 pub(crate) fn held(alloc: Global, script: &[(u32, Command)]) -> Result<Vec<Filter>, NoMemory>
-    ensures { IfOk result (λ filters. filters.items ≡ held [] script.now) }
+    ensures { IfOk result (λ filters. filters.items ≡ filters_held [] script.now) }
 {
     let mut filters = Vec::new(alloc);
     for (_, command) in script {

@@ -2,32 +2,32 @@
 use Rattle.std.proofs.Common.{◌≡◌, ℕ, zero, suc, ◌+◌, ◌-◌, ◌*◌, ◌<◌, ◌≤◌, List, ◌++◌, sym, ap, ◌∙◌, arith, append_assoc}
 use Rattle.std.proofs.lemmas.List.{append-nil}
 use Rattle.ev_generate.specs.Draws.{next, after}
-use Rattle.ev_generate.specs.Lines.{numbered}
+use Rattle.ev_generate.specs.Lines.{texts_drawn}
 
 one_more : (n i : ℕ) → i < n → n - i ≡ suc (n - (i + 1))
 one_more n i l = omega (arith, l)
 
 next_text : (text : ℕ → ℕ → List ℕ) (draws : ℕ → ℕ) (n i state : ℕ) → i < n
-    → numbered text draws (n - i) i state ≡ text i state ++ numbered text draws (n - (i + 1)) (i + 1) (after (draws i) state)
-unfolding numbered
-next_text text draws n i state l = ap (λ z. numbered text draws z i state) (one_more n i l)
+    → texts_drawn text draws (n - i) i state ≡ text i state ++ texts_drawn text draws (n - (i + 1)) (i + 1) (after (draws i) state)
+unfolding texts_drawn
+next_text text draws n i state l = ap (λ z. texts_drawn text draws z i state) (one_more n i l)
 
 -- one more text is written
 pub text_step : (text : ℕ → ℕ → List ℕ) (draws : ℕ → ℕ) (n i s t : ℕ) (out new whole : List ℕ) → i < n
-    → out ++ numbered text draws (n - i) i s ≡ whole → new ≡ out ++ text i s → t ≡ after (draws i) s
-    → new ++ numbered text draws (n - (i + 1)) (i + 1) t ≡ whole
+    → out ++ texts_drawn text draws (n - i) i s ≡ whole → new ≡ out ++ text i s → t ≡ after (draws i) s
+    → new ++ texts_drawn text draws (n - (i + 1)) (i + 1) t ≡ whole
 text_step text draws n i s t out new whole l inv e f =
-    ap (λ z. new ++ numbered text draws (n - (i + 1)) (i + 1) z) f
-    ∙ ap (λ z. z ++ numbered text draws (n - (i + 1)) (i + 1) (after (draws i) s)) e
-    ∙ append_assoc out (text i s) (numbered text draws (n - (i + 1)) (i + 1) (after (draws i) s))
+    ap (λ z. new ++ texts_drawn text draws (n - (i + 1)) (i + 1) z) f
+    ∙ ap (λ z. z ++ texts_drawn text draws (n - (i + 1)) (i + 1) (after (draws i) s)) e
+    ∙ append_assoc out (text i s) (texts_drawn text draws (n - (i + 1)) (i + 1) (after (draws i) s))
     ∙ ap (λ z. out ++ z) (sym (next_text text draws n i s l))
     ∙ inv
 
 -- all are written
 pub text_end : (text : ℕ → ℕ → List ℕ) (draws : ℕ → ℕ) (n i s : ℕ) (out whole : List ℕ) → n ≤ i
-    → out ++ numbered text draws (n - i) i s ≡ whole → out ≡ whole
-unfolding numbered
-text_end text draws n i s out whole l inv = sym (append-nil out) ∙ ap (λ z. out ++ numbered text draws z i s) (sym (left n i l)) ∙ inv
+    → out ++ texts_drawn text draws (n - i) i s ≡ whole → out ≡ whole
+unfolding texts_drawn
+text_end text draws n i s out whole l inv = sym (append-nil out) ∙ ap (λ z. out ++ texts_drawn text draws z i s) (sym (left n i l)) ∙ inv
   where
     left : (n i : ℕ) → n ≤ i → n - i ≡ zero
     left n i l = omega (arith, l)

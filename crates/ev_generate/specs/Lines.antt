@@ -3,9 +3,9 @@ use Rattle.std.specs.Prelude.{ℕ, zero, suc, ◌+◌, ◌%◌, ◌==◌, Bool, 
 use Rattle.ev_generate.specs.Draws.{draw, letter, after}
 
 -- the texts at places from one on, so many, each made of the state that is left by the draws of those before it
-unfoldable pub numbered : (ℕ → ℕ → List ℕ) → (ℕ → ℕ) → ℕ → ℕ → ℕ → List ℕ
-numbered text draws zero place state = []
-numbered text draws (suc n) place state = text place state ++ numbered text draws n (place + 1) (after (draws place) state)
+unfoldable pub texts_drawn : (ℕ → ℕ → List ℕ) → (ℕ → ℕ) → ℕ → ℕ → ℕ → List ℕ
+texts_drawn text draws zero place state = []
+texts_drawn text draws (suc n) place state = text place state ++ texts_drawn text draws n (place + 1) (after (draws place) state)
 
 -- of server place + 2: an edge to an earlier server, one draw
 unfoldable pub edge_line : ℕ → ℕ → List ℕ

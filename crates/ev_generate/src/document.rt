@@ -1,7 +1,7 @@
 //! Documents.
 ghost use Rattle.std.specs.Prelude.{◌≡◌, ◌++◌, ◌*◌, ◌<◌, ℕ, OnOk, IfOk};
 ghost use Rattle.ev_generate.specs.Draws.{after};
-ghost use Rattle.ev_generate.specs.Lines.{numbered, edge_line, client_line, subscribe_line, publish_line};
+ghost use Rattle.ev_generate.specs.Lines.{texts_drawn, edge_line, client_line, subscribe_line, publish_line};
 ghost use Rattle.ev_generate.specs.Document.{publications, script_draws, script_text, generated};
 
 use crate::draws::Draws;
@@ -12,7 +12,7 @@ use std::alloc::Global;
 
 // The tree.
 fn push_edges(out: &mut Vec<u8>, draws: &mut Draws) -> Result<(), NoMemory>
-    ensures text { OnOk result (out.new.items ≡ out.old.items ++ numbered edge_line (λ n. 1) 15 0 draws.old.state) }
+    ensures text { OnOk result (out.new.items ≡ out.old.items ++ texts_drawn edge_line (λ n. 1) 15 0 draws.old.state) }
     ensures state { OnOk result (draws.new.state ≡ after 15 draws.old.state) }
 {
     for i in 0..15 {
@@ -23,7 +23,7 @@ fn push_edges(out: &mut Vec<u8>, draws: &mut Draws) -> Result<(), NoMemory>
 
 // The clients.
 fn push_clients(out: &mut Vec<u8>) -> Result<(), NoMemory>
-    ensures { (seed : ℕ) → OnOk result (out.new.items ≡ out.old.items ++ numbered client_line (λ n. 0) 64 0 seed) }
+    ensures { (seed : ℕ) → OnOk result (out.new.items ≡ out.old.items ++ texts_drawn client_line (λ n. 0) 64 0 seed) }
 {
     for i in 0..64 {
         push_client(out, i)?;
@@ -33,7 +33,7 @@ fn push_clients(out: &mut Vec<u8>) -> Result<(), NoMemory>
 
 // Four subscriptions.
 fn push_subscribes(out: &mut Vec<u8>, draws: &mut Draws) -> Result<(), NoMemory>
-    ensures text { OnOk result (out.new.items ≡ out.old.items ++ numbered (λ n. subscribe_line) (λ n. 5) 4 0 draws.old.state) }
+    ensures text { OnOk result (out.new.items ≡ out.old.items ++ texts_drawn (λ n. subscribe_line) (λ n. 5) 4 0 draws.old.state) }
     ensures state { OnOk result (draws.new.state ≡ after 20 draws.old.state) }
 {
     for _ in 0..4u32 {
@@ -44,7 +44,7 @@ fn push_subscribes(out: &mut Vec<u8>, draws: &mut Draws) -> Result<(), NoMemory>
 
 // So many publications.
 fn push_publishes(out: &mut Vec<u8>, draws: &mut Draws, count: u64) -> Result<(), NoMemory>
-    ensures text { OnOk result (out.new.items ≡ out.old.items ++ numbered (λ n. publish_line) (λ n. 6) count 0 draws.old.state) }
+    ensures text { OnOk result (out.new.items ≡ out.old.items ++ texts_drawn (λ n. publish_line) (λ n. 6) count 0 draws.old.state) }
     ensures state { OnOk result (draws.new.state ≡ after (6 * count) draws.old.state) }
 {
     for _ in 0..count {
@@ -71,7 +71,7 @@ fn push_script(out: &mut Vec<u8>, draws: &mut Draws, place: u64) -> Result<(), N
 
 // The scripts.
 fn push_scripts(out: &mut Vec<u8>, draws: &mut Draws) -> Result<(), NoMemory>
-    ensures { OnOk result (out.new.items ≡ out.old.items ++ numbered script_text script_draws 64 0 draws.old.state) }
+    ensures { OnOk result (out.new.items ≡ out.old.items ++ texts_drawn script_text script_draws 64 0 draws.old.state) }
 {
     for i in 0..64 {
         push_script(out, draws, i)?;

@@ -3,7 +3,7 @@ use Rattle.std.proofs.Common.{◌≡◌, ℕ, zero, suc, ◌+◌, ◌<◌, ◌�
 use Rattle.std.proofs.Math.ListN.{set}
 use Rattle.std.specs.Prelude.{IfSome, OnErr, OnOk, Result, Ok, Err}
 use Rattle.ev_input.specs.declared.draft.Draft.{Draft}
-use Rattle.ev_input.specs.Drafts.{AreNamesOf, changed_at, client_at, name_of, place_of, scriptless}
+use Rattle.ev_input.specs.Drafts.{AreNamesOf, changed_at, client_at, name_of, name_place, scriptless}
 use Rattle.ev_input.proofs.NamePlaces.{map-append, place_within}
 
 -- a write at a place is a change there
@@ -41,9 +41,9 @@ one_more_named names xs name home h room = record {
 }
 
 -- a name that no client has is not among the names
-pub new_place : (names : List (List ℕ)) (xs ys : List Draft) (name : List ℕ) → AreNamesOf names xs → xs ≡ ys → client_at ys name ≡ None → place_of names name ≡ None
+pub new_place : (names : List (List ℕ)) (xs ys : List Draft) (name : List ℕ) → AreNamesOf names xs → xs ≡ ys → client_at ys name ≡ None → name_place names name ≡ None
 unfolding client_at
-new_place names xs ys name h e none = ap (λ ns. place_of ns name) (sym h.same ∙ ap (map name_of) e) ∙ none
+new_place names xs ys name h e none = ap (λ ns. name_place ns name) (sym h.same ∙ ap (map name_of) e) ∙ none
 
 -- one client more
 pub more_named : (names more : List (List ℕ)) (xs ys zs : List Draft) (name : List ℕ) (home : ℕ) (d : Draft) → AreNamesOf names xs → length xs < 1024
@@ -78,6 +78,6 @@ pub place_few : (o : Option ℕ) (xs : List Draft) (name : List ℕ) → o ≡ c
 place_few None xs name e l = tt
 place_few (Some n) xs name e l = let k : n < length xs = place_within xs name n (sym e) in omega arith
 
-pub found_place : (names : List (List ℕ)) (xs ys : List Draft) (name : List ℕ) (o : Option ℕ) → AreNamesOf names xs → xs ≡ ys → o ≡ place_of names name → o ≡ client_at ys name
+pub found_place : (names : List (List ℕ)) (xs ys : List Draft) (name : List ℕ) (o : Option ℕ) → AreNamesOf names xs → xs ≡ ys → o ≡ name_place names name → o ≡ client_at ys name
 unfolding client_at
-found_place names xs ys name o h e f = f ∙ ap (λ (ns : List (List ℕ)). place_of ns name) (sym h.same ∙ ap (map name_of) e)
+found_place names xs ys name o h e f = f ∙ ap (λ (ns : List (List ℕ)). name_place ns name) (sym h.same ∙ ap (map name_of) e)

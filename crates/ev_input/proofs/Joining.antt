@@ -8,31 +8,31 @@ use Rattle.ev_tree.specs.declared.fault.EdgeFault.{EdgeFault}
 use Rattle.ev_tree.specs.declared.fault.EdgeFault.TheVariants.{Twice, Loop}
 use Rattle.ev_tree.proofs.Numbers.{Test, Yes, No, test, both-left, both-right, either-right, differ}
 use Rattle.ev_tree.proofs.Joined.{joined-on, joined-edge as trail-edge, joined-same}
-use Rattle.ev_input.specs.Drawn.{Drawn, edge_fault, is_apart, joined}
+use Rattle.ev_input.specs.Drawn.{Drawn, edge_fault, is_apart, are_joined}
 
 -- A test.
 
-pub joined-self : (edges : List (ℕ × ℕ)) (a : ℕ) → joined edges a a ≡ true
+pub joined-self : (edges : List (ℕ × ℕ)) (a : ℕ) → are_joined edges a a ≡ true
 joined-self [] a = eq-eqb a a refl
 joined-self (edge ∷ edges) a = rw (joined-self edges a) refl
 
 -- ways from a to b: without the first edge, or over it one way or the other
 data Way (edges : List (ℕ × ℕ)) (edge : ℕ × ℕ) (a b : ℕ) : Type 0 where
-  Without : joined edges a b ≡ true → Way edges edge a b
-  Out : joined edges a edge.0 ≡ true → joined edges edge.1 b ≡ true → Way edges edge a b
-  Back : joined edges a edge.1 ≡ true → joined edges edge.0 b ≡ true → Way edges edge a b
+  Without : are_joined edges a b ≡ true → Way edges edge a b
+  Out : are_joined edges a edge.0 ≡ true → are_joined edges edge.1 b ≡ true → Way edges edge a b
+  Back : are_joined edges a edge.1 ≡ true → are_joined edges edge.0 b ≡ true → Way edges edge a b
 
 none : (x y z : Bool) → x || (y || z) ≡ true → x ≡ false → y ≡ false → z ≡ false → ⊥
 none x y z f p q r = grind (arith, f, p, q, r)
 
-way : (edges : List (ℕ × ℕ)) (edge : ℕ × ℕ) (a b : ℕ) → joined (edge ∷ edges) a b ≡ true → Way edges edge a b
-way edges edge a b e = go (test (joined edges a b)) (test (joined edges a edge.0 && joined edges edge.1 b)) (test (joined edges a edge.1 && joined edges edge.0 b))
+way : (edges : List (ℕ × ℕ)) (edge : ℕ × ℕ) (a b : ℕ) → are_joined (edge ∷ edges) a b ≡ true → Way edges edge a b
+way edges edge a b e = go (test (are_joined edges a b)) (test (are_joined edges a edge.0 && are_joined edges edge.1 b)) (test (are_joined edges a edge.1 && are_joined edges edge.0 b))
   where
-    go : Test (joined edges a b) → Test (joined edges a edge.0 && joined edges edge.1 b) → Test (joined edges a edge.1 && joined edges edge.0 b) → Way edges edge a b
+    go : Test (are_joined edges a b) → Test (are_joined edges a edge.0 && are_joined edges edge.1 b) → Test (are_joined edges a edge.1 && are_joined edges edge.0 b) → Way edges edge a b
     go (Yes p) y z = Without p
-    go (No p) (Yes q) z = Out (both-left (joined edges a edge.0) (joined edges edge.1 b) q) (both-right (joined edges a edge.0) (joined edges edge.1 b) q)
-    go (No p) (No q) (Yes r) = Back (both-left (joined edges a edge.1) (joined edges edge.0 b) r) (both-right (joined edges a edge.1) (joined edges edge.0 b) r)
-    go (No p) (No q) (No r) = absurd (none (joined edges a b) (joined edges a edge.0 && joined edges edge.1 b) (joined edges a edge.1 && joined edges edge.0 b) e p q r)
+    go (No p) (Yes q) z = Out (both-left (are_joined edges a edge.0) (are_joined edges edge.1 b) q) (both-right (are_joined edges a edge.0) (are_joined edges edge.1 b) q)
+    go (No p) (No q) (Yes r) = Back (both-left (are_joined edges a edge.1) (are_joined edges edge.0 b) r) (both-right (are_joined edges a edge.1) (are_joined edges edge.0 b) r)
+    go (No p) (No q) (No r) = absurd (none (are_joined edges a b) (are_joined edges a edge.0 && are_joined edges edge.1 b) (are_joined edges a edge.1 && are_joined edges edge.0 b) e p q r)
 
 first-one : (x y z : Bool) → x ≡ true → x || (y || z) ≡ true
 first-one x y z e = rw e refl
@@ -46,16 +46,16 @@ third-one true y z w e f = refl
 third-one false true z w e f = refl
 third-one false false z w e f = rw (e, f) refl
 
-unway : (edges : List (ℕ × ℕ)) (edge : ℕ × ℕ) (a b : ℕ) → Way edges edge a b → joined (edge ∷ edges) a b ≡ true
-unway edges edge a b (Without p) = first-one (joined edges a b) (joined edges a edge.0 && joined edges edge.1 b) (joined edges a edge.1 && joined edges edge.0 b) p
-unway edges edge a b (Out p q) = second-one (joined edges a b) (joined edges a edge.0) (joined edges edge.1 b) (joined edges a edge.1 && joined edges edge.0 b) p q
-unway edges edge a b (Back p q) = third-one (joined edges a b) (joined edges a edge.0 && joined edges edge.1 b) (joined edges a edge.1) (joined edges edge.0 b) p q
+unway : (edges : List (ℕ × ℕ)) (edge : ℕ × ℕ) (a b : ℕ) → Way edges edge a b → are_joined (edge ∷ edges) a b ≡ true
+unway edges edge a b (Without p) = first-one (are_joined edges a b) (are_joined edges a edge.0 && are_joined edges edge.1 b) (are_joined edges a edge.1 && are_joined edges edge.0 b) p
+unway edges edge a b (Out p q) = second-one (are_joined edges a b) (are_joined edges a edge.0) (are_joined edges edge.1 b) (are_joined edges a edge.1 && are_joined edges edge.0 b) p q
+unway edges edge a b (Back p q) = third-one (are_joined edges a b) (are_joined edges a edge.0 && are_joined edges edge.1 b) (are_joined edges a edge.1) (are_joined edges edge.0 b) p q
 
-pub joined-chain : (edges : List (ℕ × ℕ)) (a b c : ℕ) → joined edges a b ≡ true → joined edges b c ≡ true → joined edges a c ≡ true
+pub joined-chain : (edges : List (ℕ × ℕ)) (a b c : ℕ) → are_joined edges a b ≡ true → are_joined edges b c ≡ true → are_joined edges a c ≡ true
 joined-chain [] a b c p q = eq-eqb a c (eqb-true a b p ∙ eqb-true b c q)
 joined-chain (edge ∷ edges) a b c p q = unway edges edge a c (go (λ x y z r s. joined-chain edges x y z r s) (way edges edge a b p) (way edges edge b c q))
   where
-    go : ((x y z : ℕ) → joined edges x y ≡ true → joined edges y z ≡ true → joined edges x z ≡ true) → Way edges edge a b → Way edges edge b c → Way edges edge a c
+    go : ((x y z : ℕ) → are_joined edges x y ≡ true → are_joined edges y z ≡ true → are_joined edges x z ≡ true) → Way edges edge a b → Way edges edge b c → Way edges edge a c
     go on (Without r) (Without s) = Without (on a b c r s)
     go on (Without r) (Out s t) = Out (on a b edge.0 r s) t
     go on (Without r) (Back s t) = Back (on a b edge.1 r s) t
@@ -66,12 +66,12 @@ joined-chain (edge ∷ edges) a b c p q = unway edges edge a c (go (λ x y z r s
     go on (Back r s) (Out t u) = Without (on a edge.1 c r u)
     go on (Back r s) (Back t u) = Back r u
 
-pub joined-edge : (edges : List (ℕ × ℕ)) (a b : ℕ) → has_edge edges a b ≡ true → joined edges a b ≡ true
+pub joined-edge : (edges : List (ℕ × ℕ)) (a b : ℕ) → has_edge edges a b ≡ true → are_joined edges a b ≡ true
 joined-edge [] a b e = cc
 joined-edge (edge ∷ edges) a b e = unway edges edge a b (go (λ r. joined-edge edges a b r) (test (edge.0 == a && edge.1 == b)) (test (edge.0 == b && edge.1 == a)) (test (has_edge edges a b)))
   where
-    same : (x y : ℕ) → x ≡ y → joined edges x y ≡ true
-    same x y f = subst (λ z. joined edges x z ≡ true) f (joined-self edges x)
+    same : (x y : ℕ) → x ≡ y → are_joined edges x y ≡ true
+    same x y f = subst (λ z. are_joined edges x z ≡ true) f (joined-self edges x)
 
     both : (p q : ℕ) → edge.0 == p && edge.1 == q ≡ true → (edge.0 ≡ p) × (edge.1 ≡ q)
     both p q f = (eqb-true edge.0 p (both-left (edge.0 == p) (edge.1 == q) f), eqb-true edge.1 q (both-right (edge.0 == p) (edge.1 == q) f))
@@ -79,7 +79,7 @@ joined-edge (edge ∷ edges) a b e = unway edges edge a b (go (λ r. joined-edge
     nowhere : (x y z : Bool) → (x || y) || z ≡ true → x ≡ false → y ≡ false → z ≡ false → ⊥
     nowhere x y z f p q r = grind (arith, f, p, q, r)
 
-    go : (has_edge edges a b ≡ true → joined edges a b ≡ true) → Test (edge.0 == a && edge.1 == b) → Test (edge.0 == b && edge.1 == a) → Test (has_edge edges a b) → Way edges edge a b
+    go : (has_edge edges a b ≡ true → are_joined edges a b ≡ true) → Test (edge.0 == a && edge.1 == b) → Test (edge.0 == b && edge.1 == a) → Test (has_edge edges a b) → Way edges edge a b
     go more (Yes p) y z = let s = both a b p in Out (same a edge.0 (sym s.0)) (same edge.1 b s.1)
     go more (No p) (Yes q) z = let s = both b a q in Back (same a edge.1 (sym s.1)) (same edge.0 b s.0)
     go more (No p) (No q) (Yes r) = Without (more r)
@@ -87,11 +87,11 @@ joined-edge (edge ∷ edges) a b e = unway edges edge a b (go (λ r. joined-edge
 
 -- Trails.
 
-trail_tested : (edges : List (ℕ × ℕ)) (a b : ℕ) (trail : List ℕ) → IsTrail edges a trail b → joined edges a b ≡ true
-trail_tested edges a b [] t = subst (λ z. joined edges a z ≡ true) t (joined-self edges a)
+trail_tested : (edges : List (ℕ × ℕ)) (a b : ℕ) (trail : List ℕ) → IsTrail edges a trail b → are_joined edges a b ≡ true
+trail_tested edges a b [] t = subst (λ z. are_joined edges a z ≡ true) t (joined-self edges a)
 trail_tested edges a b (c ∷ trail) t = joined-chain edges a c b (joined-edge edges a c t.0) (trail_tested edges c b trail t.1)
 
-pub tested : (edges : List (ℕ × ℕ)) (a b : ℕ) → AreJoined edges a b → joined edges a b ≡ true
+pub tested : (edges : List (ℕ × ℕ)) (a b : ℕ) → AreJoined edges a b → are_joined edges a b ≡ true
 tested edges a b j = trail_tested edges a b j.0 j.1
 
 -- an edge in front
@@ -115,14 +115,14 @@ trail-old edge edges a b (c ∷ trail) t = (has-old edge edges a c t.0, trail-ol
 old : (edge : ℕ × ℕ) (edges : List (ℕ × ℕ)) (a b : ℕ) → AreJoined edges a b → AreJoined (edge ∷ edges) a b
 old edge edges a b j = (j.0, trail-old edge edges a b j.0 j.1)
 
-pub told : (edges : List (ℕ × ℕ)) (a b : ℕ) → joined edges a b ≡ true → AreJoined edges a b
+pub told : (edges : List (ℕ × ℕ)) (a b : ℕ) → are_joined edges a b ≡ true → AreJoined edges a b
 told [] a b e = joined-same [] a b (eqb-true a b e)
 told (edge ∷ edges) a b e = go (λ x y f. old edge edges x y (told edges x y f)) (way edges edge a b e)
   where
     over : (x y : ℕ) → has_edge (edge ∷ edges) x y ≡ true → AreJoined (edge ∷ edges) a x → AreJoined (edge ∷ edges) y b → AreJoined (edge ∷ edges) a b
     over x y h p q = joined-on (edge ∷ edges) a x b p (joined-on (edge ∷ edges) x y b (trail-edge (edge ∷ edges) x y h) q)
 
-    go : ((x y : ℕ) → joined edges x y ≡ true → AreJoined (edge ∷ edges) x y) → Way edges edge a b → AreJoined (edge ∷ edges) a b
+    go : ((x y : ℕ) → are_joined edges x y ≡ true → AreJoined (edge ∷ edges) x y) → Way edges edge a b → AreJoined (edge ∷ edges) a b
     go on (Without p) = on a b p
     go on (Out p q) = over edge.0 edge.1 (has-first edge edges) (on a edge.0 p) (on edge.1 b q)
     go on (Back p q) = over edge.1 edge.0 (has-back edge edges) (on a edge.1 p) (on edge.0 b q)
@@ -138,7 +138,7 @@ fault_by false false (Some Loop) a b c d = let e = (c refl).0 in cc
 
 pub fault_told : (edges : List (ℕ × ℕ)) (e : ℕ × ℕ) (r : Option EdgeFault) → (r ≡ Some Twice) ↔ (has_edge edges e.0 e.1 ≡ true) → (r ≡ Some Loop) ↔ (AreJoined edges e.0 e.1 × (has_edge edges e.0 e.1 ≡ false)) → r ≡ edge_fault edges e
 unfolding edge_fault
-fault_told edges e r t l = fault_by (has_edge edges e.0 e.1) (joined edges e.0 e.1) r t.0 t.1 (λ x. let y = l.0 x in (tested edges e.0 e.1 y.0, y.1)) (λ x y. l.1 (told edges e.0 e.1 x, y))
+fault_told edges e r t l = fault_by (has_edge edges e.0 e.1) (are_joined edges e.0 e.1) r t.0 t.1 (λ x. let y = l.0 x in (tested edges e.0 e.1 y.0, y.1)) (λ x y. l.1 (told edges e.0 e.1 x, y))
 
 -- All servers.
 
@@ -170,11 +170,11 @@ is-true false n = absurd (n refl)
 
 pub whole_is_not_apart : (d : Drawn) → IsTree d.servers d.edges → is_apart d ≡ false
 unfolding is_apart
-whole_is_not_apart d t = not-true (list_all (joined d.edges 1) (servers_to d.servers)) (all_of (joined d.edges 1) 1 d.servers (λ s a b. tested d.edges 1 s (t.joined s a (omega arith))))
+whole_is_not_apart d t = not-true (list_all (are_joined d.edges 1) (servers_to d.servers)) (all_of (are_joined d.edges 1) 1 d.servers (λ s a b. tested d.edges 1 s (t.joined s a (omega arith))))
 
 pub not_apart_is_whole : (d : Drawn) → IsForest d.edges → is_apart d ≡ false → IsTree d.servers d.edges
 unfolding is_apart
-not_apart_is_whole d f e = record { forest = f; joined = λ s a b. told d.edges 1 s (of_all (joined d.edges 1) 1 d.servers (not-false (list_all (joined d.edges 1) (servers_to d.servers)) e) s a (omega arith)) }
+not_apart_is_whole d f e = record { forest = f; joined = λ s a b. told d.edges 1 s (of_all (are_joined d.edges 1) 1 d.servers (not-false (list_all (are_joined d.edges 1) (servers_to d.servers)) e) s a (omega arith)) }
 
 pub apart_is_told : (d : Drawn) (s : ℕ) → IsApart d.servers d.edges s → is_apart d ≡ true
 apart_is_told d s a = is-true (is_apart d) (λ e. a.apart ((not_apart_is_whole d a.forest e).joined s a.from a.to))

@@ -8,7 +8,7 @@ use Rattle.ev_input.specs.declared.fault.Fault.{Fault}
 use Rattle.ev_input.specs.declared.fault.Fault.TheVariants as is
 use Rattle.ev_input.specs.declared.state.State.{State}
 use Rattle.ev_input.specs.Drawn.{is_apart}
-use Rattle.ev_input.specs.Places.{document_of, end_rule, has_servers, line_rule, read_from, start, then_on, told}
+use Rattle.ev_input.specs.Places.{document_of, end_rule, has_servers, line_rule, read_from, start, then_on, told_at}
 use Rattle.ev_input.specs.Meaning.{AreTaken, IsFirstFault, IsRefusedLine, stands}
 
 -- a fault among the lines, the first of which has the number k
@@ -21,14 +21,14 @@ record Found (k : ℕ) (s : State) (ls : List (List ℕ)) (n : ℕ) (fault : Fau
   pub taken : stands k s before ≡ Ok state
   pub refused : IsRefusedLine n state after fault
 
-told_err : {A : Type 0} (k : ℕ) (r : Result A Fault) (n : ℕ) (f : Fault) → told k r ≡ Err (n, f) → (n ≡ k) × (r ≡ Err f)
+told_err : {A : Type 0} (k : ℕ) (r : Result A Fault) (n : ℕ) (f : Fault) → told_at k r ≡ Err (n, f) → (n ≡ k) × (r ≡ Err f)
 told_err k (Ok x) n f e = cc
 told_err k (Err g) n f e =
     let p : (ℕ × Fault) × (ℕ × Fault) = ((k, g), (n, f)) in
     let q : p.0 ≡ p.1 = cc in
     (sym (ap (λ x. x.0) q), ap (λ x. Err x.1) q)
 
-told_ok : {A : Type 0} (k : ℕ) (r : Result A Fault) (x : A) → told k r ≡ Ok x → r ≡ Ok x
+told_ok : {A : Type 0} (k : ℕ) (r : Result A Fault) (x : A) → told_at k r ≡ Ok x → r ≡ Ok x
 told_ok k (Ok y) x e = cc
 told_ok k (Err g) x e = cc
 
@@ -45,7 +45,7 @@ found k s [] n f e =
     record { before = []; after = []; parts = refl; number = omega (arith, t.0); state = s; taken = refl; refused = t.1 }
 found k s (l ∷ ls) n f e = go (line_rule s k l) refl e (λ t d. found (k + 1) t ls n f d)
   where
-    go : (r : Result State Fault) → line_rule s k l ≡ r → then_on (told k r) (λ t. read_from (k + 1) t ls) ≡ Err (n, f)
+    go : (r : Result State Fault) → line_rule s k l ≡ r → then_on (told_at k r) (λ t. read_from (k + 1) t ls) ≡ Err (n, f)
         → ((t : State) → read_from (k + 1) t ls ≡ Err (n, f) → Found (k + 1) t ls n f) → Found k s (l ∷ ls) n f
     go (Ok t) is e more =
         let h : Found (k + 1) t ls n f = more t e in
@@ -89,7 +89,7 @@ taken_stands k s [] t e =
     (ap Ok same, ap end_rule (sym same) ∙ h)
 taken_stands k s (l ∷ ls) t e = go (line_rule s k l) refl e (λ u d. taken_stands (k + 1) u ls t d)
   where
-    go : (r : Result State Fault) → line_rule s k l ≡ r → then_on (told k r) (λ u. read_from (k + 1) u ls) ≡ Ok t
+    go : (r : Result State Fault) → line_rule s k l ≡ r → then_on (told_at k r) (λ u. read_from (k + 1) u ls) ≡ Ok t
         → ((u : State) → read_from (k + 1) u ls ≡ Ok t → (stands (k + 1) u ls ≡ Ok t) × (end_rule t ≡ Ok t)) → (stands k s (l ∷ ls) ≡ Ok t) × (end_rule t ≡ Ok t)
     go (Ok u) is e more = let h = more u e in (rw is h.0, h.1)
     go (Err g) is e more = cc

@@ -9,7 +9,7 @@ use Rattle.std.specs.declared.option.Option.{Option}
 use Rattle.std.specs.Option.{is_some}
 use Rattle.ev_constraint.proofs.BytesLemmas.{bytes_eq-told}
 use Rattle.ev_input.specs.declared.draft.Draft.{Draft}
-use Rattle.ev_input.specs.Drafts.{client_at, name_of, place_of}
+use Rattle.ev_input.specs.Drafts.{client_at, name_of, name_place}
 
 prefix_len-map : {X Y : Type 0} (p : Y → Bool) (f : X → Y) (xs : List X) → prefix_len p (map f xs) ≡ prefix_len (λ x. p (f x)) xs
 prefix_len-map p f [] = refl
@@ -58,9 +58,9 @@ map-append f (x ∷ xs) y = ap (λ l. f x ∷ l) (map-append f xs y)
 
 -- a new name goes last
 pub added : {X : Type 0} (f : X → List ℕ) (keys new : List X) (key : X) (names : List (List ℕ)) (name : List ℕ)
-    → new ≡ (if list_any (λ k. bytes_eq (f key) (f k)) keys then keys else keys ++ key ∷ []) → f key ≡ name → map f keys ≡ names → place_of names name ≡ None → map f new ≡ names ++ name ∷ []
+    → new ≡ (if list_any (λ k. bytes_eq (f key) (f k)) keys then keys else keys ++ key ∷ []) → f key ≡ name → map f keys ≡ names → name_place names name ≡ None → map f new ≡ names ++ name ∷ []
 added f keys new key names name goes is are none =
-    let same : place_of (map f keys) (f key) ≡ None = (ap (λ ns. place_of ns (f key)) are ∙ ap (place_of names) is) ∙ none in
+    let same : name_place (map f keys) (f key) ≡ None = (ap (λ ns. name_place ns (f key)) are ∙ ap (name_place names) is) ∙ none in
     let absent : list_any (λ k. bytes_eq (f key) (f k)) keys ≡ false = none_passes (bytes_eq (f key)) f keys same in
     let last : new ≡ keys ++ key ∷ [] = goes ∙ rw absent refl in
     (ap (map f) last ∙ map-append f keys key) ∙ (ap (λ ns. ns ++ f key ∷ []) are ∙ ap (λ n. names ++ n ∷ []) is)
@@ -90,7 +90,7 @@ not-there p (name ∷ names) e (suc k) z l = not-there p names (right (p name) (
     right true b f = cc
     right false b f = f
 
-pub differs : (names : List (List ℕ)) (name : List ℕ) → place_of names name ≡ None → (k : ℕ) (z : List ℕ) → k < length names → get_or names k z ≡ name → ⊥
+pub differs : (names : List (List ℕ)) (name : List ℕ) → name_place names name ≡ None → (k : ℕ) (z : List ℕ) → k < length names → get_or names k z ≡ name → ⊥
 differs names name none k z l e =
     let f : bytes_eq name (get_or names k z) ≡ false = not-there (bytes_eq name) names (absent (bytes_eq name) names none) k z l in
     let g : bytes_eq name (get_or names k z) ≡ true = bytes_eq-told name (get_or names k z) (sym e) in

@@ -13,7 +13,7 @@ use Rattle.ev_script.specs.Form.CommandForm.{control, publish}
 use Rattle.ev_script.specs.Command.{IsCommandOf, Spells, fault_of_form, fits, form_of, script_fault}
 use Rattle.ev_input.specs.declared.fault.LineFault.{LineFault}
 use Rattle.ev_input.specs.Answer.{FailsByRule}
-use Rattle.ev_input.specs.Commands.{Tells, command_in, command_of, command_of_form, kind_of, unless_fault}
+use Rattle.ev_input.specs.Commands.{Tells, command_in, command_of, command_of_form, document_fault, unless_fault}
 use Rattle.ev_input.proofs.Notices.{rising_is_set}
 
 control_spells : (v : Verb) (parts : List Part) (c : Command) → Spells (control v parts) c → c ≡ command_in (control v parts)
@@ -35,11 +35,11 @@ pub command_told : (version : ℕ) (line : List ℕ) (c : Command) → IsCommand
 unfolding command_of
 command_told version line c h = ap command_of_form h.1 ∙ (ap (λ (e : Option ScriptFault). unless_fault e h.0) h.2 ∙ ap Ok (sym (spells h.0 c h.3)))
 
-in_form : (form : Option CommandForm) (e : ScriptFault) → fault_of_form form ≡ Some e → command_of_form form ≡ Err (kind_of e)
-in_form None e h = let f : faults.Syntax ≡ e = cc in ap (λ (x : ScriptFault). Err (kind_of x)) f
+in_form : (form : Option CommandForm) (e : ScriptFault) → fault_of_form form ≡ Some e → command_of_form form ≡ Err (document_fault e)
+in_form None e h = let f : faults.Syntax ≡ e = cc in ap (λ (x : ScriptFault). Err (document_fault x)) f
 in_form (Some form) e h = ap (λ (x : Option ScriptFault). unless_fault x form) h
 
-pub fault_told : (version : ℕ) (line : List ℕ) (e : ScriptFault) → script_fault version line ≡ Some e → command_of version line ≡ Err (kind_of e)
+pub fault_told : (version : ℕ) (line : List ℕ) (e : ScriptFault) → script_fault version line ≡ Some e → command_of version line ≡ Err (document_fault e)
 unfolding command_of
 fault_told version line e h = in_form (form_of version line) e h
 

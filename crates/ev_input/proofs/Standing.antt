@@ -18,8 +18,8 @@ use Rattle.ev_model.specs.declared.turn.Turn.{Turn}
 use Rattle.ev_model.specs.declared.turn.Turn.TheVariants as turns
 use Rattle.ev_input.specs.Answer.{◌>>=◌, need, want}
 use Rattle.ev_input.specs.Words.{name_and_number, one, one_name, one_number, two_numbers}
-use Rattle.ev_input.specs.Drawn.{are_neighbours, are_servers, blocks, is_server, joined}
-use Rattle.ev_input.specs.Drafts.{barriers_at, barriers_of, begun, client_at, has_script, name_of, place_of, scriptless, with_barrier, with_command}
+use Rattle.ev_input.specs.Drawn.{are_neighbours, are_servers, blocks, is_server, are_joined}
+use Rattle.ev_input.specs.Drafts.{barriers_at, barriers_of, begun, client_at, has_script, name_of, name_place, scriptless, with_barrier, with_command}
 use Rattle.ev_input.specs.Tally.{CommandCounts, control_product, control_rule, notice_product, publish_rule, with_control, with_publish}
 use Rattle.ev_input.specs.Commands.{command_of as line_command}
 use Rattle.ev_input.specs.Rules.{barrier_rule, client_rule, command_rule, command_turn, count_rule, edge_rule, header_rule, phase_rule, schedule_rule, script_rule, semantics_named, semantics_rule, servers_rule, take_turn, version_named, version_number, version_turn, with_turn}
@@ -144,7 +144,7 @@ edge_stands s t ws e h =
     let a = want_ok (two_numbers ws) is.Words _ t e in
     let b = need_ok (are_servers s.trees.servers a.0) is.Range _ t a.2 in
     let c = need_ok (not (has_edge s.trees.edges a.0.0 a.0.1)) is.Twice _ t b.1 in
-    let d = need_ok (not (joined s.trees.edges a.0.0 a.0.1)) is.Loop _ t c.1 in
+    let d = need_ok (not (are_joined s.trees.edges a.0.0 a.0.1)) is.Loop _ t c.1 in
     subst Standing (same_ok _ t d.1) (record {
       servers = h.servers;
       early = h.early;
@@ -187,12 +187,12 @@ unfolding client_rule client_at
 client_stands s t ws o e h =
     let a = want_ok (name_and_number ws) is.Words _ t e in
     let b = need_ok (is_server s.trees.servers a.0.1) is.Range _ t a.2 in
-    let c = need_ok (not (is_some (place_of (map name_of s.clients) a.0.0))) is.Name _ t b.1 in
+    let c = need_ok (not (is_some (name_place (map name_of s.clients) a.0.0))) is.Name _ t b.1 in
     let d = need_ok (nat_lt (length s.clients) 1024) is.Count _ t c.1 in
     let room : length s.clients < 1024 = grind (arith, common_steps, d.0) in
     let one = scriptless a.0.0 a.0.1 in
     let len : length (s.clients ++ one ∷ []) ≡ length s.clients + 1 = length-more s.clients one in
-    let none : place_of (map name_of s.clients) a.0.0 ≡ None = no-place (place_of (map name_of s.clients) a.0.0) c.0 in
+    let none : name_place (map name_of s.clients) a.0.0 ≡ None = no-place (name_place (map name_of s.clients) a.0.0) c.0 in
     subst Standing (same_ok _ t d.1) (record {
       servers = λ p. h.servers o;
       early = λ p. cc;

@@ -17,13 +17,13 @@ use Rattle.ev_input.specs.declared.fault.LineFault.TheVariants.{NoMemory, Bad}
 use Rattle.ev_input.specs.declared.fault.Fault.TheVariants as is
 
 -- a fault of a command line, as one of a document; want of memory is no fault of a line
-abbrev pub kind_of : ScriptFault → Fault
-kind_of faults.Syntax = is.Syntax
-kind_of faults.Value = is.Value
-kind_of faults.Operand = is.Operand
-kind_of faults.Count = is.Count
-kind_of faults.Repeat = is.Repeat
-kind_of faults.NoMemory = is.Syntax
+abbrev pub document_fault : ScriptFault → Fault
+document_fault faults.Syntax = is.Syntax
+document_fault faults.Value = is.Value
+document_fault faults.Operand = is.Operand
+document_fault faults.Count = is.Count
+document_fault faults.Repeat = is.Repeat
+document_fault faults.NoMemory = is.Syntax
 
 -- the command of a form without fault: constraints once each, in canonical order; attributes by their names, of which no two
 -- are the same (no form has the first word `publish` and constraints)
@@ -37,7 +37,7 @@ command_in (publish attributes) = commands.Publish (set_of is_name_less (fits at
 
 -- the fault, if there is one, and else the form's command
 abbrev pub unless_fault : Option ScriptFault → CommandForm → Result Command Fault
-unless_fault (Some fault) form = Err (kind_of fault)
+unless_fault (Some fault) form = Err (document_fault fault)
 unless_fault None form = Ok (command_in form)
 
 -- a line without a form is at fault by that
@@ -52,4 +52,4 @@ command_of version line = command_of_form (form_of version line)
 -- the fault of a line that a fault of its command is; want of memory stays what it is
 abbrev pub Tells : LineFault → ScriptFault → Type 0
 Tells fault faults.NoMemory = fault ≡ NoMemory
-Tells fault e = fault ≡ Bad (kind_of e)
+Tells fault e = fault ≡ Bad (document_fault e)

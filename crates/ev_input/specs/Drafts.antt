@@ -13,12 +13,12 @@ abbrev pub name_of : Draft → List ℕ
 name_of d = d.client.name
 
 -- the place of a name, from 0
-abbrev pub place_of : List (List ℕ) → List ℕ → Option ℕ
-place_of names name = position (bytes_eq name) names
+abbrev pub name_place : List (List ℕ) → List ℕ → Option ℕ
+name_place names name = position (bytes_eq name) names
 
 -- the place of the client with this name
 unfoldable pub client_at : List Draft → List ℕ → Option ℕ
-client_at drafts name = place_of (map name_of drafts) name
+client_at drafts name = name_place (map name_of drafts) name
 
 -- a client without a script
 abbrev pub scriptless : List ℕ → ℕ → Draft
@@ -31,12 +31,12 @@ changed_at zero f (x ∷ xs) = f x ∷ xs
 changed_at (suc n) f (x ∷ xs) = x ∷ changed_at n f xs
 
 -- a client, if there is one, has a script
-abbrev pub has_one : Option Draft → Bool
-has_one None = false
-has_one (Some d) = d.has_script
+abbrev pub is_scripted : Option Draft → Bool
+is_scripted None = false
+is_scripted (Some d) = d.has_script
 
 abbrev pub has_script : List Draft → ℕ → Bool
-has_script drafts n = has_one (slice_get drafts n)
+has_script drafts n = is_scripted (slice_get drafts n)
 
 -- how many barriers its script has
 abbrev pub barriers_of : Option Draft → ℕ

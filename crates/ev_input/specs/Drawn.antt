@@ -29,13 +29,13 @@ abbrev pub undrawn : ℕ → Drawn
 undrawn n = drawn n [] 0 []
 
 -- edges lead from a to b: those but the first do, or the first one does with them, one way or the other
-abbrev pub joined : List (ℕ × ℕ) → ℕ → ℕ → Bool
-joined [] a b = a == b
-joined (e ∷ es) a b = joined es a b || ((joined es a e.0 && joined es e.1 b) || (joined es a e.1 && joined es e.0 b))
+abbrev pub are_joined : List (ℕ × ℕ) → ℕ → ℕ → Bool
+are_joined [] a b = a == b
+are_joined (e ∷ es) a b = are_joined es a b || ((are_joined es a e.0 && are_joined es e.1 b) || (are_joined es a e.1 && are_joined es e.0 b))
 
 -- some server is one to which the edges don't lead from server 1
 unfoldable pub is_apart : Drawn → Bool
-is_apart d = not (list_all (joined d.edges 1) (servers_to d.servers))
+is_apart d = not (list_all (are_joined d.edges 1) (servers_to d.servers))
 
 -- the number is a server's
 abbrev pub is_server : ℕ → ℕ → Bool
@@ -49,7 +49,7 @@ are_servers servers e = is_server servers e.0 && is_server servers e.1
 unfoldable pub edge_fault : List (ℕ × ℕ) → ℕ × ℕ → Option EdgeFault
 edge_fault edges e =
     if has_edge edges e.0 e.1 then Some Twice
-    else if joined edges e.0 e.1 then Some Loop
+    else if are_joined edges e.0 e.1 then Some Loop
     else None
 
 -- one edge more

@@ -96,9 +96,9 @@ abbrev pub start : State
 start = record { place = at.Header; version = One; semantics = Subscription; trees = undrawn 0; clients = []; client = 0; tally = no_counts; schedule = [] }
 
 -- a fault is told with the number of its line
-abbrev pub told : {A : Type 0} → ℕ → Result A Fault → Result A (ℕ × Fault)
-told n (Ok x) = Ok x
-told n (Err fault) = Err (n, fault)
+abbrev pub told_at : {A : Type 0} → ℕ → Result A Fault → Result A (ℕ × Fault)
+told_at n (Ok x) = Ok x
+told_at n (Err fault) = Err (n, fault)
 
 -- what comes next, unless a fault was told
 abbrev pub then_on : {A B : Type 0} → Result A (ℕ × Fault) → (A → Result B (ℕ × Fault)) → Result B (ℕ × Fault)
@@ -107,8 +107,8 @@ then_on (Err e) f = Err e
 
 -- the lines in turn, of which the first has the number n, and the end
 abbrev pub read_from : ℕ → State → List (List ℕ) → Result State (ℕ × Fault)
-read_from n s [] = told n (end_rule s)
-read_from n s (l ∷ ls) = then_on (told n (line_rule s n l)) (λ t. read_from (n + 1) t ls)
+read_from n s [] = told_at n (end_rule s)
+read_from n s (l ∷ ls) = then_on (told_at n (line_rule s n l)) (λ t. read_from (n + 1) t ls)
 
 -- WHAT A DOCUMENT SAYS: what stands after its lines and its end, or the first line at fault with its first fault
 unfoldable pub document_of : List ℕ → Result State (ℕ × Fault)

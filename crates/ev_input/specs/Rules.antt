@@ -12,7 +12,7 @@ use Rattle.ev_model.specs.declared.turn.Turn.{Turn}
 use Rattle.ev_model.specs.declared.turn.Turn.TheVariants as turns
 use Rattle.ev_input.specs.Answer.{◌>>=◌, need, want}
 use Rattle.ev_input.specs.Words.{name_and_number, one, one_name, one_number, two_numbers}
-use Rattle.ev_input.specs.Drawn.{are_neighbours, are_servers, is_server, joined, undrawn, with_edge, with_phase}
+use Rattle.ev_input.specs.Drawn.{are_neighbours, are_servers, is_server, are_joined, undrawn, with_edge, with_phase}
 use Rattle.ev_input.specs.Drafts.{barriers_at, begun, changed_at, client_at, has_script, scriptless, with_barrier, with_command}
 use Rattle.ev_input.specs.Tally.{CommandCounts, control_rule, publish_rule}
 use Rattle.ev_input.specs.Commands.{command_of}
@@ -77,7 +77,7 @@ edge_rule s ws = do
   e ← want (two_numbers ws) is.Words
   fits ← need (are_servers s.trees.servers e) is.Range
   once ← need (not (has_edge s.trees.edges e.0 e.1)) is.Twice
-  tree ← need (not (joined s.trees.edges e.0 e.1)) is.Loop
+  tree ← need (not (are_joined s.trees.edges e.0 e.1)) is.Loop
   Ok (record s { trees = with_edge s.trees e })
 
 -- `phase K`

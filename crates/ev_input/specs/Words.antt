@@ -2,10 +2,7 @@
 use Rattle.std.specs.Prelude.{Bool, ℕ, ◌+◌, ◌*◌, ◌-◌, List, [], ◌∷◌, ◌&&◌, nat_lt, nat_le, length, if◌then◌else◌, Option, Some, None}
 use Rattle.std.specs.Option.{option_and_then, option_zip}
 use Rattle.ev_values.specs.Name.{is_name}
-
--- a decimal digit of ASCII
-abbrev pub is_digit : ℕ → Bool
-is_digit b = nat_le 48 b && nat_le b 57
+use Rattle.ev_script.specs.Form.{is_digit}
 
 -- the number of further digits behind those of which this is the number
 abbrev pub number_from : ℕ → List ℕ → Option ℕ

@@ -1,6 +1,6 @@
 //! Names and their places.
 ghost use Rattle.std.specs.Prelude.{◌≡◌, ◌∷◌, ◌++◌, [], None, OnOk, OnErr};
-ghost use Rattle.ev_input.specs.Drafts.{place_of};
+ghost use Rattle.ev_input.specs.Drafts.{name_place};
 
 use ev_memory::NoMemory;
 use indexmap::IndexSet;
@@ -33,14 +33,14 @@ impl Names {
 
     /// The place of a name, from 0.
     pub fn place(&self, name: &[u8]) -> Option<usize>
-        ensures { result ≡ place_of self.now name.now }
+        ensures { result ≡ name_place self.now name.now }
     {
         self.names.get_index_of(name)
     }
 
     /// One name more, which is not there.
     pub fn add(&mut self, alloc: Global, name: &[u8]) -> Result<(), NoMemory>
-        requires { place_of self.old name.now ≡ None }
+        requires { name_place self.old name.now ≡ None }
         ensures ok { OnOk result (self.new ≡ self.old ++ name.now ∷ []) }
         ensures err { OnErr result (self.new ≡ self.old) }
     {

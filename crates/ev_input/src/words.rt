@@ -1,7 +1,8 @@
 //! What the words of a line are.
 ghost use Rattle.std.specs.Prelude.{◌≡◌, None, Some, MatchOption};
+ghost use Rattle.ev_script.specs.Form.{is_digit};
 ghost use Rattle.ev_input.specs.Lines.{words};
-ghost use Rattle.ev_input.specs.Words.{is_digit, name_and_number, number, one, one_name, one_number, two, two_numbers};
+ghost use Rattle.ev_input.specs.Words.{name_and_number, number, one, one_name, one_number, two, two_numbers};
 
 use crate::cut::next_word;
 use ev_values::is_name;

@@ -23,14 +23,14 @@ use Rattle.ev_model.specs.Nets.{phased_net, first_tree, home_of, clients_of, scr
 use Rattle.ev_model.specs.Sound.{IsSound}
 use Rattle.ev_model.proofs.SoundNets.{net-laws}
 use Rattle.ev_session.specs.Session.{SessionParts}
-use Rattle.ev_server.specs.Clients.{numbers_of}
+use Rattle.ev_server.specs.Clients.{client_numbers}
 use Rattle.ev_server.specs.Core.{CoreParts}
 use Rattle.ev_server.specs.Staged.{is_some_there}
 use Rattle.ev_server.specs.Step.{last_stamp}
 use Rattle.ev_net.specs.declared.servers.Servers as code
 use Rattle.ev_net.specs.Seen.{seen, calm_in, calm_at, AreCalmCores}
 use Rattle.ev_frame.specs.Frame.{FrameParts}
-use Rattle.ev_net.specs.Sessions.{is_below}
+use Rattle.ev_net.specs.Sessions.{is_phase_below}
 use Rattle.std.proofs.lemmas.Bool.Decides.{nat_tests}
 use Rattle.ev_links.proofs.Numbers.{Same, Is, Not, compare}
 use Rattle.ev_memory.specs.declared.NoMemory.{NoMemory}
@@ -111,7 +111,7 @@ module _ (net : NetParts) (sound : IsSound net) (phase : ℕ) (state : State rea
   home_place = let l = (home_low net sound client).0 in omega (arith, l)
 
   -- it has the client's session
-  pub lives_there : (1 ≤ client) × (client ≤ length net.clients) → (core : CoreParts) → slice_get cores (home_of net client - 1) ≡ Some core → Has client (numbers_of core.clients)
+  pub lives_there : (1 ≤ client) × (client ≤ length net.clients) → (core : CoreParts) → slice_get cores (home_of net client - 1) ≡ Some core → Has client (client_numbers core.clients)
   lives_there within core at =
       subst (Has client) (ap (clients_of net) (sym (servers.number (home_of net client - 1) core at ∙ home_place)) ∙ (servers.states (home_of net client - 1) core at).clients) (client_lives net client within)
 
@@ -340,15 +340,15 @@ calm_where net phase now kept quiet k l = go (get-at now.cores k l)
 
 -- through where no client's next command is below
 module _ (net : NetParts) (phase : ℕ) (now : Servers) (kept : IsNetwork net phase now) (own : ℕ) where
-  below-not : (net : NetParts) (phase : ℕ) (o : Option (PhasedCommand real)) → is_below (phase_in o) own ≡ false → not_below real (net_at real (phased_net net) phase) own o ≡ true
+  below-not : (net : NetParts) (phase : ℕ) (o : Option (PhasedCommand real)) → is_phase_below (phase_in o) own ≡ false → not_below real (net_at real (phased_net net) phase) own o ≡ true
   below-not net phase None e = refl
   below-not net phase (Some x) e = grind (arith, nat_tests, e)
 
-  not-below-is : (net : NetParts) (phase : ℕ) (o : Option (PhasedCommand real)) → not_below real (net_at real (phased_net net) phase) own o ≡ true → is_below (phase_in o) own ≡ false
+  not-below-is : (net : NetParts) (phase : ℕ) (o : Option (PhasedCommand real)) → not_below real (net_at real (phased_net net) phase) own o ≡ true → is_phase_below (phase_in o) own ≡ false
   not-below-is net phase None e = refl
   not-below-is net phase (Some x) e = grind (arith, nat_tests, e)
 
-  all-of : (none : (client : ℕ) → 1 ≤ client → client ≤ length net.clients → is_below (next_phase_by net now.journal client) own ≡ false) (server : ℕ) (cs : List ℕ)
+  all-of : (none : (client : ℕ) → 1 ≤ client → client ≤ length net.clients → is_phase_below (next_phase_by net now.journal client) own ≡ false) (server : ℕ) (cs : List ℕ)
       → ((client : ℕ) → Has client cs → Has client (clients_of net server)) → all_through real (net_at real (phased_net net) phase) ((moment_by net now.journal).state.state server) own cs ≡ true
   all-of none server [] sub = refl
   all-of none server (c ∷ cs) sub =
@@ -364,7 +364,7 @@ module _ (net : NetParts) (phase : ℕ) (now : Servers) (kept : IsNetwork net ph
       l : (1 ≤ c) × (c ≤ length net.clients)
       l = server-in (length net.clients) c f.0
 
-  pub through_where : ((client : ℕ) → 1 ≤ client → client ≤ length net.clients → is_below (next_phase_by net now.journal client) own ≡ false)
+  pub through_where : ((client : ℕ) → 1 ≤ client → client ≤ length net.clients → is_phase_below (next_phase_by net now.journal client) own ≡ false)
       → IsThroughOn real (phased_net net) phase (moment_by net now.journal).state own
   through_where none server h = all-of none server (clients_of net server) (λ client m. m)
 
@@ -380,7 +380,7 @@ module _ (net : NetParts) (phase : ℕ) (now : Servers) (kept : IsNetwork net ph
       (all_through real (net_at real (phased_net net) phase) ((moment_by net now.journal).state.state server) own cs) e).1
 
   pub below_where : IsThroughOn real (phased_net net) phase (moment_by net now.journal).state own → (client : ℕ) → (1 ≤ client) × (client ≤ length net.clients)
-      → is_below (next_phase_by net now.journal client) own ≡ false
+      → is_phase_below (next_phase_by net now.journal client) own ≡ false
   below_where through client within =
       not-below-is net phase (slice_get (script_of net client) (taken_by net now.journal client))
       (one-of client (home_of net client) (clients_of net (home_of net client)) (client_lives net client within) (through (home_of net client) ((net-laws net kept.sound).housed client)))

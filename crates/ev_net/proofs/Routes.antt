@@ -18,7 +18,7 @@ use Rattle.ev_session.specs.declared.planned.Planned.TheVariants.{Publish}
 use Rattle.ev_session.specs.Session.{SessionParts}
 use Rattle.ev_session.specs.Plan.{next_plan}
 use Rattle.ev_counting.specs.Table.{HeldFilter, IsRouteOf}
-use Rattle.ev_server.specs.Clients.{numbers_of}
+use Rattle.ev_server.specs.Clients.{client_numbers}
 use Rattle.ev_server.specs.Core.{CoreParts, published_from}
 use Rattle.ev_server.specs.Routed.{IsRoute, RoutesNext, RoutesMessage}
 use Rattle.ev_net.specs.Kept.{IsTableOf, IsSomeServer}
@@ -38,15 +38,15 @@ has-contains (y ∷ ys) x (inl e) = (0, omega arith, sym e)
 has-contains (y ∷ ys) x (inr h) = let m = has-contains ys x h in (suc m.0, omega (arith, m.1), m.2)
 
 -- sessions of one client are one where the numbers differ
-one-session : (ss : List SessionParts) (s t : SessionParts) → IsDistinct (numbers_of ss) → Has s ss → Has t ss → s.client ≡ t.client → s ≡ t
+one-session : (ss : List SessionParts) (s t : SessionParts) → IsDistinct (client_numbers ss) → Has s ss → Has t ss → s.client ≡ t.client → s ≡ t
 one-session [] s t d h g e = absurd h
 one-session (x ∷ xs) s t d (inl a) (inl b) e = a ∙ sym b
-one-session (x ∷ xs) s t d (inl a) (inr g) e = absurd (d.0 (subst (λ z. Has z (numbers_of xs)) (sym e ∙ ap (λ z. z.client) a) (has-map (λ (z : SessionParts). z.client) t xs g)))
-one-session (x ∷ xs) s t d (inr h) (inl b) e = absurd (d.0 (subst (λ z. Has z (numbers_of xs)) (e ∙ ap (λ z. z.client) b) (has-map (λ (z : SessionParts). z.client) s xs h)))
+one-session (x ∷ xs) s t d (inl a) (inr g) e = absurd (d.0 (subst (λ z. Has z (client_numbers xs)) (sym e ∙ ap (λ z. z.client) a) (has-map (λ (z : SessionParts). z.client) t xs g)))
+one-session (x ∷ xs) s t d (inr h) (inl b) e = absurd (d.0 (subst (λ z. Has z (client_numbers xs)) (e ∙ ap (λ z. z.client) b) (has-map (λ (z : SessionParts). z.client) s xs h)))
 one-session (x ∷ xs) s t d (inr h) (inr g) e = one-session xs s t d.1 h g e
 
 -- the numbers of a server's clients differ
-distinct : (core : CoreParts) → IsSomeServer core → IsDistinct (numbers_of core.clients)
+distinct : (core : CoreParts) → IsSomeServer core → IsDistinct (client_numbers core.clients)
 distinct core (net, laws, state, stands) = subst IsDistinct stands.clients (laws.single core.server)
 
 -- one plan is of one notice

@@ -12,7 +12,7 @@ use Rattle.ev_counting.specs.Table.{HeldFilter}
 use Rattle.ev_control.specs.declared.control.HeldLink.{HeldLink}
 use Rattle.ev_control.specs.Control.{Controlled, by_adverts, subs, advs}
 use Rattle.ev_flow.specs.declared.home.Home.{Home}
-use Rattle.ev_server.specs.Clients.{numbers_of}
+use Rattle.ev_server.specs.Clients.{client_numbers}
 use Rattle.ev_server.specs.Core.{CoreParts}
 
 -- a table has exactly the pairs that are held
@@ -26,7 +26,7 @@ HasFilterBy held interface f = (h : HeldLink) × Has h held × (h.link ≡ inter
 -- a core has the net's clients of its server, and holds from each what the client's commands made of its lists; from what is no client's interface it
 -- holds nothing but from links
 pub record HoldsOwn (net : NetParts) (core : CoreParts) : Type 0 where
-  pub clients : clients_of net core.server ≡ numbers_of core.clients
+  pub clients : clients_of net core.server ≡ client_numbers core.clients
   pub filters : (s : SessionParts) → Has s core.clients → subs core.control (client_interface s.client) ≡ filter_set_at s s.taken
   pub adverts : by_adverts net.semantics ≡ true → (s : SessionParts) → Has s core.clients
       → advs core.control (client_interface s.client) ≡ advert_set_at s s.taken

@@ -13,6 +13,6 @@ pub record IsSessionOf (network : NetworkParts) (client : ℕ) (session : Sessio
   pub inbox : session.inbox ≡ received_by network.net network.journal client
 
 -- a next command, if there is one, is of a phase below this one
-abbrev pub is_below : Option ℕ → ℕ → Bool
-is_below None own = false
-is_below (Some phase) own = nat_lt phase own
+abbrev pub is_phase_below : Option ℕ → ℕ → Bool
+is_phase_below None own = false
+is_phase_below (Some phase) own = nat_lt phase own

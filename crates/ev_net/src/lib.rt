@@ -18,6 +18,7 @@ mod trying;
 mod waiting;
 mod walking;
 
+pub use making::is_among;
 pub use network::Network;
 pub use replaying::ReplayFault;
 pub use retelling::retell;

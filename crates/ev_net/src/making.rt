@@ -12,7 +12,7 @@ ghost use Rattle.ev_net.specs.Turns.{IsTurn, IsMade};
 ghost use Rattle.ev_net.specs.Kept.{IsNetwork};
 ghost use Rattle.ev_net.specs.Seen.{seen, shown, calm_in, calm_at, AreCalmCores};
 ghost use Rattle.ev_net.specs.Links.{frames_at};
-ghost use Rattle.ev_net.specs.Sessions.{IsSessionOf, is_below};
+ghost use Rattle.ev_net.specs.Sessions.{IsSessionOf, is_phase_below};
 
 use crate::begin::{begin, take_back};
 use crate::place::Place;
@@ -29,7 +29,7 @@ fn has_server(servers: &Servers, server: u32) -> bool
 }
 
 /// Whether a number is in a list.
-fn is_among(number: u32, list: &[u32]) -> bool
+pub fn is_among(number: u32, list: &[u32]) -> bool
     ensures { IsTrue result ↔ Has number list.now }
 {
     list.contains(&number)
@@ -249,7 +249,7 @@ fn is_calm_at(places: &[Place], i: usize) -> bool
 fn none_below(net: &Net, servers: &Servers, own: u32) -> bool
     requires kept { (phase : ℕ) × IsNetwork net.now phase (seen servers.now) }
     ensures { IsTrue result ↔ ((client : ℕ) → 1 ≤ client → client ≤ length net.now.clients
-        → is_below (next_phase_by net.now servers.now.journal.items client) own ≡ false) }
+        → is_phase_below (next_phase_by net.now servers.now.journal.items client) own ≡ false) }
 {
     for client in 1..=net.clients.len() as u32 {
         if is_below(next_phase(net, servers, client), own) {
@@ -261,7 +261,7 @@ fn none_below(net: &Net, servers: &Servers, own: u32) -> bool
 
 /// Whether a next command is of a lower phase.
 fn is_below(next: Option<u32>, own: u32) -> bool
-    ensures { result ≡ is_below next own }
+    ensures { result ≡ is_phase_below next own }
 {
     match next {
         Some(phase) => phase < own,

@@ -17,7 +17,7 @@ ghost use Rattle.ev_control.specs.Control.{wired};
 ghost use Rattle.ev_model.specs.Nets.{phased_net, servers_in};
 ghost use Rattle.ev_model.specs.Sound.{IsSound};
 ghost use Rattle.ev_session.specs.Session.{SessionParts};
-ghost use Rattle.ev_server.specs.Clients.{numbers_of};
+ghost use Rattle.ev_server.specs.Clients.{client_numbers};
 ghost use Rattle.ev_server.specs.Core.{IsServerState};
 ghost use Rattle.ev_server.specs.Step.{MakesStep, last_stamp};
 ghost use Rattle.ev_net.specs.Kept.{IsSomeServer};
@@ -110,7 +110,7 @@ impl Place {
         client: u32,
         scratch: &mut Scratch,
     ) -> Result<Posted, NoMemory>
-        requires lives { Has client (numbers_of self.old.clients) }
+        requires lives { Has client (client_numbers self.old.clients) }
         requires left { (s : SessionParts) → Has s self.old.clients → s.client ≡ client → s.taken < length s.script }
         requires stands { IsSomeServer self.old }
         requires low { self.old.clock < last_stamp }

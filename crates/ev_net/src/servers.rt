@@ -14,7 +14,7 @@ ghost use Rattle.ev_frame.specs.Frame.{FrameParts, HasMessage};
 ghost use Rattle.ev_model.specs.Parts.{entry_parts};
 ghost use Rattle.ev_model.specs.declared.turn.Act.TheVariants as acts;
 ghost use Rattle.ev_session.specs.Session.{SessionParts};
-ghost use Rattle.ev_server.specs.Clients.{numbers_of};
+ghost use Rattle.ev_server.specs.Clients.{client_numbers};
 ghost use Rattle.ev_server.specs.Core.{CoreParts};
 ghost use Rattle.ev_server.specs.Step.{last_stamp};
 ghost use Rattle.ev_net.specs.Acted.{IsActed};
@@ -151,7 +151,7 @@ impl Servers {
         neighbours: &[u32],
     ) -> Result<(), NoMemory>
         requires able { CanAct server neighbours.now self.old.places.items }
-        requires lives { (core : CoreParts) → slice_get self.old.places.items (server - 1) ≡ Some core → Has client (numbers_of core.clients) }
+        requires lives { (core : CoreParts) → slice_get self.old.places.items (server - 1) ≡ Some core → Has client (client_numbers core.clients) }
         requires left { (core : CoreParts) (s : SessionParts) → slice_get self.old.places.items (server - 1) ≡ Some core → Has s core.clients
             → s.client ≡ client → s.taken < length s.script }
         ensures acted { OnOk result (IsActed (server - 1) (Does (NextCommand client)) (acts.Command client) (seen self.old) (seen self.new)) }

@@ -8,7 +8,7 @@ use Rattle.ev_model.specs.Parts.{ClientParts, NetParts}
 use Rattle.ev_model.specs.Nets.{clients_of}
 use Rattle.ev_session.specs.Session.{SessionParts}
 use Rattle.ev_server.specs.Core.{CoreParts}
-use Rattle.ev_server.specs.Clients.{numbers_of}
+use Rattle.ev_server.specs.Clients.{client_numbers}
 use Rattle.ev_node.specs.Cell.{CellParts, HasNoneBelow, IsPast}
 use Rattle.ev_node.specs.Entered.{AreThrough}
 use Rattle.ev_node.specs.Turns.{HasCommand}
@@ -35,7 +35,7 @@ are-earlier None (Some q) sessions later from = absurd later
 are-earlier (Some p) (Some q) sessions later from = none-less p q sessions later from
 
 -- where each client of a server is from a phase on, all are
-pub all-from : (net : NetParts) (server n : ℕ) (sessions : List SessionParts) (least : Option ℕ) → clients_of net server ≡ numbers_of sessions → length net.clients ≤ n
+pub all-from : (net : NetParts) (server n : ℕ) (sessions : List SessionParts) (least : Option ℕ) → clients_of net server ≡ client_numbers sessions → length net.clients ≤ n
     → ((place : ℕ) (client : ClientParts) → place < n → slice_get net.clients place ≡ Some client → client.home ≡ server → IsFrom least (suc place) sessions) → AreFrom least sessions
 all-from net server n sessions None same all from = λ phase. all-past net server phase n sessions same all (λ place client lt e h. from place client lt e h phase)
 all-from net server n sessions (Some phase) same all from = all-past net server phase n sessions same all from

@@ -12,7 +12,7 @@ use Rattle.ev_node.specs.declared.held.Root.{Root}
 use Rattle.ev_node.specs.declared.link.Link.{Link}
 use Rattle.ev_node.specs.Links.{Both, At, IsOneLane, IsSettledLane, IsNeighbour, IsSameLink, HasMissed, put_for, taken_from}
 use Rattle.ev_node.specs.Cell.{CellParts}
-use Rattle.ev_node.specs.Together.{Sight, IsLaneOf, IsTakenUp, IsCellDone, HasNoCommand, IsWornSomewhere, sight, sights, roots, links_of}
+use Rattle.ev_node.specs.Together.{Sight, IsLaneOf, IsTakenUp, IsCellDone, HasNoCommand, IsWornSomewhere, sight, sights, cell_roots, root_links}
 use Rattle.ev_server.specs.Step.{last_stamp}
 use Rattle.ev_node.proofs.Places.{found, set-found, both-before, both-behind, found-name, below-found}
 use Rattle.ev_node.proofs.Splits.{map-set}
@@ -37,32 +37,32 @@ distinct-kept cell k = subst IsDistinct (sym k.now.neighbours) (some-apart cell.
 
 -- after it was settled, a look that finds nothing tells that all is taken
 pub emptied : (a b : CellParts) (later : List Link) (to from u : ℕ) → IsKeptCell a → IsKeptCell b → At IsSettledLane to a.held.links.items from b.held.links.items
-    → Both IsSameLink b.held.links.items later → HasMissed from b.held.links.items later → IsNeighbour to b.root.server (links_of a.root) → IsNeighbour from u (links_of b.root) → (sight b).took u ≡ (sight a).put b.root.server
+    → Both IsSameLink b.held.links.items later → HasMissed from b.held.links.items later → IsNeighbour to b.root.server (root_links a.root) → IsNeighbour from u (root_links b.root) → (sight b).took u ≡ (sight a).put b.root.server
 emptied a b later to from u ka kb (x, y, ex, ey, s) same missed gives takes =
     let z = both-behind IsSameLink from b.held.links.items later y same ey in
     let nothing : rest_list y.leave ≡ [] = (missed y z.0 ey z.1).rest in
     let all : taken_list y.leave ≡ put_list x.enter = sym (append-nothing (taken_list y.leave)) ∙ ap (λ l. taken_list y.leave ++ l) (sym nothing) ∙ s.all in
-    let x0 = both-before IsSameLink to (links_of a.root) a.held.links.items x ka.links ex in
-    let y0 = both-before IsSameLink from (links_of b.root) b.held.links.items y kb.links ey in
+    let x0 = both-before IsSameLink to (root_links a.root) a.held.links.items x ka.links ex in
+    let y0 = both-before IsSameLink from (root_links b.root) b.held.links.items y kb.links ey in
     let nx : x.neighbour ≡ b.root.server = x0.2.neighbour ∙ ap (λ (w : Link). w.neighbour) (same_Some x0.0 gives.0 (sym x0.1 ∙ gives.1)) ∙ gives.2 in
     let ny : y.neighbour ≡ u = y0.2.neighbour ∙ ap (λ (w : Link). w.neighbour) (same_Some y0.0 takes.0 (sym y0.1 ∙ takes.1)) ∙ takes.2 in
     ap (λ n. taken_from b.held.links.items n) (sym ny) ∙ found-taken from b.held.links.items y ey (distinct-kept b kb) ∙ all ∙ sym (found-put to a.held.links.items x ex (distinct-kept a ka)) ∙ ap (λ n. put_for a.held.links.items n) nx
 
 pub taken-up : (cells : List CellParts) (a b : CellParts) (later : List Link) (giver to taker from : ℕ) → slice_get cells giver ≡ Some a → slice_get cells taker ≡ Some b → IsKeptCell a → IsKeptCell b
-    → At IsSettledLane to a.held.links.items from b.held.links.items → Both IsSameLink b.held.links.items later → HasMissed from b.held.links.items later → IsNeighbour to b.root.server (links_of a.root) → IsNeighbour from (suc giver) (links_of b.root) → IsTakenUp (sights cells) taker from
+    → At IsSettledLane to a.held.links.items from b.held.links.items → Both IsSameLink b.held.links.items later → HasMissed from b.held.links.items later → IsNeighbour to b.root.server (root_links a.root) → IsNeighbour from (suc giver) (root_links b.root) → IsTakenUp (sights cells) taker from
 taken-up cells a b later giver to taker from at-a at-b ka kb settled same missed gives takes s t y i es ey et name =
     let sb : s ≡ sight b = same_Some s (sight b) (sym es ∙ map-found sight taker cells b at-b) in
-    let yn : y ≡ takes.0 = same_Some y takes.0 (sym ey ∙ ap (λ (w : Sight). slice_get (links_of w.root) from) sb ∙ takes.1) in
+    let yn : y ≡ takes.0 = same_Some y takes.0 (sym ey ∙ ap (λ (w : Sight). slice_get (root_links w.root) from) sb ∙ takes.1) in
     let ny : y.neighbour ≡ suc giver = ap (λ (w : Link). w.neighbour) yn ∙ takes.2 in
     let ig : i ≡ giver = one-suc i giver (sym name ∙ ny) in
     let ta : t ≡ sight a = same_Some t (sight a) (sym et ∙ ap (λ n. slice_get (sights cells) n) ig ∙ map-found sight giver cells a at-a) in
     ap (λ (w : Sight). w.took y.neighbour) sb ∙ ap (λ n. (sight b).took n) ny ∙ emptied a b later to from (suc giver) ka kb settled same missed gives takes ∙ ap (λ n. (sight a).put n) (ap (λ (w : Sight). w.root.server) (sym sb)) ∙ ap (λ (w : Sight). w.put s.root.server) (sym ta)
 
-pub roots-seen : (cells : List CellParts) → map (λ (s : Sight). s.root) (sights cells) ≡ roots cells
+pub roots-seen : (cells : List CellParts) → map (λ (s : Sight). s.root) (sights cells) ≡ cell_roots cells
 roots-seen [] = refl
 roots-seen (h ∷ cells) = ap (λ l. h.root ∷ l) (roots-seen cells)
 
-pub same-roots : (xs ys : List CellParts) → sights xs ≡ sights ys → roots xs ≡ roots ys
+pub same-roots : (xs ys : List CellParts) → sights xs ≡ sights ys → cell_roots xs ≡ cell_roots ys
 same-roots xs ys e = sym (roots-seen xs) ∙ ap (λ l. map (λ (s : Sight). s.root) l) e ∙ roots-seen ys
 
 pub same-count : (xs ys : List CellParts) → sights xs ≡ sights ys → length xs ≡ length ys
@@ -75,8 +75,8 @@ same-links (x ∷ xs) [] b = absurd b
 same-links (x ∷ xs) (y ∷ ys) b = ap suc (same-links xs ys b.1)
 
 -- a place among the neighbours stays one
-pub place-now : (cell : CellParts) (from u : ℕ) → IsKeptCell cell → IsNeighbour from u (links_of cell.root) → from < length cell.held.links.items
-place-now cell from u k n = let y = both-behind IsSameLink from (links_of cell.root) cell.held.links.items n.0 k.links n.1 in below-found from cell.held.links.items y.0 y.1
+pub place-now : (cell : CellParts) (from u : ℕ) → IsKeptCell cell → IsNeighbour from u (root_links cell.root) → from < length cell.held.links.items
+place-now cell from u k n = let y = both-behind IsSameLink from (root_links cell.root) cell.held.links.items n.0 k.links n.1 in below-found from cell.held.links.items y.0 y.1
 
 -- a taking that found nothing
 abbrev pub IsTakeIdle : CellParts → CellParts → ℕ → Result Bool StepFault → Type 0
@@ -89,14 +89,14 @@ module _ (old mid : List CellParts) (giver to taker from : ℕ) (lane : IsLaneOf
       let f = found-map sight k old (sight b) (ap (λ l. slice_get l k) (sym seen) ∙ map-found sight k mid b e) in
       (f.0, f.1, ap (λ (s : Sight). s.root) f.2)
 
-  pub takes-now : (b : CellParts) → slice_get mid taker ≡ Some b → IsNeighbour from (suc giver) (links_of b.root)
-  takes-now b e = let a = before taker b e in subst (λ (r : Root). IsNeighbour from (suc giver) (links_of r)) a.2 (lane.takes a.0 a.1)
+  pub takes-now : (b : CellParts) → slice_get mid taker ≡ Some b → IsNeighbour from (suc giver) (root_links b.root)
+  takes-now b e = let a = before taker b e in subst (λ (r : Root). IsNeighbour from (suc giver) (root_links r)) a.2 (lane.takes a.0 a.1)
 
-  gives-now : (a b : CellParts) → slice_get mid giver ≡ Some a → slice_get mid taker ≡ Some b → IsNeighbour to b.root.server (links_of a.root)
+  gives-now : (a b : CellParts) → slice_get mid giver ≡ Some a → slice_get mid taker ≡ Some b → IsNeighbour to b.root.server (root_links a.root)
   gives-now a b p q =
       let a' = before giver a p in
       let b' = before taker b q in
-      subst (λ (r : Root). IsNeighbour to r.server (links_of a.root)) b'.2 (subst (λ (r : Root). IsNeighbour to b'.0.root.server (links_of r)) a'.2 (lane.gives a'.0 b'.0 a'.1 b'.1))
+      subst (λ (r : Root). IsNeighbour to r.server (root_links a.root)) b'.2 (subst (λ (r : Root). IsNeighbour to b'.0.root.server (root_links r)) a'.2 (lane.gives a'.0 b'.0 a'.1 b'.1))
 
   pub take-idle : (x y d z : CellParts) (r : Result Bool StepFault) → taker < length mid → slice_get mid giver ≡ Some x → slice_get mid taker ≡ Some y → IsKeptCell x → IsKeptCell y
       → (a b : CellParts) × (slice_get mid giver ≡ Some a) × (slice_get mid taker ≡ Some b) × At IsSettledLane to a.held.links.items from b.held.links.items
@@ -114,16 +114,16 @@ module _ (old mid : List CellParts) (giver to taker from : ℕ) (lane : IsLaneOf
       (still ∙ seen, subst (λ l. IsTakenUp l taker from) (sym still) up)
 
 -- the neighbours are as many as in the phase's beginning
-pub as-many-links : (cells : List CellParts) (k : ℕ) (h : CellParts) → slice_get cells k ≡ Some h → IsKeptCell h → (b : Root) → slice_get (roots cells) k ≡ Some b → length (links_of b) ≡ length h.held.links.items
-as-many-links cells k h at kept b e = ap (λ (r : Root). length (links_of r)) (same_Some b h.root (sym e ∙ map-found (λ (w : CellParts). w.root) k cells h at)) ∙ same-links (links_of h.root) h.held.links.items kept.links
+pub as-many-links : (cells : List CellParts) (k : ℕ) (h : CellParts) → slice_get cells k ≡ Some h → IsKeptCell h → (b : Root) → slice_get (cell_roots cells) k ≡ Some b → length (root_links b) ≡ length h.held.links.items
+as-many-links cells k h at kept b e = ap (λ (r : Root). length (root_links r)) (same_Some b h.root (sym e ∙ map-found (λ (w : CellParts). w.root) k cells h at)) ∙ same-links (root_links h.root) h.held.links.items kept.links
 
 -- all places of the neighbours were tried
-pub all-tried : (cells : List CellParts) (k n : ℕ) → ((b : Root) → slice_get (roots cells) k ≡ Some b → length (links_of b) ≤ n) → ((p : ℕ) → p < n → IsTakenUp (sights cells) k p) → (p : ℕ) → IsTakenUp (sights cells) k p
+pub all-tried : (cells : List CellParts) (k n : ℕ) → ((b : Root) → slice_get (cell_roots cells) k ≡ Some b → length (root_links b) ≤ n) → ((p : ℕ) → p < n → IsTakenUp (sights cells) k p) → (p : ℕ) → IsTakenUp (sights cells) k p
 all-tried cells k n few tried p s t y i es ey et name =
     let f = found-map sight k cells s es in
-    let root : slice_get (roots cells) k ≡ Some s.root = map-found (λ (w : CellParts). w.root) k cells f.0 f.1 ∙ ap (λ (w : Sight). Some w.root) f.2 in
-    let le : length (links_of s.root) ≤ n = few s.root root in
-    let lt : p < length (links_of s.root) = below-found p (links_of s.root) y ey in
+    let root : slice_get (cell_roots cells) k ≡ Some s.root = map-found (λ (w : CellParts). w.root) k cells f.0 f.1 ∙ ap (λ (w : Sight). Some w.root) f.2 in
+    let le : length (root_links s.root) ≤ n = few s.root root in
+    let lt : p < length (root_links s.root) = below-found p (root_links s.root) y ey in
     tried p (omega (arith, le, lt)) s t y i es ey et name
 
 pub cell-done : (old mid : List CellParts) (k : ℕ) (d z : CellParts) → k < length mid → sights mid ≡ sights old → ((p : ℕ) → IsTakenUp (sights mid) k p) → sight z ≡ sight (get_or mid k d) → z.held.core.staged ≡ [] → HasNoCommand z.held.core z.root.phase
@@ -139,7 +139,7 @@ cell-done old mid k d z lt seen taken same calm through =
       },
     )
 
-pub roots-count : (xs ys : List CellParts) → roots xs ≡ roots ys → length xs ≡ length ys
+pub roots-count : (xs ys : List CellParts) → cell_roots xs ≡ cell_roots ys → length xs ≡ length ys
 roots-count xs ys e = sym (length-map xs (λ (h : CellParts). h.root)) ∙ ap length e ∙ length-map ys (λ (h : CellParts). h.root)
 
 -- one cell's clock is the last stamp
@@ -147,10 +147,10 @@ pub worn-here : (cells : List CellParts) (k stamp : ℕ) (new : CellParts) → k
 worn-here cells k stamp new lt w = (w.0, (k, sight new, map-found sight k (set cells k new) new (set-found cells k new lt), inl w.1))
 
 -- lanes are named by roots
-pub lane-by-roots : (old new : List CellParts) (giver to taker from : ℕ) → roots new ≡ roots old
-    → ((a b : CellParts) → slice_get old giver ≡ Some a → slice_get old taker ≡ Some b → At IsOneLane to (links_of a.root) from (links_of b.root))
-    → (a b : CellParts) → slice_get new giver ≡ Some a → slice_get new taker ≡ Some b → At IsOneLane to (links_of a.root) from (links_of b.root)
+pub lane-by-roots : (old new : List CellParts) (giver to taker from : ℕ) → cell_roots new ≡ cell_roots old
+    → ((a b : CellParts) → slice_get old giver ≡ Some a → slice_get old taker ≡ Some b → At IsOneLane to (root_links a.root) from (root_links b.root))
+    → (a b : CellParts) → slice_get new giver ≡ Some a → slice_get new taker ≡ Some b → At IsOneLane to (root_links a.root) from (root_links b.root)
 lane-by-roots old new giver to taker from same lane a b ea eb =
     let f = found-map (λ (h : CellParts). h.root) giver old a.root (ap (λ l. slice_get l giver) (sym same) ∙ map-found (λ (h : CellParts). h.root) giver new a ea) in
     let g = found-map (λ (h : CellParts). h.root) taker old b.root (ap (λ l. slice_get l taker) (sym same) ∙ map-found (λ (h : CellParts). h.root) taker new b eb) in
-    subst (λ (r : Root). At IsOneLane to (links_of r) from (links_of b.root)) f.2 (subst (λ (r : Root). At IsOneLane to (links_of f.0.root) from (links_of r)) g.2 (lane f.0 g.0 f.1 g.1))
+    subst (λ (r : Root). At IsOneLane to (root_links r) from (root_links b.root)) f.2 (subst (λ (r : Root). At IsOneLane to (root_links f.0.root) from (root_links r)) g.2 (lane f.0 g.0 f.1 g.1))

@@ -18,7 +18,8 @@ use Rattle.ev_server.specs.Core.{CoreParts, IsServerState}
 use Rattle.ev_node.specs.declared.held.ServerInHand.{ServerInHand}
 use Rattle.ev_node.specs.declared.held.Root.{Root}
 use Rattle.ev_node.specs.declared.link.Link.{Link}
-use Rattle.ev_node.specs.Links.{Both, Each, IsSameLink, put_for, taken_from}
+use Rattle.ev_wire.specs.MessageText.{Each}
+use Rattle.ev_node.specs.Links.{Both, IsSameLink, put_for, taken_from}
 use Rattle.ev_node.specs.Cell.{IsCellOf, IsServerInHand, IsKept, HasNoneBelow, IsReplayed, machine_in}
 use Rattle.ev_node.proofs.Unmoved.{same-refl}
 

@@ -16,7 +16,7 @@ use Rattle.ev_node.specs.declared.starting.Started.{Started}
 use Rattle.ev_node.specs.Lanes.{AreEnds}
 use Rattle.ev_node.specs.Started.{IsStarted, AreStarted}
 use Rattle.ev_node.specs.Cell.{CellParts}
-use Rattle.ev_node.specs.Together.{links_of}
+use Rattle.ev_node.specs.Together.{root_links}
 use Rattle.ev_node.specs.Entered.{AreCalm}
 use Rattle.ev_node.proofs.Places.{found}
 use Rattle.ev_node.proofs.Gathered.{map-found, found-map, found-within}
@@ -71,12 +71,12 @@ all-started net rows n started count ends e so = record {
     from-root : (k : ℕ) (root : Root) → slice_get (map root-of started) k ≡ Some root → (s : Started) × (slice_get started k ≡ Some s) × (root-of s ≡ root)
     from-root k root f = found-map root-of k started root f
 
-    row-at : (k : ℕ) (a : List Link) → slice_get (map links_of (map root-of started)) k ≡ Some a → slice_get rows k ≡ Some a
+    row-at : (k : ℕ) (a : List Link) → slice_get (map root_links (map root-of started)) k ≡ Some a → slice_get rows k ≡ Some a
     row-at k a f =
-        let r = found-map links_of k (map root-of started) a f in
+        let r = found-map root_links k (map root-of started) a f in
         let x = from-root k r.0 r.1 in
         let w = so.each k x.0 x.1 in
-        w.1 ∙ ap (λ l. Some l) (sym w.2.fresh.links_are ∙ ap (λ l. l.items) (sym w.2.fresh.lanes) ∙ ap links_of x.2 ∙ r.2)
+        w.1 ∙ ap (λ l. Some l) (sym w.2.fresh.links_are ∙ ap (λ l. l.items) (sym w.2.fresh.lanes) ∙ ap root_links x.2 ∙ r.2)
 
 -- a row's server is one of the net
 pub row-server : (net : NetParts) (rows : List (List Link)) (k : ℕ) → length rows ≡ (first_tree net.trees).count → k < length rows → Has (suc k) (servers_in net)

@@ -24,7 +24,8 @@ use Rattle.ev_versions.specs.Ends.{staged, published, IsViewerOf}
 use Rattle.ev_node.specs.declared.held.ServerInHand.{ServerInHand}
 use Rattle.ev_node.specs.declared.held.Root.{Root}
 use Rattle.ev_node.specs.declared.link.Link.{Link}
-use Rattle.ev_node.specs.Links.{Both, Each, IsSameLink, put_for, taken_from}
+use Rattle.ev_wire.specs.MessageText.{Each}
+use Rattle.ev_node.specs.Links.{Both, IsSameLink, put_for, taken_from}
 use Rattle.ev_node.specs.Lanes.{IsNew}
 use Rattle.ev_node.specs.Cell.{IsCellOf, IsKept, IsDue, IsPublishedBy, machine_in}
 use Rattle.ev_node.proofs.Hands.{names}

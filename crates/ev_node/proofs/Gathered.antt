@@ -13,7 +13,7 @@ use Rattle.ev_model.specs.Sound.{IsSound}
 use Rattle.ev_node.specs.declared.link.Link.{Link}
 use Rattle.ev_node.specs.Links.{At, IsOneLane, IsNeighbour, IsSameLink}
 use Rattle.ev_node.specs.Cell.{CellParts, IsKept}
-use Rattle.ev_node.specs.Together.{AreTogether, IsLaneOf, roots, links_of}
+use Rattle.ev_node.specs.Together.{AreTogether, IsLaneOf, cell_roots, root_links}
 use Rattle.ev_node.proofs.Hands.{names}
 use Rattle.ev_node.proofs.Places.{both-before, both-behind, found-name}
 use Rattle.ev_node.proofs.Keeping.{laws_at, replayed}
@@ -58,14 +58,14 @@ names-kept cell kept =
     kept.now.neighbours ∙ sym r.stands.state.control.links ∙ ap (net_at real (phased_net cell.root.net.value) cell.root.phase).links kept.number
 
 -- a neighbour now was one as the phase began
-pub neighbour-then : (cell : CellParts) (p u : ℕ) → IsKeptCell cell → IsNeighbour p u cell.held.links.items → IsNeighbour p u (links_of cell.root)
-neighbour-then cell p u k (y, e, q) = let x = both-before IsSameLink p (links_of cell.root) cell.held.links.items y k.links e in (x.0, x.1, sym x.2.neighbour ∙ q)
+pub neighbour-then : (cell : CellParts) (p u : ℕ) → IsKeptCell cell → IsNeighbour p u cell.held.links.items → IsNeighbour p u (root_links cell.root)
+neighbour-then cell p u k (y, e, q) = let x = both-before IsSameLink p (root_links cell.root) cell.held.links.items y k.links e in (x.0, x.1, sym x.2.neighbour ∙ q)
 
-pub neighbour-now : (cell : CellParts) (p u : ℕ) → IsKeptCell cell → IsNeighbour p u (links_of cell.root) → IsNeighbour p u cell.held.links.items
-neighbour-now cell p u k (x, e, q) = let y = both-behind IsSameLink p (links_of cell.root) cell.held.links.items x k.links e in (y.0, y.1, y.2.neighbour ∙ q)
+pub neighbour-now : (cell : CellParts) (p u : ℕ) → IsKeptCell cell → IsNeighbour p u (root_links cell.root) → IsNeighbour p u cell.held.links.items
+neighbour-now cell p u k (x, e, q) = let y = both-behind IsSameLink p (root_links cell.root) cell.held.links.items x k.links e in (y.0, y.1, y.2.neighbour ∙ q)
 
-module _ (net : NetParts) (phase : ℕ) (cells : List CellParts) (together : AreTogether net phase (roots cells)) where
-  pub root-at : (k : ℕ) (cell : CellParts) → slice_get cells k ≡ Some cell → slice_get (roots cells) k ≡ Some cell.root
+module _ (net : NetParts) (phase : ℕ) (cells : List CellParts) (together : AreTogether net phase (cell_roots cells)) where
+  pub root-at : (k : ℕ) (cell : CellParts) → slice_get cells k ≡ Some cell → slice_get (cell_roots cells) k ≡ Some cell.root
   root-at k cell e = map-found (λ (c : CellParts). c.root) k cells cell e
 
   pub number-at : (k : ℕ) (cell : CellParts) → slice_get cells k ≡ Some cell → cell.root.server ≡ suc k
@@ -125,18 +125,18 @@ module _ (net : NetParts) (phase : ℕ) (cells : List CellParts) (together : Are
       lane-of to named-there =
           let x = neighbour-then theirs to mine.root.server keeps named-there in
           let y = neighbour-then mine p u kept named in
-          let one : At IsOneLane to (links_of theirs.root) p (links_of mine.root) = (
+          let one : At IsOneLane to (root_links theirs.root) p (root_links mine.root) = (
             x.0,
             y.0,
             x.1,
             y.1,
-            together.lanes (u - 1) k to p (links_of theirs.root) (links_of mine.root) x.0 y.0 (map-found links_of (u - 1) (roots cells) theirs.root (root-at (u - 1) theirs there)) (map-found links_of k (roots cells) mine.root (root-at k mine at))
+            together.lanes (u - 1) k to p (root_links theirs.root) (root_links mine.root) x.0 y.0 (map-found root_links (u - 1) (cell_roots cells) theirs.root (root-at (u - 1) theirs there)) (map-found root_links k (cell_roots cells) mine.root (root-at k mine at))
                 x.1 y.1 (x.2 ∙ number-at k mine at) (y.2 ∙ up),
           ) in
           record {
             within = among;
             apart = apart;
-            lane = λ a b e q. subst (λ (a : CellParts). At IsOneLane to (links_of a.root) p (links_of b.root)) (same_Some theirs a (sym there ∙ e)) (subst (λ (b : CellParts). At IsOneLane to (links_of theirs.root) p (links_of b.root)) (same_Some mine b (sym at ∙ q)) one);
-            gives = λ a b e q. subst (λ (a : CellParts). IsNeighbour to b.root.server (links_of a.root)) (same_Some theirs a (sym there ∙ e)) (subst (λ (b : CellParts). IsNeighbour to b.root.server (links_of theirs.root)) (same_Some mine b (sym at ∙ q)) x);
-            takes = λ b q. subst (λ (b : CellParts). IsNeighbour p (suc (u - 1)) (links_of b.root)) (same_Some mine b (sym at ∙ q)) (subst (λ n. IsNeighbour p n (links_of mine.root)) up y);
+            lane = λ a b e q. subst (λ (a : CellParts). At IsOneLane to (root_links a.root) p (root_links b.root)) (same_Some theirs a (sym there ∙ e)) (subst (λ (b : CellParts). At IsOneLane to (root_links theirs.root) p (root_links b.root)) (same_Some mine b (sym at ∙ q)) one);
+            gives = λ a b e q. subst (λ (a : CellParts). IsNeighbour to b.root.server (root_links a.root)) (same_Some theirs a (sym there ∙ e)) (subst (λ (b : CellParts). IsNeighbour to b.root.server (root_links theirs.root)) (same_Some mine b (sym at ∙ q)) x);
+            takes = λ b q. subst (λ (b : CellParts). IsNeighbour p (suc (u - 1)) (root_links b.root)) (same_Some mine b (sym at ∙ q)) (subst (λ n. IsNeighbour p n (root_links mine.root)) up y);
           }

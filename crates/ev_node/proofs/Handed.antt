@@ -9,7 +9,7 @@ use Rattle.ev_counting.specs.Table.{HeldFilter, AreApplied}
 use Rattle.ev_counting.specs.declared.change.Change.{Change}
 use Rattle.ev_counting.specs.declared.change.Change.TheVariants.{Add, Remove}
 use Rattle.ev_server.specs.Core.{CoreParts, published_from}
-use Rattle.ev_server.specs.Staged.{pair_of, IsStaged}
+use Rattle.ev_server.specs.Staged.{changed_pair, IsStaged}
 use Rattle.ev_versions.specs.Pairs.{pairs_after}
 use Rattle.ev_versions.proofs.Pairs.{goes_on}
 use Rattle.ev_run.specs.Machine.{Does}
@@ -26,7 +26,7 @@ module _ (i : ℕ) (f : List ConstraintParts) where
 
   -- one of the changes touches the pair
   abbrev Touch : List Change → Type 0
-  Touch changes = (c : Change) × Has c changes × (pair ≡ pair_of c)
+  Touch changes = (c : Change) × Has c changes × (pair ≡ changed_pair c)
 
   more : (c : Change) (cs : List Change) → Touch cs → Touch (c ∷ cs)
   more c cs (d, h, e) = (d, inr h, e)
@@ -71,7 +71,7 @@ module _ (i : ℕ) (f : List ConstraintParts) where
       at next (inr b) = go (next b)
 
   -- who touches the pair adds or removes it
-  which : (c : Change) (cs : List Change) → Has c cs → pair ≡ pair_of c → Has (Add i f) cs ⊎ Has (Remove i f) cs
+  which : (c : Change) (cs : List Change) → Has c cs → pair ≡ changed_pair c → Has (Add i f) cs ⊎ Has (Remove i f) cs
   which (Add j g) cs h e = inl (subst (λ (z : Holding (List ConstraintParts)). Has (Add z.interface z.item) cs) (sym e) h)
   which (Remove j g) cs h e = inr (subst (λ (z : Holding (List ConstraintParts)). Has (Remove z.interface z.item) cs) (sym e) h)
 
@@ -116,7 +116,7 @@ table_by_handed core next shown handed agrees staged touched held i f = subst (�
             at (inr t) = by (either t)
 
 -- two pairs are one where both parts are
-pub one_pair : (one other : Change) → (pair_of one).interface ≡ (pair_of other).interface → (pair_of one).item ≡ (pair_of other).item → pair_of one ≡ pair_of other
+pub one_pair : (one other : Change) → (changed_pair one).interface ≡ (changed_pair other).interface → (changed_pair one).item ≡ (changed_pair other).item → changed_pair one ≡ changed_pair other
 one_pair one other e q = λ k. record { interface = e k; item = q k }
 
 -- a member at a place is a member

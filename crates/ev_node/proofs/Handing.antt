@@ -11,7 +11,7 @@ use Rattle.ev_control.specs.Control.{Controlled, subs}
 use Rattle.ev_control.proofs.Taken.{take-some}
 use Rattle.ev_control.proofs.Telling.{flat-next}
 use Rattle.ev_node.specs.declared.link.Link.{Link}
-use Rattle.ev_node.specs.Lanes.{named}
+use Rattle.ev_node.specs.Lanes.{neighbours_in}
 use Rattle.ev_node.specs.Relinking.{removals, additions}
 
 -- one more change of one link
@@ -30,9 +30,9 @@ given-of h = map (Add h.link) h.filters
 
 -- the changes of one more link
 pub one-more-removal : (control : Controlled) (links : List Link) (first old new : List Change) (n : ℕ) (x : Link) → slice_get links n ≡ Some x → new ≡ old ++ gone-of control x.neighbour
-    → old ≡ first ++ removals control (named (take n links)) → new ≡ first ++ removals control (named (take (n + 1) links))
+    → old ≡ first ++ removals control (neighbours_in (take n links)) → new ≡ first ++ removals control (neighbours_in (take (n + 1) links))
 one-more-removal control links first old new n x at e f =
-    e ∙ ap (λ l. l ++ gone-of control x.neighbour) f ∙ append_assoc first (removals control (named (take n links))) (gone-of control x.neighbour)
+    e ∙ ap (λ l. l ++ gone-of control x.neighbour) f ∙ append_assoc first (removals control (neighbours_in (take n links))) (gone-of control x.neighbour)
     ∙ ap (λ l. first ++ l) (
     ap (λ l. l ++ gone-of control x.neighbour) (flat_map-map (gone-of control) (λ (y : Link). y.neighbour) (take n links))
     ∙ flat-next (λ (y : Link). gone-of control y.neighbour) links n x (flat_map (λ (y : Link). gone-of control y.neighbour) (take n links)) (gone-of control x.neighbour) at refl refl

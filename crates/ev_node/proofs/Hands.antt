@@ -5,7 +5,8 @@ use Rattle.ev_sets.specs.Numbers.{IsDistinct}
 use Rattle.ev_run.proofs.Lists.{Same, Is, Not, compare}
 use Rattle.ev_node.specs.declared.link.Link.{Link}
 use Rattle.ev_wire.specs.declared.sent.Sent.{Sent}
-use Rattle.ev_node.specs.Links.{Both, Each, AreInOrder, IsHanded, IsGiven, first_for, rest_for, only_for}
+use Rattle.ev_wire.specs.MessageText.{Each}
+use Rattle.ev_node.specs.Links.{Both, AreInOrder, IsHanded, IsGiven, first_for, rest_for, only_for}
 
 earliest : (a : ℕ) (others ns : List ℕ) → AreInOrder (a ∷ others) ns → Has a ns
 earliest a others [] o = absurd o

@@ -8,7 +8,7 @@ use Rattle.ev_tree.proofs.Servers.{server-in, in-server}
 use Rattle.ev_model.specs.Parts.{ClientParts, NetParts}
 use Rattle.ev_model.specs.Nets.{home_in, home_of, clients_of}
 use Rattle.ev_session.specs.Session.{SessionParts}
-use Rattle.ev_server.specs.Clients.{numbers_of}
+use Rattle.ev_server.specs.Clients.{client_numbers}
 use Rattle.ev_routing.proofs.Listing.{has-map}
 use Rattle.ev_node.specs.Cell.{HasNoneBelow, IsPast}
 use Rattle.ev_node.proofs.Gathered.{found-within}
@@ -37,7 +37,7 @@ client-within net server c h =
     (omega (arith, a.2), omega (arith, a.2, lt))
 
 -- where each client of a server is past, none has a lower command left
-pub all-past : (net : NetParts) (server phase n : ℕ) (sessions : List SessionParts) → clients_of net server ≡ numbers_of sessions → length net.clients ≤ n
+pub all-past : (net : NetParts) (server phase n : ℕ) (sessions : List SessionParts) → clients_of net server ≡ client_numbers sessions → length net.clients ≤ n
     → ((place : ℕ) (client : ClientParts) → place < n → slice_get net.clients place ≡ Some client → client.home ≡ server → IsPast phase (suc place) sessions) → HasNoneBelow phase sessions
 all-past net server phase n sessions same all past s c h e =
     let a = home-at net server s.client (subst (Has s.client) (sym same) (has-map (λ (s : SessionParts). s.client) s sessions h)) in

@@ -24,7 +24,7 @@ use Rattle.ev_node.specs.declared.link.Link.{Link}
 use Rattle.ev_node.specs.Links.{IsNeighbour, put_for, taken_from}
 use Rattle.ev_net.specs.Links.{framed}
 use Rattle.ev_node.specs.Cell.{CellParts, IsCellOf, IsDue, AreReadable, machine_in}
-use Rattle.ev_node.specs.Together.{AreTogether, AreBegun, AreDone, IsFinished, HasNoCommand, entries_in, journals, links_of, of_server, roots, sight, sights}
+use Rattle.ev_node.specs.Together.{AreTogether, AreBegun, AreDone, IsFinished, HasNoCommand, phase_entries, journals, root_links, of_server, cell_roots, sight, sights}
 use Rattle.ev_node.specs.InHand.{AreAllInHand, AreTakenInOrder}
 use Rattle.ev_node.proofs.Places.{below-found}
 use Rattle.ev_node.proofs.Due.{DueAt, due-state, session-of, script-of, done-of, map-get}
@@ -116,11 +116,11 @@ module _ (m : Machine) where
 -- the end of a cell's journal of its phase, replayed
 pub record EndsAt (net : NetParts) (phase server : ℕ) (cell : CellParts) (begun : Cell (machine_in net phase)) : Type 0 where
   pub end : Cell (machine_in net phase)
-  pub replay : IsReplay (machine_in net phase) phase server begun (entries_in net phase cell) end
+  pub replay : IsReplay (machine_in net phase) phase server begun (phase_entries net phase cell) end
   pub stands : IsCellOf net phase cell.held.core cell.held.links.items end
 
 abbrev Replays : CellParts → NetParts → ℕ → ℕ → Type 0
-Replays cell net phase server = (begun : Cell (machine_in net phase)) → IsCellOf net phase cell.root.core.value (links_of cell.root) begun → EndsAt net phase server cell begun
+Replays cell net phase server = (begun : Cell (machine_in net phase)) → IsCellOf net phase cell.root.core.value (root_links cell.root) begun → EndsAt net phase server cell begun
 
 ends-kept : (cell : CellParts) → IsKeptCell cell → Replays cell cell.root.net.value cell.root.phase cell.root.server
 ends-kept cell kept begun is = let r = kept.replays begun is in record { end = r.end; replay = r.replay; stands = r.stands }
@@ -150,7 +150,7 @@ module _ (net : Net real) (core : CoreParts) (state : ServerState real) (stands 
   pub is-through : all_through real net state (suc phase) (net.clients core.server) ≡ true
   is-through = through-all net state phase (net.clients core.server) left-above
 
-module _ (net : NetParts) (phase : ℕ) (cells : List CellParts) (together : AreTogether net phase (roots cells)) (kept : (k : ℕ) (cell : CellParts) → slice_get cells k ≡ Some cell → IsKeptCell cell)
+module _ (net : NetParts) (phase : ℕ) (cells : List CellParts) (together : AreTogether net phase (cell_roots cells)) (kept : (k : ℕ) (cell : CellParts) → slice_get cells k ≡ Some cell → IsKeptCell cell)
     (begun : ℕ → Cell (machine_in net phase)) (is : AreBegun net phase cells begun) where
   abbrev here : Net real
   here = net_at real (phased_net net) phase
@@ -193,12 +193,12 @@ module _ (net : NetParts) (phase : ℕ) (cells : List CellParts) (together : Are
   piece (suc k) = go (there-or-not cells k)
     where
       go : ((cell : CellParts) × (slice_get cells k ≡ Some cell)) ⊎ (slice_get cells k ≡ None) → Piece (suc k)
-      go (inr e) = outside (suc k) (λ j q lt. none-within cells k e (subst (λ n. n < length cells) (sym (one-suc k j q)) lt)) (of-none (entries_in net phase) [] cells k e)
+      go (inr e) = outside (suc k) (λ j q lt. none-within cells k e (subst (λ n. n < length cells) (sym (one-suc k j q)) lt)) (of-none (phase_entries net phase) [] cells k e)
           (λ link. ap (λ (f : ℕ → List FrameParts). f link) (of-none (λ (c : CellParts). λ link. put_for c.held.links.items link) (λ (link : ℕ). []) cells k e))
           (λ link. ap (λ (f : ℕ → List FrameParts). f link) (of-none (λ (c : CellParts). λ link. taken_from c.held.links.items link) (λ (link : ℕ). []) cells k e))
       go (inl (cell, e)) = record {
         end = ended.end;
-        replay = subst (λ l. IsReplay (machine_in net phase) phase (suc k) (begun (suc k)) l ended.end) (sym (of-found (entries_in net phase) [] cells k cell e)) ended.replay;
+        replay = subst (λ l. IsReplay (machine_in net phase) phase (suc k) (begun (suc k)) l ended.end) (sym (of-found (phase_entries net phase) [] cells k cell e)) ended.replay;
         put = λ link. ap (λ (f : ℕ → List FrameParts). f link) (of-found (λ (c : CellParts). λ link. put_for c.held.links.items link) (λ (link : ℕ). []) cells k cell e) ∙ ended.stands.put link;
         took = λ link. ap (λ (f : ℕ → List FrameParts). f link) (of-found (λ (c : CellParts). λ link. taken_from c.held.links.items link) (λ (link : ℕ). []) cells k cell e) ∙ ended.stands.took link;
         put_readable = ended.stands.put_readable;
@@ -207,7 +207,7 @@ module _ (net : NetParts) (phase : ℕ) (cells : List CellParts) (together : Are
         other = λ beyond. absurd (beyond k refl (below-found k cells cell e));
       }
         where
-          root : slice_get (roots cells) k ≡ Some cell.root
+          root : slice_get (cell_roots cells) k ≡ Some cell.root
           root = root-at net phase cells together k cell e
 
           ended : EndsAt net phase (suc k) cell (begun (suc k))
@@ -255,7 +255,7 @@ module _ (net : NetParts) (phase : ℕ) (cells : List CellParts) (together : Are
     where
       go : ((cell : CellParts) × (slice_get cells k ≡ Some cell)) ⊎ (slice_get cells k ≡ None) → lines-of (suc k) ≡ []
       go (inl (cell, e)) = absurd (n (upto-has (length cells) k (below-found k cells cell e)))
-      go (inr e) = of-none (entries_in net phase) [] cells k e
+      go (inr e) = of-none (phase_entries net phase) [] cells k e
 
   server-of : (s : ℕ) → Has s here.servers → (k : ℕ) × (cell : CellParts) × (s ≡ suc k) × (slice_get cells k ≡ Some cell)
   server-of s h =

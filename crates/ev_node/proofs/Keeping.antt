@@ -27,7 +27,7 @@ use Rattle.ev_net.specs.Acted.{StampedInput}
 use Rattle.ev_net.specs.Kept.{IsSomeServer}
 use Rattle.ev_node.specs.Links.{IsSameLink, IsMoved, IsUnmoved}
 use Rattle.ev_node.specs.Cell.{IsCellOf, IsServerInHand, IsKept, IsDue, IsReplayed, machine_in}
-use Rattle.ev_node.specs.Turns.{IsCellTurn, IsStill, taken_by}
+use Rattle.ev_node.specs.Turns.{IsCellTurn, IsStill, taken_by_input}
 use Rattle.ev_node.specs.Asked.{Answers, Suits, SuitsHeld, act_for}
 use Rattle.ev_node.proofs.Walks.{both-comp}
 use Rattle.ev_node.proofs.Unmoved.{same-link}
@@ -73,7 +73,7 @@ module _ (net : NetParts) (root : Root) (journal : List EntryParts) (old : Serve
         };
     entries = longer;
     before = ap (take root.entries) turn.entry ∙ take-append-le root.entries journal (entry_parts turn.stamp old.core.server act (map (λ s. s.to) turn.sent) ∷ []) kept.entries ∙ kept.before;
-    links = both-comp IsSameLink (IsMoved turn.stamp turn.sent (taken_by input)) IsSameLink (λ x y z a b. same-link x y z a b.same) root.links.value.items old.links.items new.links.items kept.links turn.links;
+    links = both-comp IsSameLink (IsMoved turn.stamp turn.sent (taken_by_input input)) IsSameLink (λ x y z a b. same-link x y z a b.same) root.links.value.items old.links.items new.links.items kept.links turn.links;
     publisher = kept.publisher ∙ sym turn.publisher;
     now = held;
     due = due-then (net_at real (phased_net net) root.phase) replayed.end.state old.core new.core root.phase input turn.sent replayed.stands.state

@@ -4,7 +4,7 @@ use Rattle.ev_sets.specs.Sets.{Has}
 use Rattle.ev_model.specs.Parts.{NetParts, EntryParts}
 use Rattle.ev_model.specs.Nets.{clients_of}
 use Rattle.ev_session.specs.Session.{SessionParts}
-use Rattle.ev_server.specs.Clients.{numbers_of}
+use Rattle.ev_server.specs.Clients.{client_numbers}
 use Rattle.ev_routing.proofs.Listing.{has-map}
 use Rattle.ev_node.specs.declared.held.ServerInHand.{ServerInHand}
 use Rattle.ev_node.specs.declared.held.Root.{Root}
@@ -19,8 +19,8 @@ use Rattle.ev_node.proofs.Keeping.{replayed}
 pub none-left : (net : NetParts) (root : Root) (journal : List EntryParts) (held : ServerInHand) (n : ℕ) → IsKept net root journal held → length net.clients ≤ n
     → ((place : ℕ) → place < n → Has (suc place) (clients_of net root.server) → HasCommand held.core (suc place) root.phase → ⊥) → HasNoCommand held.core root.phase
 none-left net root journal held n kept all none client h =
-    let here : clients_of net root.server ≡ numbers_of held.core.clients = ap (clients_of net) (sym kept.number) ∙ (replayed net root journal held kept).stands.state.clients in
-    let lives : Has client (clients_of net root.server) = subst (Has client) (sym here) (subst (λ k. Has k (numbers_of held.core.clients)) h.2 (has-map (λ (s : SessionParts). s.client) h.0 held.core.clients h.1)) in
+    let here : clients_of net root.server ≡ client_numbers held.core.clients = ap (clients_of net) (sym kept.number) ∙ (replayed net root journal held kept).stands.state.clients in
+    let lives : Has client (clients_of net root.server) = subst (Has client) (sym here) (subst (λ k. Has k (client_numbers held.core.clients)) h.2 (has-map (λ (s : SessionParts). s.client) h.0 held.core.clients h.1)) in
     let a = home-at net root.server client lives in
     let lt = below-found a.0 net.clients a.1 a.3 in
     none a.0 (omega (arith, lt, all)) (subst (λ k. Has k (clients_of net root.server)) a.2 lives) (subst (λ k. HasCommand held.core k root.phase) a.2 h)

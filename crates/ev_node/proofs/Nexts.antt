@@ -21,9 +21,9 @@ use Rattle.ev_node.specs.declared.link.Link.{Link}
 use Rattle.ev_node.specs.Links.{IsSameLink, put_for, taken_from}
 use Rattle.ev_node.specs.Lanes.{AreEnds}
 use Rattle.ev_node.specs.Cell.{CellParts, IsCellOf, HasEntered, machine_in}
-use Rattle.ev_node.specs.Together.{AreTogether, links_of as lanes_of, roots}
+use Rattle.ev_node.specs.Together.{AreTogether, root_links as lanes_of, cell_roots}
 use Rattle.ev_node.specs.Relinking.{CanRaise, HasMoved, HasRaised}
-use Rattle.ev_node.specs.Entered.{AreThrough, StandFor, AreEntered, greatest_clock, state_of}
+use Rattle.ev_node.specs.Entered.{AreThrough, StandFor, AreEntered, greatest_cell_clock, state_of}
 use Rattle.ev_node.proofs.Places.{below-found, both-before, lane-later}
 use Rattle.ev_node.proofs.Gathered.{IsKeptCell, map-found, found-map, found-within, root-at, count-cells}
 use Rattle.ev_node.proofs.Fresh.{new-put, new-taken}
@@ -31,7 +31,7 @@ use Rattle.ev_node.proofs.Entering.{any-clock}
 use Rattle.ev_node.proofs.Onward.{IsPlan, below-greatest, greatest-is, stands-moved}
 
 -- each cell can enter a phase with the same tree
-pub can-raise : (net : NetParts) (last phase clock : ℕ) (old : List CellParts) → AreTogether net last (roots old) → clock ≡ greatest_clock old → last < phase → is_one_tree real (phased_net net) last phase ≡ true → AreThrough phase old
+pub can-raise : (net : NetParts) (last phase clock : ℕ) (old : List CellParts) → AreTogether net last (cell_roots old) → clock ≡ greatest_cell_clock old → last < phase → is_one_tree real (phased_net net) last phase ≡ true → AreThrough phase old
     → (k : ℕ) (cell : CellParts) → slice_get old k ≡ Some cell → CanRaise phase clock cell
 can-raise net last phase clock old together high later one through k cell e = record {
   not_above = (let le = below-greatest old k cell e in omega (arith, le, high));
@@ -41,13 +41,13 @@ can-raise net last phase clock old together high later one through k cell e = re
       (subst (λ p. is_one_tree real (phased_net net) p phase ≡ true) (sym (together.phases k cell.root (root-at net last old together k cell e))) one);
 }
 
-module _ (net : NetParts) (sound : IsSound net) (last phase : ℕ) (old new : List CellParts) (together : AreTogether net last (roots old)) (later : last < phase) (kept : (k : ℕ) (cell : CellParts) → slice_get old k ≡ Some cell → IsKeptCell cell)
+module _ (net : NetParts) (sound : IsSound net) (last phase : ℕ) (old new : List CellParts) (together : AreTogether net last (cell_roots old)) (later : last < phase) (kept : (k : ℕ) (cell : CellParts) → slice_get old k ≡ Some cell → IsKeptCell cell)
     (long : length new ≡ length old) where
   -- what was at the place of a cell
   was : (k : ℕ) (b : CellParts) → slice_get new k ≡ Some b → (a : CellParts) × (slice_get old k ≡ Some a)
   was k b e = let lt = below-found k new b e in found-within old k (omega (arith, lt, long))
 
-  together-next : ((k : ℕ) (a b : CellParts) → slice_get old k ≡ Some a → slice_get new k ≡ Some b → HasEntered a.root phase b) → AreEnds (map lanes_of (roots new)) → AreTogether net phase (roots new)
+  together-next : ((k : ℕ) (a b : CellParts) → slice_get old k ≡ Some a → slice_get new k ≡ Some b → HasEntered a.root phase b) → AreEnds (map lanes_of (cell_roots new)) → AreTogether net phase (cell_roots new)
   together-next each ends = record {
     all = length-map new (λ (c : CellParts). c.root) ∙ long ∙ count-cells net last old together;
     nets = λ k root f.
@@ -66,9 +66,9 @@ module _ (net : NetParts) (sound : IsSound net) (last phase : ℕ) (old new : Li
   }
 
   -- the cell of a row of lanes
-  row-cell : (k : ℕ) (row : List Link) → slice_get (map lanes_of (roots new)) k ≡ Some row → (b : CellParts) × (slice_get new k ≡ Some b) × (lanes_of b.root ≡ row)
+  row-cell : (k : ℕ) (row : List Link) → slice_get (map lanes_of (cell_roots new)) k ≡ Some row → (b : CellParts) × (slice_get new k ≡ Some b) × (lanes_of b.root ≡ row)
   row-cell k row f =
-      let r = found-map lanes_of k (roots new) row f in
+      let r = found-map lanes_of k (cell_roots new) row f in
       let b = found-map (λ (c : CellParts). c.root) k new r.0 r.1 in
       (b.0, b.1, ap lanes_of b.2 ∙ r.2)
 
@@ -79,7 +79,7 @@ module _ (net : NetParts) (sound : IsSound net) (last phase : ℕ) (old new : Li
   is-begun state = ap (λ b. cond b state (begun real (phased_net net) last phase state)) unequal
 
   module _ (ends : ℕ → Cell (machine_in net last)) (stand : StandFor net last old ends) where
-    clock-is : greatest_clock old ≡ greatest (machine_in net last) (λ server. (ends server).clock) (servers_in net)
+    clock-is : greatest_cell_clock old ≡ greatest (machine_in net last) (λ server. (ends server).clock) (servers_in net)
     clock-is = greatest-is (machine_in net last) (λ server. (ends server).clock) 1 (first_tree net.trees).count old (count-cells net last old together) (λ place cell at. (stand.stand place cell at).clock ∙ ap (λ server. (ends server).clock) (one-more place))
       where
         one-more : (place : ℕ) → suc place ≡ 1 + place
@@ -90,22 +90,22 @@ module _ (net : NetParts) (sound : IsSound net) (last phase : ℕ) (old new : Li
     outside server beyond = stand.others server (λ k e lt. beyond k e (omega (arith, lt, long)))
 
   -- WITH THE SAME TREE
-  module _ (one : is_one_tree real (phased_net net) last phase ≡ true) (clock : ℕ) (high : clock ≡ greatest_clock old) (raised : (k : ℕ) (a b : CellParts) → slice_get old k ≡ Some a → slice_get new k ≡ Some b → HasRaised phase clock a b) where
-    lanes-now : (k : ℕ) (row : List Link) → slice_get (map lanes_of (roots new)) k ≡ Some row → (a : CellParts) × (slice_get old k ≡ Some a) × (row ≡ a.held.links.items)
+  module _ (one : is_one_tree real (phased_net net) last phase ≡ true) (clock : ℕ) (high : clock ≡ greatest_cell_clock old) (raised : (k : ℕ) (a b : CellParts) → slice_get old k ≡ Some a → slice_get new k ≡ Some b → HasRaised phase clock a b) where
+    lanes-now : (k : ℕ) (row : List Link) → slice_get (map lanes_of (cell_roots new)) k ≡ Some row → (a : CellParts) × (slice_get old k ≡ Some a) × (row ≡ a.held.links.items)
     lanes-now k row f =
         let b = row-cell k row f in
         let a = was k b.0 b.1 in
         let r = raised k a.0 b.0 a.1 b.1 in
         (a.0, a.1, sym b.2 ∙ ap (λ l. l.items) r.entered.links ∙ ap (λ l. l.items) r.lanes)
 
-    ends-now : AreEnds (map lanes_of (roots new))
+    ends-now : AreEnds (map lanes_of (cell_roots new))
     ends-now i k q p a b x y ea eb ex ey nx ny =
         let u = lanes-now i a ea in
         let w = lanes-now k b eb in
         let x0 = both-before IsSameLink q (lanes_of u.0.root) u.0.held.links.items x (kept i u.0 u.1).links (ap (λ l. slice_get l q) (sym u.2) ∙ ex) in
         let y0 = both-before IsSameLink p (lanes_of w.0.root) w.0.held.links.items y (kept k w.0 w.1).links (ap (λ l. slice_get l p) (sym w.2) ∙ ey) in
         lane-later x0.0.enter x.enter y0.0.leave y.leave x0.2.enter y0.2.leave
-        (together.lanes i k q p (lanes_of u.0.root) (lanes_of w.0.root) x0.0 y0.0 (map-found lanes_of i (roots old) u.0.root (root-at net last old together i u.0 u.1)) (map-found lanes_of k (roots old) w.0.root (root-at net last old together k w.0 w.1)) x0.1 y0.1
+        (together.lanes i k q p (lanes_of u.0.root) (lanes_of w.0.root) x0.0 y0.0 (map-found lanes_of i (cell_roots old) u.0.root (root-at net last old together i u.0 u.1)) (map-found lanes_of k (cell_roots old) w.0.root (root-at net last old together k w.0 w.1)) x0.1 y0.1
         (sym x0.2.neighbour ∙ nx) (sym y0.2.neighbour ∙ ny))
 
     one-net : net_at real (phased_net net) last ≡ net_at real (phased_net net) phase
@@ -154,7 +154,7 @@ module _ (net : NetParts) (sound : IsSound net) (last phase : ℕ) (old new : Li
         outside-raised ends stand server beyond link = outside ends stand server beyond link
 
   -- WITH ANOTHER TREE
-  module _ (two : is_one_tree real (phased_net net) last phase ≡ false) (clock : ℕ) (high : clock ≡ greatest_clock old) (homes : List Home) (given : List (Vec HeldLink Global)) (rows : List (List Link)) (plan : IsPlan net phase old homes given rows)
+  module _ (two : is_one_tree real (phased_net net) last phase ≡ false) (clock : ℕ) (high : clock ≡ greatest_cell_clock old) (homes : List Home) (given : List (Vec HeldLink Global)) (rows : List (List Link)) (plan : IsPlan net phase old homes given rows)
       (moved : (k : ℕ) (a b : CellParts) (links : Vec HeldLink Global) (row : List Link) → slice_get old k ≡ Some a → slice_get new k ≡ Some b → slice_get given k ≡ Some links → slice_get rows k ≡ Some row → HasMoved phase clock links.items row a b) where
     -- what is known of a cell that moved
     record IsMover (k : ℕ) (b : CellParts) : Type 0 where
@@ -179,7 +179,7 @@ module _ (net : NetParts) (sound : IsSound net) (last phase : ℕ) (old new : Li
     has-entered : (k : ℕ) (a b : CellParts) → slice_get old k ≡ Some a → slice_get new k ≡ Some b → HasEntered a.root phase b
     has-entered k a b e f = let m = mover k b f in subst (λ (c : CellParts). HasEntered c.root phase b) (same_Some m.old_cell a (sym m.at_old ∙ e)) m.has.entered
 
-    row-now : (k : ℕ) (row : List Link) → slice_get (map lanes_of (roots new)) k ≡ Some row → slice_get rows k ≡ Some row
+    row-now : (k : ℕ) (row : List Link) → slice_get (map lanes_of (cell_roots new)) k ≡ Some row → slice_get rows k ≡ Some row
     row-now k row f =
         let b = row-cell k row f in
         let m = mover k b.0 b.1 in

@@ -32,9 +32,9 @@ use Rattle.ev_net.proofs.Moving.{Sets, AreUnions, client_filters, client_adverts
 use Rattle.ev_node.specs.declared.link.Link.{Link}
 use Rattle.ev_node.specs.Lanes.{AreLanesOf}
 use Rattle.ev_node.specs.Cell.{CellParts}
-use Rattle.ev_node.specs.Together.{AreTogether, AreDone, roots, sight, sights}
+use Rattle.ev_node.specs.Together.{AreTogether, AreDone, cell_roots, sight, sights}
 use Rattle.ev_node.specs.Relinking.{IsHomeOf, CanMove}
-use Rattle.ev_node.specs.Entered.{AreCalm, IsSameCell, AreSameCells, AreThrough, greatest_clock}
+use Rattle.ev_node.specs.Entered.{AreCalm, IsSameCell, AreSameCells, AreThrough, greatest_cell_clock}
 use Rattle.ev_node.proofs.Places.{found, set-found, below-found}
 use Rattle.ev_node.proofs.Gathered.{IsKeptCell, map-found, found-within, there-or-not, root-at, number-at, count-cells}
 use Rattle.ev_node.proofs.Filled.{get-other}
@@ -76,20 +76,20 @@ calm-done cells done k cell e = let s = map-found sight k cells cell e in (done 
 
 -- the greatest clock
 
-pub below-greatest : (cells : List CellParts) (k : ℕ) (cell : CellParts) → slice_get cells k ≡ Some cell → cell.held.core.clock ≤ greatest_clock cells
+pub below-greatest : (cells : List CellParts) (k : ℕ) (cell : CellParts) → slice_get cells k ≡ Some cell → cell.held.core.clock ≤ greatest_cell_clock cells
 below-greatest [] k cell e = absurd cc
 below-greatest (x ∷ cells) zero cell e = let q = ap (λ (c : CellParts). c.held.core.clock) (same_Some x cell e) in omega (arith, q)
 below-greatest (x ∷ cells) (suc k) cell e = let le = below-greatest cells k cell e in omega (arith, le)
 
 pub greatest-is : (m : Machine) (f : ℕ → ℕ) (n k : ℕ) (cells : List CellParts) → length cells ≡ k → ((place : ℕ) (cell : CellParts) → slice_get cells place ≡ Some cell → cell.held.core.clock ≡ f (n + place))
-    → greatest_clock cells ≡ greatest m f (range_with_len n k)
+    → greatest_cell_clock cells ≡ greatest m f (range_with_len n k)
 greatest-is m f n zero [] e all = refl
 greatest-is m f n (suc k) [] e all = absurd (omega (arith, e))
 greatest-is m f n zero (c ∷ cs) e all = absurd (omega (arith, e))
 greatest-is m f n (suc k) (c ∷ cs) e all =
     let first : c.held.core.clock ≡ f n = all 0 c refl ∙ ap f (plus-zero n) in
-    let rest : greatest_clock cs ≡ greatest m f (range_with_len (n + 1) k) = greatest-is m f (n + 1) k cs (omega (arith, e)) (λ place cell at. all (suc place) cell at ∙ ap f (plus-suc n place)) in
-    ap (λ z. max z (greatest_clock cs)) first ∙ ap (max (f n)) rest
+    let rest : greatest_cell_clock cs ≡ greatest m f (range_with_len (n + 1) k) = greatest-is m f (n + 1) k cs (omega (arith, e)) (λ place cell at. all (suc place) cell at ∙ ap f (plus-suc n place)) in
+    ap (λ z. max z (greatest_cell_clock cs)) first ∙ ap (max (f n)) rest
   where
     plus-zero : (n : ℕ) → n + 0 ≡ n
     plus-zero n = omega arith
@@ -108,7 +108,7 @@ pub record IsPlan (net : NetParts) (phase : ℕ) (old : List CellParts) (homes :
   pub lanes : AreLanesOf (topology_at net phase) rows
   pub rows_long : length rows ≡ length old
 
-pub plan-of : (net : NetParts) → IsSound net → (last phase : ℕ) (old : List CellParts) → AreTogether net last (roots old) → (tree : Topology) → tree ≡ topology_at net phase → TreeLaws tree → (semantics : Semantics) → semantics ≡ net.semantics
+pub plan-of : (net : NetParts) → IsSound net → (last phase : ℕ) (old : List CellParts) → AreTogether net last (cell_roots old) → (tree : Topology) → tree ≡ topology_at net phase → TreeLaws tree → (semantics : Semantics) → semantics ≡ net.semantics
     → (homes seen : List Home) → seen ≡ homes → length homes ≡ length old → ((k : ℕ) (cell : CellParts) (home : Home) → slice_get old k ≡ Some cell → slice_get homes k ≡ Some home → IsHomeOf net cell.root.server cell.held.core home)
     → (given : List (Vec HeldLink Global)) → length given ≡ tree.count → ((k : ℕ) (links : Vec HeldLink Global) → slice_get given k ≡ Some links → map (λ (h : HeldLink). h.link) links.items ≡ links_of tree (suc k))
     → ((k : ℕ) (links : Vec HeldLink Global) → slice_get given k ≡ Some links → (h : HeldLink) → Has h links.items → IsFlow semantics tree seen (suc k) h)
@@ -132,7 +132,7 @@ plan-of net sound last phase old together tree is laws semantics steers homes se
     all : tree.count ≡ length old
     all = ap (λ (t : Topology). t.count) is ∙ counts net.trees sound.trees phase ∙ sym (count-cells net last old together)
 
-module _ (net : NetParts) (sound : IsSound net) (last phase : ℕ) (old : List CellParts) (together : AreTogether net last (roots old)) (kept : (k : ℕ) (cell : CellParts) → slice_get old k ≡ Some cell → IsKeptCell cell) where
+module _ (net : NetParts) (sound : IsSound net) (last phase : ℕ) (old : List CellParts) (together : AreTogether net last (cell_roots old)) (kept : (k : ℕ) (cell : CellParts) → slice_get old k ≡ Some cell → IsKeptCell cell) where
   abbrev before : Net real
   before = net_at real (phased_net net) last
 
@@ -267,7 +267,7 @@ module _ (net : NetParts) (sound : IsSound net) (last phase : ℕ) (old : List C
           linked suits core on)
 
     -- each cell can move by the plan
-    pub can-move : (clock : ℕ) → clock ≡ greatest_clock old → last < phase → AreCalm old → AreThrough phase old
+    pub can-move : (clock : ℕ) → clock ≡ greatest_cell_clock old → last < phase → AreCalm old → AreThrough phase old
         → (k : ℕ) (cell : CellParts) (links : Vec HeldLink Global) (row : List Link) → slice_get old k ≡ Some cell → slice_get given k ≡ Some links → slice_get rows k ≡ Some row → CanMove phase clock links.items row cell
     can-move clock high later calm through k cell links row e f r = record {
       not_above = (let le = below-greatest old k cell e in omega (arith, le, high));

@@ -22,8 +22,9 @@ use Rattle.ev_node.specs.declared.held.ServerInHand.{ServerInHand}
 use Rattle.ev_node.specs.declared.held.Root.{Root}
 use Rattle.ev_node.specs.declared.link.Link.{Link}
 use Rattle.ev_net.specs.Kept.{IsSomeServer}
-use Rattle.ev_node.specs.Links.{Both, Each, IsSameLink, IsUnmoved, put_for, taken_from}
-use Rattle.ev_node.specs.Lanes.{IsNew, named}
+use Rattle.ev_wire.specs.MessageText.{Each}
+use Rattle.ev_node.specs.Links.{Both, IsSameLink, IsUnmoved, put_for, taken_from}
+use Rattle.ev_node.specs.Lanes.{IsNew, neighbours_in}
 use Rattle.ev_node.specs.Turns.{IsStill}
 use Rattle.ev_node.specs.Cell.{IsCellOf, IsServerInHand, IsKept, HasNoneBelow, cell_parts, machine_in}
 use Rattle.ev_node.specs.Relinking.{CanMove, IsPutOn, additions, removals}
@@ -56,14 +57,14 @@ stays old new core links same shown journal = record {
 }
 
 -- on other links it holds too
-pub put-held : (old new : ServerInHand) (given : List HeldLink) (control : Controlled) → IsServerInHand old → IsSomeServer old.core → old.core.staged ≡ [] → AreHeldLinks given → named new.links.items ≡ map (λ (h : HeldLink). h.link) given → Each IsNew new.links.items
+pub put-held : (old new : ServerInHand) (given : List HeldLink) (control : Controlled) → IsServerInHand old → IsSomeServer old.core → old.core.staged ≡ [] → AreHeldLinks given → neighbours_in new.links.items ≡ map (λ (h : HeldLink). h.link) given → Each IsNew new.links.items
     → IsStaged (published_from old.core) (subs old.core.control) old.core.staged → IsLinked given old.core.control control → IsOnLinks control old.core new.core
-    → published new.publisher ≡ published old.publisher ++ (removals old.core.control (named old.links.items) ++ additions given) → staged new.publisher ≡ published new.publisher → new.handed.items ≡ [] → IsServerInHand new
+    → published new.publisher ≡ published old.publisher ++ (removals old.core.control (neighbours_in old.links.items) ++ additions given) → staged new.publisher ≡ published new.publisher → new.handed.items ≡ [] → IsServerInHand new
 put-held old new given control held some calm may names fresh turns linked on shown all none = record {
   low = subst (λ n. n < 2 ^ 62) (sym on.clock) held.low;
   neighbours = names ∙ sym linked.links ∙ sym (ap (λ (c : Controlled). c.links) on.control_is);
   few = new-few new.core.clock new.links.items fresh;
-  shown = shown-on old.core new.core given control (named old.links.items) (published old.publisher) (published new.publisher) some held.neighbours calm turns may linked on held.shown shown;
+  shown = shown-on old.core new.core given control (neighbours_in old.links.items) (published old.publisher) (published new.publisher) some held.neighbours calm turns may linked on held.shown shown;
   handed = all ∙ sym (append-nil (published new.publisher)) ∙ ap (λ l. published new.publisher ++ l) (sym none);
 }
 

@@ -25,7 +25,7 @@ use Rattle.ev_net.specs.Links.{framed}
 use Rattle.ev_node.specs.declared.held.ServerInHand.{ServerInHand}
 use Rattle.ev_node.specs.Links.{AreInOrder, put_for, taken_from, only_for, frames_of}
 use Rattle.ev_node.specs.Cell.{IsCellOf, AreReadable, machine_in}
-use Rattle.ev_node.specs.Turns.{IsCellTurn, IsTold, IsOfPhase, taken_by}
+use Rattle.ev_node.specs.Turns.{IsCellTurn, IsTold, IsOfPhase, taken_by_input}
 use Rattle.ev_node.proofs.Going.{going-frames, going-readable, going-told, going-order}
 use Rattle.ev_node.proofs.Hands.{names, tos, none}
 use Rattle.ev_node.proofs.Moved.{puts, takes}
@@ -72,35 +72,35 @@ module _ (net : NetParts) (phase : ℕ) (laws : NetLaws real (net_at real (phase
   -- what was put is what the step gives
   put-then : (n : ℕ) → put_for new.links.items n ≡ map framed (then-cell.put n)
   put-then n =
-      puts turn.stamp turn.sent (taken_by input) old.links.items new.links.items turn.links n (none n turn.sent (names old.links.items) order)
+      puts turn.stamp turn.sent (taken_by_input input) old.links.items new.links.items turn.links n (none n turn.sent (names old.links.items) order)
       ∙ ap (λ z. z ++ frames_of turn.stamp (only_for n turn.sent)) (stands.put n)
       ∙ ap (λ z. map framed (cell.put n) ++ z) (going-frames here laws cell.state old.core new.core stands.state (input_of input) turn.sent local turn.stamp n)
       ∙ sym (map-append framed (cell.put n) (stamped (machine_in net phase) turn.stamp (local.outcome.outs n)))
       ∙ ap (λ z. map framed (cell.put n ++ stamped (machine_in net phase) z (local.outcome.outs n))) stamp-next
 
   -- a taking is from a neighbour
-  from-is : (input : StampedInput) (outcome : Outcome (ServerState real) (Message real)) → local_step real here old.core.server cell.state (input_of input) ≡ Some outcome → (n : ℕ) → (Has n (names old.links.items) → ⊥) → taken_by input n ≡ []
+  from-is : (input : StampedInput) (outcome : Outcome (ServerState real) (Message real)) → local_step real here old.core.server cell.state (input_of input) ≡ Some outcome → (n : ℕ) → (Has n (names old.links.items) → ⊥) → taken_by_input input n ≡ []
   from-is (Does task) outcome e n other = refl
   from-is (Takes from m) outcome e n other = go (compare n from)
     where
-      go : Same n from → taken_by (Takes from m) n ≡ []
+      go : Same n from → taken_by_input (Takes from m) n ≡ []
       go (Is q v) =
           let r = (cond-some (is_among old.core.server here.servers) (is_among from (here.links old.core.server)) _ outcome e).1 in
           absurd (other (subst (λ z. Has z (names old.links.items)) (sym q) (subst (Has from) (stands.state.control.links ∙ sym neighbours) (one-has from (here.links old.core.server) r))))
       go (Not q v) = rw v refl
 
-  took-is : (input : StampedInput) (n : ℕ) → map framed (cell.took n) ++ taken_by input n ≡ map framed (took_after (machine_in net phase) cell.took input n)
+  took-is : (input : StampedInput) (n : ℕ) → map framed (cell.took n) ++ taken_by_input input n ≡ map framed (took_after (machine_in net phase) cell.took input n)
   took-is (Does task) n = append-nothing (map framed (cell.took n))
   took-is (Takes from m) n = go (compare n from)
     where
-      go : Same n from → map framed (cell.took n) ++ taken_by (Takes from m) n ≡ map framed (took_after (machine_in net phase) cell.took (Takes from m) n)
+      go : Same n from → map framed (cell.took n) ++ taken_by_input (Takes from m) n ≡ map framed (took_after (machine_in net phase) cell.took (Takes from m) n)
       go (Is q v) = rw (v, q) (sym (map-append framed (cell.took from) (m ∷ [])))
       go (Not q v) = rw v (append-nothing (map framed (cell.took n)))
 
   took-then : (n : ℕ) → taken_from new.links.items n ≡ map framed (then-cell.took n)
   took-then n =
-      takes turn.stamp turn.sent (taken_by input) old.links.items new.links.items turn.links n (from-is input local.outcome local.step n)
-      ∙ ap (λ z. z ++ taken_by input n) (stands.took n) ∙ took-is input n
+      takes turn.stamp turn.sent (taken_by_input input) old.links.items new.links.items turn.links n (from-is input local.outcome local.step n)
+      ∙ ap (λ z. z ++ taken_by_input input n) (stands.took n) ∙ took-is input n
 
   stamped-has : (stamp : ℕ) (x : Stamped (Message real)) (ms : List (Message real)) → Has x (stamped (machine_in net phase) stamp ms) → Has x.message ms
   stamped-has stamp x [] h = h

@@ -7,8 +7,9 @@ use Rattle.ev_sets.specs.Sets.{Has, IsRising}
 use Rattle.ev_tree.specs.Tree.{Topology, TreeLaws, links_of}
 use Rattle.ev_tree.proofs.Servers.{server-in}
 use Rattle.ev_node.specs.declared.link.Link.{Link}
-use Rattle.ev_node.specs.Links.{Each, IsOneLane}
-use Rattle.ev_node.specs.Lanes.{IsNew, AreNone, AreJoinedByLanes, AreEnds, AreLanes, AreLanesOf, IsLaid, named, with_link}
+use Rattle.ev_wire.specs.MessageText.{Each}
+use Rattle.ev_node.specs.Links.{IsOneLane}
+use Rattle.ev_node.specs.Lanes.{IsNew, AreNone, AreJoinedByLanes, AreEnds, AreLanes, AreLanesOf, IsLaid, neighbours_in, with_link}
 
 less : (x y : ℕ) → nat_lt x y ≡ true → x < y
 less x y e = grind (arith, nat_tests, e)
@@ -73,11 +74,11 @@ rising-equal (x ∷ xs) (y ∷ ys) r s f g = go (rising-equal xs ys r.1 s.1) (f 
     go next (inr h) (inl e) = same next (sym e)
     go next (inr h) (inr k) = let a = less y x (s.0 x h) in let b = less x y (r.0 y k) in absurd (omega (arith, a, b))
 
-named-end : (r : List Link) (x : Link) → named (r ++ x ∷ []) ≡ named r ++ x.neighbour ∷ []
+named-end : (r : List Link) (x : Link) → neighbours_in (r ++ x ∷ []) ≡ neighbours_in r ++ x.neighbour ∷ []
 named-end [] x = refl
 named-end (y ∷ r) x = ap (λ l. y.neighbour ∷ l) (named-end r x)
 
-named-at : (r : List Link) (q : ℕ) (x : Link) → slice_get r q ≡ Some x → Has x.neighbour (named r)
+named-at : (r : List Link) (q : ℕ) (x : Link) → slice_get r q ≡ Some x → Has x.neighbour (neighbours_in r)
 named-at [] q x e = absurd cc
 named-at (y ∷ r) zero x e = inl (ap (λ (w : Link). w.neighbour) (same_Some x y (sym e)))
 named-at (y ∷ r) (suc q) x e = inr (named-at r q x e)
@@ -211,8 +212,8 @@ module _ (tree : Topology) (laws : TreeLaws tree) where
   pub lanes-first : (rows : List (List Link)) → AreNone tree.count rows → AreLanes tree 1 0 rows
   lanes-first rows none = record {
     long = none.long;
-    rising = λ k r e. subst (λ (l : List Link). IsRising nat_lt (named l)) (sym (empty k r e)) tt;
-    members = λ k r e b. ((λ h. absurd (subst (λ (l : List Link). Has b (named l)) (empty k r e) h)), (λ m. absurd (nothing (suc k) b (omega arith) m.0 m.1)));
+    rising = λ k r e. subst (λ (l : List Link). IsRising nat_lt (neighbours_in l)) (sym (empty k r e)) tt;
+    members = λ k r e b. ((λ h. absurd (subst (λ (l : List Link). Has b (neighbours_in l)) (empty k r e) h)), (λ m. absurd (nothing (suc k) b (omega arith) m.0 m.1)));
     new = λ k r e. subst (λ (l : List Link). Each IsNew l) (sym (empty k r e)) tt;
     ends = λ i k q p a b x y ea eb ex ey n m. absurd (let z : slice_get [] q ≡ Some x = subst (λ (l : List Link). slice_get l q ≡ Some x) (empty i a ea) ex in cc);
   }
@@ -236,7 +237,7 @@ module _ (tree : Topology) (laws : TreeLaws tree) where
   lanes-last s rows high lanes = record {
     long = lanes.long;
     names = λ k r e.
-        rising-equal (named r) (links_of tree (suc k)) (lanes.rising k r e) (laws.rising (suc k)) (λ b h. ((lanes.members k r e b).0 h).0)
+        rising-equal (neighbours_in r) (links_of tree (suc k)) (lanes.rising k r e) (laws.rising (suc k)) (λ b h. ((lanes.members k r e b).0 h).0)
         (λ b h. (lanes.members k r e b).1 (h, (let lt = within rows r k e in let n = lanes.long in inl (omega (arith, lt, n, high)))));
     new = lanes.new;
     ends = lanes.ends;
@@ -286,38 +287,38 @@ module _ (tree : Topology) (laws : TreeLaws tree) where
     laid-below-s b (inr (inr (inl (e, l)))) = absurd (omega (arith, e, above))
     laid-below-s b (inr (inr (inr (e, l)))) = absurd (omega (arith, l))
 
-    rising-then : (k : ℕ) (row : List Link) → slice_get new k ≡ Some row → IsRising nat_lt (named row)
+    rising-then : (k : ℕ) (row : List Link) → slice_get new k ≡ Some row → IsRising nat_lt (neighbours_in row)
     rising-then k row e = go (then-row k row e)
       where
-        go : (r : List Link) × (slice_get rows k ≡ Some r) × IsRowThen s t j.mine j.theirs k r row → IsRising nat_lt (named row)
+        go : (r : List Link) × (slice_get rows k ≡ Some r) × IsRowThen s t j.mine j.theirs k r row → IsRising nat_lt (neighbours_in row)
         go (r, f, Mine p q) =
-            subst (λ (l : List Link). IsRising nat_lt (named l)) (sym q) (subst (λ l. IsRising nat_lt l) (sym (named-end r j.mine))
-            (rising-end (named r) j.mine.neighbour (lanes.rising k r f) (λ y h. subst (λ n. y < n) (sym j.between.there) (laid-below-t y (subst (λ n. IsLaid s t n y) p ((lanes.members k r f y).0 h).1)))))
+            subst (λ (l : List Link). IsRising nat_lt (neighbours_in l)) (sym q) (subst (λ l. IsRising nat_lt l) (sym (named-end r j.mine))
+            (rising-end (neighbours_in r) j.mine.neighbour (lanes.rising k r f) (λ y h. subst (λ n. y < n) (sym j.between.there) (laid-below-t y (subst (λ n. IsLaid s t n y) p ((lanes.members k r f y).0 h).1)))))
         go (r, f, Theirs p q) =
-            subst (λ (l : List Link). IsRising nat_lt (named l)) (sym q) (subst (λ l. IsRising nat_lt l) (sym (named-end r j.theirs))
-            (rising-end (named r) j.theirs.neighbour (lanes.rising k r f) (λ y h. subst (λ n. y < n) (sym j.between.back) (laid-below-s y (subst (λ n. IsLaid s t n y) p ((lanes.members k r f y).0 h).1)))))
-        go (r, f, Kept p p' q) = subst (λ (l : List Link). IsRising nat_lt (named l)) (sym q) (lanes.rising k r f)
+            subst (λ (l : List Link). IsRising nat_lt (neighbours_in l)) (sym q) (subst (λ l. IsRising nat_lt l) (sym (named-end r j.theirs))
+            (rising-end (neighbours_in r) j.theirs.neighbour (lanes.rising k r f) (λ y h. subst (λ n. y < n) (sym j.between.back) (laid-below-s y (subst (λ n. IsLaid s t n y) p ((lanes.members k r f y).0 h).1)))))
+        go (r, f, Kept p p' q) = subst (λ (l : List Link). IsRising nat_lt (neighbours_in l)) (sym q) (lanes.rising k r f)
 
-    members-then : (k : ℕ) (row : List Link) → slice_get new k ≡ Some row → (b : ℕ) → Has b (named row) ↔ (Has b (links_of tree (suc k)) × IsLaid s (suc t) (suc k) b)
+    members-then : (k : ℕ) (row : List Link) → slice_get new k ≡ Some row → (b : ℕ) → Has b (neighbours_in row) ↔ (Has b (links_of tree (suc k)) × IsLaid s (suc t) (suc k) b)
     members-then k row e b = go (then-row k row e)
       where
         with-one : (r : List Link) (x : Link) → slice_get rows k ≡ Some r → row ≡ r ++ x ∷ [] → Has x.neighbour (links_of tree (suc k)) → IsLaid s (suc t) (suc k) x.neighbour
-            → (IsLaid s (suc t) (suc k) b → IsLaid s t (suc k) b ⊎ (b ≡ x.neighbour)) → Has b (named row) ↔ (Has b (links_of tree (suc k)) × IsLaid s (suc t) (suc k) b)
+            → (IsLaid s (suc t) (suc k) b → IsLaid s t (suc k) b ⊎ (b ≡ x.neighbour)) → Has b (neighbours_in row) ↔ (Has b (links_of tree (suc k)) × IsLaid s (suc t) (suc k) b)
         with-one r x f q linked laid either = (onto, from)
           where
-            names-are : named row ≡ named r ++ x.neighbour ∷ []
-            names-are = ap (λ (l : List Link). named l) q ∙ named-end r x
+            names-are : neighbours_in row ≡ neighbours_in r ++ x.neighbour ∷ []
+            names-are = ap (λ (l : List Link). neighbours_in l) q ∙ named-end r x
 
-            onto : Has b (named row) → Has b (links_of tree (suc k)) × IsLaid s (suc t) (suc k) b
-            onto h = elim (split-end b (named r) x.neighbour (subst (Has b) names-are h)) [
+            onto : Has b (neighbours_in row) → Has b (links_of tree (suc k)) × IsLaid s (suc t) (suc k) b
+            onto h = elim (split-end b (neighbours_in r) x.neighbour (subst (Has b) names-are h)) [
               | inl a ↦ (let m = (lanes.members k r f b).0 a in (m.0, more (suc k) b m.1))
               | inr z ↦ (subst (λ n. Has n (links_of tree (suc k))) (sym z) linked, subst (λ n. IsLaid s (suc t) (suc k) n) (sym z) laid)
             ]
 
-            from : Has b (links_of tree (suc k)) × IsLaid s (suc t) (suc k) b → Has b (named row)
-            from (h, l) = subst (Has b) (sym names-are) (end-has b (named r) x.neighbour (elim (either l) [ inl a ↦ inl ((lanes.members k r f b).1 (h, a)) | inr z ↦ inr z ]))
+            from : Has b (links_of tree (suc k)) × IsLaid s (suc t) (suc k) b → Has b (neighbours_in row)
+            from (h, l) = subst (Has b) (sym names-are) (end-has b (neighbours_in r) x.neighbour (elim (either l) [ inl a ↦ inl ((lanes.members k r f b).1 (h, a)) | inr z ↦ inr z ]))
 
-        go : (r : List Link) × (slice_get rows k ≡ Some r) × IsRowThen s t j.mine j.theirs k r row → Has b (named row) ↔ (Has b (links_of tree (suc k)) × IsLaid s (suc t) (suc k) b)
+        go : (r : List Link) × (slice_get rows k ≡ Some r) × IsRowThen s t j.mine j.theirs k r row → Has b (neighbours_in row) ↔ (Has b (links_of tree (suc k)) × IsLaid s (suc t) (suc k) b)
         go (r, f, Mine p q) =
             with-one r j.mine f q (subst (λ n. Has n (links_of tree (suc k))) (sym j.between.there) (subst (λ n. Has t (links_of tree n)) (sym p) edge))
             (let n = j.between.there in inr (inr (inl (p, omega (arith, n)))))
@@ -327,8 +328,8 @@ module _ (tree : Topology) (laws : TreeLaws tree) where
             (inr (inr (inr (j.between.back, omega (arith, p)))))
             (λ l. elim (less-laid (suc k) b l) [ inl a ↦ inl a | inr (inl z) ↦ absurd (apart (sym z.0 ∙ p)) | inr (inr z) ↦ inr (z.0 ∙ sym j.between.back) ])
         go (r, f, Kept p p' q) = (
-          (λ h. let m = (lanes.members k r f b).0 (subst (λ (l : List Link). Has b (named l)) q h) in (m.0, more (suc k) b m.1)),
-          (λ m. subst (λ (l : List Link). Has b (named l)) (sym q) (elim (less-laid (suc k) b m.1) [ inl a ↦ (lanes.members k r f b).1 (m.0, a) | inr (inl z) ↦ absurd (p z.0) | inr (inr z) ↦ absurd (p' z.1) ])),
+          (λ h. let m = (lanes.members k r f b).0 (subst (λ (l : List Link). Has b (neighbours_in l)) q h) in (m.0, more (suc k) b m.1)),
+          (λ m. subst (λ (l : List Link). Has b (neighbours_in l)) (sym q) (elim (less-laid (suc k) b m.1) [ inl a ↦ (lanes.members k r f b).1 (m.0, a) | inr (inl z) ↦ absurd (p z.0) | inr (inr z) ↦ absurd (p' z.1) ])),
         )
 
     new-then : (k : ℕ) (row : List Link) → slice_get new k ≡ Some row → Each IsNew row

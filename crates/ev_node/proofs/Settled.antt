@@ -12,7 +12,7 @@ use Rattle.ev_node.specs.declared.link.Link.{Link}
 use Rattle.ev_node.specs.Links.{At, IsSettledLane, IsNeighbour, IsSameLink, put_for, taken_from}
 use Rattle.ev_net.specs.Links.{framed}
 use Rattle.ev_node.specs.Cell.{CellParts, AreReadable}
-use Rattle.ev_node.specs.Together.{Sight, IsLaneOf, sight, sights, roots, links_of}
+use Rattle.ev_node.specs.Together.{Sight, IsLaneOf, sight, sights, cell_roots, root_links}
 use Rattle.ev_node.specs.InHand.{IsTakenInOrder}
 use Rattle.ev_node.proofs.Places.{both-before, below-found}
 use Rattle.ev_node.proofs.Framing.{frames-one}
@@ -33,10 +33,10 @@ frames-begin (a ∷ ms) (b ∷ ns) ra rb p =
     first-of x y xs ys e = (cc, cc)
 
 -- after it was settled, what is taken is the beginning of what was put
-begins : (a b : CellParts) (to from u : ℕ) → IsKeptCell a → IsKeptCell b → At IsSettledLane to a.held.links.items from b.held.links.items → IsNeighbour to b.root.server (links_of a.root) → IsNeighbour from u (links_of b.root) → IsPrefix ((sight b).took u) ((sight a).put b.root.server)
+begins : (a b : CellParts) (to from u : ℕ) → IsKeptCell a → IsKeptCell b → At IsSettledLane to a.held.links.items from b.held.links.items → IsNeighbour to b.root.server (root_links a.root) → IsNeighbour from u (root_links b.root) → IsPrefix ((sight b).took u) ((sight a).put b.root.server)
 begins a b to from u ka kb (x, y, ex, ey, s) gives takes =
-    let x0 = both-before IsSameLink to (links_of a.root) a.held.links.items x ka.links ex in
-    let y0 = both-before IsSameLink from (links_of b.root) b.held.links.items y kb.links ey in
+    let x0 = both-before IsSameLink to (root_links a.root) a.held.links.items x ka.links ex in
+    let y0 = both-before IsSameLink from (root_links b.root) b.held.links.items y kb.links ey in
     let nx : x.neighbour ≡ b.root.server = x0.2.neighbour ∙ ap (λ (w : Link). w.neighbour) (same_Some x0.0 gives.0 (sym x0.1 ∙ gives.1)) ∙ gives.2 in
     let ny : y.neighbour ≡ u = y0.2.neighbour ∙ ap (λ (w : Link). w.neighbour) (same_Some y0.0 takes.0 (sym y0.1 ∙ takes.1)) ∙ takes.2 in
     let took : taken_from b.held.links.items u ≡ taken_list y.leave = ap (λ n. taken_from b.held.links.items n) (sym ny) ∙ found-taken from b.held.links.items y ey (distinct-kept b kb) in
@@ -44,10 +44,10 @@ begins a b to from u ka kb (x, y, ex, ey, s) gives takes =
     (rest_list y.leave, ap (λ l. l ++ rest_list y.leave) took ∙ s.all ∙ put)
 
 taken-in-order : (cells : List CellParts) (a b : CellParts) (giver to taker from : ℕ) → slice_get cells giver ≡ Some a → slice_get cells taker ≡ Some b → IsKeptCell a → IsKeptCell b
-    → At IsSettledLane to a.held.links.items from b.held.links.items → IsNeighbour to b.root.server (links_of a.root) → IsNeighbour from (suc giver) (links_of b.root) → IsTakenInOrder (sights cells) taker from
+    → At IsSettledLane to a.held.links.items from b.held.links.items → IsNeighbour to b.root.server (root_links a.root) → IsNeighbour from (suc giver) (root_links b.root) → IsTakenInOrder (sights cells) taker from
 taken-in-order cells a b giver to taker from at-a at-b ka kb settled gives takes s t y i es ey et name =
     let sb : s ≡ sight b = same_Some s (sight b) (sym es ∙ map-found sight taker cells b at-b) in
-    let yn : y ≡ takes.0 = same_Some y takes.0 (sym ey ∙ ap (λ (w : Sight). slice_get (links_of w.root) from) sb ∙ takes.1) in
+    let yn : y ≡ takes.0 = same_Some y takes.0 (sym ey ∙ ap (λ (w : Sight). slice_get (root_links w.root) from) sb ∙ takes.1) in
     let ny : y.neighbour ≡ suc giver = ap (λ (w : Link). w.neighbour) yn ∙ takes.2 in
     let ig : i ≡ giver = one-suc i giver (sym name ∙ ny) in
     let ta : t ≡ sight a = same_Some t (sight a) (sym et ∙ ap (λ n. slice_get (sights cells) n) ig ∙ map-found sight giver cells a at-a) in
@@ -61,11 +61,11 @@ module _ (old mid : List CellParts) (giver to taker from : ℕ) (lane : IsLaneOf
       let f = found-map sight k old (sight b) (ap (λ l. slice_get l k) (sym seen) ∙ map-found sight k mid b e) in
       (f.0, f.1, ap (λ (s : Sight). s.root) f.2)
 
-  gives-now : (a b : CellParts) → slice_get mid giver ≡ Some a → slice_get mid taker ≡ Some b → IsNeighbour to b.root.server (links_of a.root)
+  gives-now : (a b : CellParts) → slice_get mid giver ≡ Some a → slice_get mid taker ≡ Some b → IsNeighbour to b.root.server (root_links a.root)
   gives-now a b p q =
       let a' = before giver a p in
       let b' = before taker b q in
-      subst (λ (r : Root). IsNeighbour to r.server (links_of a.root)) b'.2 (subst (λ (r : Root). IsNeighbour to b'.0.root.server (links_of r)) a'.2 (lane.gives a'.0 b'.0 a'.1 b'.1))
+      subst (λ (r : Root). IsNeighbour to r.server (root_links a.root)) b'.2 (subst (λ (r : Root). IsNeighbour to b'.0.root.server (root_links r)) a'.2 (lane.gives a'.0 b'.0 a'.1 b'.1))
 
   -- what is taken after the settling is the beginning of what was put
   pub settle-order : (x y : CellParts) → slice_get mid giver ≡ Some x → slice_get mid taker ≡ Some y → IsKeptCell x → IsKeptCell y
@@ -77,10 +77,10 @@ module _ (old mid : List CellParts) (giver to taker from : ℕ) (lane : IsLaneOf
       taken-in-order mid x y giver to taker from ex ey kx ky settled' (gives-now x y ex ey) (takes-now old mid giver to taker from lane seen y ey)
 
 -- so many places were settled
-pub all-settled : (cells : List CellParts) (k n : ℕ) → ((b : Root) → slice_get (roots cells) k ≡ Some b → length (links_of b) ≤ n) → ((p : ℕ) → p < n → IsTakenInOrder (sights cells) k p) → (p : ℕ) → IsTakenInOrder (sights cells) k p
+pub all-settled : (cells : List CellParts) (k n : ℕ) → ((b : Root) → slice_get (cell_roots cells) k ≡ Some b → length (root_links b) ≤ n) → ((p : ℕ) → p < n → IsTakenInOrder (sights cells) k p) → (p : ℕ) → IsTakenInOrder (sights cells) k p
 all-settled cells k n few tried p s t y i es ey et name =
     let f = found-map sight k cells s es in
-    let root : slice_get (roots cells) k ≡ Some s.root = map-found (λ (w : CellParts). w.root) k cells f.0 f.1 ∙ ap (λ (w : Sight). Some w.root) f.2 in
-    let le : length (links_of s.root) ≤ n = few s.root root in
-    let lt : p < length (links_of s.root) = below-found p (links_of s.root) y ey in
+    let root : slice_get (cell_roots cells) k ≡ Some s.root = map-found (λ (w : CellParts). w.root) k cells f.0 f.1 ∙ ap (λ (w : Sight). Some w.root) f.2 in
+    let le : length (root_links s.root) ≤ n = few s.root root in
+    let lt : p < length (root_links s.root) = below-found p (root_links s.root) y ey in
     tried p (omega (arith, le, lt)) s t y i es ey et name

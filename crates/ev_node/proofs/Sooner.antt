@@ -21,7 +21,7 @@ use Rattle.ev_node.specs.declared.held.ServerInHand.{ServerInHand}
 use Rattle.ev_node.specs.declared.link.Link.{Link}
 use Rattle.ev_net.specs.Acted.{StampedInput, input_of, stamp_of}
 use Rattle.ev_node.specs.Links.{Both, IsUnmoved, IsRoomed, IsFrameTaken, IsGiven, IsMoved, IsMissed, IsLookedAt, IsSeenAt, HasMissed, HasSeen}
-use Rattle.ev_node.specs.Turns.{IsCellTurn, IsStill, IsOfPhase, IsTakingFrom, taken_by}
+use Rattle.ev_node.specs.Turns.{IsCellTurn, IsStill, IsOfPhase, IsTakingFrom, taken_by_input}
 use Rattle.ev_node.proofs.Walks.{both-comp}
 use Rattle.ev_node.proofs.Unmoved.{unmoved-all}
 use Rattle.ev_node.proofs.Moved.{moved-after}
@@ -68,7 +68,7 @@ module _ (old mid new : ServerInHand) (before after : List EntryParts) (core : m
     sent = t.sent;
     step = subst (λ (c : CoreParts). MakesStep (input_of input) (stamp_of input) c new.core t.stamp t.sent) core t.step;
     entry = t.entry ∙ ap (λ (c : CoreParts). before ++ entry_parts t.stamp c.server act (map (λ s. s.to) t.sent) ∷ []) core;
-    links = both-comp IsUnmoved (IsMoved t.stamp t.sent (taken_by input)) (IsMoved t.stamp t.sent (taken_by input)) (moved-after t.stamp t.sent (taken_by input)) old.links.items mid.links.items new.links.items links t.links;
+    links = both-comp IsUnmoved (IsMoved t.stamp t.sent (taken_by_input input)) (IsMoved t.stamp t.sent (taken_by_input input)) (moved-after t.stamp t.sent (taken_by_input input)) old.links.items mid.links.items new.links.items links t.links;
     flushed = t.flushed;
     publisher = subst (λ (p : Publisher). IsSamePublisher p new.publisher) publisher t.publisher;
   }

@@ -10,7 +10,7 @@ use Rattle.ev_counting.specs.declared.change.Change.TheVariants.{Add, Remove}
 use Rattle.ev_server.specs.declared.stepped.StepFault.{StepFault}
 use Rattle.ev_server.specs.declared.stepped.StepFault.TheVariants.{Worn}
 use Rattle.ev_server.specs.Core.{CoreParts, published_from}
-use Rattle.ev_server.specs.Staged.{pair_of, AreOnce, IsStaged}
+use Rattle.ev_server.specs.Staged.{changed_pair, AreOnce, IsStaged}
 use Rattle.ev_server.specs.Step.{last_stamp}
 use Rattle.ev_net.specs.Kept.{IsTableOf}
 
@@ -32,7 +32,7 @@ module _ (i : ℕ) (f : List ConstraintParts) where
   abbrev IsThere : List Change → List HeldFilter → List HeldFilter → Type 0
   IsThere changes old new = Contains new (i, f) ↔ (Has (Add i f) changes ⊎ (Contains old (i, f) × (Has (Remove i f) changes → ⊥)))
 
-  added : (j : ℕ) (g : List ConstraintParts) (cs : List Change) (old between new : List HeldFilter) → ((c : Change) → Has c cs → pair_of (Add j g) ≢ pair_of c)
+  added : (j : ℕ) (g : List ConstraintParts) (cs : List Change) (old between new : List HeldFilter) → ((c : Change) → Has c cs → changed_pair (Add j g) ≢ changed_pair c)
       → IsAdded old between (j, g) → IsThere cs between new → IsThere (Add j g ∷ cs) old new
   added j g cs old between new once a ih = (onto, from)
     where
@@ -55,7 +55,7 @@ module _ (i : ℕ) (f : List ConstraintParts) where
           go (inr (b, none)) = kept b none
 
       from : Has (Add i f) (Add j g ∷ cs) ⊎ (Contains old (i, f) × (Has (Remove i f) (Add j g ∷ cs) → ⊥)) → Contains new (i, f)
-      from (inl (inl e)) = ih.1 (inr (subst (Contains between) (ap pair-in (sym e)) a.there, λ h. once (Remove i f) h (ap pair_of (sym e))))
+      from (inl (inl e)) = ih.1 (inr (subst (Contains between) (ap pair-in (sym e)) a.there, λ h. once (Remove i f) h (ap changed_pair (sym e))))
         where
           pair-in : Change → HeldFilter
           pair-in (Add k x) = (k, x)

@@ -13,7 +13,7 @@ use Rattle.ev_theory.specs.Real.{real}
 use Rattle.ev_wire.specs.declared.sent.Sent.{Sent}
 use Rattle.ev_wire.specs.declared.message.Message.{Message as WireMessage}
 use Rattle.ev_wire.specs.declared.message.Message.TheVariants.{Notice, Subs, Advs}
-use Rattle.ev_wire.specs.MessageText.{message_text, IsMessageText}
+use Rattle.ev_wire.specs.MessageText.{message_text, IsMessageText, Each}
 use Rattle.ev_control.specs.Control.{wired}
 use Rattle.ev_frame.specs.Frame.{FrameParts, HasMessage}
 use Rattle.ev_lane.specs.declared.putting.LaneIn.{LaneIn}
@@ -29,7 +29,7 @@ use Rattle.ev_node.specs.declared.held.ServerInHand.{ServerInHand}
 use Rattle.ev_node.specs.declared.link.Link.{Link}
 use Rattle.ev_net.specs.Links.{framed}
 use Rattle.ev_net.specs.Kept.{IsSomeServer}
-use Rattle.ev_node.specs.Links.{Both, Each, AreInOrder, IsSameLink, IsUnmoved, IsRoomed, IsGiven, IsFrameTaken, IsMoved, IsFlushed, IsSeen, IsSeenAt, IsLookedAt, only_from}
+use Rattle.ev_node.specs.Links.{Both, AreInOrder, IsSameLink, IsUnmoved, IsRoomed, IsGiven, IsFrameTaken, IsMoved, IsFlushed, IsSeen, IsSeenAt, IsLookedAt, only_from}
 use Rattle.ev_node.specs.Cell.{IsServerInHand, IsPublishedBy}
 use Rattle.ev_node.specs.Turns.{IsCellTurn, IsStill, IsOfPhase}
 use Rattle.ev_node.proofs.Walks.{both-map, both-each, both-comp, each-after}

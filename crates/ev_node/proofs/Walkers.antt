@@ -14,7 +14,7 @@ use Rattle.ev_node.specs.Links.{Both, At, IsOneLane, IsSameLink, IsUnmoved, HasM
 use Rattle.ev_node.specs.Cell.{CellParts, IsServerInHand, IsKept, cell_parts}
 use Rattle.ev_node.specs.Turns.{IsStill, IsTaking, IsWornAt}
 use Rattle.ev_node.specs.Asked.{Answers, IsIdleStep}
-use Rattle.ev_node.specs.Together.{sight, links_of}
+use Rattle.ev_node.specs.Together.{sight, root_links}
 use Rattle.ev_node.proofs.Walks.{both-map}
 use Rattle.ev_node.proofs.Moved.{unmoved-put, unmoved-taken}
 use Rattle.ev_node.proofs.Places.{lane-at}
@@ -43,9 +43,9 @@ idle-is phase what old new before after Stale a e = absurd a
 idle-is phase what old new before after Idle a e = a
 
 -- the two ends are still of one lane
-pub lane-now : (to from : ℕ) (one other : CellParts) → IsKept one.root.net.value one.root one.journal one.held → IsKept other.root.net.value other.root other.journal other.held → At IsOneLane to (links_of one.root) from (links_of other.root)
+pub lane-now : (to from : ℕ) (one other : CellParts) → IsKept one.root.net.value one.root one.journal one.held → IsKept other.root.net.value other.root other.journal other.held → At IsOneLane to (root_links one.root) from (root_links other.root)
     → At IsOneLane to one.held.links.items from other.held.links.items
-lane-now to from one other k l a = lane-at to from (links_of one.root) one.held.links.items (links_of other.root) other.held.links.items k.links l.links a
+lane-now to from one other k l a = lane-at to from (root_links one.root) one.held.links.items (root_links other.root) other.held.links.items k.links l.links a
 
 module _ (net : NetParts) (root : Root) (journal : List EntryParts) (old : ServerInHand) (kept : IsKept net root journal old) (place : ℕ) (new : ServerInHand) (after : List EntryParts) where
   pub kept-taking : (r : Result Bool StepFault) → IfOk r (λ made. IsTaking root.phase place old new journal after made) → OnErr r (IsStill old new journal after) → IsServerInHand new → IsKept net root after new

@@ -1,6 +1,7 @@
 -- A walk along a list that changes each element.
 use Rattle.std.proofs.Common.{◌≡◌, ℕ, zero, suc, ◌+◌, ◌<◌, ◌≤◌, List, [], ◌∷◌, length, get_or, set, refl, subst, arith, add-one}
-use Rattle.ev_node.specs.Links.{Both, Each}
+use Rattle.ev_wire.specs.MessageText.{Each}
+use Rattle.ev_node.specs.Links.{Both}
 
 -- the first n elements are related, the others are the same
 abbrev pub Partly : {X : Type 0} → (X → X → Type 0) → ℕ → List X → List X → Type 0

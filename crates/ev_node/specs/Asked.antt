@@ -6,7 +6,7 @@ use Rattle.ev_model.specs.declared.turn.Act.TheVariants as acts
 use Rattle.ev_model.specs.Parts.{EntryParts}
 use Rattle.ev_model.specs.Nets.{clients_of, topology_at}
 use Rattle.ev_tree.specs.Tree.{links_of}
-use Rattle.ev_server.specs.Clients.{numbers_of}
+use Rattle.ev_server.specs.Clients.{client_numbers}
 use Rattle.ev_server.specs.Step.{last_stamp}
 use Rattle.ev_node.specs.declared.what.What.{What}
 use Rattle.ev_node.specs.declared.what.What.TheVariants.{Command, Take, Version}
@@ -32,7 +32,7 @@ Suits Version root = Unit {0}
 
 -- so it is in hand
 abbrev pub SuitsHeld : What → ServerInHand → Type 0
-SuitsHeld (Command client) held = Has client (numbers_of held.core.clients)
+SuitsHeld (Command client) held = Has client (client_numbers held.core.clients)
 SuitsHeld (Take from) held = Has from held.core.control.links
 SuitsHeld Version held = Unit {0}
 

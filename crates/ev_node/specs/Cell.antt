@@ -6,7 +6,7 @@ use Rattle.ev_run.specs.Journals.{Cell, IsReplay}
 use Rattle.ev_routing.specs.Server.{Message}
 use Rattle.ev_phases.specs.Trees.{net_at, machine_at, entries_on}
 use Rattle.ev_theory.specs.Real.{real}
-use Rattle.ev_wire.specs.MessageText.{message_text, IsMessageText}
+use Rattle.ev_wire.specs.MessageText.{message_text, IsMessageText, Each}
 use Rattle.ev_wire.specs.declared.command.Command.{Command}
 use Rattle.ev_control.specs.Control.{wired}
 use Rattle.ev_lane.specs.Lane.{put_list}
@@ -24,7 +24,7 @@ use Rattle.ev_net.specs.Links.{framed}
 use Rattle.ev_node.specs.declared.held.ServerInHand.{ServerInHand}
 use Rattle.ev_node.specs.declared.link.Link.{Link}
 use Rattle.ev_node.specs.declared.held.Root.{Root}
-use Rattle.ev_node.specs.Links.{Both, Each, IsSameLink, put_for, taken_from}
+use Rattle.ev_node.specs.Links.{Both, IsSameLink, put_for, taken_from}
 
 -- what is seen of a cell
 pub record CellParts : Type 0 where

@@ -7,7 +7,7 @@ use Rattle.ev_theory.specs.Real.{real}
 use Rattle.ev_model.specs.Parts.{NetParts}
 use Rattle.ev_model.specs.Nets.{phased_net}
 use Rattle.ev_node.specs.Cell.{CellParts, IsCellOf, HasEntered, HasNoneBelow, machine_in}
-use Rattle.ev_node.specs.Together.{AreTogether, AreBegun, roots}
+use Rattle.ev_node.specs.Together.{AreTogether, AreBegun, cell_roots}
 
 -- a cell with the net, the server, the publisher and the journal of an old one
 pub record IsSameCell (old new : CellParts) : Type 0 where
@@ -22,9 +22,9 @@ pub record AreSameCells (old new : List CellParts) : Type 0 where
   pub each : (k : ℕ) (a b : CellParts) → slice_get old k ≡ Some a → slice_get new k ≡ Some b → IsSameCell a b
 
 -- the greatest clock of cells
-abbrev pub greatest_clock : List CellParts → ℕ
-greatest_clock [] = 0
-greatest_clock (cell ∷ cells) = max cell.held.core.clock (greatest_clock cells)
+abbrev pub greatest_cell_clock : List CellParts → ℕ
+greatest_cell_clock [] = 0
+greatest_cell_clock (cell ∷ cells) = max cell.held.core.clock (greatest_cell_clock cells)
 
 -- no client has a command of a phase below this one left
 abbrev pub AreThrough : ℕ → List CellParts → Type 0
@@ -53,6 +53,6 @@ pub record IsEntered (net : NetParts) (last phase : ℕ) (end : State real) (cel
 -- ALL CELLS HAVE ENTERED A LATER PHASE: they are together in it, and whatever state they stood for, they now stand for that in which the phase is
 -- entered: with raised clocks where the tree stays, else on the new tree, with new lanes, and with held and published sets by what flows
 pub record AreEntered (net : NetParts) (last phase : ℕ) (old new : List CellParts) : Type 0 where
-  pub together : AreTogether net phase (roots new)
+  pub together : AreTogether net phase (cell_roots new)
   pub each : (k : ℕ) (a b : CellParts) → slice_get old k ≡ Some a → slice_get new k ≡ Some b → HasEntered a.root phase b
   pub stand : (ends : ℕ → Cell (machine_in net last)) → StandFor net last old ends → IsEntered net last phase (state_of net last ends) new

@@ -5,11 +5,11 @@ use Rattle.ev_run.specs.Journals.{Cell, IsPrefix, IsPhaseInHand}
 use Rattle.ev_model.specs.Parts.{NetParts}
 use Rattle.ev_node.specs.declared.link.Link.{Link}
 use Rattle.ev_node.specs.Cell.{CellParts, IsCellOf, machine_in}
-use Rattle.ev_node.specs.Together.{Sight, journals, links_of}
+use Rattle.ev_node.specs.Together.{Sight, journals, root_links}
 
 -- what is taken on the lane from the neighbour at a place is the beginning of what was put on it
 abbrev pub IsTakenInOrder : List Sight → ℕ → ℕ → Type 0
-IsTakenInOrder all k p = (s t : Sight) (y : Link) (i : ℕ) → slice_get all k ≡ Some s → slice_get (links_of s.root) p ≡ Some y
+IsTakenInOrder all k p = (s t : Sight) (y : Link) (i : ℕ) → slice_get all k ≡ Some s → slice_get (root_links s.root) p ≡ Some y
     → slice_get all i ≡ Some t → y.neighbour ≡ suc i
     → IsPrefix (s.took y.neighbour) (t.put s.root.server)
 

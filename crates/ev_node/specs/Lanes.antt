@@ -4,7 +4,8 @@ use Rattle.ev_sets.specs.Sets.{Has, IsRising}
 use Rattle.ev_tree.specs.Tree.{Topology, links_of}
 use Rattle.ev_lane.specs.Lane.{put_list, taken_list}
 use Rattle.ev_node.specs.declared.link.Link.{Link}
-use Rattle.ev_node.specs.Links.{Each, IsOneLane}
+use Rattle.ev_wire.specs.MessageText.{Each}
+use Rattle.ev_node.specs.Links.{IsOneLane}
 
 -- nothing was put or taken
 pub record IsNew (link : Link) : Type 0 where
@@ -39,8 +40,8 @@ pub record AreJoinedByLanes (one other : ℕ) (old new : List (List Link)) : Typ
   pub rows : new ≡ with_link (other - 1) theirs (with_link (one - 1) mine old)
 
 -- the links of a row, and the ends of two of them that are those of one lane
-abbrev pub named : List Link → List ℕ
-named row = map (λ link. link.neighbour) row
+abbrev pub neighbours_in : List Link → List ℕ
+neighbours_in row = map (λ link. link.neighbour) row
 
 abbrev pub AreEnds : List (List Link) → Type 0
 AreEnds rows = (i k q p : ℕ) (a b : List Link) (x y : Link) → slice_get rows i ≡ Some a → slice_get rows k ≡ Some b
@@ -52,15 +53,15 @@ IsLaid server bound a b = (a < server) ⊎ ((b < server) ⊎ (((a ≡ server) ×
 
 pub record AreLanes (tree : Topology) (server bound : ℕ) (rows : List (List Link)) : Type 0 where
   pub long : length rows ≡ tree.count
-  pub rising : (k : ℕ) (r : List Link) → slice_get rows k ≡ Some r → IsRising nat_lt (named r)
+  pub rising : (k : ℕ) (r : List Link) → slice_get rows k ≡ Some r → IsRising nat_lt (neighbours_in r)
   pub members : (k : ℕ) (r : List Link) → slice_get rows k ≡ Some r → (b : ℕ)
-      → Has b (named r) ↔ (Has b (links_of tree (suc k)) × IsLaid server bound (suc k) b)
+      → Has b (neighbours_in r) ↔ (Has b (links_of tree (suc k)) × IsLaid server bound (suc k) b)
   pub new : (k : ℕ) (r : List Link) → slice_get rows k ≡ Some r → Each IsNew r
   pub ends : AreEnds rows
 
 -- THE LANES OF A TREE: of each server in order, by its neighbours, with nothing put or taken, and both ends of each among them
 pub record AreLanesOf (tree : Topology) (rows : List (List Link)) : Type 0 where
   pub long : length rows ≡ tree.count
-  pub names : (k : ℕ) (r : List Link) → slice_get rows k ≡ Some r → named r ≡ links_of tree (suc k)
+  pub names : (k : ℕ) (r : List Link) → slice_get rows k ≡ Some r → neighbours_in r ≡ links_of tree (suc k)
   pub new : (k : ℕ) (r : List Link) → slice_get rows k ≡ Some r → Each IsNew r
   pub ends : AreEnds rows

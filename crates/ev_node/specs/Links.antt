@@ -16,11 +16,6 @@ Both R [] (y ∷ ys) = ⊥
 Both R (x ∷ xs) [] = ⊥
 Both R (x ∷ xs) (y ∷ ys) = R x y × Both R xs ys
 
--- each element has the property
-abbrev pub Each : {X : Type 0} → (X → Type 0) → List X → Type 0
-Each P [] = Unit {0}
-Each P (x ∷ xs) = P x × Each P xs
-
 -- some numbers out of a list, in its order
 abbrev pub AreInOrder : List ℕ → List ℕ → Type 0
 AreInOrder [] ys = Unit {0}

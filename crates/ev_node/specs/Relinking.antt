@@ -18,8 +18,8 @@ use Rattle.ev_server.specs.Linked.{AreHeldLinks, SuitsCore, IsLinked, IsOnLinks}
 use Rattle.ev_versions.specs.Ends.{IsSamePublisher}
 use Rattle.ev_node.specs.declared.held.ServerInHand.{ServerInHand}
 use Rattle.ev_node.specs.declared.link.Link.{Link}
-use Rattle.ev_node.specs.Links.{Each}
-use Rattle.ev_node.specs.Lanes.{IsNew, named}
+use Rattle.ev_wire.specs.MessageText.{Each}
+use Rattle.ev_node.specs.Lanes.{IsNew, neighbours_in}
 use Rattle.ev_node.specs.Cell.{CellParts, HasEntered, HasNoneBelow}
 
 -- exactly what the clients among these, up to a number, have in sets by interface
@@ -61,7 +61,7 @@ pub record CanMove (phase clock : ℕ) (given : List HeldLink) (row : List Link)
   pub through : HasNoneBelow phase cell.held.core.clients
   pub calm : cell.held.core.staged ≡ []
   pub links : AreHeldLinks given
-  pub names : named row ≡ map (λ h. h.link) given
+  pub names : neighbours_in row ≡ map (λ h. h.link) given
   pub new : Each IsNew row
   pub state : ServerState real
   pub stands : (control : Controlled) (core : CoreParts) → IsLinked given cell.held.core.control control → SuitsCore cell.held.core control

@@ -20,11 +20,11 @@ use Rattle.ev_node.specs.Cell.{CellParts, IsCellOf, machine_in}
 use Rattle.ev_node.specs.Turns.{HasCommand}
 
 -- the lanes with which a cell entered its phase
-abbrev pub links_of : Root → List Link
-links_of root = root.links.value.items
+abbrev pub root_links : Root → List Link
+root_links root = root.links.value.items
 
-abbrev pub roots : List CellParts → List Root
-roots cells = map (λ cell. cell.root) cells
+abbrev pub cell_roots : List CellParts → List Root
+cell_roots cells = map (λ cell. cell.root) cells
 
 -- THE CELLS OF ALL SERVERS of a net, by server, in one phase, with both ends of each of their lanes among them
 pub record AreTogether (net : NetParts) (phase : ℕ) (roots : List Root) : Type 0 where
@@ -32,7 +32,7 @@ pub record AreTogether (net : NetParts) (phase : ℕ) (roots : List Root) : Type
   pub nets : (k : ℕ) (root : Root) → slice_get roots k ≡ Some root → root.net.value ≡ net
   pub numbers : (k : ℕ) (root : Root) → slice_get roots k ≡ Some root → root.server ≡ suc k
   pub phases : (k : ℕ) (root : Root) → slice_get roots k ≡ Some root → root.phase ≡ phase
-  pub lanes : AreEnds (map links_of roots)
+  pub lanes : AreEnds (map root_links roots)
 
 -- what is seen of a cell: its root, its journal, its core, and what it put for each neighbour and took from it
 pub record Sight : Type 0 where
@@ -56,7 +56,7 @@ sights cells = map sight cells
 
 -- all that was put on the lane from the neighbour at a place is taken
 abbrev pub IsTakenUp : List Sight → ℕ → ℕ → Type 0
-IsTakenUp all k p = (s t : Sight) (y : Link) (i : ℕ) → slice_get all k ≡ Some s → slice_get (links_of s.root) p ≡ Some y
+IsTakenUp all k p = (s t : Sight) (y : Link) (i : ℕ) → slice_get all k ≡ Some s → slice_get (root_links s.root) p ≡ Some y
     → slice_get all i ≡ Some t → y.neighbour ≡ suc i
     → s.took y.neighbour ≡ t.put s.root.server
 
@@ -78,9 +78,9 @@ AreDone all = (k : ℕ) → k < length all → IsCellDone all k
 pub record IsLaneOf (cells : List CellParts) (giver to taker from : ℕ) : Type 0 where
   pub within : giver < length cells
   pub apart : giver ≡ taker → ⊥
-  pub lane : (a b : CellParts) → slice_get cells giver ≡ Some a → slice_get cells taker ≡ Some b → At IsOneLane to (links_of a.root) from (links_of b.root)
-  pub gives : (a b : CellParts) → slice_get cells giver ≡ Some a → slice_get cells taker ≡ Some b → IsNeighbour to b.root.server (links_of a.root)
-  pub takes : (b : CellParts) → slice_get cells taker ≡ Some b → IsNeighbour from (suc giver) (links_of b.root)
+  pub lane : (a b : CellParts) → slice_get cells giver ≡ Some a → slice_get cells taker ≡ Some b → At IsOneLane to (root_links a.root) from (root_links b.root)
+  pub gives : (a b : CellParts) → slice_get cells giver ≡ Some a → slice_get cells taker ≡ Some b → IsNeighbour to b.root.server (root_links a.root)
+  pub takes : (b : CellParts) → slice_get cells taker ≡ Some b → IsNeighbour from (suc giver) (root_links b.root)
 
 -- the value of a server among those of the servers 1, 2 and so on
 abbrev pub of_server : {X : Type 0} → X → List X → ℕ → X
@@ -88,15 +88,15 @@ of_server none xs zero = none
 of_server none xs (suc k) = slice_index_or xs k none
 
 -- the entries of a cell since it entered its phase
-abbrev pub entries_in : (net : NetParts) (phase : ℕ) → CellParts → List (NetEntry real (net_at real (phased_net net) phase))
-entries_in net phase cell = entries_on real (net_at real (phased_net net) phase) (journal_of (drop cell.root.entries cell.journal))
+abbrev pub phase_entries : (net : NetParts) (phase : ℕ) → CellParts → List (NetEntry real (net_at real (phased_net net) phase))
+phase_entries net phase cell = entries_on real (net_at real (phased_net net) phase) (journal_of (drop cell.root.entries cell.journal))
 
 abbrev pub journals : (net : NetParts) (phase : ℕ) → List CellParts → ℕ → List (NetEntry real (net_at real (phased_net net) phase))
-journals net phase cells = of_server [] (map (entries_in net phase) cells)
+journals net phase cells = of_server [] (map (phase_entries net phase) cells)
 
 -- cells of the laws of journals that were in hand as the phase was entered; of who is no server nothing was put or taken
 pub record AreBegun (net : NetParts) (phase : ℕ) (cells : List CellParts) (begun : ℕ → Cell (machine_in net phase)) : Type 0 where
-  pub stand : (k : ℕ) (cell : CellParts) → slice_get cells k ≡ Some cell → IsCellOf net phase cell.root.core.value (links_of cell.root) (begun (suc k))
+  pub stand : (k : ℕ) (cell : CellParts) → slice_get cells k ≡ Some cell → IsCellOf net phase cell.root.core.value (root_links cell.root) (begun (suc k))
   pub others : (server : ℕ) → ((k : ℕ) → server ≡ suc k → k < length cells → ⊥)
       → ((link : ℕ) → ((begun server).put link ≡ []) × ((begun server).took link ≡ []))
 

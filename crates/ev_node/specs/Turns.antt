@@ -9,7 +9,7 @@ use Rattle.ev_frame.specs.Frame.{FrameParts}
 use Rattle.ev_wire.specs.declared.sent.Sent.{Sent}
 use Rattle.ev_wire.specs.declared.command.Command.{Command}
 use Rattle.ev_wire.specs.declared.message.Message.{Message as WireMessage}
-use Rattle.ev_wire.specs.MessageText.{message_text, IsMessageText}
+use Rattle.ev_wire.specs.MessageText.{message_text, IsMessageText, Each}
 use Rattle.ev_control.specs.Control.{wired}
 use Rattle.ev_model.specs.declared.turn.Act.{Act as EntryAct}
 use Rattle.ev_model.specs.declared.turn.Act.TheVariants as acts
@@ -23,12 +23,12 @@ use Rattle.ev_net.specs.Acted.{StampedInput, input_of, stamp_of, told_as}
 use Rattle.ev_net.specs.Links.{framed}
 use Rattle.ev_node.specs.declared.held.ServerInHand.{ServerInHand}
 use Rattle.ev_node.specs.declared.link.Link.{Link}
-use Rattle.ev_node.specs.Links.{Both, Each, IsMoved, IsUnmoved, IsFlushed, HasMissed, HasSeen, ComesNext, only_from}
+use Rattle.ev_node.specs.Links.{Both, IsMoved, IsUnmoved, IsFlushed, HasMissed, HasSeen, ComesNext, only_from}
 
 -- what an input takes from each neighbour
-abbrev pub taken_by : StampedInput → ℕ → List FrameParts
-taken_by (Does task) neighbour = []
-taken_by (Takes from m) neighbour = only_from from (framed m) neighbour
+abbrev pub taken_by_input : StampedInput → ℕ → List FrameParts
+taken_by_input (Does task) neighbour = []
+taken_by_input (Takes from m) neighbour = only_from from (framed m) neighbour
 
 -- the message that an input takes, if it takes one, has a text
 abbrev pub IsTold : StampedInput → Type 0
@@ -56,7 +56,7 @@ pub record IsCellTurn (phase : ℕ) (input : StampedInput) (act : EntryAct) (old
   pub sent : List Sent
   pub step : MakesStep (input_of input) (stamp_of input) old.core new.core stamp sent
   pub entry : after ≡ before ++ entry_parts stamp old.core.server act (map (λ s. s.to) sent) ∷ []
-  pub links : Both (IsMoved stamp sent (taken_by input)) old.links.items new.links.items
+  pub links : Both (IsMoved stamp sent (taken_by_input input)) old.links.items new.links.items
   pub flushed : Each IsFlushed new.links.items
   pub publisher : IsSamePublisher old.publisher new.publisher
 

@@ -2,11 +2,11 @@
 use Rattle.std.specs.Prelude.{◌≡◌, List}
 use Rattle.ev_sets.specs.Sets.{Has}
 use Rattle.ev_counting.specs.declared.change.Change.{Change}
-use Rattle.ev_server.specs.Staged.{pair_of}
+use Rattle.ev_server.specs.Staged.{changed_pair}
 
 -- one of the changes touches the pair of this one
 abbrev pub IsTouched : List Change → Change → Type 0
-IsTouched changes change = (other : Change) × Has other changes × (pair_of change ≡ pair_of other)
+IsTouched changes change = (other : Change) × Has other changes × (changed_pair change ≡ changed_pair other)
 
 -- and of each of these
 abbrev pub AreTouched : List Change → List Change → Type 0

@@ -1,7 +1,7 @@
 //! What is asked of what a cell has in hand.
 ghost use Rattle.std.specs.Prelude.{◌≡◌, ◌↔◌, ℕ, IfOk, OnErr, IsErrOf, IsTrue};
 ghost use Rattle.ev_sets.specs.Sets.{Has};
-ghost use Rattle.ev_server.specs.Clients.{numbers_of};
+ghost use Rattle.ev_server.specs.Clients.{client_numbers};
 ghost use Rattle.ev_net.specs.Kept.{IsSomeServer};
 ghost use Rattle.ev_node.specs.Cell.{IsServerInHand};
 ghost use Rattle.ev_node.specs.Turns.{HasCommand, IsStill};
@@ -19,7 +19,7 @@ use std::sync::Wait;
 
 /// Whether the next command of a client that lives here is of this phase.
 pub(crate) fn is_of_phase(core: &Core, phase: u32, client: u32) -> bool
-    requires lives { Has client (numbers_of core.now.clients) }
+    requires lives { Has client (client_numbers core.now.clients) }
     requires stands { IsSomeServer core.now }
     ensures { IsTrue result ↔ HasCommand core.now client phase }
 {

@@ -38,6 +38,7 @@ pub struct Cell<'a> {
 }
 
 impl<'a> Model for Cell<'a> {
+    ghost use Rattle.ev_wire.specs.MessageText.{Each};
     ghost use Rattle.ev_node.specs.Cell.{CellParts, IsKept, cell_parts};
 
     ghost Value = { CellParts };
@@ -69,7 +70,6 @@ impl<'a> Cell<'a> {
     ghost use Rattle.ev_node.specs.Cell.{IsKept, HasEntered, HasNoneBelow};
     ghost use Rattle.ev_node.specs.Turns.{IsStill};
     ghost use Rattle.ev_versions.specs.Ends.{staged, published, IsAheadBy, IsSameViewer, IsViewerOf};
-    ghost use Rattle.ev_node.specs.Links.{Each};
     ghost use Rattle.ev_node.specs.Lanes.{IsNew};
     ghost use Rattle.ev_node.specs.Started.{IsFreshCell};
     ghost use Rattle.ev_node.specs.Asked.{Answers, IsWorn, Suits};

@@ -1,7 +1,7 @@
 //! What comes of a match ahead for the notice of a step.
 ghost use Rattle.std.specs.Prelude.{◌≡◌};
 ghost use Rattle.ev_sets.specs.Sets.{Has};
-ghost use Rattle.ev_server.specs.Clients.{numbers_of};
+ghost use Rattle.ev_server.specs.Clients.{client_numbers};
 ghost use Rattle.ev_versions.specs.Ends.{IsAheadOf, IsSameViewer, IsViewerOf};
 ghost use Rattle.ev_net.specs.Kept.{IsSomeServer};
 ghost use Rattle.ev_node.specs.Cell.{IsPublishedBy};
@@ -57,7 +57,7 @@ pub(crate) fn choose_next<'a>(
 ) -> Choice<'a>
     requires viewer { IsViewerOf publisher.now viewer.old }
     requires ahead { IsAheadOf publisher.now ahead.now }
-    requires lives { Has client (numbers_of core.now.clients) }
+    requires lives { Has client (client_numbers core.now.clients) }
     requires stands { IsSomeServer core.now }
     requires published { IsPublishedBy publisher.now core.now }
     ensures same { IsSameViewer viewer.old viewer.new }

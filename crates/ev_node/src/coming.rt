@@ -3,7 +3,7 @@ ghost use Rattle.std.specs.Prelude.{◌≡◌, ℕ, ◌⊎◌, IfSome, IfNone};
 ghost use Rattle.ev_sets.specs.Sets.{Has};
 ghost use Rattle.ev_model.specs.Nets.{clients_of};
 ghost use Rattle.ev_model.specs.Sound.{IsSound};
-ghost use Rattle.ev_server.specs.Clients.{numbers_of};
+ghost use Rattle.ev_server.specs.Clients.{client_numbers};
 ghost use Rattle.ev_net.specs.Kept.{IsSomeServer};
 ghost use Rattle.ev_node.specs.Turns.{HasCommand};
 ghost use Rattle.ev_node.specs.Entered.{AreThrough};
@@ -28,7 +28,7 @@ fn earlier(one: Option<u32>, other: Option<u32>) -> Option<u32>
 
 /// The phase of the next command of a client that lives here.
 fn next_at(core: &Core, client: u32) -> Option<u32>
-    requires lives { Has client (numbers_of core.now.clients) }
+    requires lives { Has client (client_numbers core.now.clients) }
     requires stands { IsSomeServer core.now }
     ensures from { IsFrom result client core.now.clients }
     ensures own { IfSome result (λ phase. HasCommand core.now client phase) }
@@ -43,7 +43,7 @@ fn next_at(core: &Core, client: u32) -> Option<u32>
 pub(crate) fn next_of(core: &Core, net: &Net, server: u32) -> Option<u32>
     requires stands { IsSomeServer core.now }
     requires sound { IsSound net.now }
-    requires clients { clients_of net.now server ≡ numbers_of core.now.clients }
+    requires clients { clients_of net.now server ≡ client_numbers core.now.clients }
     ensures from { AreFrom result core.now.clients }
     ensures own { IsOfSome result core.now }
 {

@@ -10,7 +10,7 @@ ghost use Rattle.ev_wire.specs.declared.message.Message.TheVariants as messages;
 ghost use Rattle.ev_wire.specs.MessageText.{IsSendable};
 ghost use Rattle.ev_model.specs.Meaning.{message_of};
 ghost use Rattle.ev_session.specs.Session.{SessionParts};
-ghost use Rattle.ev_server.specs.Clients.{numbers_of};
+ghost use Rattle.ev_server.specs.Clients.{client_numbers};
 ghost use Rattle.ev_server.specs.Routed.{RoutesNext, RoutesMessage};
 ghost use Rattle.ev_server.specs.Step.{MakesStep, last_stamp};
 ghost use Rattle.ev_versions.specs.Pairs.{pairs_after};
@@ -62,7 +62,7 @@ fn command_by(
     client: u32,
     route: &Route,
 ) -> Result<Stepped, StepFault>
-    requires lives { Has client (numbers_of core.old.clients) }
+    requires lives { Has client (client_numbers core.old.clients) }
     requires left { (s : SessionParts) → Has s core.old.clients → s.client ≡ client → s.taken < length s.script }
     requires stands { IsSomeServer core.old }
     requires published { IsPublishedBy publisher.now core.old }
@@ -87,7 +87,7 @@ pub(crate) fn take_command(
     client: u32,
     known: Option<&Route>,
 ) -> Result<Stepped, StepFault>
-    requires lives { Has client (numbers_of core.old.clients) }
+    requires lives { Has client (client_numbers core.old.clients) }
     requires left { (s : SessionParts) → Has s core.old.clients → s.client ≡ client → s.taken < length s.script }
     requires stands { IsSomeServer core.old }
     requires published { IsPublishedBy publisher.now core.old }

@@ -6,7 +6,7 @@ ghost use Rattle.ev_model.specs.Parts.{NetParts};
 ghost use Rattle.ev_node.specs.declared.held.Root.{Root as RootParts};
 ghost use Rattle.ev_node.specs.Cell.{CellParts, IsKept, machine_in};
 ghost use Rattle.ev_node.specs.Links.{At, IsNextAt, IsOneLane, IsSettledLane};
-ghost use Rattle.ev_node.specs.Together.{AreTogether, AreBegun, AreDone, IsCellDone, IsFinished, IsLaneOf, IsTakenUp, IsWornSomewhere, links_of, roots, sights};
+ghost use Rattle.ev_node.specs.Together.{AreTogether, AreBegun, AreDone, IsCellDone, IsFinished, IsLaneOf, IsTakenUp, IsWornSomewhere, root_links, cell_roots, sights};
 ghost use Rattle.ev_node.specs.InHand.{AreAllInHand, AreTakenInOrder, IsTakenInOrder};
 
 use crate::cell::Cell;
@@ -27,7 +27,7 @@ fn settle_at(
     requires taker { taker < length cells.old }
     requires apart { giver ≡ taker → ⊥ }
     requires lane { (a b : CellParts) → slice_get cells.old giver ≡ Some a → slice_get cells.old taker ≡ Some b
-        → At IsOneLane to (links_of a.root) from (links_of b.root) }
+        → At IsOneLane to (root_links a.root) from (root_links b.root) }
     ensures sights { sights cells.new ≡ sights cells.old }
     ensures settled { OnOk result ((a b : CellParts) × (slice_get cells.new giver ≡ Some a) × (slice_get cells.new taker ≡ Some b)
         × At IsSettledLane to a.held.links.items from b.held.links.items) }
@@ -41,8 +41,8 @@ fn settle_at(
 /// its link to the server.
 fn giver_of(cells: &[Cell<'_>], taker: usize, from: usize) -> (usize, usize)
     requires taker { taker < length cells.now }
-    requires from { (b : RootParts) → slice_get (roots cells.now) taker ≡ Some b → from < length (links_of b) }
-    requires together { (net : NetParts) × (phase : ℕ) × AreTogether net phase (roots cells.now) }
+    requires from { (b : RootParts) → slice_get (cell_roots cells.now) taker ≡ Some b → from < length (root_links b) }
+    requires together { (net : NetParts) × (phase : ℕ) × AreTogether net phase (cell_roots cells.now) }
     ensures { IsLaneOf cells.now result.0 result.1 taker from }
 {
     let mine = &cells[taker];
@@ -64,9 +64,9 @@ fn take_settled<R: Wait>(
     from: usize,
 ) -> Result<bool, StepFault>
     requires taker { taker < length cells.old }
-    requires from { (b : RootParts) → slice_get (roots cells.old) taker ≡ Some b → from < length (links_of b) }
-    requires together { (net : NetParts) × (phase : ℕ) × AreTogether net phase (roots cells.old) }
-    ensures roots { roots cells.new ≡ roots cells.old }
+    requires from { (b : RootParts) → slice_get (cell_roots cells.old) taker ≡ Some b → from < length (root_links b) }
+    requires together { (net : NetParts) × (phase : ℕ) × AreTogether net phase (cell_roots cells.old) }
+    ensures roots { cell_roots cells.new ≡ cell_roots cells.old }
     ensures idle { IfOk result (λ made. made ≡ false → (sights cells.new ≡ sights cells.old) × IsTakenUp (sights cells.new) taker from) }
     ensures worn { (s : ℕ) → IsErrOf result (StepFault.Worn s) → IsWornSomewhere s (sights cells.new) }
 {
@@ -87,8 +87,8 @@ fn take_settled<R: Wait>(
 /// Takes from each neighbour once, where there is something; answers whether there was.
 fn walk_links<R: Wait>(rt: &R, cells: &mut [Cell<'_>], k: usize) -> Result<bool, StepFault>
     requires k { k < length cells.old }
-    requires together { (net : NetParts) × (phase : ℕ) × AreTogether net phase (roots cells.old) }
-    ensures roots { roots cells.new ≡ roots cells.old }
+    requires together { (net : NetParts) × (phase : ℕ) × AreTogether net phase (cell_roots cells.old) }
+    ensures roots { cell_roots cells.new ≡ cell_roots cells.old }
     ensures idle { IfOk result (λ made. made ≡ false → (sights cells.new ≡ sights cells.old)
         × ((p : ℕ) → IsTakenUp (sights cells.new) k p)) }
     ensures worn { (s : ℕ) → IsErrOf result (StepFault.Worn s) → IsWornSomewhere s (sights cells.new) }
@@ -107,8 +107,8 @@ fn walk_links<R: Wait>(rt: &R, cells: &mut [Cell<'_>], k: usize) -> Result<bool,
 /// Tries each turn of one server once; answers whether one was made.
 fn walk_cell<R: Wait>(rt: &R, cells: &mut [Cell<'_>], k: usize) -> Result<bool, StepFault>
     requires k { k < length cells.old }
-    requires together { (net : NetParts) × (phase : ℕ) × AreTogether net phase (roots cells.old) }
-    ensures roots { roots cells.new ≡ roots cells.old }
+    requires together { (net : NetParts) × (phase : ℕ) × AreTogether net phase (cell_roots cells.old) }
+    ensures roots { cell_roots cells.new ≡ cell_roots cells.old }
     ensures idle { IfOk result (λ made. made ≡ false → (sights cells.new ≡ sights cells.old) × IsCellDone (sights cells.new) k) }
     ensures worn { (s : ℕ) → IsErrOf result (StepFault.Worn s) → IsWornSomewhere s (sights cells.new) }
 {
@@ -119,8 +119,8 @@ fn walk_cell<R: Wait>(rt: &R, cells: &mut [Cell<'_>], k: usize) -> Result<bool, 
 
 /// Tries each turn of each server once; answers whether one was made.
 fn walk_once<R: Wait>(rt: &R, cells: &mut [Cell<'_>]) -> Result<bool, StepFault>
-    requires { (net : NetParts) × (phase : ℕ) × AreTogether net phase (roots cells.old) }
-    ensures roots { roots cells.new ≡ roots cells.old }
+    requires { (net : NetParts) × (phase : ℕ) × AreTogether net phase (cell_roots cells.old) }
+    ensures roots { cell_roots cells.new ≡ cell_roots cells.old }
     ensures idle { IfOk result (λ made. made ≡ false → AreDone (sights cells.new)) }
     ensures worn { (s : ℕ) → IsErrOf result (StepFault.Worn s) → IsWornSomewhere s (sights cells.new) }
 {
@@ -135,8 +135,8 @@ fn walk_once<R: Wait>(rt: &R, cells: &mut [Cell<'_>]) -> Result<bool, StepFault>
 
 /// Makes rounds until one makes nothing.
 fn walk_rest<R: Wait>(rt: &R, cells: &mut [Cell<'_>]) -> Result<(), StepFault>
-    requires { (net : NetParts) × (phase : ℕ) × AreTogether net phase (roots cells.old) }
-    ensures roots { roots cells.new ≡ roots cells.old }
+    requires { (net : NetParts) × (phase : ℕ) × AreTogether net phase (cell_roots cells.old) }
+    ensures roots { cell_roots cells.new ≡ cell_roots cells.old }
     ensures done { OnOk result (AreDone (sights cells.new)) }
     ensures worn { (s : ℕ) → IsErrOf result (StepFault.Worn s) → IsWornSomewhere s (sights cells.new) }
 {
@@ -150,7 +150,7 @@ fn walk_rest<R: Wait>(rt: &R, cells: &mut [Cell<'_>]) -> Result<(), StepFault>
 
 /// Takes the commands of the phase that are left, server by server.
 fn walk_commands(cells: &mut [Cell<'_>]) -> Result<(), StepFault>
-    ensures roots { roots cells.new ≡ roots cells.old }
+    ensures roots { cell_roots cells.new ≡ cell_roots cells.old }
     ensures worn { (s : ℕ) → IsErrOf result (StepFault.Worn s) → IsWornSomewhere s (sights cells.new) }
 {
     for k in 0..cells.len() {
@@ -171,7 +171,7 @@ pub(crate) fn tell_all(cells: &[Cell<'_>])
 /// Brings all that was put for one server, and not taken, to its taking ends.
 fn settle_one(cells: &mut [Cell<'_>], k: usize) -> Result<(), NoMemory>
     requires k { k < length cells.old }
-    requires together { (net : NetParts) × (phase : ℕ) × AreTogether net phase (roots cells.old) }
+    requires together { (net : NetParts) × (phase : ℕ) × AreTogether net phase (cell_roots cells.old) }
     ensures sights { sights cells.new ≡ sights cells.old }
     ensures order { OnOk result ((p : ℕ) → IsTakenInOrder (sights cells.new) k p) }
 {
@@ -189,7 +189,7 @@ fn settle_one(cells: &mut [Cell<'_>], k: usize) -> Result<(), NoMemory>
 /// Brings all that was put, and not taken, to the taking ends of all lanes. Then what each server took of a neighbour is
 /// the beginning of what that put for it.
 fn settle_all(cells: &mut [Cell<'_>]) -> Result<(), NoMemory>
-    requires { (net : NetParts) × (phase : ℕ) × AreTogether net phase (roots cells.old) }
+    requires { (net : NetParts) × (phase : ℕ) × AreTogether net phase (cell_roots cells.old) }
     ensures sights { sights cells.new ≡ sights cells.old }
     ensures order { OnOk result (AreTakenInOrder (sights cells.new)) }
 {
@@ -201,10 +201,10 @@ fn settle_all(cells: &mut [Cell<'_>]) -> Result<(), NoMemory>
 
 /// Makes the rest of the phase, up to a fault.
 fn walk_phase<R: Wait>(rt: &R, cells: &mut [Cell<'_>]) -> Result<(), StepFault>
-    requires together { (net : NetParts) × (phase : ℕ) × AreTogether net phase (roots cells.old) }
-    ensures roots { roots cells.new ≡ roots cells.old }
+    requires together { (net : NetParts) × (phase : ℕ) × AreTogether net phase (cell_roots cells.old) }
+    ensures roots { cell_roots cells.new ≡ cell_roots cells.old }
     ensures done { OnOk result (AreDone (sights cells.new)) }
-    ensures finished { OnOk result ((net : NetParts) (phase : ℕ) → AreTogether net phase (roots cells.old)
+    ensures finished { OnOk result ((net : NetParts) (phase : ℕ) → AreTogether net phase (cell_roots cells.old)
         → (begun : ℕ → Begun (machine_in net phase)) → AreBegun net phase cells.new begun → IsFinished net phase cells.new begun) }
     ensures worn { (s : ℕ) → IsErrOf result (StepFault.Worn s) → IsWornSomewhere s (sights cells.new) }
 {
@@ -219,13 +219,13 @@ fn walk_phase<R: Wait>(rt: &R, cells: &mut [Cell<'_>]) -> Result<(), StepFault>
 /// and no command of the phase is left. After a fault the steps that were made stand; where no stamp is left, all that was put is
 /// brought to the taking ends, so that all cells are in hand.
 pub fn finish_phase<R: Wait>(rt: &R, cells: &mut [Cell<'_>]) -> Result<(), StepFault>
-    requires together { (net : NetParts) × (phase : ℕ) × AreTogether net phase (roots cells.old) }
-    ensures roots { roots cells.new ≡ roots cells.old }
+    requires together { (net : NetParts) × (phase : ℕ) × AreTogether net phase (cell_roots cells.old) }
+    ensures roots { cell_roots cells.new ≡ cell_roots cells.old }
     ensures done { OnOk result (AreDone (sights cells.new)) }
-    ensures finished { OnOk result ((net : NetParts) (phase : ℕ) → AreTogether net phase (roots cells.old)
+    ensures finished { OnOk result ((net : NetParts) (phase : ℕ) → AreTogether net phase (cell_roots cells.old)
         → (begun : ℕ → Begun (machine_in net phase)) → AreBegun net phase cells.new begun → IsFinished net phase cells.new begun) }
     ensures worn { (s : ℕ) → IsErrOf result (StepFault.Worn s) → IsWornSomewhere s (sights cells.new) }
-    ensures hand { (s : ℕ) → IsErrOf result (StepFault.Worn s) → (net : NetParts) (phase : ℕ) → AreTogether net phase (roots cells.old)
+    ensures hand { (s : ℕ) → IsErrOf result (StepFault.Worn s) → (net : NetParts) (phase : ℕ) → AreTogether net phase (cell_roots cells.old)
         → (begun : ℕ → Begun (machine_in net phase)) → AreBegun net phase cells.new begun → AreAllInHand net phase cells.new begun }
 {
     match walk_phase(rt, cells) {

@@ -1,12 +1,12 @@
 //! The lanes of a tree.
-ghost use Rattle.std.specs.Prelude.{◌≡◌, ◌<◌, ◌≤◌, ◌↔◌, ◌∷◌, ℕ, suc, [], length, map, IfOk, OnOk, IsTrue};
-ghost use Rattle.ev_sets.specs.Sets.{Has};
+ghost use Rattle.std.specs.Prelude.{◌≡◌, ◌<◌, ◌≤◌, ◌∷◌, ℕ, suc, [], length, map, IfOk, OnOk};
 ghost use Rattle.ev_tree.specs.Tree.{IsServer, links_of};
 ghost use Rattle.ev_node.specs.Lanes.{AreBetween, AreNone, AreJoinedByLanes, AreLanes, AreLanesOf};
 
 use crate::link::Link;
 use ev_lane::lane;
 use ev_memory::NoMemory;
+use ev_net::is_among;
 use ev_tree::Tree;
 use std::alloc::Global;
 
@@ -41,13 +41,6 @@ fn join(alloc: Global, rows: &mut Vec<Vec<Link>>, one: u32, other: u32) -> Resul
     Ok(())
 }
 
-/// Whether a number is among others.
-fn is_among(numbers: &[u32], number: u32) -> bool
-    ensures { IsTrue result ↔ Has number numbers.now }
-{
-    numbers.contains(&number)
-}
-
 /// Joins a server with its higher neighbours, where the lower servers are joined with theirs.
 fn join_higher(
     alloc: Global,
@@ -61,7 +54,7 @@ fn join_higher(
 {
     tree.laws();
     for other in server + 1..tree.servers() + 1 {
-        if is_among(tree.neighbours(server), other) {
+        if is_among(other, tree.neighbours(server)) {
             join(alloc, rows, server, other)?;
         }
     }

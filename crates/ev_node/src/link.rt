@@ -5,7 +5,8 @@ ghost use Rattle.ev_sets.specs.Sets.{Has};
 ghost use Rattle.ev_sets.specs.Numbers.{IsDistinct};
 ghost use Rattle.ev_wire.specs.declared.sent.Sent.{Sent as SentParts};
 ghost use Rattle.ev_frame.specs.Frame.{FrameParts, HasMessage};
-ghost use Rattle.ev_node.specs.Links.{Both, Each, At, IsNeighbour, IsNextAt, IsOneLane, IsUnmoved, IsSettledLane, IsRoomed, IsGiven, AreInOrder};
+ghost use Rattle.ev_wire.specs.MessageText.{Each};
+ghost use Rattle.ev_node.specs.Links.{Both, At, IsNeighbour, IsNextAt, IsOneLane, IsUnmoved, IsSettledLane, IsRoomed, IsGiven, AreInOrder};
 
 use ev_frame::Frame;
 use ev_lane::{LaneIn, LaneOut, settle};

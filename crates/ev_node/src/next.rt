@@ -2,9 +2,9 @@
 ghost use Rattle.std.specs.Prelude.{◌≡◌, ◌<◌, ◌^◌, ℕ, Some, slice_get, OnOk};
 ghost use Rattle.ev_model.specs.Sound.{IsSound};
 ghost use Rattle.ev_node.specs.Cell.{CellParts};
-ghost use Rattle.ev_node.specs.Together.{AreTogether, roots};
+ghost use Rattle.ev_node.specs.Together.{AreTogether, cell_roots};
 ghost use Rattle.ev_node.specs.Relinking.{CanRaise, HasRaised};
-ghost use Rattle.ev_node.specs.Entered.{AreCalm, AreEntered, AreSameCells, AreThrough, greatest_clock};
+ghost use Rattle.ev_node.specs.Entered.{AreCalm, AreEntered, AreSameCells, AreThrough, greatest_cell_clock};
 
 use crate::cell::Cell;
 use crate::finish::tell_all;
@@ -17,7 +17,7 @@ use std::sync::Wait;
 
 /// The greatest clock.
 pub(crate) fn greatest(cells: &[Cell<'_>]) -> u64
-    ensures greatest { result ≡ greatest_clock cells.now }
+    ensures greatest { result ≡ greatest_cell_clock cells.now }
     ensures low { result < 2 ^ 62 }
 {
     let mut greatest = 0;
@@ -52,7 +52,7 @@ pub fn enter_next<R: Wait>(
     phase: u32,
 ) -> Result<(), NoMemory>
     requires sound { IsSound net.now }
-    requires together { AreTogether net.now last (roots cells.old) }
+    requires together { AreTogether net.now last (cell_roots cells.old) }
     requires later { last < phase }
     requires calm { AreCalm cells.old }
     requires through { AreThrough phase cells.old }

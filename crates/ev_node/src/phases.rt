@@ -4,7 +4,7 @@ ghost use Rattle.ev_sets.specs.Sets.{Has};
 ghost use Rattle.ev_phases.specs.Trees.{trees_by};
 ghost use Rattle.ev_model.specs.Nets.{clients_of, later_trees};
 ghost use Rattle.ev_model.specs.Sound.{IsSound};
-ghost use Rattle.ev_server.specs.Clients.{numbers_of};
+ghost use Rattle.ev_server.specs.Clients.{client_numbers};
 ghost use Rattle.ev_net.specs.Kept.{IsSomeServer};
 ghost use Rattle.ev_node.specs.Cell.{HasNoneBelow, IsPast};
 
@@ -27,7 +27,7 @@ pub(crate) fn trees_come(net: &Net, phase: u32) -> usize
 
 /// Whether the next command of a client that lives here is of this phase or a later one, or there is none.
 fn is_past(core: &Core, client: u32, phase: u32) -> bool
-    requires lives { Has client (numbers_of core.now.clients) }
+    requires lives { Has client (client_numbers core.now.clients) }
     requires stands { IsSomeServer core.now }
     ensures { IsTrue result ↔ IsPast phase client core.now.clients }
 {
@@ -41,7 +41,7 @@ fn is_past(core: &Core, client: u32, phase: u32) -> bool
 pub(crate) fn is_through(core: &Core, net: &Net, server: u32, phase: u32) -> bool
     requires stands { IsSomeServer core.now }
     requires sound { IsSound net.now }
-    requires clients { clients_of net.now server ≡ numbers_of core.now.clients }
+    requires clients { clients_of net.now server ≡ client_numbers core.now.clients }
     ensures { IsTrue result ↔ HasNoneBelow phase core.now.clients }
 {
     for place in 0..net.clients.len() {

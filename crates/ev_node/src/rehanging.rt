@@ -6,8 +6,8 @@ ghost use Rattle.ev_model.specs.Parts.{EntryParts};
 ghost use Rattle.ev_server.specs.Linked.{AreHeldLinks};
 ghost use Rattle.ev_versions.specs.Ends.{staged, published, IsSamePublisher};
 ghost use Rattle.ev_net.specs.Kept.{IsSomeServer};
-ghost use Rattle.ev_node.specs.Links.{Each};
-ghost use Rattle.ev_node.specs.Lanes.{IsNew, named};
+ghost use Rattle.ev_wire.specs.MessageText.{Each};
+ghost use Rattle.ev_node.specs.Lanes.{IsNew, neighbours_in};
 ghost use Rattle.ev_node.specs.Cell.{IsServerInHand};
 ghost use Rattle.ev_node.specs.Turns.{IsStill};
 ghost use Rattle.ev_node.specs.Relinking.{IsPutOn, additions, removals};
@@ -75,7 +75,7 @@ fn withdraw_all(
     requires { staged publisher.old ≡ published publisher.old ++ handed.old.items }
     ensures same { IsSamePublisher publisher.old publisher.new × (published publisher.new ≡ published publisher.old) }
     ensures handed { staged publisher.new ≡ published publisher.new ++ handed.new.items }
-    ensures all { OnOk result (handed.new.items ≡ handed.old.items ++ removals core.now.control (named links.now)) }
+    ensures all { OnOk result (handed.new.items ≡ handed.old.items ++ removals core.now.control (neighbours_in links.now)) }
 {
     for link in links {
         let held = core.held(link.neighbour)?;
@@ -116,7 +116,7 @@ pub(crate) fn put_on<R: Wait>(
     requires stands { IsSomeServer held.old.core }
     requires calm { held.old.core.staged ≡ [] }
     requires given { AreHeldLinks given.now }
-    requires names { named links.items ≡ map (λ h. h.link) given.now }
+    requires names { neighbours_in links.items ≡ map (λ h. h.link) given.now }
     requires new { Each IsNew links.items }
     ensures held { IsServerInHand held.new }
     ensures put { OnOk result (IsPutOn given.now links.items held.old held.new) }

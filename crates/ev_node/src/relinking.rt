@@ -6,7 +6,7 @@ ghost use Rattle.ev_model.specs.Nets.{phased_net};
 ghost use Rattle.ev_model.specs.Sound.{IsSound};
 ghost use Rattle.ev_node.specs.declared.link.Link.{Link as LinkParts};
 ghost use Rattle.ev_node.specs.Cell.{CellParts};
-ghost use Rattle.ev_node.specs.Together.{AreTogether, roots};
+ghost use Rattle.ev_node.specs.Together.{AreTogether, cell_roots};
 ghost use Rattle.ev_node.specs.Relinking.{CanMove, HasMoved};
 ghost use Rattle.ev_node.specs.Entered.{AreCalm, AreEntered, AreSameCells, AreThrough};
 
@@ -62,11 +62,11 @@ pub fn relink<R: Wait>(
     phase: u32,
 ) -> Result<(), NoMemory>
     requires sound { IsSound net.now }
-    requires together { (last : ℕ) × AreTogether net.now last (roots cells.old) × (last < phase) }
+    requires together { (last : ℕ) × AreTogether net.now last (cell_roots cells.old) × (last < phase) }
     requires calm { AreCalm cells.old }
     requires through { AreThrough phase cells.old }
     ensures same { AreSameCells cells.old cells.new }
-    ensures entered { OnOk result ((last : ℕ) → AreTogether net.now last (roots cells.old) → last < phase
+    ensures entered { OnOk result ((last : ℕ) → AreTogether net.now last (cell_roots cells.old) → last < phase
         → is_one_tree real (phased_net net.now) last phase ≡ false → AreEntered net.now last phase cells.old cells.new) }
 {
     tell_all(cells);

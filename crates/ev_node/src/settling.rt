@@ -2,7 +2,7 @@
 ghost use Rattle.std.specs.Prelude.{◌≡◌, ◌<◌, ℕ, false, length, map, OnOk, Some, slice_get};
 ghost use Rattle.ev_frame.specs.Frame.{FrameParts};
 ghost use Rattle.ev_node.specs.Links.{At, IsNextAt, IsOneLane, IsSettledLane};
-ghost use Rattle.ev_node.specs.Together.{links_of, sight};
+ghost use Rattle.ev_node.specs.Together.{root_links, sight};
 
 use crate::cell::Cell;
 use ev_memory::NoMemory;
@@ -13,14 +13,14 @@ pub(crate) trait Settles {
     ghost use Rattle.ev_frame.specs.Frame.{FrameParts};
     ghost use Rattle.ev_node.specs.Cell.{CellParts};
     ghost use Rattle.ev_node.specs.Links.{At, IsNextAt, IsOneLane, IsSettledLane};
-    ghost use Rattle.ev_node.specs.Together.{links_of, sight};
+    ghost use Rattle.ev_node.specs.Together.{root_links, sight};
 
     /// The cell that it is.
     ghost cell: { Self → CellParts };
 
     /// Brings all that was put on the lane to another, and not taken, to its taking end.
     fn settle(&mut self, to: usize, taker: &mut Self, from: usize) -> Result<(), NoMemory>
-        requires lane { At IsOneLane to (links_of (cell self.old).root) from (links_of (cell taker.old).root) }
+        requires lane { At IsOneLane to (root_links (cell self.old).root) from (root_links (cell taker.old).root) }
         ensures giver { sight (cell self.new) ≡ sight (cell self.old) }
         ensures taker { sight (cell taker.new) ≡ sight (cell taker.old) }
         ensures settled { OnOk result (At IsSettledLane to (cell self.new).held.links.items from (cell taker.new).held.links.items) }
@@ -48,7 +48,7 @@ pub(crate) fn settle_two<T: Settles>(
     requires taker { taker < length all.old }
     requires apart { giver ≡ taker → ⊥ }
     requires lane { (a b : T) → slice_get all.old giver ≡ Some a → slice_get all.old taker ≡ Some b
-        → At IsOneLane to (links_of (T.cell a).root) from (links_of (T.cell b).root) }
+        → At IsOneLane to (root_links (T.cell a).root) from (root_links (T.cell b).root) }
     ensures sights { map (λ a. sight (T.cell a)) all.new ≡ map (λ a. sight (T.cell a)) all.old }
     ensures settled { OnOk result ((a b : T) × (slice_get all.new giver ≡ Some a) × (slice_get all.new taker ≡ Some b)
         × At IsSettledLane to (T.cell a).held.links.items from (T.cell b).held.links.items) }

@@ -4,7 +4,7 @@ ghost use Rattle.ev_sets.specs.Sets.{Has};
 ghost use Rattle.ev_tree.specs.Tree.{links_of};
 ghost use Rattle.ev_model.specs.Nets.{servers_in, topology_at};
 ghost use Rattle.ev_model.specs.Sound.{IsSound};
-ghost use Rattle.ev_node.specs.Links.{Each};
+ghost use Rattle.ev_wire.specs.MessageText.{Each};
 ghost use Rattle.ev_node.specs.Lanes.{AreLanesOf, IsNew};
 ghost use Rattle.ev_node.specs.Started.{AreStarted, IsStarted};
 

@@ -6,7 +6,8 @@ ghost use Rattle.ev_sets.specs.Numbers.{IsDistinct};
 ghost use Rattle.ev_wire.specs.declared.sent.Sent.{Sent as SentParts};
 ghost use Rattle.ev_frame.specs.Frame.{HasMessage};
 ghost use Rattle.ev_model.specs.Parts.{entry_parts};
-ghost use Rattle.ev_node.specs.Links.{Both, Each, IsRoomed, IsGiven, AreInOrder};
+ghost use Rattle.ev_wire.specs.MessageText.{Each};
+ghost use Rattle.ev_node.specs.Links.{Both, IsRoomed, IsGiven, AreInOrder};
 
 use crate::link::{Link, hand_all, room_all};
 use ev_memory::NoMemory;

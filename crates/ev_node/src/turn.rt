@@ -5,7 +5,7 @@ ghost use Rattle.ev_run.specs.Machine.{Does};
 ghost use Rattle.ev_routing.specs.Step.{NextCommand, Version};
 ghost use Rattle.ev_model.specs.declared.turn.Act.TheVariants as acts;
 ghost use Rattle.ev_session.specs.Session.{SessionParts};
-ghost use Rattle.ev_server.specs.Clients.{numbers_of};
+ghost use Rattle.ev_server.specs.Clients.{client_numbers};
 ghost use Rattle.ev_server.specs.Step.{MakesStep, last_stamp};
 ghost use Rattle.ev_server.specs.Routed.{RoutesNext, RoutesMessage};
 ghost use Rattle.ev_versions.specs.Ends.{staged, published, IsSamePublisher};
@@ -44,7 +44,7 @@ pub(crate) fn turn_command(
     requires server { held.old.core.server ≡ server }
     requires held { IsServerInHand held.old }
     requires stands { IsSomeServer held.old.core }
-    requires lives { Has client (numbers_of held.old.core.clients) }
+    requires lives { Has client (client_numbers held.old.core.clients) }
     requires left { (s : SessionParts) → Has s held.old.core.clients → s.client ≡ client → s.taken < length s.script }
     requires known { IfSome known (λ r. RoutesNext held.old.core client r.now) }
     ensures made { (phase : ℕ) → HasCommand held.old.core client phase

@@ -2,7 +2,7 @@
 ghost use Rattle.std.specs.Prelude.{◌≡◌, ◌∷◌, ◌++◌, [], OnOk, IfOk, IsTrue};
 ghost use Rattle.ev_sets.specs.Sets.{Has};
 ghost use Rattle.ev_counting.specs.declared.change.Change.{Change as ChangeParts};
-ghost use Rattle.ev_server.specs.Staged.{pair_of};
+ghost use Rattle.ev_server.specs.Staged.{changed_pair};
 ghost use Rattle.ev_versions.specs.Ends.{staged, published, IsSamePublisher};
 ghost use Rattle.ev_node.specs.Versions.{IsTouched, AreTouched};
 
@@ -30,7 +30,7 @@ fn copy(alloc: Global, change: &Change) -> Result<Change, NoMemory>
 
 /// The interface that a change is of.
 fn interface_of(change: &Change) -> u32
-    ensures { result ≡ (pair_of change.now).interface }
+    ensures { result ≡ (changed_pair change.now).interface }
 {
     match change {
         Change::Add { iface, .. } => *iface,
@@ -40,7 +40,7 @@ fn interface_of(change: &Change) -> u32
 
 /// The filter that a change is of.
 fn filter_of(change: &Change) -> &Filter
-    ensures { result.now ≡ (pair_of change.now).item }
+    ensures { result.now ≡ (changed_pair change.now).item }
 {
     match change {
         Change::Add { filter, .. } => filter,
@@ -57,7 +57,7 @@ fn is_same(one: &Filter, other: &Filter) -> bool
 
 /// Whether two changes touch one pair of an interface and a filter.
 fn are_of_one_pair(one: &Change, other: &Change) -> bool
-    ensures { IsTrue result → pair_of one.now ≡ pair_of other.now }
+    ensures { IsTrue result → changed_pair one.now ≡ changed_pair other.now }
 {
     interface_of(one) == interface_of(other) && is_same(filter_of(one), filter_of(other))
 }

@@ -22,7 +22,7 @@ impl<'a> Cell<'a> {
     ghost use Rattle.ev_node.specs.Turns.{HasCommand, IsWornAt};
     ghost use Rattle.ev_server.specs.Step.{last_stamp};
     ghost use Rattle.ev_frame.specs.Frame.{FrameParts};
-    ghost use Rattle.ev_node.specs.Together.{HasNoCommand, links_of, sight};
+    ghost use Rattle.ev_node.specs.Together.{HasNoCommand, root_links, sight};
 
     /// Its net.
     fn net(&self) -> &'a Net
@@ -68,7 +68,7 @@ impl<'a> Cell<'a> {
         taker: &mut Cell<'_>,
         from: usize,
     ) -> Result<(), NoMemory>
-        requires lane { At IsOneLane to (links_of self.old.root) from (links_of taker.old.root) }
+        requires lane { At IsOneLane to (root_links self.old.root) from (root_links taker.old.root) }
         ensures giver { sight self.new ≡ sight self.old }
         ensures taker { sight taker.new ≡ sight taker.old }
         ensures settled { OnOk result (At IsSettledLane to self.new.held.links.items from taker.new.held.links.items) }

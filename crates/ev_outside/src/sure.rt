@@ -15,18 +15,18 @@ pub struct SureSource {
 }
 
 impl SureSource {
-    ghost use Rattle.ev_outside.specs.Sure.{source_left};
+    ghost use Rattle.ev_outside.specs.Sure.{sure_left};
 
     /// A source of these bytes, with the constant count of faults 0.
     pub fn make(bytes: Vec<u8>) -> SureSource
-        ensures { source_left result ≡ bytes.items }
+        ensures { sure_left result ≡ bytes.items }
     {
         SureSource { bytes, at: 0 }
     }
 
     /// The bytes that are left.
     pub fn bytes(&self) -> &[u8]
-        ensures { result.now ≡ source_left self.now }
+        ensures { result.now ≡ sure_left self.now }
     {
         &self.bytes[self.at..]
     }
@@ -37,15 +37,15 @@ impl Source for SureSource {
     ghost use Rattle.std.specs.Io.{ReadsAtMost};
     ghost use Rattle.std.specs.Io.KnownBytes.{ReadConsumes};
     ghost use Rattle.ev_outside.specs.Cause.{HasCause};
-    ghost use Rattle.ev_outside.specs.Sure.{source_left};
+    ghost use Rattle.ev_outside.specs.Sure.{sure_left};
 
-    ghost left = { λ s. Some (source_left s) };
+    ghost left = { λ s. Some (sure_left s) };
 
     ghost faults = { λ _. 0 };
 
     fn read(&mut self, into: &mut [u8]) -> Result<usize, Failed>
         ensures bound { ReadsAtMost result into.new }
-        ensures bytes { ReadConsumes (Some (source_left self.old)) (Some (source_left self.new)) result into.new }
+        ensures bytes { ReadConsumes (Some (sure_left self.old)) (Some (sure_left self.new)) result into.new }
         ensures cause { HasCause 0 0 result }
         ensures never { IsErr result → ⊥ }
     {
@@ -65,13 +65,13 @@ pub struct SureSink {
 }
 
 impl SureSink {
-    ghost use Rattle.ev_outside.specs.Sure.{sink_bytes, sink_room, sink_faults};
+    ghost use Rattle.ev_outside.specs.Sure.{sure_bytes, sure_room, sure_faults};
 
     /// A sink with nothing written, no room and no fault.
     pub fn make(alloc: Global) -> SureSink
-        ensures bytes { sink_bytes result ≡ [] }
-        ensures room { sink_room result ≡ 0 }
-        ensures faults { sink_faults result ≡ 0 }
+        ensures bytes { sure_bytes result ≡ [] }
+        ensures room { sure_room result ≡ 0 }
+        ensures faults { sure_faults result ≡ 0 }
     {
         SureSink {
             bytes: Vec::new(alloc),
@@ -82,11 +82,11 @@ impl SureSink {
 
     /// Makes room for at least `n` more bytes.
     pub fn reserve(&mut self, n: usize) -> Result<(), NoMemory>
-        ensures ok { OnOk result (n ≤ sink_room self.new) }
-        ensures more { sink_room self.old ≤ sink_room self.new }
-        ensures err { OnErr result (sink_room self.new ≡ sink_room self.old) }
-        ensures bytes { sink_bytes self.new ≡ sink_bytes self.old }
-        ensures faults { sink_faults self.new ≡ sink_faults self.old }
+        ensures ok { OnOk result (n ≤ sure_room self.new) }
+        ensures more { sure_room self.old ≤ sure_room self.new }
+        ensures err { OnErr result (sure_room self.new ≡ sure_room self.old) }
+        ensures bytes { sure_bytes self.new ≡ sure_bytes self.old }
+        ensures faults { sure_faults self.new ≡ sure_faults self.old }
     {
         self.bytes.reserve(n)?;
         self.room = self.room.max(n);
@@ -95,7 +95,7 @@ impl SureSink {
 
     /// The bytes written.
     pub fn bytes(&self) -> &[u8]
-        ensures { result.now ≡ sink_bytes self.now }
+        ensures { result.now ≡ sure_bytes self.now }
     {
         &self.bytes
     }
@@ -106,21 +106,21 @@ impl Sink for SureSink {
     ghost use Rattle.std.specs.Io.{WritesAtMost};
     ghost use Rattle.std.specs.Io.KnownBytes.{WriteAppends};
     ghost use Rattle.ev_outside.specs.Cause.{HasCause};
-    ghost use Rattle.ev_outside.specs.Sure.{sink_bytes, sink_room, sink_faults};
+    ghost use Rattle.ev_outside.specs.Sure.{sure_bytes, sure_room, sure_faults};
 
-    ghost written = { λ s. Some (sink_bytes s) };
+    ghost written = { λ s. Some (sure_bytes s) };
 
-    ghost faults = { sink_faults };
+    ghost faults = { sure_faults };
 
     fn write(&mut self, from: &[u8]) -> Result<usize, Failed>
         ensures bound { WritesAtMost result from.now }
         ensures some { IfOk result (λ n. 0 < length from.now → 0 < n) }
-        ensures bytes { WriteAppends (Some (sink_bytes self.old)) (Some (sink_bytes self.new)) result from.now }
-        ensures cause { HasCause (sink_faults self.old) (sink_faults self.new) result }
-        ensures fits { IfOk result (λ n. n ≡ min (length from.now) (sink_room self.old)) }
-        ensures room { IfOk result (λ n. sink_room self.new ≡ sink_room self.old - n) }
-        ensures no_fault { IfOk result (λ _. sink_faults self.new ≡ sink_faults self.old) }
-        ensures full { IsErr result ↔ ((0 < length from.now) × (sink_room self.old ≡ 0)) }
+        ensures bytes { WriteAppends (Some (sure_bytes self.old)) (Some (sure_bytes self.new)) result from.now }
+        ensures cause { HasCause (sure_faults self.old) (sure_faults self.new) result }
+        ensures fits { IfOk result (λ n. n ≡ min (length from.now) (sure_room self.old)) }
+        ensures room { IfOk result (λ n. sure_room self.new ≡ sure_room self.old - n) }
+        ensures no_fault { IfOk result (λ _. sure_faults self.new ≡ sure_faults self.old) }
+        ensures full { IsErr result ↔ ((0 < length from.now) × (sure_room self.old ≡ 0)) }
     {
         let count = from.len().min(self.room);
         if count == 0 && !from.is_empty() {

@@ -3,7 +3,7 @@ use Rattle.std.proofs.Common.{◌≡◌, ◌≢◌, ◌⊎◌, ◌↔◌, inl, i
 use Rattle.std.specs.List.{list_any}
 use Rattle.std.proofs.lemmas.Bool.Decides.{nat_tests}
 use Rattle.ev_poset.specs.Graph.{Stand, NodeAt, is_marked, counts}
-use Rattle.ev_poset.specs.Standing.{is_root, is_root_for, SkipsMarked, SameRoots, differs}
+use Rattle.ev_poset.specs.Standing.{stands_as_root, is_root_for, SkipsMarked, SameRoots, differs}
 use Rattle.ev_poset.specs.declared.standing.Standing.{Standing}
 use Rattle.ev_poset.specs.declared.standing.Difference.{Difference}
 use Rattle.std.proofs.lemmas.Bool.{cases_eq}
@@ -90,8 +90,8 @@ none-more f (y ∷ ys) x e = go (f y) refl (none-more f ys x)
     go true q ih = absurd (no-mark true refl (grind (arith, e, q)))
     go false q ih = let r = ih (grind (arith, e, q)) in (grind (arith, q, r.0), r.1)
 
-same-roots : (l : ℕ) (d : Difference) → differs l d ≡ false → is_root l d.old ≡ is_root l d.new
-same-roots l d e = go (is_root l d.old) (is_root l d.new) e
+same-roots : (l : ℕ) (d : Difference) → differs l d ≡ false → stands_as_root l d.old ≡ stands_as_root l d.new
+same-roots l d e = go (stands_as_root l d.old) (stands_as_root l d.new) e
   where
     go : (a b : Bool) → cond a (not b) b ≡ false → a ≡ b
     go true true q = refl
@@ -108,7 +108,7 @@ more-same old new key found was here l none k s = elim (cases_eq k key) [
 ]
 
 pub more-found : (old new : List Standing) (key : ℕ) (found : List Difference) (d : Difference) → ((l : ℕ) → list_any (differs l) found ≡ false → (k : ℕ) → k < key → is_root_for old l k ≡ is_root_for new l k)
-    → ((l : ℕ) → is_root l d.old ≡ is_root_for old l key) → ((l : ℕ) → is_root l d.new ≡ is_root_for new l key)
+    → ((l : ℕ) → stands_as_root l d.old ≡ is_root_for old l key) → ((l : ℕ) → stands_as_root l d.new ≡ is_root_for new l key)
     → (l : ℕ) → list_any (differs l) (found ++ d ∷ []) ≡ false → (k : ℕ) → k < key + 1 → is_root_for old l k ≡ is_root_for new l k
 more-found old new key found d was p q l none k s =
     let r = none-more (differs l) found d none in
@@ -125,8 +125,8 @@ any-more f (y ∷ ys) x e q = go (f y) refl (any-more f ys x)
     go true p ih = absurd (no-mark true refl (grind (arith, e, p)))
     go false p ih = let r = ih (grind (arith, e, p)) q in grind (arith, p, r)
 
-alike-tells : (l : ℕ) (d : Difference) → is_root l d.old ≡ is_root l d.new → differs l d ≡ false
-alike-tells l d e = go (is_root l d.old) (is_root l d.new) e
+alike-tells : (l : ℕ) (d : Difference) → stands_as_root l d.old ≡ stands_as_root l d.new → differs l d ≡ false
+alike-tells l d e = go (stands_as_root l d.old) (stands_as_root l d.new) e
   where
     go : (a b : Bool) → a ≡ b → cond a (not b) b ≡ false
     go true true q = refl
@@ -136,7 +136,7 @@ alike-tells l d e = go (is_root l d.old) (is_root l d.new) e
 
 -- where all roots are the same no difference tells, and one more neither
 pub more-told : (old new : List Standing) (key : ℕ) (found : List Difference) (d : Difference) → ((l : ℕ) → SameRoots old new l → list_any (differs l) found ≡ false)
-    → ((l : ℕ) → is_root l d.old ≡ is_root_for old l key) → ((l : ℕ) → is_root l d.new ≡ is_root_for new l key)
+    → ((l : ℕ) → stands_as_root l d.old ≡ is_root_for old l key) → ((l : ℕ) → stands_as_root l d.new ≡ is_root_for new l key)
     → (l : ℕ) → SameRoots old new l → list_any (differs l) (found ++ d ∷ []) ≡ false
 more-told old new key found d was p q l same = any-more (differs l) found d (was l same) (alike-tells l d (p l ∙ (same key ∙ sym (q l))))
 

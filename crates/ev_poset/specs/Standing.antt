@@ -21,12 +21,12 @@ abbrev pub marks_for : ℕ → List Standing → List Bool
 marks_for l standings = map (λ s. reaches s.own l || reaches s.shade l) standings
 
 -- for a holder, whether an item is a root of what the others hold
-abbrev pub is_root : ℕ → Standing → Bool
-is_root l s = reaches s.own l && not (reaches s.shade l)
+abbrev pub stands_as_root : ℕ → Standing → Bool
+stands_as_root l s = reaches s.own l && not (reaches s.shade l)
 
 -- for a holder, the roots of what the others hold
 abbrev pub roots_for : ℕ → List Standing → List Bool
-roots_for l standings = map (is_root l) standings
+roots_for l standings = map (stands_as_root l) standings
 
 -- whether the item of a key is one of these roots
 abbrev pub is_root_for : List Standing → ℕ → ℕ → Bool
@@ -38,7 +38,7 @@ SameRoots old new l = (k : ℕ) → is_root_for old l k ≡ is_root_for new l k
 
 -- for a holder, whether an item is a root before or after alone
 abbrev pub differs : ℕ → Difference → Bool
-differs l d = cond (is_root l d.old) (not (is_root l d.new)) (is_root l d.new)
+differs l d = cond (stands_as_root l d.old) (not (stands_as_root l d.new)) (stands_as_root l d.new)
 
 module _ {T : Type 0} where
   -- a test lets the item of a held node pass: of a marked node, where a holder other than the skipped one and this one has it

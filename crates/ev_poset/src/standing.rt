@@ -3,7 +3,7 @@ ghost use Rattle.std.specs.Prelude.{◌≡◌, ◌↔◌, ◌==◌, ◌&&◌, �
 ghost use Rattle.std.specs.List.{list_any};
 ghost use Rattle.ev_poset.specs.Row.{In};
 ghost use Rattle.ev_poset.specs.Graph.{over, is_marked, counts, NodeAt, IsLine, IsTop};
-ghost use Rattle.ev_poset.specs.Standing.{reaches, is_root, marks_for, is_root_for, SkipsMarked, SameRoots, differs};
+ghost use Rattle.ev_poset.specs.Standing.{reaches, stands_as_root, marks_for, is_root_for, SkipsMarked, SameRoots, differs};
 
 use crate::marks::is_marked;
 use crate::node::Node;
@@ -73,7 +73,7 @@ pub struct Standing {
 impl Standing {
     /// For a holder, whether the item is a root of what the others hold.
     fn is_root(self, holder: u32) -> bool
-        ensures { result ≡ is_root holder self }
+        ensures { result ≡ stands_as_root holder self }
     {
         self.own.reaches(holder) && !self.shade.reaches(holder)
     }
@@ -173,7 +173,7 @@ impl Difference {
 
 /// The standing of a key; that of a key without a node is of what nobody holds.
 fn standing_at(standings: &[Standing], key: Key) -> Standing
-    ensures { (l : ℕ) → is_root l result ≡ is_root_for standings.now l key }
+    ensures { (l : ℕ) → stands_as_root l result ≡ is_root_for standings.now l key }
 {
     match standings.get(key) {
         Some(standing) => *standing,

@@ -1,6 +1,6 @@
 //! Seeds, as words spell them.
 ghost use Rattle.std.specs.Prelude.{◌≡◌};
-ghost use Rattle.ev_input.specs.Words.{is_digit};
+ghost use Rattle.ev_script.specs.Form.{is_digit};
 ghost use Rattle.ev_quiet.specs.Words.{seed_number};
 
 // Whether it is a decimal digit.

@@ -24,7 +24,7 @@ use Rattle.ev_model.specs.Parts.{ClientParts, NetParts}
 use Rattle.ev_flood.specs.declared.owed.OwedRow.{OwedRow}
 use Rattle.ev_flood.specs.Flooding.{net_in, row_before, row_of, AreRows}
 use Rattle.ev_report.specs.Lines.{publication_line}
-use Rattle.ev_report.specs.Published.{texts_of, texts_in, numbered, text_at}
+use Rattle.ev_report.specs.Published.{script_texts, texts_in, by_number, text_at}
 use Rattle.ev_report.specs.Flood.{row_word, row_line}
 use Rattle.ev_report.specs.Deliveries.{by_id, delivery_line}
 use Rattle.ev_report.proofs.Strict.{d_before, one_rising, AreApart, by_id_has, has_by_id, by_id_rising, never_itself, never_both}
@@ -53,32 +53,32 @@ counts (s ∷ script) (suc i) c n e p = go (is_publish real (command_of s.1)) (c
     go true l = omega (arith, l)
     go false l = l
 
-later : (t : List ℕ) (ts : List (List ℕ)) (k : ℕ) → 1 ≤ k → numbered (t ∷ ts) (suc k) ≡ numbered ts k
+later : (t : List ℕ) (ts : List (List ℕ)) (k : ℕ) → 1 ≤ k → by_number (t ∷ ts) (suc k) ≡ by_number ts k
 later t ts zero l = absurd (omega (arith, l))
 later t ts (suc k) l = refl
 
 text_of : (script : List (ℕ × WireCommand)) (i : ℕ) (c : PhasedCommand real) (n : List Attribute) → slice_get (map phased_command script) i ≡ Some c → c.command ≡ Publish n
-    → numbered (texts_of script) (ordinal real (take (suc i) (map phased_command script))) ≡ notice_text n
+    → by_number (script_texts script) (ordinal real (take (suc i) (map phased_command script))) ≡ notice_text n
 text_of [] i c n e p = absurd cc
 text_of (s ∷ script) zero c n e p = go s.1 (publish_back s.1 n (ap (λ (z : PhasedCommand real). z.command) (same_Some _ _ e) ∙ p))
   where
     go : (w : WireCommand) → w ≡ commands.Publish n
-        → numbered (texts_of ((s.0, w) ∷ script)) (ordinal real (take 1 (map phased_command ((s.0, w) ∷ script)))) ≡ notice_text n
-    go w is = subst (λ z. numbered (texts_of ((s.0, z) ∷ script)) (ordinal real (take 1 (map phased_command ((s.0, z) ∷ script)))) ≡ notice_text n) (sym is) refl
+        → by_number (script_texts ((s.0, w) ∷ script)) (ordinal real (take 1 (map phased_command ((s.0, w) ∷ script)))) ≡ notice_text n
+    go w is = subst (λ z. by_number (script_texts ((s.0, z) ∷ script)) (ordinal real (take 1 (map phased_command ((s.0, z) ∷ script)))) ≡ notice_text n) (sym is) refl
 text_of (s ∷ script) (suc i) c n e p = go s.1 (text_of script i c n e p) (counts script i c n e p)
   where
-    go : (w : WireCommand) → numbered (texts_of script) (ordinal real (take (suc i) (map phased_command script))) ≡ notice_text n
+    go : (w : WireCommand) → by_number (script_texts script) (ordinal real (take (suc i) (map phased_command script))) ≡ notice_text n
         → 1 ≤ ordinal real (take (suc i) (map phased_command script))
-        → numbered (texts_of ((s.0, w) ∷ script)) (ordinal real (take (suc (suc i)) (map phased_command ((s.0, w) ∷ script)))) ≡ notice_text n
+        → by_number (script_texts ((s.0, w) ∷ script)) (ordinal real (take (suc (suc i)) (map phased_command ((s.0, w) ∷ script)))) ≡ notice_text n
     go (commands.Subscribe f) ih l = ih
     go (commands.Unsubscribe f) ih l = ih
     go (commands.Advertise a) ih l = ih
     go (commands.Unadvertise a) ih l = ih
-    go (commands.Publish m) ih l = later (notice_text m) (texts_of script) (ordinal real (take (suc i) (map phased_command script))) l ∙ ih
+    go (commands.Publish m) ih l = later (notice_text m) (script_texts script) (ordinal real (take (suc i) (map phased_command script))) l ∙ ih
 
-texts_get : (clients : List ClientParts) (place : ℕ) (client : ClientParts) → slice_get clients place ≡ Some client → slice_index_or (texts_in clients) place [] ≡ texts_of client.script
+texts_get : (clients : List ClientParts) (place : ℕ) (client : ClientParts) → slice_get clients place ≡ Some client → slice_index_or (texts_in clients) place [] ≡ script_texts client.script
 texts_get [] place client e = absurd cc
-texts_get (c ∷ clients) zero client e = ap (λ (z : ClientParts). texts_of z.script) (same_Some _ _ e)
+texts_get (c ∷ clients) zero client e = ap (λ (z : ClientParts). script_texts z.script) (same_Some _ _ e)
 texts_get (c ∷ clients) (suc place) client e = texts_get clients place client e
 
 -- a publisher is a client of the net, and lives at its server
@@ -127,9 +127,9 @@ published_text net q o k n p = go (publisher_is net q p.index p.command p.at)
     go : Publisher net q → text_at (texts_in net.clients) (record { publisher = q; ordinal = o }) ≡ notice_text n
     go w =
         let s : script_of net q ≡ map phased_command w.client.script = ap (script_of net) w.number ∙ ap script_in w.at in
-        ap (λ z. numbered (numbered (texts_in net.clients) z) o) w.number
-        ∙ ap (λ z. numbered z o) (texts_get net.clients w.whose w.client w.at)
-        ∙ ap (numbered (texts_of w.client.script)) (sym p.ordinal ∙ ap (λ z. ordinal real (take (suc p.index) z)) s)
+        ap (λ z. by_number (by_number (texts_in net.clients) z) o) w.number
+        ∙ ap (λ z. by_number z o) (texts_get net.clients w.whose w.client w.at)
+        ∙ ap (by_number (script_texts w.client.script)) (sym p.ordinal ∙ ap (λ z. ordinal real (take (suc p.index) z)) s)
         ∙ text_of w.client.script p.index p.command n (ap (λ z. slice_get z p.index) (sym s) ∙ p.at) p.publishes
 
 -- what is delivered by a row

@@ -15,8 +15,8 @@ inboxes inbox number [] = []
 inboxes inbox number (client ∷ clients) = inbox number ∷ inboxes inbox (suc number) clients
 
 -- what each client received by the end of a run
-abbrev pub received_by : PhasedRun real → List ClientParts → List (List Delivery)
-received_by run clients = inboxes (λ client. deliveries_of (inbox_of real run client)) 1 clients
+abbrev pub received_at_end : PhasedRun real → List ClientParts → List (List Delivery)
+received_at_end run clients = inboxes (λ client. deliveries_of (inbox_of real run client)) 1 clients
 
 -- all that is allowed is owed
 abbrev pub AllOwed : List (List OwedRow) → Type 0

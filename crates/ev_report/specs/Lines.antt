@@ -11,8 +11,8 @@ name_in None = []
 name_in (Some client) = client.name
 
 -- the name of a client by its number, from 1
-abbrev pub name_of : List ClientParts → ℕ → List ℕ
-name_of clients number = name_in (client_at clients number)
+abbrev pub client_name : List ClientParts → ℕ → List ℕ
+client_name clients number = name_in (client_at clients number)
 
 -- `client NAME`
 unfoldable pub client_line : List ℕ → List ℕ
@@ -24,4 +24,4 @@ refused_line ordinal = codes "refused " ++ decimal ordinal ++ codes " unadvertis
 
 -- a word with its space, then PUBLISHER, ORDINAL and NOTICE
 unfoldable pub publication_line : List ℕ → List ClientParts → Id → List ℕ → List ℕ
-publication_line word clients id text = word ++ name_of clients id.publisher ++ codes " " ++ decimal id.ordinal ++ codes " " ++ text ++ codes "\n"
+publication_line word clients id text = word ++ client_name clients id.publisher ++ codes " " ++ decimal id.ordinal ++ codes " " ++ text ++ codes "\n"

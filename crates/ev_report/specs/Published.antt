@@ -15,19 +15,19 @@ with_text (commands.Unadvertise a) texts = texts
 with_text (commands.Publish n) texts = notice_text n ∷ texts
 
 -- the texts of a script's publishes, in order
-abbrev pub texts_of : List (ℕ × Command) → List (List ℕ)
-texts_of [] = []
-texts_of (step ∷ steps) = with_text step.1 (texts_of steps)
+abbrev pub script_texts : List (ℕ × Command) → List (List ℕ)
+script_texts [] = []
+script_texts (step ∷ steps) = with_text step.1 (script_texts steps)
 
 -- those of each client
 abbrev pub texts_in : List ClientParts → List (List (List ℕ))
-texts_in clients = map (λ client. texts_of client.script) clients
+texts_in clients = map (λ client. script_texts client.script) clients
 
 -- the member of a list by its number, from 1; nothing where there is none
-abbrev pub numbered : {A : Type 0} → List (List A) → ℕ → List A
-numbered lists zero = []
-numbered lists (suc place) = slice_index_or lists place []
+abbrev pub by_number : {A : Type 0} → List (List A) → ℕ → List A
+by_number lists zero = []
+by_number lists (suc place) = slice_index_or lists place []
 
 -- the text of a publish by its publisher and its ordinal
 abbrev pub text_at : List (List (List ℕ)) → Id → List ℕ
-text_at texts id = numbered (numbered texts id.publisher) id.ordinal
+text_at texts id = by_number (by_number texts id.publisher) id.ordinal

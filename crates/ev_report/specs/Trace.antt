@@ -6,11 +6,11 @@ use Rattle.ev_wire.specs.declared.sent.Sent.{Sent}
 use Rattle.ev_model.specs.declared.turn.Act.{Act}
 use Rattle.ev_model.specs.declared.turn.Act.TheVariants as acts
 use Rattle.ev_model.specs.Parts.{ClientParts, NetParts, EntryParts}
-use Rattle.ev_report.specs.Lines.{name_of}
+use Rattle.ev_report.specs.Lines.{client_name}
 
 -- `command NAME`, `take NEIGHBOUR` or `version`
 unfoldable pub act_text : List ClientParts → Act → List ℕ
-act_text clients (acts.Command client) = codes "command " ++ name_of clients client
+act_text clients (acts.Command client) = codes "command " ++ client_name clients client
 act_text clients (acts.Take from) = codes "take " ++ decimal from
 act_text clients acts.Version = codes "version"
 

@@ -9,7 +9,7 @@ ghost use Rattle.ev_model.specs.Sound.{IsSound};
 ghost use Rattle.ev_flood.specs.declared.owed.OwedRow.{OwedRow};
 ghost use Rattle.ev_flood.specs.Flooding.{IsFlooding};
 ghost use Rattle.ev_report.specs.Deliveries.{deliveries_text};
-ghost use Rattle.ev_report.specs.Drained.{AllOwed, received_by};
+ghost use Rattle.ev_report.specs.Drained.{AllOwed, received_at_end};
 ghost use Rattle.ev_report.specs.Flood.{flood_text};
 
 use ev_theory::Real;
@@ -19,7 +19,7 @@ use ev_theory::Real;
 pub fn flood_as_delivered()
     ensures { (net : NetParts) → IsSound net → (rows : List (List OwedRow)) (refused : List (List ℕ)) → IsFlooding net rows refused → AllOwed rows
         → (run : PhasedRun real) → run.net ≡ phased_net net → EndsDrained real run
-        → flood_text net refused rows ≡ deliveries_text net refused (received_by run net.clients) true }
+        → flood_text net refused rows ≡ deliveries_text net refused (received_at_end run net.clients) true }
 {
     ev_phases::stable_inputs::<Real>();
     ev_phases::never_twice::<Real>();

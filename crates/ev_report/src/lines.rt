@@ -1,7 +1,7 @@
 //! Parts of lines.
 ghost use Rattle.std.specs.Prelude.{◌≡◌, ◌++◌, OnOk};
 ghost use Rattle.std.specs.List.{flat_map};
-ghost use Rattle.ev_report.specs.Lines.{name_of, client_line, refused_line, publication_line};
+ghost use Rattle.ev_report.specs.Lines.{client_name, client_line, refused_line, publication_line};
 
 use ev_decimal::push_number;
 use ev_memory::NoMemory;
@@ -11,7 +11,7 @@ use ev_wire::Id;
 
 /// The name of a client, by its number from 1.
 pub(crate) fn name_of(clients: &[Client], number: u32) -> &[u8]
-    ensures { result.now ≡ name_of clients.now number }
+    ensures { result.now ≡ client_name clients.now number }
 {
     let Some(place) = number.checked_sub(1) else {
         return &[];

@@ -1,6 +1,6 @@
 //! The texts of what clients publish, each written once.
 ghost use Rattle.std.specs.Prelude.{◌≡◌, map, IfOk};
-ghost use Rattle.ev_report.specs.Published.{texts_of, texts_in, text_at};
+ghost use Rattle.ev_report.specs.Published.{script_texts, texts_in, text_at};
 
 use ev_memory::NoMemory;
 use ev_model::{Client, Command};
@@ -9,7 +9,7 @@ use std::alloc::Global;
 
 // The texts of a script's publishes, in order.
 fn texts_of(alloc: Global, script: &[(u32, Command)]) -> Result<Lists<Bytes>, NoMemory>
-    ensures { IfOk result (λ texts. texts ≡ texts_of script.now) }
+    ensures { IfOk result (λ texts. texts ≡ script_texts script.now) }
 {
     let mut texts = Vec::new(alloc);
     for (_, command) in script {

@@ -3,7 +3,7 @@ ghost use Rattle.std.specs.Prelude.{◌≡◌, ◌<◌, ℕ, Some, slice_get, Is
 ghost use Rattle.ev_model.specs.Sound.{IsSound};
 ghost use Rattle.ev_node.specs.Cell.{CellParts, HasNoneBelow};
 ghost use Rattle.ev_node.specs.Entered.{AreThrough};
-ghost use Rattle.ev_node.specs.Together.{AreTogether, roots};
+ghost use Rattle.ev_node.specs.Together.{AreTogether, cell_roots};
 
 use crate::documents::line_then_star;
 use crate::hand::says;
@@ -56,7 +56,7 @@ fn two_phases<R: Wait>(
     cells: &mut [Cell<'_>],
 ) -> Result<bool, Fail>
     requires sound { IsSound net.now }
-    requires together { AreTogether net.now 0 (roots cells.old) }
+    requires together { AreTogether net.now 0 (cell_roots cells.old) }
 {
     match finish_phase(rt, cells) {
         Ok(()) => (),

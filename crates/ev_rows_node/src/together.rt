@@ -2,7 +2,7 @@
 ghost use Rattle.std.specs.Prelude.{◌≡◌, ◌≤◌, [], ◌++◌, length, map, vec_capacity, IfOk};
 ghost use Rattle.ev_model.specs.Sound.{IsSound};
 ghost use Rattle.ev_model.specs.Parts.{NetParts};
-ghost use Rattle.ev_node.specs.Together.{AreTogether, roots};
+ghost use Rattle.ev_node.specs.Together.{AreTogether, cell_roots};
 ghost use Rattle.ev_node.specs.Started.{AreStarted};
 
 use crate::documents::two_servers;
@@ -17,7 +17,7 @@ use std::test::Fail;
 pub fn cells_of<'a>(mut started: Vec<Started<'a>>, mut cells: Vec<Cell<'a>>) -> Vec<Cell<'a>>
     requires empty { cells.items ≡ [] }
     requires room { length started.items ≤ vec_capacity cells }
-    ensures { roots result.items ≡ map (λ s. s.cell.root) started.entry.items }
+    ensures { cell_roots result.items ≡ map (λ s. s.cell.root) started.entry.items }
 {
     while !started.is_empty() {
         let Started {
@@ -41,7 +41,7 @@ pub fn end_all<R: Wait>(rt: &R, mut cells: Vec<Cell<'_>>) {
 
 /// Whether the first phase was finished: the filter is held and published at both servers.
 fn is_finished<R: Wait>(rt: &R, cells: &mut [Cell<'_>]) -> Result<bool, Fail>
-    requires { (net : NetParts) × AreTogether net 0 (roots cells.old) }
+    requires { (net : NetParts) × AreTogether net 0 (cell_roots cells.old) }
 {
     finish_phase(rt, cells)?;
     for cell in cells {
@@ -55,7 +55,7 @@ fn is_finished<R: Wait>(rt: &R, cells: &mut [Cell<'_>]) -> Result<bool, Fail>
 /// The cells of a net, before their first step.
 pub fn cells_in<'a, R: Wait>(alloc: Global, rt: &R, net: &'a Net) -> Result<Vec<Cell<'a>>, Fail>
     requires { IsSound net.now }
-    ensures { IfOk result (λ cells. AreTogether net.now 0 (roots cells.items)) }
+    ensures { IfOk result (λ cells. AreTogether net.now 0 (cell_roots cells.items)) }
 {
     let started = start(alloc, rt, net)?;
     match Vec::with_capacity(alloc, started.len()) {

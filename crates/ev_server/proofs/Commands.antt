@@ -34,7 +34,7 @@ use Rattle.ev_session.specs.Plan.{plan_by, plan_in, next_plan, IsCounted}
 use Rattle.ev_session.specs.Turn.{filter_set_at, advert_set_at}
 use Rattle.ev_session.proofs.Listing.{get-map}
 use Rattle.ev_session.proofs.Turning.{filters-turn, adverts-turn, filters-apart, adverts-apart}
-use Rattle.ev_server.specs.Clients.{bare, numbers_of, at_client, stepped}
+use Rattle.ev_server.specs.Clients.{bare, client_numbers, at_client, stepped}
 use Rattle.ev_server.specs.Ledger.{LedgerParts}
 use Rattle.ev_server.specs.Acting.{HasDone, planned_message, IsClear, IsRouted}
 use Rattle.ev_server.specs.Core.{CoreParts, core_parts, IsServerState}
@@ -180,11 +180,11 @@ bare-stepped client (s ∷ sessions) = go (s.client == client) (bare-stepped cli
     go true ih = ap (λ z. stepped (bare s) ∷ z) ih
     go false ih = ap (λ z. bare s ∷ z) ih
 
-numbers-stepped : (client : ℕ) (sessions : List SessionParts) → numbers_of (at_client client stepped sessions) ≡ numbers_of sessions
+numbers-stepped : (client : ℕ) (sessions : List SessionParts) → client_numbers (at_client client stepped sessions) ≡ client_numbers sessions
 numbers-stepped client [] = refl
 numbers-stepped client (s ∷ sessions) = go (s.client == client) (numbers-stepped client sessions)
   where
-    go : (b : Bool) → numbers_of (at_client client stepped sessions) ≡ numbers_of sessions → (cond b (stepped s) s).client ∷ numbers_of (at_client client stepped sessions) ≡ s.client ∷ numbers_of sessions
+    go : (b : Bool) → client_numbers (at_client client stepped sessions) ≡ client_numbers sessions → (cond b (stepped s) s).client ∷ client_numbers (at_client client stepped sessions) ≡ s.client ∷ client_numbers sessions
     go true ih = ap (λ z. s.client ∷ z) ih
     go false ih = ap (λ z. s.client ∷ z) ih
 
@@ -351,7 +351,7 @@ module _ (server clock stamp client : ℕ) (old new : LedgerParts) (clients mid 
       plan-alike s t.0 t.2.client t.2.semantics t.2.script t.2.taken ∙ planned t.0 t.1 (sym t.2.client ∙ e)
 
   -- the step
-  module _ (lives : Has client (numbers_of (map bare clients))) (routes : RoutesNext (core_parts server old (map bare clients) clock) client route) where
+  module _ (lives : Has client (client_numbers (map bare clients))) (routes : RoutesNext (core_parts server old (map bare clients) clock) client route) where
     here : (s : SessionParts) × Has s (map bare clients) × (s.client ≡ client)
     here = let r = has-map (λ s. s.client) (map bare clients) client lives in (r.0, r.1, sym r.2)
 
@@ -451,7 +451,7 @@ module _ (server clock stamp client : ℕ) (old new : LedgerParts) (clients mid 
     }
 
 -- sessions and what is seen of them
-pub numbers-bare : (sessions : List SessionParts) → numbers_of (map bare sessions) ≡ numbers_of sessions
+pub numbers-bare : (sessions : List SessionParts) → client_numbers (map bare sessions) ≡ client_numbers sessions
 numbers-bare [] = refl
 numbers-bare (s ∷ sessions) = ap (λ z. s.client ∷ z) (numbers-bare sessions)
 

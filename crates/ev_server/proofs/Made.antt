@@ -21,7 +21,7 @@ use Rattle.ev_control.proofs.Holdings.{rising-where}
 use Rattle.ev_model.specs.Meaning.{phased_command, message_of}
 use Rattle.ev_session.specs.Session.{SessionParts}
 use Rattle.ev_session.specs.Turn.{filter_set_at, advert_set_at}
-use Rattle.ev_server.specs.Clients.{bare, numbers_of, at_client, stepped}
+use Rattle.ev_server.specs.Clients.{bare, client_numbers, at_client, stepped}
 use Rattle.ev_server.specs.Staged.{is_some_there}
 use Rattle.ev_server.specs.Ledger.{LedgerParts}
 use Rattle.ev_server.specs.Acting.{HasActed, planned_message, IsClear, IsRouted}
@@ -118,12 +118,12 @@ module _ (server clock clock_after from : ℕ) (old new : LedgerParts) (clients 
   own-of (wires.Advs out add) a s h = (s, subst (Has s) a.1 h, own-refl s)
   own-of (wires.Notice id n) a s h = picked clients (λ t k. k) (subst (Has s) a.1.inboxes h)
     where
-      picked : (all : List SessionParts) → ((t : SessionParts) → Has t all → Has t clients) → Has s (map bare (Rattle.ev_server.specs.Acting.delivered (Rattle.ev_server.specs.Acting.clients_on route) (Rattle.ev_server.specs.Acting.delivery_of id n) all)) → (t : SessionParts) × Has t (map bare clients) × IsOwn s t
+      picked : (all : List SessionParts) → ((t : SessionParts) → Has t all → Has t clients) → Has s (map bare (Rattle.ev_server.specs.Acting.delivered (Rattle.ev_server.specs.Acting.clients_on route) (Rattle.ev_server.specs.Acting.delivery_under id n) all)) → (t : SessionParts) × Has t (map bare clients) × IsOwn s t
       picked [] sub k = absurd k
       picked (t ∷ all) sub (inr k) = picked all (λ u m. sub u (inr m)) k
       picked (t ∷ all) sub (inl q) = (bare t, map-has bare clients t (sub t (inl refl)), same (is_among t.client (Rattle.ev_server.specs.Acting.clients_on route)) q)
         where
-          same : (b : Bool) → s ≡ bare (cond b (Rattle.ev_server.specs.Clients.handed (Rattle.ev_server.specs.Acting.delivery_of id n) t) t) → IsOwn s (bare t)
+          same : (b : Bool) → s ≡ bare (cond b (Rattle.ev_server.specs.Clients.handed (Rattle.ev_server.specs.Acting.delivery_under id n) t) t) → IsOwn s (bare t)
           same true e = record { client = ap (λ z. z.client) e; semantics = ap (λ z. z.semantics) e; script = ap (λ z. z.script) e; taken = ap (λ z. z.taken) e }
           same false e = record { client = ap (λ z. z.client) e; semantics = ap (λ z. z.semantics) e; script = ap (λ z. z.script) e; taken = ap (λ z. z.taken) e }
 

@@ -8,26 +8,26 @@ use Rattle.ev_cover.specs.Laws.{sub_laws}
 use Rattle.ev_counting.specs.declared.change.Change.{Change}
 use Rattle.ev_control.specs.Holdings.{earlier}
 use Rattle.ev_control.proofs.Holdings.{earlier-laws, split}
-use Rattle.ev_server.specs.Staged.{pair_of, is_earlier, with_one, staged_with, AreOnce}
+use Rattle.ev_server.specs.Staged.{changed_pair, is_earlier, with_one, staged_with, AreOnce}
 
 -- earlier pairs are others, and of two other pairs one is earlier
 chain : (a b c : Change) → is_earlier a b ≡ true → is_earlier b c ≡ true → is_earlier a c ≡ true
-chain a b c e f = (earlier-laws sub_laws).chain (pair_of a) (pair_of b) (pair_of c) e f
+chain a b c e f = (earlier-laws sub_laws).chain (changed_pair a) (changed_pair b) (changed_pair c) e f
 
-alike : (a b : Change) → pair_of a ≡ pair_of b → is_earlier a b ≡ false
-alike a b e = subst (λ z. earlier list_before (pair_of a) z ≡ false) e ((earlier-laws sub_laws).irreflexive (pair_of a))
+alike : (a b : Change) → changed_pair a ≡ changed_pair b → is_earlier a b ≡ false
+alike a b e = subst (λ z. earlier list_before (changed_pair a) z ≡ false) e ((earlier-laws sub_laws).irreflexive (changed_pair a))
 
-apart : (a b : Change) → is_earlier a b ≡ true → pair_of a ≢ pair_of b
+apart : (a b : Change) → is_earlier a b ≡ true → changed_pair a ≢ changed_pair b
 apart a b e q = split (is_earlier a b) e (alike a b q)
 
-pub same : (a b : Change) → is_earlier a b ≡ false → is_earlier b a ≡ false → pair_of a ≡ pair_of b
-same a b e f = (earlier-laws sub_laws).total (pair_of a) (pair_of b) e f
+pub same : (a b : Change) → is_earlier a b ≡ false → is_earlier b a ≡ false → changed_pair a ≡ changed_pair b
+same a b e f = (earlier-laws sub_laws).total (changed_pair a) (changed_pair b) e f
 
 -- whether two changes are of one pair is decided
-pub one-or : (a b : Change) → (pair_of a ≡ pair_of b) ⊎ (pair_of a ≢ pair_of b)
+pub one-or : (a b : Change) → (changed_pair a ≡ changed_pair b) ⊎ (changed_pair a ≢ changed_pair b)
 one-or a b = go (is_earlier a b) refl (is_earlier b a) refl
   where
-    go : (p : Bool) → is_earlier a b ≡ p → (q : Bool) → is_earlier b a ≡ q → (pair_of a ≡ pair_of b) ⊎ (pair_of a ≢ pair_of b)
+    go : (p : Bool) → is_earlier a b ≡ p → (q : Bool) → is_earlier b a ≡ q → (changed_pair a ≡ changed_pair b) ⊎ (changed_pair a ≢ changed_pair b)
     go true e q f = inr (apart a b e)
     go false e true f = inr (λ r. apart b a f (sym r))
     go false e false f = inl (same a b e f)
@@ -38,41 +38,41 @@ once-rising [] r = tt
 once-rising (c ∷ changes) r = (λ other m. apart c other (r.0 other m), once-rising changes r.1)
 
 -- what stands among the changes with one more
-pub has-one : (x c : Change) (staged : List Change) → IsRising is_earlier staged → Has c (with_one x staged) ↔ ((c ≡ x) ⊎ (Has c staged × (pair_of c ≢ pair_of x)))
+pub has-one : (x c : Change) (staged : List Change) → IsRising is_earlier staged → Has c (with_one x staged) ↔ ((c ≡ x) ⊎ (Has c staged × (changed_pair c ≢ changed_pair x)))
 has-one x c [] r = (λ m. elim m [ inl e ↦ inl e | inr n ↦ absurd n ], λ m. elim m [ inl e ↦ inl e | inr n ↦ absurd n.0 ])
 has-one x c (d ∷ ds) r = go (is_earlier d x) (is_earlier x d) refl refl (has-one x c ds r.1)
   where
     Goal : Bool → Bool → Type 0
-    Goal a b = Has c (cond a (d ∷ with_one x ds) (cond b (x ∷ d ∷ ds) (x ∷ ds))) ↔ ((c ≡ x) ⊎ (Has c (d ∷ ds) × (pair_of c ≢ pair_of x)))
+    Goal a b = Has c (cond a (d ∷ with_one x ds) (cond b (x ∷ d ∷ ds) (x ∷ ds))) ↔ ((c ≡ x) ⊎ (Has c (d ∷ ds) × (changed_pair c ≢ changed_pair x)))
 
-    behind : is_earlier x d ≡ true → Has c (d ∷ ds) → pair_of c ≢ pair_of x
-    behind f (inl q) s = apart x d f (sym (subst (λ z. pair_of z ≡ pair_of x) q s))
+    behind : is_earlier x d ≡ true → Has c (d ∷ ds) → changed_pair c ≢ changed_pair x
+    behind f (inl q) s = apart x d f (sym (subst (λ z. changed_pair z ≡ changed_pair x) q s))
     behind f (inr m) s = apart x c (chain x d c f (r.0 c m)) (sym s)
 
-    go : (a b : Bool) → is_earlier d x ≡ a → is_earlier x d ≡ b → (Has c (with_one x ds) ↔ ((c ≡ x) ⊎ (Has c ds × (pair_of c ≢ pair_of x)))) → Goal a b
+    go : (a b : Bool) → is_earlier d x ≡ a → is_earlier x d ≡ b → (Has c (with_one x ds) ↔ ((c ≡ x) ⊎ (Has c ds × (changed_pair c ≢ changed_pair x)))) → Goal a b
     go true b e f ih = (to, from)
       where
-        to : Has c (d ∷ with_one x ds) → (c ≡ x) ⊎ (Has c (d ∷ ds) × (pair_of c ≢ pair_of x))
-        to (inl q) = inr (inl q, λ s. apart d x e (subst (λ z. pair_of z ≡ pair_of x) q s))
+        to : Has c (d ∷ with_one x ds) → (c ≡ x) ⊎ (Has c (d ∷ ds) × (changed_pair c ≢ changed_pair x))
+        to (inl q) = inr (inl q, λ s. apart d x e (subst (λ z. changed_pair z ≡ changed_pair x) q s))
         to (inr m) = elim (ih.0 m) [ inl q ↦ inl q | inr n ↦ inr (inr n.0, n.1) ]
 
-        from : (c ≡ x) ⊎ (Has c (d ∷ ds) × (pair_of c ≢ pair_of x)) → Has c (d ∷ with_one x ds)
+        from : (c ≡ x) ⊎ (Has c (d ∷ ds) × (changed_pair c ≢ changed_pair x)) → Has c (d ∷ with_one x ds)
         from (inl q) = inr (ih.1 (inl q))
         from (inr (inl q, n)) = inl q
         from (inr (inr m, n)) = inr (ih.1 (inr (m, n)))
     go false true e f ih = (λ m. elim m [ inl q ↦ inl q | inr n ↦ inr (n, behind f n) ], λ m. elim m [ inl q ↦ inl q | inr n ↦ inr n.0 ])
     go false false e f ih = (to, from)
       where
-        alone : pair_of d ≡ pair_of x
+        alone : changed_pair d ≡ changed_pair x
         alone = same d x e f
 
-        to : Has c (x ∷ ds) → (c ≡ x) ⊎ (Has c (d ∷ ds) × (pair_of c ≢ pair_of x))
+        to : Has c (x ∷ ds) → (c ≡ x) ⊎ (Has c (d ∷ ds) × (changed_pair c ≢ changed_pair x))
         to (inl q) = inl q
         to (inr m) = inr (inr m, λ s. apart d c (r.0 c m) (alone ∙ sym s))
 
-        from : (c ≡ x) ⊎ (Has c (d ∷ ds) × (pair_of c ≢ pair_of x)) → Has c (x ∷ ds)
+        from : (c ≡ x) ⊎ (Has c (d ∷ ds) × (changed_pair c ≢ changed_pair x)) → Has c (x ∷ ds)
         from (inl q) = inl q
-        from (inr (inl q, n)) = absurd (n (ap pair_of q ∙ alone))
+        from (inr (inl q, n)) = absurd (n (ap changed_pair q ∙ alone))
         from (inr (inr m, n)) = inr m
 
 pub rising-one : (x : Change) (staged : List Change) → IsRising is_earlier staged → IsRising is_earlier (with_one x staged)
@@ -85,7 +85,7 @@ rising-one x (d ∷ ds) r = go (is_earlier d x) (is_earlier x d) refl refl (risi
     go false false e f ih = (λ y m. ahead y (r.0 y m), r.1)
       where
         ahead : (y : Change) → is_earlier d y ≡ true → is_earlier x y ≡ true
-        ahead y g = subst (λ p. earlier list_before p (pair_of y) ≡ true) (same d x e f) g
+        ahead y g = subst (λ p. earlier list_before p (changed_pair y) ≡ true) (same d x e f) g
 
 -- a change put in at its place
 pub set-one : (changes : List Change) (x d : Change) (i : ℕ) → slice_get changes i ≡ Some d → is_earlier d x ≡ false → is_earlier x d ≡ false

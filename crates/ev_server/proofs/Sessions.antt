@@ -12,7 +12,7 @@ use Rattle.ev_wire.specs.declared.delivery.Delivery.{Delivery}
 use Rattle.ev_session.specs.declared.planned.Planned.{Planned}
 use Rattle.ev_session.specs.Plan.{next_plan}
 use Rattle.ev_session.specs.Session.{SessionParts, session_parts}
-use Rattle.ev_server.specs.Clients.{bare, numbers_of, at_client, handed}
+use Rattle.ev_server.specs.Clients.{bare, client_numbers, at_client, handed}
 
 -- lists
 
@@ -94,12 +94,12 @@ has-index (y ∷ ys) x (inr m) = let r = has-index ys x m in (suc r.0, omega (ar
 abbrev pub IsFound : List ℕ → ℕ → Result ℕ ℕ → Type 0
 IsFound xs x r = MatchResult r (λ i. (i < length xs) × (get_or xs i 0 ≡ x)) (λ i. (i ≤ length xs) × ((k : ℕ) → k < i → get_or xs k 0 < x) × ((k : ℕ) → i ≤ k → k < length xs → x < get_or xs k 0))
 
-number-at : (ss : List SessionParts) (i : ℕ) (s : SessionParts) → slice_get ss i ≡ Some s → get_or (numbers_of ss) i 0 ≡ s.client
+number-at : (ss : List SessionParts) (i : ℕ) (s : SessionParts) → slice_get ss i ≡ Some s → get_or (client_numbers ss) i 0 ≡ s.client
 number-at [] i s e = absurd cc
 number-at (t ∷ ss) zero s e = ap (λ z. z.client) (same_Some _ _ e)
 number-at (t ∷ ss) (suc i) s e = number-at ss i s e
 
-pub found-session : (ss : List SessionParts) (x : ℕ) (r : Result ℕ ℕ) → IsFound (numbers_of ss) x r → IfSome (result_ok r) (λ i. (s : SessionParts) → slice_get ss i ≡ Some s → s.client ≡ x)
+pub found-session : (ss : List SessionParts) (x : ℕ) (r : Result ℕ ℕ) → IsFound (client_numbers ss) x r → IfSome (result_ok r) (λ i. (s : SessionParts) → slice_get ss i ≡ Some s → s.client ≡ x)
 found-session ss x (Ok i) f = λ s e. sym (number-at ss i s e) ∙ f.1
 found-session ss x (Err i) f = tt
 
@@ -122,39 +122,39 @@ eq-no : (a b : ℕ) → (a ≡ b → ⊥) → (a == b) ≡ false
 eq-no a b n = grind (arith, nat_tests)
 
 -- a client that isn't there changes nothing
-pub absent-at : (c : ℕ) (f : SessionParts → SessionParts) (ss : List SessionParts) → (Has c (numbers_of ss) → ⊥) → at_client c f ss ≡ ss
+pub absent-at : (c : ℕ) (f : SessionParts → SessionParts) (ss : List SessionParts) → (Has c (client_numbers ss) → ⊥) → at_client c f ss ≡ ss
 absent-at c f [] n = refl
 absent-at c f (s ∷ ss) n = rw (eq-no s.client c (λ e. n (inl (sym e))), absent-at c f ss (λ m. n (inr m))) refl
 
 -- a session changed at its place is its client's session changed
-pub put-at : (c : ℕ) (f : SessionParts → SessionParts) (ss : List SessionParts) (i : ℕ) (s : SessionParts) → slice_get ss i ≡ Some s → s.client ≡ c → IsStrictlyIncreasing (numbers_of ss) → set ss i (f s) ≡ at_client c f ss
+pub put-at : (c : ℕ) (f : SessionParts → SessionParts) (ss : List SessionParts) (i : ℕ) (s : SessionParts) → slice_get ss i ≡ Some s → s.client ≡ c → IsStrictlyIncreasing (client_numbers ss) → set ss i (f s) ≡ at_client c f ss
 put-at c f [] i s e q h = absurd cc
 put-at c f (t ∷ ss) zero s e q h =
     let one : t ≡ s = same_Some _ _ e in
     let there : (t.client == c) ≡ true = eq-yes t.client c (ap (λ z. z.client) one ∙ q) in
-    let rest : at_client c f ss ≡ ss = absent-at c f ss (λ m. let more = above t.client (numbers_of ss) h c m in absurd (omega (arith, more, ap (λ z. z.client) one ∙ q))) in
+    let rest : at_client c f ss ≡ ss = absent-at c f ss (λ m. let more = above t.client (client_numbers ss) h c m in absurd (omega (arith, more, ap (λ z. z.client) one ∙ q))) in
     rw (there, rest) (ap (λ z. f z ∷ ss) (sym one))
 put-at c f (t ∷ ss) (suc i) s e q h =
-    let more = above t.client (numbers_of ss) h s.client (map-has (λ z. z.client) ss s (got-has ss i s e)) in
+    let more = above t.client (client_numbers ss) h s.client (map-has (λ z. z.client) ss s (got-has ss i s e)) in
     let other : (t.client == c) ≡ false = eq-no t.client c (λ k. omega (arith, more, q, k)) in
-    rw other (ap (λ z. t ∷ z) (put-at c f ss i s e q (rest-rises t.client (numbers_of ss) h)))
+    rw other (ap (λ z. t ∷ z) (put-at c f ss i s e q (rest-rises t.client (client_numbers ss) h)))
 
 -- each client has one session
-pub only : (ss : List SessionParts) → IsStrictlyIncreasing (numbers_of ss) → (s t : SessionParts) → Has s ss → Has t ss → s.client ≡ t.client → s ≡ t
+pub only : (ss : List SessionParts) → IsStrictlyIncreasing (client_numbers ss) → (s t : SessionParts) → Has s ss → Has t ss → s.client ≡ t.client → s ≡ t
 only [] h s t m n q = absurd m
 only (u ∷ ss) h s t (inl a) (inl b) q = a ∙ sym b
 only (u ∷ ss) h s t (inl a) (inr n) q =
-    let more = above u.client (numbers_of ss) h t.client (map-has (λ z. z.client) ss t n) in
+    let more = above u.client (client_numbers ss) h t.client (map-has (λ z. z.client) ss t n) in
     absurd (omega (arith, more, q, ap (λ z. z.client) a))
 only (u ∷ ss) h s t (inr m) (inl b) q =
-    let more = above u.client (numbers_of ss) h s.client (map-has (λ z. z.client) ss s m) in
+    let more = above u.client (client_numbers ss) h s.client (map-has (λ z. z.client) ss s m) in
     absurd (omega (arith, more, q, ap (λ z. z.client) b))
-only (u ∷ ss) h s t (inr m) (inr n) q = only ss (rest-rises u.client (numbers_of ss) h) s t m n q
+only (u ∷ ss) h s t (inr m) (inr n) q = only ss (rest-rises u.client (client_numbers ss) h) s t m n q
 
 -- what a place is known for
 pub record IsPlace (ss now : List SessionParts) (ns : List ℕ) (i c : ℕ) (s : SessionParts) : Type 0 where
   pub view : ss ≡ now
-  pub numbered : numbers_of ss ≡ ns
+  pub numbered : client_numbers ss ≡ ns
   pub rising : IsStrictlyIncreasing ns
   pub within : i < length now
   pub client : (t : SessionParts) → slice_get now i ≡ Some t → t.client ≡ c
@@ -167,7 +167,7 @@ module _ {ss now : List SessionParts} {ns : List ℕ} {i c : ℕ} {s : SessionPa
   pub its-client : s.client ≡ c
   its-client = p.client s (subst (λ z. slice_get z i ≡ Some s) p.view at-place)
 
-  pub all-rise : IsStrictlyIncreasing (numbers_of ss)
+  pub all-rise : IsStrictlyIncreasing (client_numbers ss)
   all-rise = subst IsStrictlyIncreasing (sym p.numbered) p.rising
 
   pub is-there : Has s now
@@ -176,7 +176,7 @@ module _ {ss now : List SessionParts} {ns : List ℕ} {i c : ℕ} {s : SessionPa
   pub changed : (f : SessionParts → SessionParts) (t : SessionParts) → t ≡ f s → set ss i t ≡ at_client c f now
   changed f t e = subst (λ z. set ss i z ≡ at_client c f now) (sym e) (put-at c f ss i s at-place its-client all-rise ∙ ap (at_client c f) p.view)
 
-  pub kept-numbers : (t : SessionParts) → t.client ≡ s.client → numbers_of (set ss i t) ≡ ns
+  pub kept-numbers : (t : SessionParts) → t.client ≡ s.client → client_numbers (set ss i t) ≡ ns
   kept-numbers t e = map-put (λ z. z.client) ss i s t at-place e ∙ p.numbered
 
   pub kept-bare : (t : SessionParts) → bare t ≡ bare s → map bare (set ss i t) ≡ map bare now

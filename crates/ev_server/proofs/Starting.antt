@@ -29,7 +29,7 @@ use Rattle.ev_control.specs.Holdings.{Holding}
 use Rattle.ev_control.specs.Control.{Controlled, by_adverts}
 use Rattle.ev_session.specs.Session.{SessionParts}
 use Rattle.ev_session.specs.Turn.{filter_set_at, advert_set_at}
-use Rattle.ev_server.specs.Clients.{bare, numbers_of}
+use Rattle.ev_server.specs.Clients.{bare, client_numbers}
 use Rattle.ev_server.specs.Core.{CoreParts, core_parts, IsServerState}
 use Rattle.ev_server.specs.Kept.{IsCore}
 use Rattle.ev_server.specs.Ledger.{LedgerParts}
@@ -94,11 +94,11 @@ sessions-more semantics server n m (y ∷ xs) x e = go (y.home == server) (sessi
 
 -- the clients so far of a server have these numbers and these sessions
 pub record IsHome (semantics : Semantics) (server : ℕ) (clients : List ClientParts) (numbers : List ℕ) (sessions : List SessionParts) : Type 0 where
-  pub numbered : numbers_of sessions ≡ numbers
+  pub numbered : client_numbers sessions ≡ numbers
   pub made : sessions ≡ sessions_of semantics server 1 clients
 
 pub home-none : (semantics : Semantics) (server : ℕ) (numbers : List ℕ) (sessions : List SessionParts) → numbers ≡ [] → sessions ≡ [] → IsHome semantics server [] numbers sessions
-home-none semantics server numbers sessions e f = record { numbered = ap numbers_of f ∙ sym e; made = f }
+home-none semantics server numbers sessions e f = record { numbered = ap client_numbers f ∙ sym e; made = f }
 
 pub home-skip : (semantics : Semantics) (server : ℕ) (clients : List ClientParts) (n : ℕ) (x : ClientParts) (numbers : List ℕ) (sessions : List SessionParts) → slice_get clients n ≡ Some x → (x.home ≡ server → ⊥)
     → IsHome semantics server (take n clients) numbers sessions → IsHome semantics server (take (n + 1) clients) numbers sessions
@@ -115,7 +115,7 @@ pub home-more : (semantics : Semantics) (server : ℕ) (clients : List ClientPar
     → s ≡ session_of semantics (n + 1) x → IsHome semantics server (take n clients) numbers sessions → IsHome semantics server (take (n + 1) clients) (numbers ++ (n + 1) ∷ []) (sessions ++ s ∷ [])
 home-more semantics server clients n x numbers sessions s e l here is h = record { numbered = ends sessions ∙ rw (ap (λ z. z.client) is, h.numbered) refl; made = rw (add-one, take-some clients n x e) (rw (is, h.made) (sym same)) }
   where
-    ends : (ss : List SessionParts) → numbers_of (ss ++ s ∷ []) ≡ numbers_of ss ++ s.client ∷ []
+    ends : (ss : List SessionParts) → client_numbers (ss ++ s ∷ []) ≡ client_numbers ss ++ s.client ∷ []
     ends [] = refl
     ends (t ∷ ss) = ap (λ z. t.client ∷ z) (ends ss)
 
@@ -146,24 +146,24 @@ its-client semantics server n (y ∷ cs) s m = go (its-client semantics server (
     go ih true (inr m) = later ih m
     go ih false m = later ih m
 
-numbers-from : (semantics : Semantics) (server n : ℕ) (cs : List ClientParts) (z : ℕ) → Has z (numbers_of (sessions_of semantics server n cs)) → n ≤ z
+numbers-from : (semantics : Semantics) (server n : ℕ) (cs : List ClientParts) (z : ℕ) → Has z (client_numbers (sessions_of semantics server n cs)) → n ≤ z
 numbers-from semantics server n [] z m = absurd m
 numbers-from semantics server n (y ∷ cs) z m = go (numbers-from semantics server (suc n) cs z) (y.home == server) m
   where
-    go : (Has z (numbers_of (sessions_of semantics server (suc n) cs)) → suc n ≤ z) → (b : Bool) → Has z (numbers_of (cond b (session_of semantics n y ∷ sessions_of semantics server (suc n) cs) (sessions_of semantics server (suc n) cs))) → n ≤ z
+    go : (Has z (client_numbers (sessions_of semantics server (suc n) cs)) → suc n ≤ z) → (b : Bool) → Has z (client_numbers (cond b (session_of semantics n y ∷ sessions_of semantics server (suc n) cs) (sessions_of semantics server (suc n) cs))) → n ≤ z
     go ih true (inl e) = omega (arith, e)
     go ih true (inr m) = let r = ih m in omega (arith, r)
     go ih false m = let r = ih m in omega (arith, r)
 
-pub numbers-rise : (semantics : Semantics) (server n : ℕ) (cs : List ClientParts) → IsStrictlyIncreasing (numbers_of (sessions_of semantics server n cs))
+pub numbers-rise : (semantics : Semantics) (server n : ℕ) (cs : List ClientParts) → IsStrictlyIncreasing (client_numbers (sessions_of semantics server n cs))
 numbers-rise semantics server n [] = λ k l. absurd (omega (arith, l))
 numbers-rise semantics server n (y ∷ cs) = go (y.home == server) (numbers-rise semantics server (suc n) cs)
   where
-    low : (z : ℕ) → Has z (numbers_of (sessions_of semantics server (suc n) cs)) → n < z
+    low : (z : ℕ) → Has z (client_numbers (sessions_of semantics server (suc n) cs)) → n < z
     low z m = let r = numbers-from semantics server (suc n) cs z m in omega (arith, r)
 
-    go : (b : Bool) → IsStrictlyIncreasing (numbers_of (sessions_of semantics server (suc n) cs)) → IsStrictlyIncreasing (numbers_of (cond b (session_of semantics n y ∷ sessions_of semantics server (suc n) cs) (sessions_of semantics server (suc n) cs)))
-    go true ih = rise-before n (numbers_of (sessions_of semantics server (suc n) cs)) low ih
+    go : (b : Bool) → IsStrictlyIncreasing (client_numbers (sessions_of semantics server (suc n) cs)) → IsStrictlyIncreasing (client_numbers (cond b (session_of semantics n y ∷ sessions_of semantics server (suc n) cs) (sessions_of semantics server (suc n) cs)))
+    go true ih = rise-before n (client_numbers (sessions_of semantics server (suc n) cs)) low ih
     go false ih = ih
 
 -- they have nothing that is not told
@@ -177,17 +177,17 @@ bare-same semantics server n (y ∷ cs) = go (y.home == server) (bare-same seman
     go false ih = ih
 
 numbers-are : (semantics : Semantics) (server : ℕ) (home : ℕ → ℕ) (n : ℕ) (cs : List ClientParts) → ((k m : ℕ) (client : ClientParts) → m ≡ n + k → slice_get cs k ≡ Some client → home m ≡ client.home)
-    → filter (λ c. home c == server) (range_with_len n (length cs)) ≡ numbers_of (sessions_of semantics server n cs)
+    → filter (λ c. home c == server) (range_with_len n (length cs)) ≡ client_numbers (sessions_of semantics server n cs)
 numbers-are semantics server home n [] h = refl
 numbers-are semantics server home n (y ∷ cs) h = rw (h 0 n y (omega arith) refl, add-one) (go (y.home == server) (numbers-are semantics server home (suc n) cs (λ k m client e a. h (suc k) m client (omega (arith, e)) a)))
   where
-    go : (b : Bool) → filter (λ c. home c == server) (range_with_len (suc n) (length cs)) ≡ numbers_of (sessions_of semantics server (suc n) cs)
+    go : (b : Bool) → filter (λ c. home c == server) (range_with_len (suc n) (length cs)) ≡ client_numbers (sessions_of semantics server (suc n) cs)
         → cond b (n ∷ filter (λ c. home c == server) (range_with_len (suc n) (length cs))) (filter (λ c. home c == server) (range_with_len (suc n) (length cs)))
-        ≡ numbers_of (cond b (session_of semantics n y ∷ sessions_of semantics server (suc n) cs) (sessions_of semantics server (suc n) cs))
+        ≡ client_numbers (cond b (session_of semantics n y ∷ sessions_of semantics server (suc n) cs) (sessions_of semantics server (suc n) cs))
     go true ih = ap (λ z. n ∷ z) ih
     go false ih = ih
 
-pub clients-are : (net : NetParts) (server : ℕ) → clients_of net server ≡ numbers_of (sessions_of net.semantics server 1 net.clients)
+pub clients-are : (net : NetParts) (server : ℕ) → clients_of net server ≡ client_numbers (sessions_of net.semantics server 1 net.clients)
 clients-are net server = numbers-are net.semantics server (home_of net) 1 net.clients each
   where
     each : (k m : ℕ) (client : ClientParts) → m ≡ 1 + k → slice_get net.clients k ≡ Some client → home_of net m ≡ client.home
@@ -275,7 +275,7 @@ module _ (net : NetParts) (sound : IsSound net) (server : ℕ) (links : List ℕ
     published = λ i h. refl;
     published_apart = λ i h. refl;
     staged = refl;
-    clients = clients-are net server ∙ ap numbers_of (sym (bare-same net.semantics server 1 net.clients));
+    clients = clients-are net server ∙ ap client_numbers (sym (bare-same net.semantics server 1 net.clients));
     scripts = λ s h. scripts s (its s h);
     taken = λ s h. sym (ap (λ z. z.taken) (its s h).3);
     inboxes = λ s h. ap (λ z. z.inbox) (its s h).3;

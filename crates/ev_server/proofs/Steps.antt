@@ -29,10 +29,10 @@ use Rattle.ev_control.specs.Routing.{StandsFor}
 use Rattle.ev_control.proofs.Routed.{messages-are as control-messages}
 use Rattle.ev_model.specs.Meaning.{phased_command, deliveries_of}
 use Rattle.ev_session.specs.Session.{SessionParts}
-use Rattle.ev_server.specs.Clients.{bare, numbers_of, handed}
+use Rattle.ev_server.specs.Clients.{bare, client_numbers, handed}
 use Rattle.ev_server.specs.Staged.{is_some_there}
 use Rattle.ev_server.specs.Ledger.{LedgerParts, FiltersSet, AdvertsSet}
-use Rattle.ev_server.specs.Acting.{links_on, clients_on, delivery_of, sent_on, delivered, IsSpread}
+use Rattle.ev_server.specs.Acting.{links_on, clients_on, delivery_under, sent_on, delivered, IsSpread}
 use Rattle.ev_server.specs.Core.{CoreParts, core_parts, published_from, IsServerState}
 use Rattle.ev_server.specs.Routed.{IsRoute}
 use Rattle.ev_server.proofs.Sessions.{has-map, map-has, above, rest-rises}
@@ -140,7 +140,7 @@ module _ (net : Net real) (server clock clock_after from : ℕ) (old new : Ledge
               ∙ ap (λ z. is_some_there old.staged || not (same_list real.before z sets)) (stands.control.subs_held from reached)
               ∙ ap (λ z. is_some_there old.staged || not (same_list real.before (subs old.control from) z)) (sym set.held)
               ∙ sym set.staged;
-          clients = stands.clients ∙ ap numbers_of (sym same);
+          clients = stands.clients ∙ ap client_numbers (sym same);
           scripts = λ s m. stands.scripts s (subst (Has s) same m);
           taken = λ s m. stands.taken s (subst (Has s) same m);
           inboxes = λ s m. stands.inboxes s (subst (Has s) same m);
@@ -181,7 +181,7 @@ module _ (net : Net real) (server clock clock_after from : ℕ) (old new : Ledge
         published = λ i m. stands.published i m ∙ ap (λ z. held_from real.before i z) (sym set.published);
         published_apart = λ i n. ap (λ z. held_from real.before i z) set.published ∙ stands.published_apart i n;
         staged = stands.staged ∙ ap is_some_there (sym set.staged);
-        clients = stands.clients ∙ ap numbers_of (sym same);
+        clients = stands.clients ∙ ap client_numbers (sym same);
         scripts = λ s m. stands.scripts s (subst (Has s) same m);
         taken = λ s m. stands.taken s (subst (Has s) same m);
         inboxes = λ s m. stands.inboxes s (subst (Has s) same m);
@@ -313,7 +313,7 @@ module _ (net : Net real) (server clock clock_after from : ℕ) (old new : Ledge
         ((λ e. of-client t.client (one-has t.client (clients_on route) e)), (λ h. has-one t.client (clients_on route) (to-client t.client (ids (bare t) (map-has bare clients t m)) h)))
 
     abbrev pub pick : Bool → SessionParts → SessionParts
-    pick b t = bare (cond b (handed (delivery_of id n) t) t)
+    pick b t = bare (cond b (handed (delivery_under id n) t) t)
 
     pick-client : (b : Bool) (t : SessionParts) → (pick b t).client ≡ t.client
     pick-client true t = refl
@@ -332,7 +332,7 @@ module _ (net : Net real) (server clock clock_after from : ℕ) (old new : Ledge
     append-map f (y ∷ ys) x = ap (λ z. f y ∷ z) (append-map f ys x)
 
     pick-inbox : (b : Bool) (t : SessionParts) → t.inbox ≡ deliveries_of (state.inbox t.client) → (pick b t).inbox ≡ deliveries_of (cond b (state.inbox t.client ++ published ∷ []) (state.inbox t.client))
-    pick-inbox true t e = ap (λ z. z ++ delivery_of id n ∷ []) e ∙ append-map _ (state.inbox t.client) published
+    pick-inbox true t e = ap (λ z. z ++ delivery_under id n ∷ []) e ∙ append-map _ (state.inbox t.client) published
     pick-inbox false t e = e
 
     -- a session then is one of before with or without the delivery
@@ -342,14 +342,14 @@ module _ (net : Net real) (server clock clock_after from : ℕ) (old new : Ledge
     pub was-one : (s : SessionParts) → Has s (map bare clients_new) → Was s
     was-one s m = go clients (λ t k. k) (subst (Has s) spread.inboxes m)
       where
-        go : (all : List SessionParts) → ((t : SessionParts) → Has t all → Has t clients) → Has s (map bare (delivered (clients_on route) (delivery_of id n) all)) → Was s
+        go : (all : List SessionParts) → ((t : SessionParts) → Has t all → Has t clients) → Has s (map bare (delivered (clients_on route) (delivery_under id n) all)) → Was s
         go [] sub k = absurd k
         go (t ∷ all) sub (inl q) = was t (sub t (inl refl)) q
         go (t ∷ all) sub (inr k) = go all (λ u h. sub u (inr h)) k
 
-    numbers-same : (all : List SessionParts) → numbers_of (map bare (delivered (clients_on route) (delivery_of id n) all)) ≡ numbers_of (map bare all)
+    numbers-same : (all : List SessionParts) → client_numbers (map bare (delivered (clients_on route) (delivery_under id n) all)) ≡ client_numbers (map bare all)
     numbers-same [] = refl
-    numbers-same (t ∷ all) = ap (λ z. z ∷ numbers_of (map bare (delivered (clients_on route) (delivery_of id n) all))) (pick-client (is_among t.client (clients_on route)) t) ∙ ap (λ z. t.client ∷ z) (numbers-same all)
+    numbers-same (t ∷ all) = ap (λ z. z ∷ client_numbers (map bare (delivered (clients_on route) (delivery_under id n) all))) (pick-client (is_among t.client (clients_on route)) t) ∙ ap (λ z. t.client ∷ z) (numbers-same all)
 
     taken-then : (s : SessionParts) → Was s → state.done s.client ≡ s.taken
     taken-then s (was t m e) =
@@ -393,7 +393,7 @@ module _ (net : Net real) (server clock clock_after from : ℕ) (old new : Ledge
         published = stands.published;
         published_apart = stands.published_apart;
         staged = stands.staged;
-        clients = stands.clients ∙ sym (ap numbers_of spread.inboxes ∙ numbers-same clients);
+        clients = stands.clients ∙ sym (ap client_numbers spread.inboxes ∙ numbers-same clients);
         scripts = λ s m. scripts-then s (was-one s m);
         taken = λ s m. taken-then s (was-one s m);
         inboxes = λ s m. inboxes-then s (was-one s m);

@@ -11,7 +11,7 @@ use Rattle.ev_poset.proofs.Names.{Has-map, map-Has}
 use Rattle.ev_counting.specs.declared.change.Change.{Change}
 use Rattle.ev_counting.specs.declared.change.Change.TheVariants.{Add, Remove}
 use Rattle.ev_control.proofs.Holdings.{split}
-use Rattle.ev_server.specs.Staged.{pair_of, is_earlier, with_one, staged_with, StagedTurn, is_some_there}
+use Rattle.ev_server.specs.Staged.{changed_pair, is_earlier, with_one, staged_with, StagedTurn, is_some_there}
 use Rattle.ev_server.proofs.Pairs.{one-or, has-one, rising-one}
 use Rattle.ev_routing.proofs.Listing.{has-either, has-left, has-right}
 
@@ -20,14 +20,14 @@ Filters = List (List ConstraintParts)
 
 -- none of these changes is of the pair of one
 abbrev pub Untouched : Change → List Change → Type 0
-Untouched change changes = (other : Change) → Has other changes → pair_of change ≢ pair_of other
+Untouched change changes = (other : Change) → Has other changes → changed_pair change ≢ changed_pair other
 
 -- changes of one pair are one change
 abbrev pub AgreesWithin : List Change → Type 0
-AgreesWithin changes = (a b : Change) → Has a changes → Has b changes → pair_of a ≡ pair_of b → a ≡ b
+AgreesWithin changes = (a b : Change) → Has a changes → Has b changes → changed_pair a ≡ changed_pair b → a ≡ b
 
 -- a change is touched, or it is not
-touched-or : (change : Change) (changes : List Change) → ((other : Change) × Has other changes × (pair_of change ≡ pair_of other)) ⊎ Untouched change changes
+touched-or : (change : Change) (changes : List Change) → ((other : Change) × Has other changes × (changed_pair change ≡ changed_pair other)) ⊎ Untouched change changes
 touched-or change [] = inr (λ other m. absurd m)
 touched-or change (x ∷ changes) = elim (one-or change x) [
   | inl e ↦ inl (x, inl refl, e)
@@ -37,8 +37,8 @@ touched-or change (x ∷ changes) = elim (one-or change x) [
   ]
 ]
   where
-    first : pair_of change ≢ pair_of x → Untouched change changes → Untouched change (x ∷ changes)
-    first n u other (inl e) = λ q. n (q ∙ ap pair_of e)
+    first : changed_pair change ≢ changed_pair x → Untouched change changes → Untouched change (x ∷ changes)
+    first n u other (inl e) = λ q. n (q ∙ ap changed_pair e)
     first n u other (inr m) = u other m
 
 -- what stands among the staged changes after some more
@@ -52,8 +52,8 @@ with-has (x ∷ changes) staged r a c m = elim (with-has changes (with_one x sta
   ]
 ]
   where
-    both : pair_of c ≢ pair_of x → Untouched c changes → Untouched c (x ∷ changes)
-    both n u other (inl e) = λ q. n (q ∙ ap pair_of e)
+    both : changed_pair c ≢ changed_pair x → Untouched c changes → Untouched c (x ∷ changes)
+    both n u other (inl e) = λ q. n (q ∙ ap changed_pair e)
     both n u other (inr m) = u other m
 
 has-with : (changes staged : List Change) → IsRising is_earlier staged → AgreesWithin changes → (c : Change) → Has c changes ⊎ (Has c staged × Untouched c changes) → Has c (staged_with changes staged)
@@ -118,36 +118,36 @@ module _ (interface : ℕ) (held out add : Filters) where
   added : (f : List ConstraintParts) → Has f add → (Has f held → ⊥) → Has (Add interface f) made
   added f a n = has-right (Add interface f) gone come (map-Has (Add interface) (filter (λ f. not (member list_before f held)) add) f (Add interface f) (Has-filter (λ f. not (member list_before f held)) f add a (absent f n)) refl)
 
-  item-of : (c d : Change) → c ≡ d → (pair_of c).item ≡ (pair_of d).item
-  item-of c d e = ap (λ z. (pair_of z).item) e
+  item-of : (c d : Change) → c ≡ d → (changed_pair c).item ≡ (changed_pair d).item
+  item-of c d e = ap (λ z. (changed_pair z).item) e
 
   module _ (apart : (f : List ConstraintParts) → Has f out → Has f add → ⊥) where
     agrees : AgreesWithin made
     agrees a b m n e = go (made-is a m) (made-is b n)
       where
         go : Made a → Made b → a ≡ b
-        go (removes f p o h) (removes g q _ _) = p ∙ ap (Remove interface) (ap (λ z. z.item) (sym (ap pair_of p) ∙ e ∙ ap pair_of q)) ∙ sym q
-        go (adds f p _ _) (adds g q _ _) = p ∙ ap (Add interface) (ap (λ z. z.item) (sym (ap pair_of p) ∙ e ∙ ap pair_of q)) ∙ sym q
-        go (removes f p o h) (adds g q x n) = absurd (n (subst (λ z. Has z held) (ap (λ z. z.item) (sym (ap pair_of p) ∙ e ∙ ap pair_of q)) h))
-        go (adds f p x n) (removes g q o h) = absurd (n (subst (λ z. Has z held) (sym (ap (λ z. z.item) (sym (ap pair_of p) ∙ e ∙ ap pair_of q))) h))
+        go (removes f p o h) (removes g q _ _) = p ∙ ap (Remove interface) (ap (λ z. z.item) (sym (ap changed_pair p) ∙ e ∙ ap changed_pair q)) ∙ sym q
+        go (adds f p _ _) (adds g q _ _) = p ∙ ap (Add interface) (ap (λ z. z.item) (sym (ap changed_pair p) ∙ e ∙ ap changed_pair q)) ∙ sym q
+        go (removes f p o h) (adds g q x n) = absurd (n (subst (λ z. Has z held) (ap (λ z. z.item) (sym (ap changed_pair p) ∙ e ∙ ap changed_pair q)) h))
+        go (adds f p x n) (removes g q o h) = absurd (n (subst (λ z. Has z held) (sym (ap (λ z. z.item) (sym (ap changed_pair p) ∙ e ∙ ap changed_pair q))) h))
 
     -- a change of another interface, or of a filter that stays, is untouched
-    untouched-elsewhere : (c : Change) → (pair_of c).interface ≢ interface → Untouched c made
+    untouched-elsewhere : (c : Change) → (changed_pair c).interface ≢ interface → Untouched c made
     untouched-elsewhere c n other m q = go (made-is other m)
       where
         go : Made other → ⊥
-        go (removes f p _ _) = n (ap (λ z. z.interface) (q ∙ ap pair_of p))
-        go (adds f p _ _) = n (ap (λ z. z.interface) (q ∙ ap pair_of p))
+        go (removes f p _ _) = n (ap (λ z. z.interface) (q ∙ ap changed_pair p))
+        go (adds f p _ _) = n (ap (λ z. z.interface) (q ∙ ap changed_pair p))
 
-    untouched-here : (c : Change) (f : List ConstraintParts) → (pair_of c).item ≡ f → (Has f out → Has f held → ⊥) → (Has f add → Has f held) → Untouched c made
+    untouched-here : (c : Change) (f : List ConstraintParts) → (changed_pair c).item ≡ f → (Has f out → Has f held → ⊥) → (Has f add → Has f held) → Untouched c made
     untouched-here c f e stays there other m q = go (made-is other m)
       where
         go : Made other → ⊥
         go (removes g p o h) =
-            let same : g ≡ f = sym (ap (λ z. z.item) (q ∙ ap pair_of p)) ∙ e in
+            let same : g ≡ f = sym (ap (λ z. z.item) (q ∙ ap changed_pair p)) ∙ e in
             stays (subst (λ z. Has z out) same o) (subst (λ z. Has z held) same h)
         go (adds g p x n) =
-            let same : g ≡ f = sym (ap (λ z. z.item) (q ∙ ap pair_of p)) ∙ e in
+            let same : g ≡ f = sym (ap (λ z. z.item) (q ∙ ap changed_pair p)) ∙ e in
             n (subst (λ z. Has z held) (sym same) (there (subst (λ z. Has z add) same x)))
 
     module _ (published holds then : ℕ → Filters) (staged : List Change) (rose : IsRising is_earlier staged) (here : holds interface ≡ held)
@@ -201,10 +201,10 @@ module _ (interface : ℕ) (held out add : Filters) where
             has-after f (inr (h, λ o. u (Remove interface f) (removed f o h) refl))
       ]
         where
-          touched : {c : Change} → Made c → Has c made → pair_of (Add interface f) ≡ pair_of c → Answer interface f → Has f (then interface)
-          touched (adds g p a n) m q r = has-after f (inl (subst (λ z. Has z add) (sym (ap (λ z. z.item) (q ∙ ap pair_of p))) a))
+          touched : {c : Change} → Made c → Has c made → changed_pair (Add interface f) ≡ changed_pair c → Answer interface f → Has f (then interface)
+          touched (adds g p a n) m q r = has-after f (inl (subst (λ z. Has z add) (sym (ap (λ z. z.item) (q ∙ ap changed_pair p))) a))
           touched {c} (removes g p o h) m q r =
-              let same : g ≡ f = sym (ap (λ z. z.item) (q ∙ ap pair_of p)) in
+              let same : g ≡ f = sym (ap (λ z. z.item) (q ∙ ap changed_pair p)) in
               let there : Has (Remove interface f) made = subst (λ z. Has z made) (p ∙ ap (Remove interface) same) m in
               gone-then there (subst (λ z. Has z out) same o) (subst (λ z. Has z held) same h) r
             where

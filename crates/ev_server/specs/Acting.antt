@@ -51,8 +51,8 @@ abbrev pub clients_on : List ℕ → List ℕ
 clients_on route = map (λ i. i - 64) (filter (λ i. nat_lt 64 i) route)
 
 -- what is delivered of a publication
-abbrev pub delivery_of : Id → List Attribute → Delivery
-delivery_of id notice = record { id = id; bytes = notice_text notice }
+abbrev pub delivery_under : Id → List Attribute → Delivery
+delivery_under id notice = record { id = id; bytes = notice_text notice }
 
 -- a text for each of these links
 abbrev pub sent_on : List ℕ → List ℕ → List Sent
@@ -68,7 +68,7 @@ delivered clients delivery sessions = map (λ s. cond (is_among s.client clients
 
 -- a notice went on by its route and was delivered
 pub record IsSpread (from : ℕ) (id : Id) (notice : List Attribute) (route links : List ℕ) (old new : List SessionParts) (sent : List Sent) : Type 0 where
-  pub inboxes : map bare new ≡ map bare (delivered (clients_on route) (delivery_of id notice) old)
+  pub inboxes : map bare new ≡ map bare (delivered (clients_on route) (delivery_under id notice) old)
   pub sent_texts : sent ≡ sent_on (message_text (Notice id notice)) (links_on links from route)
   pub readable : IsMessageText (message_text (Notice id notice)) (Notice id notice)
 

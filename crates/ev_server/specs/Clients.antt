@@ -9,8 +9,8 @@ abbrev pub bare : SessionParts → SessionParts
 bare session = session_parts session.client session.semantics session.script session.taken session.inbox 0 false
 
 -- the clients' numbers
-abbrev pub numbers_of : List SessionParts → List ℕ
-numbers_of sessions = map (λ s. s.client) sessions
+abbrev pub client_numbers : List SessionParts → List ℕ
+client_numbers sessions = map (λ s. s.client) sessions
 
 -- one client's session changed
 abbrev pub at_client : ℕ → (SessionParts → SessionParts) → List SessionParts → List SessionParts

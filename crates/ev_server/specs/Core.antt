@@ -11,7 +11,7 @@ use Rattle.ev_control.specs.Control.{Controlled}
 use Rattle.ev_control.specs.Routing.{StandsFor}
 use Rattle.ev_model.specs.Meaning.{phased_command, deliveries_of}
 use Rattle.ev_session.specs.Session.{SessionParts}
-use Rattle.ev_server.specs.Clients.{numbers_of}
+use Rattle.ev_server.specs.Clients.{client_numbers}
 use Rattle.ev_server.specs.Staged.{is_some_there}
 use Rattle.ev_server.specs.Ledger.{LedgerParts}
 
@@ -47,7 +47,7 @@ pub record IsServerState (net : Net real) (core : CoreParts) (state : ServerStat
   pub published : (i : ℕ) → Has i (interfaces real net core.server) → state.published i ≡ published_from core i
   pub published_apart : (i : ℕ) → (Has i (interfaces real net core.server) → ⊥) → published_from core i ≡ []
   pub staged : state.staged ≡ is_some_there core.staged
-  pub clients : net.clients core.server ≡ numbers_of core.clients
+  pub clients : net.clients core.server ≡ client_numbers core.clients
   pub scripts : (s : SessionParts) → Has s core.clients → net.script s.client ≡ map phased_command s.script
   pub taken : (s : SessionParts) → Has s core.clients → state.done s.client ≡ s.taken
   pub inboxes : (s : SessionParts) → Has s core.clients → s.inbox ≡ deliveries_of (state.inbox s.client)

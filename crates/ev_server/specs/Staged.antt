@@ -8,14 +8,14 @@ use Rattle.ev_counting.specs.declared.change.Change.TheVariants.{Add, Remove}
 use Rattle.ev_control.specs.Holdings.{Holding, earlier}
 
 -- the pair that a change touches
-abbrev pub pair_of : Change → Holding (List ConstraintParts)
-pair_of (Add interface filter) = record { interface = interface; item = filter }
-pair_of (Remove interface filter) = record { interface = interface; item = filter }
+abbrev pub changed_pair : Change → Holding (List ConstraintParts)
+changed_pair (Add interface filter) = record { interface = interface; item = filter }
+changed_pair (Remove interface filter) = record { interface = interface; item = filter }
 
 -- no pair is changed twice
 abbrev pub AreOnce : List Change → Type 0
 AreOnce [] = Unit {0}
-AreOnce (change ∷ changes) = ((other : Change) → Has other changes → pair_of change ≢ pair_of other) × AreOnce changes
+AreOnce (change ∷ changes) = ((other : Change) → Has other changes → changed_pair change ≢ changed_pair other) × AreOnce changes
 
 -- the changes turn what was published into what is held
 abbrev pub StagedTurn : (ℕ → List (List ConstraintParts)) → (ℕ → List (List ConstraintParts)) → List Change → Type 0
@@ -34,7 +34,7 @@ is_some_there (x ∷ xs) = true
 
 -- whether a change is of an earlier pair than another: of a lower interface, or of the same and of an earlier filter
 abbrev pub is_earlier : Change → Change → Bool
-is_earlier one other = earlier list_before (pair_of one) (pair_of other)
+is_earlier one other = earlier list_before (changed_pair one) (changed_pair other)
 
 -- changes that rise by their pairs with one more, in the place of that of its pair
 abbrev pub with_one : Change → List Change → List Change

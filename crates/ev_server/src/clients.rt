@@ -5,7 +5,7 @@ ghost use Rattle.ev_sets.specs.Sets.{Has};
 ghost use Rattle.ev_session.specs.Inbox.{IsDelivery};
 ghost use Rattle.ev_session.specs.Plan.{next_plan, IsCounted};
 ghost use Rattle.ev_session.specs.Session.{SessionParts};
-ghost use Rattle.ev_server.specs.Clients.{bare, numbers_of, at_client, handed, stepped, HaveMoreRoom};
+ghost use Rattle.ev_server.specs.Clients.{bare, client_numbers, at_client, handed, stepped, HaveMoreRoom};
 
 use ev_memory::NoMemory;
 use ev_session::{Planned, Session};
@@ -24,19 +24,19 @@ impl Model for Clients {
     ghost use Rattle.std.specs.Prelude.{◌≡◌, List};
     ghost use Rattle.std.specs.List.Sorted.{IsStrictlyIncreasing};
     ghost use Rattle.ev_session.specs.Session.{SessionParts};
-    ghost use Rattle.ev_server.specs.Clients.{numbers_of};
+    ghost use Rattle.ev_server.specs.Clients.{client_numbers};
 
     ghost Value = { List SessionParts };
 
     ghost view = { λ c. c.sessions.items };
 
-    ghost invariant = { λ c. (numbers_of c.sessions.items ≡ c.numbers.items) × IsStrictlyIncreasing c.numbers.items };
+    ghost invariant = { λ c. (client_numbers c.sessions.items ≡ c.numbers.items) × IsStrictlyIncreasing c.numbers.items };
 }
 
 impl Clients {
     /// The sessions of these clients.
     pub(crate) fn of(numbers: Vec<u32>, sessions: Vec<Session>) -> Clients
-        requires numbered { numbers_of sessions.items ≡ numbers.items }
+        requires numbered { client_numbers sessions.items ≡ numbers.items }
         requires rising { IsStrictlyIncreasing numbers.items }
         ensures { result ≡ sessions.items }
     {
@@ -47,7 +47,7 @@ impl Clients {
     fn place(&self, client: u32) -> Option<usize>
         ensures some { IfSome result (λ i. i < length self.now) }
         ensures session { IfSome result (λ i. (s : SessionParts) → slice_get self.now i ≡ Some s → s.client ≡ client) }
-        ensures none { IfNone result (Has client (numbers_of self.now) → ⊥) }
+        ensures none { IfNone result (Has client (client_numbers self.now) → ⊥) }
     {
         self.numbers.binary_search(&client).ok()
     }
@@ -55,7 +55,7 @@ impl Clients {
     /// The session of a client that lives here.
     pub(crate) fn session(&self, client: u32) -> Option<&Session>
         ensures session { IfSome result (λ s. Has s.now self.now × (s.now.client ≡ client)) }
-        ensures none { IfNone result (Has client (numbers_of self.now) → ⊥) }
+        ensures none { IfNone result (Has client (client_numbers self.now) → ⊥) }
     {
         let place = self.place(client)?;
         Some(&self.sessions[place])
@@ -63,7 +63,7 @@ impl Clients {
 
     /// What the next command of a client does that lives here and has one left.
     pub(crate) fn plan(&mut self, client: u32) -> Result<Planned, NoMemory>
-        requires lives { Has client (numbers_of self.old) }
+        requires lives { Has client (client_numbers self.old) }
         requires left { (s : SessionParts) → Has s self.old → s.client ≡ client → s.taken < length s.script }
         ensures plan { IfOk result (λ p. (s : SessionParts) → Has s self.old → s.client ≡ client → next_plan s ≡ Some p) }
         ensures counted { IfOk result IsCounted }

@@ -15,7 +15,7 @@ ghost use Rattle.ev_session.specs.Session.{SessionParts, net_under};
 ghost use Rattle.ev_routing.specs.Clients.{accepts, some_pass};
 ghost use Rattle.ev_wire.specs.declared.command.Command.TheVariants as commands;
 ghost use Rattle.ev_theory.specs.Real.{real};
-ghost use Rattle.ev_server.specs.Clients.{bare, numbers_of};
+ghost use Rattle.ev_server.specs.Clients.{bare, client_numbers};
 ghost use Rattle.ev_server.specs.Core.{CoreParts, core_parts, published_from};
 ghost use Rattle.ev_server.specs.Kept.{IsCore};
 ghost use Rattle.ev_server.specs.Step.{MakesStep, last_stamp};
@@ -87,7 +87,7 @@ impl Core {
     /// Takes the next command of a client that lives here and has one left. Where that is an accepted publish, the route
     /// is that of its notice by the published table. Messages of a change go to the links where what is sent changed.
     pub fn take_command(&mut self, client: u32, route: &Route) -> Result<Stepped, StepFault>
-        requires lives { Has client (numbers_of self.old.clients) }
+        requires lives { Has client (client_numbers self.old.clients) }
         requires left { (s : SessionParts) → Has s self.old.clients → s.client ≡ client → s.taken < length s.script }
         requires route { RoutesNext self.old client route.now }
         ensures step { IfOk result (λ s. MakesStep (Does (NextCommand client)) 0 self.old self.new s.stamp s.sent.items) }
@@ -104,7 +104,7 @@ impl Core {
 
     /// The same, where a publication that is sent on is not written out as a text.
     pub fn post_command(&mut self, client: u32, route: &Route) -> Result<Posted, StepFault>
-        requires lives { Has client (numbers_of self.old.clients) }
+        requires lives { Has client (client_numbers self.old.clients) }
         requires left { (s : SessionParts) → Has s self.old.clients → s.client ≡ client → s.taken < length s.script }
         requires route { RoutesNext self.old client route.now }
         ensures step { IfOk result (λ s. MakesStep (Does (NextCommand client)) 0 self.old self.new s.stamp s.sent) }
@@ -119,7 +119,7 @@ impl Core {
 
     /// Takes the next command of a client; what is sent comes in the form that is asked for.
     fn step_command<D: Due>(&mut self, client: u32, route: &Route) -> Result<(u64, D), StepFault>
-        requires lives { Has client (numbers_of self.old.clients) }
+        requires lives { Has client (client_numbers self.old.clients) }
         requires left { (s : SessionParts) → Has s self.old.clients → s.client ≡ client → s.taken < length s.script }
         requires route { RoutesNext self.old client route.now }
         ensures step { IfOk result (λ s. MakesStep (Does (NextCommand client)) 0 self.old self.new s.0 (D.sent s.1)) }
@@ -271,7 +271,7 @@ impl Core {
 
     /// The session of a client that lives here.
     pub fn session(&self, client: u32) -> &Session
-        requires { Has client (numbers_of self.now.clients) }
+        requires { Has client (client_numbers self.now.clients) }
         ensures session { Has (bare result.now) self.now.clients }
         ensures client { result.now.client ≡ client }
         ensures semantics { result.now.semantics ≡ self.now.control.semantics }
@@ -285,7 +285,7 @@ impl Core {
     /// The notice of the next command of a client that lives here; `None` where that is no publish that will be
     /// accepted, or there is none.
     pub fn next_publish(&self, client: u32) -> Option<&Notice>
-        requires { Has client (numbers_of self.now.clients) }
+        requires { Has client (client_numbers self.now.clients) }
         ensures publish { IfSome result (λ n. (s : SessionParts) × Has s self.now.clients × (s.client ≡ client)
             × ((id : Id) × (next_plan s ≡ Some (Publish id n.now)))) }
         ensures none { IfNone result ((s : SessionParts) × Has s self.now.clients × (s.client ≡ client)

@@ -1,7 +1,7 @@
 //! The changes since the last version.
 ghost use Rattle.std.specs.Prelude.{◌≡◌, ◌≤◌, ◌<◌, ◌+◌, ◌-◌, ℕ, [], length, insert, set, vec_len, vec_capacity, Some, slice_get, true, false, OnOk};
 ghost use Rattle.ev_sets.specs.Sets.{IsRising};
-ghost use Rattle.ev_server.specs.Staged.{pair_of, is_earlier, with_one, staged_with, AreOnce, IsPlace};
+ghost use Rattle.ev_server.specs.Staged.{changed_pair, is_earlier, with_one, staged_with, AreOnce, IsPlace};
 
 use ev_counting::Change;
 use ev_memory::NoMemory;
@@ -166,7 +166,7 @@ fn stands(changes: &[Change], place: usize, change: &Change) -> bool
 
 /// The interface of a change.
 fn interface_of(change: &Change) -> u32
-    ensures { result ≡ (pair_of change.now).interface }
+    ensures { result ≡ (changed_pair change.now).interface }
 {
     match change {
         Change::Add { iface, .. } => *iface,
@@ -176,7 +176,7 @@ fn interface_of(change: &Change) -> u32
 
 /// The filter of a change.
 fn filter_of(change: &Change) -> &Filter
-    ensures { result.now ≡ (pair_of change.now).item }
+    ensures { result.now ≡ (changed_pair change.now).item }
 {
     match change {
         Change::Add { filter, .. } => filter,

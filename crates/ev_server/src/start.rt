@@ -9,7 +9,7 @@ ghost use Rattle.ev_model.specs.Sound.{IsSound};
 ghost use Rattle.ev_model.specs.Nets.{phased_net, clients_of, servers_in};
 ghost use Rattle.ev_session.specs.Session.{SessionParts};
 ghost use Rattle.ev_server.specs.Core.{IsServerState};
-ghost use Rattle.ev_server.specs.Clients.{numbers_of};
+ghost use Rattle.ev_server.specs.Clients.{client_numbers};
 ghost use Rattle.ev_server.specs.Start.{sessions_of};
 
 use crate::clients::Clients;

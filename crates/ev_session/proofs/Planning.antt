@@ -16,9 +16,10 @@ use Rattle.ev_model.specs.Meaning.{command_of, phased_command}
 use Rattle.ev_model.specs.Adding.{own_filters, own_adverts, own_filters_step, own_adverts_step}
 use Rattle.ev_session.specs.declared.planned.Planned.{Planned}
 use Rattle.ev_session.specs.declared.planned.Planned.TheVariants as plans
+use Rattle.ev_wire.specs.Messages.{Lists}
 use Rattle.ev_session.specs.Session.{SessionParts, first_commands, filters_at, adverts_at, publishes_at, refused_at, net_under}
 use Rattle.ev_session.specs.Plan.{filters_plan, adverts_plan, publish_plan, plan_by, next_plan}
-use Rattle.ev_session.specs.Own.{Owned, own_plan, filters_by, adverts_by, refused_by, publishes_by, AddsFew}
+use Rattle.ev_session.specs.Own.{own_plan, filters_by, adverts_by, refusals_by, publishes_by, AddsFew}
 use Rattle.ev_session.proofs.Settling.{filter-same, filter-all, out, add, settled, absent}
 use Rattle.ev_session.proofs.Listing.{get-map, filters-next, adverts-next, ordinal-next, refused-next}
 
@@ -104,20 +105,20 @@ module _ {T : Type 0} {covers before : T → T → Bool} (laws : CoverLaws cover
   withdrawing-few = rw withdrawing-add (omega arith)
 
 -- what the code says that a command does
-pub subscribe_plan : (f : List ConstraintParts) (filters come : Owned) → come ≡ new_of list_before f filters → plans.Subs [] come ≡ filters_plan filters (with_new list_before f filters)
+pub subscribe_plan : (f : List ConstraintParts) (filters come : Lists) → come ≡ new_of list_before f filters → plans.Subs [] come ≡ filters_plan filters (with_new list_before f filters)
 subscribe_plan f filters come e = rw (adding-out sub_laws f filters, adding-add sub_laws f filters) (ap (λ xs. plans.Subs [] xs) e)
 
-pub unsubscribe_plan : (f : List ConstraintParts) (filters go : Owned) → go ≡ filter (λ g. filter_covers f g) filters → plans.Subs go [] ≡ filters_plan filters (without filter_covers f filters)
+pub unsubscribe_plan : (f : List ConstraintParts) (filters go : Lists) → go ≡ filter (λ g. filter_covers f g) filters → plans.Subs go [] ≡ filters_plan filters (without filter_covers f filters)
 unsubscribe_plan f filters go e = rw (withdrawing-out sub_laws f filters, withdrawing-add sub_laws f filters) (ap (λ xs. plans.Subs xs []) e)
 
-pub advertise_plan : (a : List ConstraintParts) (adverts come : Owned) → come ≡ new_of list_before a adverts → plans.Advs [] come ≡ adverts_plan adverts (with_new list_before a adverts)
+pub advertise_plan : (a : List ConstraintParts) (adverts come : Lists) → come ≡ new_of list_before a adverts → plans.Advs [] come ≡ adverts_plan adverts (with_new list_before a adverts)
 advertise_plan a adverts come e = rw (adding-out ad_laws a adverts, adding-add ad_laws a adverts) (ap (λ xs. plans.Advs [] xs) e)
 
-pub unadvertise_plan : (a : List ConstraintParts) (adverts go : Owned) → go ≡ filter (λ b. advert_covers a b) adverts → plans.Advs go [] ≡ adverts_plan adverts (without advert_covers a adverts)
+pub unadvertise_plan : (a : List ConstraintParts) (adverts go : Lists) → go ≡ filter (λ b. advert_covers a b) adverts → plans.Advs go [] ≡ adverts_plan adverts (without advert_covers a adverts)
 unadvertise_plan a adverts go e = rw (withdrawing-out ad_laws a adverts, withdrawing-add ad_laws a adverts) (ap (λ xs. plans.Advs xs []) e)
 
 -- at most one member comes
-pub plan-few : (client : ℕ) (semantics : Semantics) (filters adverts : Owned) (publishes : ℕ) (command : Command) → AddsFew (own_plan client semantics filters adverts publishes command)
+pub plan-few : (client : ℕ) (semantics : Semantics) (filters adverts : Lists) (publishes : ℕ) (command : Command) → AddsFew (own_plan client semantics filters adverts publishes command)
 plan-few client semantics filters adverts publishes (commands.Subscribe f) = adding-few sub_laws f filters
 plan-few client semantics filters adverts publishes (commands.Unsubscribe f) = withdrawing-few sub_laws f filters
 plan-few client semantics filters adverts publishes (commands.Advertise a) = adding-few ad_laws a adverts
@@ -129,7 +130,7 @@ plan-few client semantics filters adverts publishes (commands.Publish n) = go (a
     go false = tt
 
 -- doing what is planned gives the next lists
-pub filters-done : (client : ℕ) (semantics : Semantics) (filters adverts : Owned) (publishes : ℕ) (command : Command) → filters_by (own_plan client semantics filters adverts publishes command) filters ≡ own_filters_step real filters (command_of command)
+pub filters-done : (client : ℕ) (semantics : Semantics) (filters adverts : Lists) (publishes : ℕ) (command : Command) → filters_by (own_plan client semantics filters adverts publishes command) filters ≡ own_filters_step real filters (command_of command)
 filters-done client semantics filters adverts publishes (commands.Subscribe f) = adding-settled sub_laws f filters
 filters-done client semantics filters adverts publishes (commands.Unsubscribe f) = withdrawing-settled sub_laws f filters
 filters-done client semantics filters adverts publishes (commands.Advertise a) = refl
@@ -140,7 +141,7 @@ filters-done client semantics filters adverts publishes (commands.Publish n) = g
     go true = refl
     go false = refl
 
-pub adverts-done : (client : ℕ) (semantics : Semantics) (filters adverts : Owned) (publishes : ℕ) (command : Command) → adverts_by (own_plan client semantics filters adverts publishes command) adverts ≡ own_adverts_step real adverts (command_of command)
+pub adverts-done : (client : ℕ) (semantics : Semantics) (filters adverts : Lists) (publishes : ℕ) (command : Command) → adverts_by (own_plan client semantics filters adverts publishes command) adverts ≡ own_adverts_step real adverts (command_of command)
 adverts-done client semantics filters adverts publishes (commands.Subscribe f) = refl
 adverts-done client semantics filters adverts publishes (commands.Unsubscribe f) = refl
 adverts-done client semantics filters adverts publishes (commands.Advertise a) = adding-settled ad_laws a adverts
@@ -152,18 +153,18 @@ adverts-done client semantics filters adverts publishes (commands.Publish n) = g
     go false = refl
 
 -- a publish is refused by any list of advertisements that accepts the same
-pub refused-done : (client : ℕ) (semantics : Semantics) (filters adverts rising : Owned) (publishes : ℕ) (command : Command) → ((n : real.Notice) → accepts real (net_under semantics) adverts n ≡ accepts real (net_under semantics) rising n) → (refused : List ℕ) → refused_by (own_plan client semantics filters adverts publishes command) refused ≡ refused ++ add_refused real (net_under semantics) rising publishes (command_of command) []
+pub refused-done : (client : ℕ) (semantics : Semantics) (filters adverts rising : Lists) (publishes : ℕ) (command : Command) → ((n : real.Notice) → accepts real (net_under semantics) adverts n ≡ accepts real (net_under semantics) rising n) → (refused : List ℕ) → refusals_by (own_plan client semantics filters adverts publishes command) refused ≡ refused ++ add_refused real (net_under semantics) rising publishes (command_of command) []
 refused-done client semantics filters adverts rising publishes (commands.Subscribe f) same refused = sym (append-nil refused)
 refused-done client semantics filters adverts rising publishes (commands.Unsubscribe f) same refused = sym (append-nil refused)
 refused-done client semantics filters adverts rising publishes (commands.Advertise a) same refused = sym (append-nil refused)
 refused-done client semantics filters adverts rising publishes (commands.Unadvertise a) same refused = sym (append-nil refused)
 refused-done client semantics filters adverts rising publishes (commands.Publish n) same refused = go (accepts real (net_under semantics) adverts n) ∙ ap (λ b. refused ++ cond b [] (suc publishes ∷ [])) (same n)
   where
-    go : (b : Bool) → refused_by (cond b (plans.Publish (record { publisher = client; ordinal = suc publishes }) n) (plans.Refused (suc publishes))) refused ≡ refused ++ cond b [] (suc publishes ∷ [])
+    go : (b : Bool) → refusals_by (cond b (plans.Publish (record { publisher = client; ordinal = suc publishes }) n) (plans.Refused (suc publishes))) refused ≡ refused ++ cond b [] (suc publishes ∷ [])
     go true = sym (append-nil refused)
     go false = refl
 
-pub publishes-done : (client : ℕ) (semantics : Semantics) (filters adverts : Owned) (publishes : ℕ) (command : Command) → publishes_by (own_plan client semantics filters adverts publishes command) publishes ≡ cond (is_publish real (command_of command)) (suc publishes) publishes
+pub publishes-done : (client : ℕ) (semantics : Semantics) (filters adverts : Lists) (publishes : ℕ) (command : Command) → publishes_by (own_plan client semantics filters adverts publishes command) publishes ≡ cond (is_publish real (command_of command)) (suc publishes) publishes
 publishes-done client semantics filters adverts publishes (commands.Subscribe f) = refl
 publishes-done client semantics filters adverts publishes (commands.Unsubscribe f) = refl
 publishes-done client semantics filters adverts publishes (commands.Advertise a) = refl

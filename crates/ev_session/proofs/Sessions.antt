@@ -13,11 +13,12 @@ use Rattle.ev_model.specs.Meaning.{command_of, phased_command}
 use Rattle.ev_model.specs.Adding.{own_filters_step, own_adverts_step}
 use Rattle.ev_model.proofs.Adding.{accepts-same}
 use Rattle.ev_session.specs.declared.planned.Planned.{Planned}
+use Rattle.ev_wire.specs.Messages.{Lists}
 use Rattle.ev_session.specs.Inbox.{IsDelivery, AreDeliveries}
 use Rattle.ev_session.specs.Session.{SessionParts, session_parts, IsSession, first_commands, filters_at, adverts_at, publishes_at, refused_at, net_under}
 use Rattle.ev_session.specs.declared.planned.Planned.TheVariants as plans
 use Rattle.ev_session.specs.Plan.{plan_in, next_plan, IsCounted}
-use Rattle.ev_session.specs.Own.{Owned, own_plan, filters_by, adverts_by, refused_by, publishes_by, AddsFew}
+use Rattle.ev_session.specs.Own.{own_plan, filters_by, adverts_by, refusals_by, publishes_by, AddsFew}
 use Rattle.ev_session.proofs.Planning.{plan-few, filters-done, adverts-done, refused-done, publishes-done, next-filters, next-adverts, next-publishes, next-refused, plan-own}
 
 -- no part of a list has more publishes
@@ -56,7 +57,7 @@ more-deliveries : (inbox : List Delivery) (d : Delivery) → AreDeliveries inbox
 more-deliveries [] d all one = (one, tt)
 more-deliveries (x ∷ xs) d all one = (all.0, more-deliveries xs d all.1 one)
 
-module _ (s : SessionParts) (fs xs : Owned) (rs : List ℕ) (p : ℕ) (kept : IsSession s fs xs rs p) where
+module _ (s : SessionParts) (fs xs : Lists) (rs : List ℕ) (p : ℕ) (kept : IsSession s fs xs rs p) where
   pub publishes-few : p ≤ 100000
   publishes-few = omega (arith, kept.counted, ordinal-take real (map phased_command s.script) s.taken, kept.few)
 
@@ -85,7 +86,7 @@ module _ (s : SessionParts) (fs xs : Owned) (rs : List ℕ) (p : ℕ) (kept : Is
     same-accepted : (n : real.Notice) → accepts real (net_under s.semantics) (adverts_at s s.taken) n ≡ accepts real (net_under s.semantics) (adverts_after real [] (first_commands s s.taken)) n
     same-accepted n = accepts-same real real_laws (net_under s.semantics) (first_commands s s.taken) n
 
-    done : IsSession (session_parts s.client s.semantics s.script (suc s.taken) s.inbox s.room false) (filters_by (own_plan s.client s.semantics fs xs p step.1) fs) (adverts_by (own_plan s.client s.semantics fs xs p step.1) xs) (refused_by (own_plan s.client s.semantics fs xs p step.1) rs) (publishes_by (own_plan s.client s.semantics fs xs p step.1) p)
+    done : IsSession (session_parts s.client s.semantics s.script (suc s.taken) s.inbox s.room false) (filters_by (own_plan s.client s.semantics fs xs p step.1) fs) (adverts_by (own_plan s.client s.semantics fs xs p step.1) xs) (refusals_by (own_plan s.client s.semantics fs xs p step.1) rs) (publishes_by (own_plan s.client s.semantics fs xs p step.1) p)
     done = record {
       own_filters = filters-done s.client s.semantics fs xs p step.1 ∙ ap (λ l. own_filters_step real l (command_of step.1)) kept.own_filters ∙ sym (next-filters s step at);
       own_adverts = adverts-done s.client s.semantics fs xs p step.1 ∙ ap (λ l. own_adverts_step real l (command_of step.1)) kept.own_adverts ∙ sym (next-adverts s step at);
@@ -96,9 +97,9 @@ module _ (s : SessionParts) (fs xs : Owned) (rs : List ℕ) (p : ℕ) (kept : Is
       texts = kept.texts;
     }
       where
-        refusals : refused_by (own_plan s.client s.semantics fs xs p step.1) rs ≡ refused_at s (suc s.taken)
+        refusals : refusals_by (own_plan s.client s.semantics fs xs p step.1) rs ≡ refused_at s (suc s.taken)
         refusals =
-            ap (λ plan. refused_by plan rs) (sym by-lists)
+            ap (λ plan. refusals_by plan rs) (sym by-lists)
             ∙ refused-done s.client s.semantics (filters_at s s.taken) (adverts_at s s.taken) (adverts_after real [] (first_commands s s.taken)) (publishes_at s s.taken) step.1 same-accepted rs
             ∙ ap (λ os. os ++ add_refused real (net_under s.semantics) (adverts_after real [] (first_commands s s.taken)) (publishes_at s s.taken) (command_of step.1) []) kept.all_refused
             ∙ sym (next-refused s step at)
@@ -138,8 +139,8 @@ module _ (s : SessionParts) (fs xs : Owned) (rs : List ℕ) (p : ℕ) (kept : Is
   pub counted-plan : (plan : Planned) → next_plan s ≡ Some plan → IsCounted plan
   counted-plan plan e = let w = command-of-plan plan e in subst IsCounted (sym w.2) (counted-own w.0 w.1)
 
-  pub committed : (plan : Planned) → next_plan s ≡ Some plan → (taken : ℕ) → taken ≡ suc s.taken → IsSession (session_parts s.client s.semantics s.script taken s.inbox s.room false) (filters_by plan fs) (adverts_by plan xs) (refused_by plan rs) (publishes_by plan p)
+  pub committed : (plan : Planned) → next_plan s ≡ Some plan → (taken : ℕ) → taken ≡ suc s.taken → IsSession (session_parts s.client s.semantics s.script taken s.inbox s.room false) (filters_by plan fs) (adverts_by plan xs) (refusals_by plan rs) (publishes_by plan p)
   committed plan e taken t =
       let w = command-of-plan plan e in
-      let P : ℕ → Planned → Type 0 = λ n q. IsSession (session_parts s.client s.semantics s.script n s.inbox s.room false) (filters_by q fs) (adverts_by q xs) (refused_by q rs) (publishes_by q p) in
+      let P : ℕ → Planned → Type 0 = λ n q. IsSession (session_parts s.client s.semantics s.script n s.inbox s.room false) (filters_by q fs) (adverts_by q xs) (refusals_by q rs) (publishes_by q p) in
       subst (λ n. P n plan) (sym t) (subst (P (suc s.taken)) (sym w.2) (done w.0 w.1))

@@ -16,31 +16,31 @@ use Rattle.ev_theory.specs.Real.{real, real_laws}
 use Rattle.ev_model.proofs.Adding.{filters-sorted, adverts-sorted}
 use Rattle.ev_session.specs.declared.planned.Planned.{Planned}
 use Rattle.ev_session.specs.declared.planned.Planned.TheVariants as plans
+use Rattle.ev_wire.specs.Messages.{Lists}
 use Rattle.ev_session.specs.Session.{SessionParts, first_commands, filters_at, adverts_at, publishes_at, net_under}
 use Rattle.ev_session.specs.Plan.{filters_plan, adverts_plan, publish_plan, plan_by, plan_in, next_plan}
-use Rattle.ev_session.specs.Own.{Owned}
 use Rattle.ev_session.proofs.Settling.{sets-settled}
 
 -- the parts of a plan of filters, and of one of advertisements
-subs_out : Planned → Owned
+subs_out : Planned → Lists
 subs_out (plans.Subs out add) = out
 subs_out (plans.Advs out add) = []
 subs_out (plans.Publish id n) = []
 subs_out (plans.Refused o) = []
 
-subs_add : Planned → Owned
+subs_add : Planned → Lists
 subs_add (plans.Subs out add) = add
 subs_add (plans.Advs out add) = []
 subs_add (plans.Publish id n) = []
 subs_add (plans.Refused o) = []
 
-advs_out : Planned → Owned
+advs_out : Planned → Lists
 advs_out (plans.Subs out add) = []
 advs_out (plans.Advs out add) = out
 advs_out (plans.Publish id n) = []
 advs_out (plans.Refused o) = []
 
-advs_add : Planned → Owned
+advs_add : Planned → Lists
 advs_add (plans.Subs out add) = []
 advs_add (plans.Advs out add) = add
 advs_add (plans.Publish id n) = []
@@ -64,7 +64,7 @@ differ e = absurd cc
 
 module _ (s : SessionParts) where
   -- a plan of filters is the difference of the client's lists
-  subs-by : (command : Command) (out add : Owned) → plan_by s command ≡ plans.Subs out add → (out ≡ minus list_before (filters_at s s.taken) (filters_at s (suc s.taken))) × (add ≡ minus list_before (filters_at s (suc s.taken)) (filters_at s s.taken))
+  subs-by : (command : Command) (out add : Lists) → plan_by s command ≡ plans.Subs out add → (out ≡ minus list_before (filters_at s s.taken) (filters_at s (suc s.taken))) × (add ≡ minus list_before (filters_at s (suc s.taken)) (filters_at s s.taken))
   unfolding subs_out subs_add is_subs
   subs-by (commands.Subscribe f) out add e = (sym (ap subs_out e), sym (ap subs_add e))
   subs-by (commands.Unsubscribe f) out add e = (sym (ap subs_out e), sym (ap subs_add e))
@@ -76,7 +76,7 @@ module _ (s : SessionParts) where
       never true = refl
       never false = refl
 
-  advs-by : (command : Command) (out add : Owned) → plan_by s command ≡ plans.Advs out add → (out ≡ minus list_before (adverts_at s s.taken) (adverts_at s (suc s.taken))) × (add ≡ minus list_before (adverts_at s (suc s.taken)) (adverts_at s s.taken))
+  advs-by : (command : Command) (out add : Lists) → plan_by s command ≡ plans.Advs out add → (out ≡ minus list_before (adverts_at s s.taken) (adverts_at s (suc s.taken))) × (add ≡ minus list_before (adverts_at s (suc s.taken)) (adverts_at s s.taken))
   unfolding advs_out advs_add is_advs
   advs-by (commands.Subscribe f) out add e = differ (ap is_advs e)
   advs-by (commands.Unsubscribe f) out add e = differ (ap is_advs e)
@@ -88,41 +88,41 @@ module _ (s : SessionParts) where
       never true = refl
       never false = refl
 
-  subs-in : (o : Option (ℕ × Command)) (out add : Owned) → plan_in s o ≡ Some (plans.Subs out add) → (out ≡ minus list_before (filters_at s s.taken) (filters_at s (suc s.taken))) × (add ≡ minus list_before (filters_at s (suc s.taken)) (filters_at s s.taken))
+  subs-in : (o : Option (ℕ × Command)) (out add : Lists) → plan_in s o ≡ Some (plans.Subs out add) → (out ≡ minus list_before (filters_at s s.taken) (filters_at s (suc s.taken))) × (add ≡ minus list_before (filters_at s (suc s.taken)) (filters_at s s.taken))
   subs-in None out add e = absurd cc
   subs-in (Some step) out add e = subs-by step.1 out add (same_Some _ _ e)
 
-  advs-in : (o : Option (ℕ × Command)) (out add : Owned) → plan_in s o ≡ Some (plans.Advs out add) → (out ≡ minus list_before (adverts_at s s.taken) (adverts_at s (suc s.taken))) × (add ≡ minus list_before (adverts_at s (suc s.taken)) (adverts_at s s.taken))
+  advs-in : (o : Option (ℕ × Command)) (out add : Lists) → plan_in s o ≡ Some (plans.Advs out add) → (out ≡ minus list_before (adverts_at s s.taken) (adverts_at s (suc s.taken))) × (add ≡ minus list_before (adverts_at s (suc s.taken)) (adverts_at s s.taken))
   advs-in None out add e = absurd cc
   advs-in (Some step) out add e = advs-by step.1 out add (same_Some _ _ e)
 
-  pub filters-turn : (out add : Owned) → next_plan s ≡ Some (plans.Subs out add) → union list_before add (minus list_before (filters_after real [] (first_commands s s.taken)) out) ≡ filters_after real [] (first_commands s (suc s.taken))
+  pub filters-turn : (out add : Lists) → next_plan s ≡ Some (plans.Subs out add) → union list_before add (minus list_before (filters_after real [] (first_commands s s.taken)) out) ≡ filters_after real [] (first_commands s (suc s.taken))
   filters-turn out add e =
       let w = subs-in (slice_get s.script s.taken) out add e in
       let now = filters-sorted real real_laws (first_commands s s.taken) in
-      ap₂ (λ (x y : Owned). union list_before y (minus list_before (filters_after real [] (first_commands s s.taken)) x)) w.0 w.1
-      ∙ ap (λ (held : Owned). union list_before (minus list_before (filters_at s (suc s.taken)) (filters_at s s.taken)) (minus list_before held (minus list_before (filters_at s s.taken) (filters_at s (suc s.taken))))) (sym now)
+      ap₂ (λ (x y : Lists). union list_before y (minus list_before (filters_after real [] (first_commands s s.taken)) x)) w.0 w.1
+      ∙ ap (λ (held : Lists). union list_before (minus list_before (filters_at s (suc s.taken)) (filters_at s s.taken)) (minus list_before held (minus list_before (filters_at s s.taken) (filters_at s (suc s.taken))))) (sym now)
       ∙ sets-settled sub_laws (filters_at s s.taken) (filters_at s (suc s.taken))
       ∙ filters-sorted real real_laws (first_commands s (suc s.taken))
 
-  pub adverts-turn : (out add : Owned) → next_plan s ≡ Some (plans.Advs out add) → union list_before add (minus list_before (adverts_after real [] (first_commands s s.taken)) out) ≡ adverts_after real [] (first_commands s (suc s.taken))
+  pub adverts-turn : (out add : Lists) → next_plan s ≡ Some (plans.Advs out add) → union list_before add (minus list_before (adverts_after real [] (first_commands s s.taken)) out) ≡ adverts_after real [] (first_commands s (suc s.taken))
   adverts-turn out add e =
       let w = advs-in (slice_get s.script s.taken) out add e in
       let now = adverts-sorted real real_laws (first_commands s s.taken) in
-      ap₂ (λ (x y : Owned). union list_before y (minus list_before (adverts_after real [] (first_commands s s.taken)) x)) w.0 w.1
-      ∙ ap (λ (held : Owned). union list_before (minus list_before (adverts_at s (suc s.taken)) (adverts_at s s.taken)) (minus list_before held (minus list_before (adverts_at s s.taken) (adverts_at s (suc s.taken))))) (sym now)
+      ap₂ (λ (x y : Lists). union list_before y (minus list_before (adverts_after real [] (first_commands s s.taken)) x)) w.0 w.1
+      ∙ ap (λ (held : Lists). union list_before (minus list_before (adverts_at s (suc s.taken)) (adverts_at s s.taken)) (minus list_before held (minus list_before (adverts_at s s.taken) (adverts_at s (suc s.taken))))) (sym now)
       ∙ sets-settled ad_laws (adverts_at s s.taken) (adverts_at s (suc s.taken))
       ∙ adverts-sorted real real_laws (first_commands s (suc s.taken))
 
-  pub filters-apart : (out add : Owned) → next_plan s ≡ Some (plans.Subs out add) → (f : List ConstraintParts) → Has f out → Has f add → ⊥
+  pub filters-apart : (out add : Lists) → next_plan s ≡ Some (plans.Subs out add) → (f : List ConstraintParts) → Has f out → Has f add → ⊥
   filters-apart out add e f h k =
       let w = subs-in (slice_get s.script s.taken) out add e in
-      ((minus-iff sub_laws f (filters_at s (suc s.taken)) (filters_at s s.taken)).0 (subst (λ (x : Owned). Has f x) w.1 k)).1 ((minus-iff sub_laws f (filters_at s s.taken) (filters_at s (suc s.taken))).0 (subst (λ (x : Owned). Has f x) w.0 h)).0
+      ((minus-iff sub_laws f (filters_at s (suc s.taken)) (filters_at s s.taken)).0 (subst (λ (x : Lists). Has f x) w.1 k)).1 ((minus-iff sub_laws f (filters_at s s.taken) (filters_at s (suc s.taken))).0 (subst (λ (x : Lists). Has f x) w.0 h)).0
 
-  pub adverts-apart : (out add : Owned) → next_plan s ≡ Some (plans.Advs out add) → (a : List ConstraintParts) → Has a out → Has a add → ⊥
+  pub adverts-apart : (out add : Lists) → next_plan s ≡ Some (plans.Advs out add) → (a : List ConstraintParts) → Has a out → Has a add → ⊥
   adverts-apart out add e a h k =
       let w = advs-in (slice_get s.script s.taken) out add e in
-      ((minus-iff ad_laws a (adverts_at s (suc s.taken)) (adverts_at s s.taken)).0 (subst (λ (x : Owned). Has a x) w.1 k)).1 ((minus-iff ad_laws a (adverts_at s s.taken) (adverts_at s (suc s.taken))).0 (subst (λ (x : Owned). Has a x) w.0 h)).0
+      ((minus-iff ad_laws a (adverts_at s (suc s.taken)) (adverts_at s s.taken)).0 (subst (λ (x : Lists). Has a x) w.1 k)).1 ((minus-iff ad_laws a (adverts_at s s.taken) (adverts_at s (suc s.taken))).0 (subst (λ (x : Lists). Has a x) w.0 h)).0
 
 -- nets of one semantics accept and refuse the same
 module _ (th : Theory) (one other : Net th) (same : one.adverts ≡ other.adverts) where

@@ -11,14 +11,11 @@ use Rattle.ev_model.specs.Meaning.{command_of}
 use Rattle.ev_model.specs.Adding.{own_filters_step, own_adverts_step}
 use Rattle.ev_session.specs.declared.planned.Planned.{Planned}
 use Rattle.ev_session.specs.declared.planned.Planned.TheVariants as plans
+use Rattle.ev_wire.specs.Messages.{Lists}
 use Rattle.ev_session.specs.Plan.{filters_plan, adverts_plan, publish_plan}
 
--- filters and advertisements
-abbrev pub Owned : Type 0
-Owned = List (List ConstraintParts)
-
 -- what a command does with these lists
-abbrev pub own_plan : ℕ → Semantics → Owned → Owned → ℕ → Command → Planned
+abbrev pub own_plan : ℕ → Semantics → Lists → Lists → ℕ → Command → Planned
 own_plan client semantics filters adverts publishes (commands.Subscribe f) =
     filters_plan filters (own_filters_step real filters (command_of (commands.Subscribe f)))
 own_plan client semantics filters adverts publishes (commands.Unsubscribe f) =
@@ -30,23 +27,23 @@ own_plan client semantics filters adverts publishes (commands.Unadvertise a) =
 own_plan client semantics filters adverts publishes (commands.Publish n) = publish_plan client semantics adverts (suc publishes) n
 
 -- the lists, the refused ordinals and the number of publishes after what is planned
-abbrev pub filters_by : Planned → Owned → Owned
+abbrev pub filters_by : Planned → Lists → Lists
 filters_by (plans.Subs out add) filters = minus list_before filters out ++ add
 filters_by (plans.Advs out add) filters = filters
 filters_by (plans.Publish id n) filters = filters
 filters_by (plans.Refused ordinal) filters = filters
 
-abbrev pub adverts_by : Planned → Owned → Owned
+abbrev pub adverts_by : Planned → Lists → Lists
 adverts_by (plans.Subs out add) adverts = adverts
 adverts_by (plans.Advs out add) adverts = minus list_before adverts out ++ add
 adverts_by (plans.Publish id n) adverts = adverts
 adverts_by (plans.Refused ordinal) adverts = adverts
 
-abbrev pub refused_by : Planned → List ℕ → List ℕ
-refused_by (plans.Subs out add) refused = refused
-refused_by (plans.Advs out add) refused = refused
-refused_by (plans.Publish id n) refused = refused
-refused_by (plans.Refused ordinal) refused = refused ++ ordinal ∷ []
+abbrev pub refusals_by : Planned → List ℕ → List ℕ
+refusals_by (plans.Subs out add) refused = refused
+refusals_by (plans.Advs out add) refused = refused
+refusals_by (plans.Publish id n) refused = refused
+refusals_by (plans.Refused ordinal) refused = refused ++ ordinal ∷ []
 
 abbrev pub publishes_by : Planned → ℕ → ℕ
 publishes_by (plans.Subs out add) publishes = publishes

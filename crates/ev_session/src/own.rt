@@ -5,7 +5,7 @@ ghost use Rattle.ev_theory.specs.Real.{real};
 ghost use Rattle.ev_session.specs.Session.{net_under};
 ghost use Rattle.ev_session.specs.Plan.{publish_plan};
 ghost use Rattle.ev_session.specs.declared.planned.Planned.TheVariants as plans;
-ghost use Rattle.ev_session.specs.Own.{own_plan, filters_by, adverts_by, refused_by, publishes_by, AddsFew};
+ghost use Rattle.ev_session.specs.Own.{own_plan, filters_by, adverts_by, refusals_by, publishes_by, AddsFew};
 
 use crate::list::{change, covered, fresh};
 use crate::planned::Planned;
@@ -131,7 +131,7 @@ impl Own {
         requires publishes { self.old.publishes < 2 ^ 32 - 1 }
         ensures filters { self.new.filters.items ≡ filters_by p self.old.filters.items }
         ensures adverts { self.new.adverts.items ≡ adverts_by p self.old.adverts.items }
-        ensures refused { self.new.refused.items ≡ refused_by p self.old.refused.items }
+        ensures refused { self.new.refused.items ≡ refusals_by p self.old.refused.items }
         ensures publishes { self.new.publishes ≡ publishes_by p self.old.publishes }
     {
         match p {

@@ -5,14 +5,14 @@ use Rattle.ev_model.specs.Parts.{NetParts}
 use Rattle.ev_node.specs.Cell.{CellParts, machine_in}
 use Rattle.ev_node.specs.Coming.{HaveCommand}
 use Rattle.ev_node.specs.InHand.{AreAllInHand}
-use Rattle.ev_node.specs.Together.{AreBegun, AreTogether, IsFinished, roots}
+use Rattle.ev_node.specs.Together.{AreBegun, AreTogether, IsFinished, cell_roots}
 use Rattle.ev_course.specs.Course.{AreInHand, AreKept, IsPhaseBegun, IsPhaseDone, StandBetween}
 use Rattle.ev_workers.specs.declared.crew.Eyes.{Eyes}
 use Rattle.ev_workers.specs.Crews.{AreEyesOf, Pairwise}
 use Rattle.ev_siena.specs.Teams.{AreUnderWay, HaveStarted, IsTeam}
 
 pub phase-ended : (net : NetParts) (last phase : ℕ) (old started now : List CellParts) (eyes : List Eyes) → AreInHand net last old → HaveStarted net last phase old started → HaveCommand old phase
-    → roots now ≡ roots started → AreKept now → ((begun : ℕ → Cell (machine_in net phase)) → AreBegun net phase now begun → IsFinished net phase now begun) → Pairwise AreEyesOf (roots now) eyes
+    → cell_roots now ≡ cell_roots started → AreKept now → ((begun : ℕ → Cell (machine_in net phase)) → AreBegun net phase now begun → IsFinished net phase now begun) → Pairwise AreEyesOf (cell_roots now) eyes
     → (IsPhaseDone net last phase old started now → StandBetween net phase (suc phase) now) → IsTeam net phase now eyes
 phase-ended net last phase old started now eyes hand have some stay kept finished looks done = record {
   between = record {
@@ -34,8 +34,8 @@ phase-ended net last phase old started now eyes hand have some stay kept finishe
 }
 
 -- with all cells in hand a phase that is under way has begun
-pub phase-begun : (net : NetParts) (last phase : ℕ) (before started handed now : List CellParts) → AreUnderWay net last phase before started handed → roots now ≡ roots handed
-    → (AreTogether net phase (roots handed) → (begun : ℕ → Cell (machine_in net phase)) → AreBegun net phase now begun → AreAllInHand net phase now begun)
+pub phase-begun : (net : NetParts) (last phase : ℕ) (before started handed now : List CellParts) → AreUnderWay net last phase before started handed → cell_roots now ≡ cell_roots handed
+    → (AreTogether net phase (cell_roots handed) → (begun : ℕ → Cell (machine_in net phase)) → AreBegun net phase now begun → AreAllInHand net phase now begun)
     → IsPhaseBegun net last phase before started now
 phase-begun net last phase before started handed now way same reached = record {
   hand = way.hand;

@@ -12,7 +12,7 @@ use Rattle.ev_versions.specs.Ends.{IsSameViewer}
 use Rattle.ev_node.specs.declared.held.Root.{Root}
 use Rattle.ev_node.specs.Cell.{CellParts, IsCellOf}
 use Rattle.ev_node.specs.Entered.{AreEntered, AreSameCells, state_of}
-use Rattle.ev_node.specs.Together.{AreTogether, roots}
+use Rattle.ev_node.specs.Together.{AreTogether, cell_roots}
 use Rattle.ev_course.specs.Course.{AreInHand, AreAtStart, StandBetween}
 use Rattle.ev_workers.specs.declared.crew.Eyes.{Eyes}
 use Rattle.ev_workers.specs.Crews.{AreEyesOf, AreInPlace, Pairwise}
@@ -96,7 +96,7 @@ tails e = cc
 
 -- the viewers are still those of the publishers
 pub eyes-stay : (old new : List CellParts) (eyes : List Eyes) → map (λ (c : CellParts). c.root.viewer.value) new ≡ map (λ (c : CellParts). c.root.viewer.value) old
-    → Pairwise AreEyesOf (roots old) eyes → Pairwise AreEyesOf (roots new) eyes
+    → Pairwise AreEyesOf (cell_roots old) eyes → Pairwise AreEyesOf (cell_roots new) eyes
 eyes-stay [] [] eyes e p = p
 eyes-stay [] (c ∷ new) eyes e p = absurd cc
 eyes-stay (c ∷ old) [] eyes e p = absurd cc
@@ -117,11 +117,11 @@ pub none-of : (o : Option ℕ) (P : Type 0) → ((x : ℕ) → o ≡ Some x → 
 none-of None P n p = p
 none-of (Some x) P n p = absurd (n x refl)
 
-roots-long : (xs : List CellParts) → length (roots xs) ≡ length xs
+roots-long : (xs : List CellParts) → length (cell_roots xs) ≡ length xs
 roots-long [] = refl
 roots-long (x ∷ xs) = ap suc (roots-long xs)
 
-pub long-roots : (new old : List CellParts) → roots new ≡ roots old → length new ≡ length old
+pub long-roots : (new old : List CellParts) → cell_roots new ≡ cell_roots old → length new ≡ length old
 long-roots new old e = sym (roots-long new) ∙ ap (λ (l : List Root). length l) e ∙ roots-long old
 
 pub in-place : (net : NetParts) (phase : ℕ) (roots : List Root) → AreTogether net phase roots → AreInPlace net phase roots

@@ -6,7 +6,7 @@ use Rattle.ev_model.specs.Nets.{first_tree}
 use Rattle.ev_node.specs.declared.starting.Started.{Started}
 use Rattle.ev_node.specs.Cell.{CellParts}
 use Rattle.ev_node.specs.Started.{AreStarted}
-use Rattle.ev_node.specs.Together.{AreTogether, roots}
+use Rattle.ev_node.specs.Together.{AreTogether, cell_roots}
 use Rattle.ev_course.specs.Course.{AreKept, StandBetween}
 use Rattle.ev_model.specs.Sound.{IsSound}
 use Rattle.ev_workers.specs.declared.crew.Eyes.{Eyes}
@@ -23,10 +23,10 @@ pair-more R [] (b ∷ ys) x y p r = absurd p
 pair-more R (a ∷ xs) [] x y p r = absurd p
 pair-more R (a ∷ xs) (b ∷ ys) x y p r = (p.0, pair-more R xs ys x y p.1 r)
 
-pub eyes-more : (cells : List CellParts) (eyes : List Eyes) (cell : CellParts) (two : Eyes) → Pairwise AreEyesOf (roots cells) eyes → AreEyesOf cell.root two
-    → Pairwise AreEyesOf (roots (cells ++ cell ∷ [])) (eyes ++ two ∷ [])
+pub eyes-more : (cells : List CellParts) (eyes : List Eyes) (cell : CellParts) (two : Eyes) → Pairwise AreEyesOf (cell_roots cells) eyes → AreEyesOf cell.root two
+    → Pairwise AreEyesOf (cell_roots (cells ++ cell ∷ [])) (eyes ++ two ∷ [])
 eyes-more cells eyes cell two p r =
-    subst (λ l. Pairwise AreEyesOf l (eyes ++ two ∷ [])) (sym (map-append (λ (c : CellParts). c.root) cells (cell ∷ []))) (pair-more AreEyesOf (roots cells) eyes cell.root two p r)
+    subst (λ l. Pairwise AreEyesOf l (eyes ++ two ∷ [])) (sym (map-append (λ (c : CellParts). c.root) cells (cell ∷ []))) (pair-more AreEyesOf (cell_roots cells) eyes cell.root two p r)
 
 -- what comes with started cells is of their publishers
 pub started-eyes : (net : NetParts) (started : List Started) → AreStarted net started → HaveEyes started
@@ -37,17 +37,17 @@ started-eyes net started are = each started (λ k s e. let i = (are.each k s e).
     each (s ∷ started) f = (f 0 s refl, each started (λ k t e. f (suc k) t e))
 
 pub team-first : (net : NetParts) (started : List Started) (cells : List CellParts) (eyes : List Eyes) → IsSound net → AreStarted net started → cells ≡ map (λ s. s.cell) started
-    → StandBetween net 0 0 (map (λ s. s.cell) started) → AreKept cells → Pairwise AreEyesOf (roots cells) eyes → IsTeam net 0 cells eyes
+    → StandBetween net 0 0 (map (λ s. s.cell) started) → AreKept cells → Pairwise AreEyesOf (cell_roots cells) eyes → IsTeam net 0 cells eyes
 team-first net started cells eyes sound are same stand kept looks = record {
   between = record {
     next = 0;
     stand = subst (StandBetween net 0 0) (sym same) stand;
-    hand = record { sound = sound; together = subst (λ l. AreTogether net 0 (roots l)) (sym same) (subst (AreTogether net 0) (sym (roots-of started)) are.together); kept = kept };
+    hand = record { sound = sound; together = subst (λ l. AreTogether net 0 (cell_roots l)) (sym same) (subst (AreTogether net 0) (sym (roots-of started)) are.together); kept = kept };
   };
   eyes_of = looks;
 }
   where
-    roots-of : (started : List Started) → roots (map (λ (s : Started). s.cell) started) ≡ map (λ s. s.cell.root) started
+    roots-of : (started : List Started) → cell_roots (map (λ (s : Started). s.cell) started) ≡ map (λ s. s.cell.root) started
     roots-of [] = refl
     roots-of (s ∷ started) = ap (λ l. s.cell.root ∷ l) (roots-of started)
 

@@ -5,7 +5,7 @@ use Rattle.ev_versions.specs.Ends.{IsSameViewer}
 use Rattle.ev_node.specs.declared.starting.Started.{Started}
 use Rattle.ev_node.specs.Cell.{CellParts}
 use Rattle.ev_node.specs.Entered.{IsEntered, state_of}
-use Rattle.ev_node.specs.Together.{AreTogether, roots}
+use Rattle.ev_node.specs.Together.{AreTogether, cell_roots}
 use Rattle.ev_course.specs.Course.{AreInHand, AreAtStart, StandBetween, journals_by}
 use Rattle.ev_workers.specs.declared.crew.Eyes.{Eyes}
 use Rattle.ev_workers.specs.Crews.{AreEyesOf, Pairwise}
@@ -19,7 +19,7 @@ pub record AreBetweenPhases (net : NetParts) (last : ℕ) (cells : List CellPart
 -- and two viewers are there of the publisher of each
 pub record IsTeam (net : NetParts) (last : ℕ) (cells : List CellParts) (eyes : List Eyes) : Type 0 where
   pub between : AreBetweenPhases net last cells
-  pub eyes_of : Pairwise AreEyesOf (roots cells) eyes
+  pub eyes_of : Pairwise AreEyesOf (cell_roots cells) eyes
 
 -- viewers that come with a cell are of its publisher
 abbrev pub HasEyes : Started → Type 0
@@ -35,11 +35,11 @@ pub record HaveStarted (net : NetParts) (last phase : ℕ) (old new : List CellP
   pub enters : IsEntered net last phase (state_of net last stood.ends) new
   pub journals : journals_by new ≡ journals_by old
   pub starts : AreAtStart new
-  pub together : AreTogether net phase (roots new)
+  pub together : AreTogether net phase (cell_roots new)
   pub viewers : map (λ cell. cell.root.viewer.value) new ≡ map (λ cell. cell.root.viewer.value) old
 
 -- cells that stood before a phase entered it, and workers may have made turns of it since
 pub record AreUnderWay (net : NetParts) (last phase : ℕ) (old started now : List CellParts) : Type 0 where
   pub hand : AreInHand net last old
   pub have : HaveStarted net last phase old started
-  pub roots_stay : roots now ≡ roots started
+  pub roots_stay : cell_roots now ≡ cell_roots started

@@ -8,7 +8,7 @@ ghost use Rattle.ev_course.specs.Course.{AreInHand, AreKept, StandBetween};
 ghost use Rattle.ev_node.specs.Cell.{CellParts, machine_in};
 ghost use Rattle.ev_node.specs.Coming.{HaveCommand};
 ghost use Rattle.ev_node.specs.Entered.{AreThrough};
-ghost use Rattle.ev_node.specs.Together.{AreBegun, AreTogether, IsFinished, roots};
+ghost use Rattle.ev_node.specs.Together.{AreBegun, AreTogether, IsFinished, cell_roots};
 ghost use Rattle.ev_siena.specs.Teams.{AreBetweenPhases, AreUnderWay, HaveStarted, IsTeam};
 
 use crate::team::tell_all;
@@ -47,9 +47,9 @@ fn enter<R: Wait>(
 /// Makes the rest of the phase that the cells entered. No stamp reaches its bound, since all entries together are a run.
 fn end_phase<R: Wait>(rt: &R, cells: &mut Vec<Cell<'_>>) -> Result<(), NoMemory>
     requires { (net : NetParts) × (last phase : ℕ) × (before started : List CellParts) × AreUnderWay net last phase before started cells.old.items }
-    ensures roots { roots cells.new.items ≡ roots cells.old.items }
+    ensures roots { cell_roots cells.new.items ≡ cell_roots cells.old.items }
     ensures kept { AreKept cells.new.items }
-    ensures finished { OnOk result ((net : NetParts) (phase : ℕ) → AreTogether net phase (roots cells.old.items)
+    ensures finished { OnOk result ((net : NetParts) (phase : ℕ) → AreTogether net phase (cell_roots cells.old.items)
         → (begun : ℕ → RunCell (machine_in net phase)) → AreBegun net phase cells.new.items begun → IsFinished net phase cells.new.items begun) }
 {
     never_worn();

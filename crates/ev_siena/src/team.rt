@@ -1,7 +1,7 @@
 //! The cells of all servers, with the viewers of their workers.
 ghost use Rattle.std.specs.Prelude.{◌≡◌, ◌≤◌, [], length, map, vec_capacity};
 ghost use Rattle.ev_course.specs.Course.{AreKept};
-ghost use Rattle.ev_node.specs.Together.{roots};
+ghost use Rattle.ev_node.specs.Together.{cell_roots};
 ghost use Rattle.ev_workers.specs.Crews.{AreEyesOf, Pairwise};
 ghost use Rattle.ev_siena.specs.Teams.{HaveEyes};
 
@@ -25,7 +25,7 @@ fn part<'a>(mut started: Vec<Started<'a>>, cells: &mut Vec<Cell<'a>>, eyes: &mut
     requires empty { (cells.old.items ≡ []) × (eyes.old.items ≡ []) }
     requires room { (length started.items ≤ vec_capacity cells.old) × (length started.items ≤ vec_capacity eyes.old) }
     ensures cells { cells.new.items ≡ map (λ s. s.cell) started.entry.items }
-    ensures eyes { Pairwise AreEyesOf (roots cells.new.items) eyes.new.items }
+    ensures eyes { Pairwise AreEyesOf (cell_roots cells.new.items) eyes.new.items }
 {
     while !started.is_empty() {
         let Started {

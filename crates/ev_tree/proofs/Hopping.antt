@@ -5,7 +5,7 @@ use Rattle.std.proofs.lemmas.Option.{slice_get-get_or}
 use Rattle.ev_sets.specs.Sets.{Has}
 use Rattle.ev_sets.proofs.Roots.{Has-filter, filter-Has}
 use Rattle.ev_tree.specs.Graph.{AreWithin, IsTree, IsCount, has_edge, servers_to, neighbours_by}
-use Rattle.ev_tree.specs.Growing.{hop_after, IsJoined}
+use Rattle.ev_tree.specs.Growing.{hop_after, IsJoinedByEdge}
 use Rattle.ev_tree.specs.Hops.{AreHops, side}
 use Rattle.ev_tree.specs.Labels.{IsPartition}
 use Rattle.ev_tree.specs.Tree.{entry, IsTable}
@@ -26,7 +26,7 @@ pub parts-differ : (n : ℕ) (edges : List (ℕ × ℕ)) (i : ℕ) (labels : Lis
     → get_or labels (get_or edges i (0, 0)).0 0 ≡ get_or labels (get_or edges i (0, 0)).1 0 → ⊥
 parts-differ n edges i labels tree within l p e = tree.forest i (get_or edges i (0, 0)) (slice_get-get_or edges i (0, 0) l) (ends-joined n edges i labels within l p e)
 
-module _ (n : ℕ) (labels : List ℕ) (old new : List (List ℕ)) (a b : ℕ) (table : IsTable n old) (joined : IsJoined labels old new a b) where
+module _ (n : ℕ) (labels : List ℕ) (old new : List (List ℕ)) (a b : ℕ) (table : IsTable n old) (joined : IsJoinedByEdge labels old new a b) where
   entry-after : (x y : ℕ) → In n x → In n y → entry new x y ≡ hop_after labels (get_or old x []) x a b y
   entry-after x y i j = joined.entries x y (omega (arith, i.1, table.rows_there)) (omega (arith, j.1, table.places x i.1))
 
@@ -54,7 +54,7 @@ module _ (n : ℕ) (labels : List ℕ) (old new : List (List ℕ)) (a b : ℕ) (
 
 pub hops-more : (n : ℕ) (edges : List (ℕ × ℕ)) (i : ℕ) (labels after : List ℕ) (old new : List (List ℕ)) → n ≤ 64 → IsTree n edges → AreWithin n edges → i < length edges → IsPartition n (take i edges) labels
     → ((x : ℕ) → x < 65 → get_or after x 0 ≡ cond (get_or labels x 0 == get_or labels (get_or edges i (0, 0)).1 0) (get_or labels (get_or edges i (0, 0)).0 0) (get_or labels x 0))
-    → IsTable n old → IsJoined labels old new (get_or edges i (0, 0)).0 (get_or edges i (0, 0)).1 → Hopped n (take i edges) (λ x. get_or labels x 0) (entry old)
+    → IsTable n old → IsJoinedByEdge labels old new (get_or edges i (0, 0)).0 (get_or edges i (0, 0)).1 → Hopped n (take i edges) (λ x. get_or labels x 0) (entry old)
     → Hopped n (take (i + 1) edges) (λ x. get_or after x 0) (entry new)
 hops-more n edges i labels after old new few tree within l p is table joined hops =
     let ends = edge-in n edges i within l in

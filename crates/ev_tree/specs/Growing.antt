@@ -12,7 +12,7 @@ hop_after labels row x a b y =
     (cond (slice_index labels y == slice_index labels a) (cond (x == b) a (slice_index row b)) (slice_index row y)) (slice_index row y))
 
 -- the rows after an edge joins a and b
-pub record IsJoined (labels : List ℕ) (old new : List (List ℕ)) (a b : ℕ) : Type 0 where
+pub record IsJoinedByEdge (labels : List ℕ) (old new : List (List ℕ)) (a b : ℕ) : Type 0 where
   pub rows : length new ≡ length old
   pub places : (x : ℕ) → x < length old → length (slice_index_or new x []) ≡ length (slice_index_or old x [])
   pub entries : (x y : ℕ) → x < length old → y < length (slice_index_or old x []) → entry new x y ≡ hop_after labels (slice_index_or old x []) x a b y

@@ -2,7 +2,7 @@
 ghost use Rattle.std.specs.Prelude.{◌≡◌, ◌<◌, ◌≤◌, ◌+◌, [], ℕ, suc, filter, length, IfOk};
 ghost use Rattle.std.specs.List.{slice_index_or};
 ghost use Rattle.ev_tree.specs.Graph.{AreWithin, IsCount, IsTree, servers_to, neighbours_by};
-ghost use Rattle.ev_tree.specs.Growing.{IsJoined};
+ghost use Rattle.ev_tree.specs.Growing.{IsJoinedByEdge};
 ghost use Rattle.ev_tree.specs.Hops.{AreHops, side};
 ghost use Rattle.ev_tree.specs.Tree.{IsTable, entry};
 
@@ -31,7 +31,7 @@ fn join(rows: &mut [Row], labels: &[u32], a: u32, b: u32)
     requires square { (x : ℕ) → x < length rows.old → length (slice_index_or rows.old x []) ≡ length rows.old }
     requires a { a < length rows.old }
     requires b { b < length rows.old }
-    ensures { IsJoined labels.now rows.old rows.new a b }
+    ensures { IsJoinedByEdge labels.now rows.old rows.new a b }
 {
     for (x, row) in rows.iter_mut().enumerate() {
         row.join(x as u32, labels, a, b);

@@ -8,8 +8,8 @@ abbrev pub IsBookKept : List Cell → List Change → Type 0
 IsBookKept cells log = cells ≡ (length log, true) ∷ (0, true) ∷ []
 
 -- the word of the history's length
-abbrev pub head_of : Book → Named
-head_of b = record { tracked = true; key = 0; book = b }
+abbrev pub length_word : Book → Named
+length_word b = record { tracked = true; key = 0; book = b }
 
 -- the change was added to all that had been seen, where the word was what the caller had seen
 abbrev pub AddsToSeen : Step Change → View Change ℕ → ℕ → View Change ℕ → Type 0

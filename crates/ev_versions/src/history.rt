@@ -67,11 +67,11 @@ pub struct Front {
 impl Front {
     ghost use Rattle.std.specs.Prelude.{◌<◌, ◌≤◌, ◌^◌, ◌++◌, ◌∷◌, [], IfSome};
     ghost use mathlib.Core.List.{IsPrefix};
-    ghost use Rattle.ev_versions.specs.History.{head_of};
+    ghost use Rattle.ev_versions.specs.History.{length_word};
 
     /// The beginning of a new history, with its word.
     pub fn open() -> (Front, Head)
-        ensures { (result.0.seen.log ≡ []) × (result.1 ≡ head_of result.0.seen.book) }
+        ensures { (result.0.seen.log ≡ []) × (result.1 ≡ length_word result.0.seen.book) }
     {
         let (seen, mut first, _second) = Seen::open(Start::alone(), 0, 0);
         (Front { count: 0, seen }, Word::tracked(0, &mut first))
@@ -99,7 +99,7 @@ impl Front {
     /// The front with one change more. `None` where the history went on otherwise, which only who has another word
     /// of it could do.
     pub fn grown(&self, head: &Head, change: &Change) -> Option<Front>
-        requires word { head.now ≡ head_of self.now.seen.book }
+        requires word { head.now ≡ length_word self.now.seen.book }
         requires room { length self.now.seen.log < 2 ^ 62 }
         ensures { IfSome result (λ f. (f.seen.log ≡ self.now.seen.log ++ change.now ∷ []) × (f.seen.book ≡ self.now.seen.book)) }
     {

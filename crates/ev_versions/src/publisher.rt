@@ -1,7 +1,7 @@
 //! The publisher.
 ghost use Rattle.std.specs.Prelude.{◌≡◌, ◌++◌, [], drop};
 ghost use Rattle.ev_versions.specs.Chain.{IsFolded, changes_of, last_seen};
-ghost use Rattle.ev_versions.specs.History.{head_of};
+ghost use Rattle.ev_versions.specs.History.{length_word};
 
 use crate::history::{Front, Head};
 use crate::rule::VersionWriter;
@@ -19,7 +19,7 @@ pub struct Publisher {
     pub(crate) waiting: Vec<Change>,
     pub(crate) top: Front,
     pub(crate) shown: Front,
-    ghost word: { (head ≡ head_of top.seen.book) × (shown.seen.book ≡ top.seen.book) },
+    ghost word: { (head ≡ length_word top.seen.book) × (shown.seen.book ≡ top.seen.book) },
     ghost published: { (writer.desk.shown.value.front.seen ≡ shown.seen) × IsFolded writer.desk.shown.value },
     ghost staged: { top.seen.log ≡ shown.seen.log ++ (changes_of (drop writer.behind writer.log.items) ++ waiting.items) },
     ghost last: { waiting.items ≡ [] → last_seen shown.seen (drop writer.behind writer.log.items) ≡ top.seen },

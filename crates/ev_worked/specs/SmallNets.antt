@@ -13,8 +13,8 @@ abbrev pub in_phase : ℕ → Command ranges → PhasedCommand ranges
 in_phase phase command = record { phase = phase; command = command }
 
 -- a publication in one row
-abbrev pub publication : ℕ → ℕ → ℕ → Publication ranges
-publication publisher ordinal notice = record { publisher = publisher; ordinal = ordinal; notice = notice }
+abbrev pub ranges_publication : ℕ → ℕ → ℕ → Publication ranges
+ranges_publication publisher ordinal notice = record { publisher = publisher; ordinal = ordinal; notice = notice }
 
 -- the neighbours in a pair of servers, 1 and 2
 abbrev pub pair_links : ℕ → List ℕ

@@ -20,7 +20,7 @@ ghost use Rattle.ev_phases.specs.Moments.{opening_moment};
 ghost use Rattle.ev_phases.specs.Runs.{IsRunTo};
 ghost use Rattle.ev_phases.specs.AtMoments.{DrainsBy};
 ghost use Rattle.ev_worked.specs.Phased.{on_one_tree, phased_trace, phased_walk, phased_given, phased_held, line_becomes_star, subscriber_publishes};
-ghost use Rattle.ev_worked.specs.SmallNets.{publication, wide_travels, wide_and_narrow, withdrawn_wide, all_know, both_set_out, notice_arrives};
+ghost use Rattle.ev_worked.specs.SmallNets.{ranges_publication, wide_travels, wide_and_narrow, withdrawn_wide, all_know, both_set_out, notice_arrives};
 ghost use Rattle.ev_worked.specs.SmallNets.{withdrawal_known, equal_ranges, advertised_small, subscribed_again};
 
 /// Ranges of numbers are a theory of filters, and the nets below are nets over it, so that every law of runs holds of them.
@@ -91,7 +91,7 @@ pub fn withdrawal_meets_notice()
         line ranges 8 3 (Did Version) [] ∷
         line ranges 8 1 (Took 2) [] ∷ []) }
     ensures wide { given ranges withdrawn_wide (replay ranges withdrawn_wide (all_know ∷ both_set_out ∷ [])) 1 ≡ [] }
-    ensures narrow { given ranges withdrawn_wide (replay ranges withdrawn_wide (all_know ∷ both_set_out ∷ [])) 2 ≡ publication 3 1 9 ∷ [] }
+    ensures narrow { given ranges withdrawn_wide (replay ranges withdrawn_wide (all_know ∷ both_set_out ∷ [])) 2 ≡ ranges_publication 3 1 9 ∷ [] }
 {}
 
 /// The notice arrives before the withdrawal, and both clients are given it.
@@ -107,8 +107,8 @@ pub fn notice_before_withdrawal()
         line ranges 10 2 (Did Version) [] ∷
         line ranges 10 3 (Took 2) [] ∷
         line ranges 11 3 (Did Version) [] ∷ []) }
-    ensures wide { given ranges withdrawn_wide (replay ranges withdrawn_wide (all_know ∷ notice_arrives ∷ [])) 1 ≡ publication 3 1 9 ∷ [] }
-    ensures narrow { given ranges withdrawn_wide (replay ranges withdrawn_wide (all_know ∷ notice_arrives ∷ [])) 2 ≡ publication 3 1 9 ∷ [] }
+    ensures wide { given ranges withdrawn_wide (replay ranges withdrawn_wide (all_know ∷ notice_arrives ∷ [])) 1 ≡ ranges_publication 3 1 9 ∷ [] }
+    ensures narrow { given ranges withdrawn_wide (replay ranges withdrawn_wide (all_know ∷ notice_arrives ∷ [])) 2 ≡ ranges_publication 3 1 9 ∷ [] }
 {}
 
 /// The middle server knows of the withdrawal before the notice comes; the client with the narrow range is given it still.
@@ -125,7 +125,7 @@ pub fn withdrawal_before_notice()
         line ranges 8 3 (Did Version) [] ∷
         line ranges 9 1 (Took 2) [] ∷ []) }
     ensures wide { given ranges withdrawn_wide (replay ranges withdrawn_wide (all_know ∷ withdrawal_known ∷ [])) 1 ≡ [] }
-    ensures narrow { given ranges withdrawn_wide (replay ranges withdrawn_wide (all_know ∷ withdrawal_known ∷ [])) 2 ≡ publication 3 1 9 ∷ [] }
+    ensures narrow { given ranges withdrawn_wide (replay ranges withdrawn_wide (all_know ∷ withdrawal_known ∷ [])) 2 ≡ ranges_publication 3 1 9 ∷ [] }
 {}
 
 /// What each run may and must deliver of it: client 1 withdraws in the phase of the notice, so it may be given it; client 2 is owed it.
@@ -175,7 +175,7 @@ pub fn withdrawal_takes_all()
         line ranges 8 1 (Did Version) [] ∷ [] }
     ensures first { filters_after ranges [] (take 3 (subscribed_again.script 1)) ≡ Equal 1 ∷ Above 5 ∷ Any ∷ [] }
     ensures withdrawn { filters_after ranges [] (take 4 (subscribed_again.script 1)) ≡ [] }
-    ensures given { given ranges subscribed_again (walk ranges subscribed_again 2) 1 ≡ publication 2 1 8 ∷ [] }
+    ensures given { given ranges subscribed_again (walk ranges subscribed_again 2) 1 ≡ ranges_publication 2 1 8 ∷ [] }
     ensures publisher { given ranges subscribed_again (walk ranges subscribed_again 2) 2 ≡ [] }
     ensures list { held ranges subscribed_again (walk ranges subscribed_again 2) 1 65 ≡ Any ∷ [] }
     ensures allowed { IsAllowed ranges subscribed_again 1 8 1 }
@@ -196,7 +196,7 @@ pub fn link_after_change()
         line ranges 4 3 (Did Version) [] ∷
         line ranges 5 3 (Did (NextCommand 2)) ((1, Noticed 2 1 1) ∷ []) ∷
         line ranges 6 1 (Took 3) [] ∷ [] }
-    ensures given { phased_given ranges line_becomes_star (phased_walk ranges line_becomes_star 2) 1 ≡ publication 2 1 1 ∷ [] }
+    ensures given { phased_given ranges line_becomes_star (phased_walk ranges line_becomes_star 2) 1 ≡ ranges_publication 2 1 1 ∷ [] }
     ensures publisher { phased_given ranges line_becomes_star (phased_walk ranges line_becomes_star 2) 2 ≡ [] }
     ensures from_middle { phased_held ranges line_becomes_star (phased_walk ranges line_becomes_star 2) 1 2 ≡ [] }
     ensures at_middle { phased_held ranges line_becomes_star (phased_walk ranges line_becomes_star 2) 2 1 ≡ Any ∷ [] }
@@ -210,5 +210,5 @@ pub fn clocks_are_raised()
     ensures trace { drop 5 (phased_trace ranges subscriber_publishes (phased_walk ranges subscriber_publishes 2)) ≡
         line ranges 4 3 (Did Version) [] ∷
         line ranges 5 1 (Did (NextCommand 1)) [] ∷ [] }
-    ensures given { phased_given ranges subscriber_publishes (phased_walk ranges subscriber_publishes 2) 1 ≡ publication 1 1 1 ∷ [] }
+    ensures given { phased_given ranges subscriber_publishes (phased_walk ranges subscriber_publishes 2) 1 ≡ ranges_publication 1 1 1 ∷ [] }
 {}

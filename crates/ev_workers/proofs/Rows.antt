@@ -5,7 +5,7 @@ use Rattle.ev_turnlock.specs.Passes.{first_value}
 use Rattle.ev_model.specs.Parts.{NetParts}
 use Rattle.ev_node.specs.declared.held.Root.{Root}
 use Rattle.ev_node.specs.Cell.{CellParts}
-use Rattle.ev_node.specs.Together.{roots}
+use Rattle.ev_node.specs.Together.{cell_roots}
 use Rattle.ev_workers.specs.declared.crew.Eyes.{Eyes}
 use Rattle.ev_workers.specs.declared.crew.Crew.{Crew}
 use Rattle.ev_workers.specs.Crews.{Pairwise, AreCrews, AreEyesOf, AreInPlace, IsCrewOf}
@@ -22,30 +22,30 @@ get-last [] x = refl
 get-last (z ∷ xs) x = get-last xs x
 
 module _ (all less : List CellParts) (cell : CellParts) (is : all ≡ less ++ cell ∷ []) where
-  pub roots-last : roots all ≡ roots less ++ cell.root ∷ []
-  roots-last = ap roots is ∙ map-append (λ (c : CellParts). c.root) less (cell ∷ [])
+  pub roots-last : cell_roots all ≡ cell_roots less ++ cell.root ∷ []
+  roots-last = ap cell_roots is ∙ map-append (λ (c : CellParts). c.root) less (cell ∷ [])
 
   -- the viewers of the others, and of the last
-  pub eyes-last : (es fs : List Eyes) (both : Eyes) → es ≡ fs ++ both ∷ [] → Pairwise AreEyesOf (roots all) es → Pairwise AreEyesOf (roots less) fs × AreEyesOf cell.root both
-  eyes-last es fs both e p = pairs-less AreEyesOf (roots less) fs cell.root both (subst (λ z. Pairwise AreEyesOf z (fs ++ both ∷ [])) roots-last (subst (Pairwise AreEyesOf (roots all)) e p))
+  pub eyes-last : (es fs : List Eyes) (both : Eyes) → es ≡ fs ++ both ∷ [] → Pairwise AreEyesOf (cell_roots all) es → Pairwise AreEyesOf (cell_roots less) fs × AreEyesOf cell.root both
+  eyes-last es fs both e p = pairs-less AreEyesOf (cell_roots less) fs cell.root both (subst (λ z. Pairwise AreEyesOf z (fs ++ both ∷ [])) roots-last (subst (Pairwise AreEyesOf (cell_roots all)) e p))
 
   -- the others are in place, and the last is
-  pub place-less : (net : NetParts) (phase : ℕ) → AreInPlace net phase (roots all) → AreInPlace net phase (roots less)
-  place-less net phase p k root e = p k root (subst (λ z. slice_get z k ≡ Some root) (sym roots-last) (get-left (roots less) (cell.root ∷ []) k root e))
+  pub place-less : (net : NetParts) (phase : ℕ) → AreInPlace net phase (cell_roots all) → AreInPlace net phase (cell_roots less)
+  place-less net phase p k root e = p k root (subst (λ z. slice_get z k ≡ Some root) (sym roots-last) (get-left (cell_roots less) (cell.root ∷ []) k root e))
 
-  pub place-last : (net : NetParts) (phase : ℕ) → AreInPlace net phase (roots all) → (cell.root.net.value ≡ net) × (cell.root.server ≡ suc (length (roots less))) × (cell.root.phase ≡ phase)
-  place-last net phase p = p (length (roots less)) cell.root (subst (λ z. slice_get z (length (roots less)) ≡ Some cell.root) (sym roots-last) (get-last (roots less) cell.root))
+  pub place-last : (net : NetParts) (phase : ℕ) → AreInPlace net phase (cell_roots all) → (cell.root.net.value ≡ net) × (cell.root.server ≡ suc (length (cell_roots less))) × (cell.root.phase ≡ phase)
+  place-last net phase p = p (length (cell_roots less)) cell.root (subst (λ z. slice_get z (length (cell_roots less)) ≡ Some cell.root) (sym roots-last) (get-last (cell_roots less) cell.root))
 
   -- a cell that was taken out of its lock again stands at the end
-  pub roots-back : (now pushed : List CellParts) (closed : CellParts) → pushed ≡ now ++ closed ∷ [] → roots now ≡ roots less → closed.root ≡ cell.root → roots pushed ≡ roots all
+  pub roots-back : (now pushed : List CellParts) (closed : CellParts) → pushed ≡ now ++ closed ∷ [] → cell_roots now ≡ cell_roots less → closed.root ≡ cell.root → cell_roots pushed ≡ cell_roots all
   roots-back now pushed closed e n r =
-      ap roots e ∙ map-append (λ (c : CellParts). c.root) now (closed ∷ []) ∙ ap (λ z. z ++ closed.root ∷ []) n ∙ ap (λ z. roots less ++ z ∷ []) r ∙ sym roots-last
+      ap cell_roots e ∙ map-append (λ (c : CellParts). c.root) now (closed ∷ []) ∙ ap (λ z. z ++ closed.root ∷ []) n ∙ ap (λ z. cell_roots less ++ z ∷ []) r ∙ sym roots-last
 
-  pub eyes-back : (now pushed : List Eyes) (both : Eyes) → pushed ≡ now ++ both ∷ [] → Pairwise AreEyesOf (roots less) now → AreEyesOf cell.root both → Pairwise AreEyesOf (roots all) pushed
-  eyes-back now pushed both e p q = subst (λ z. Pairwise AreEyesOf z pushed) (sym roots-last) (subst (Pairwise AreEyesOf (roots less ++ cell.root ∷ [])) (sym e) (pairs-more AreEyesOf (roots less) now cell.root both p q))
+  pub eyes-back : (now pushed : List Eyes) (both : Eyes) → pushed ≡ now ++ both ∷ [] → Pairwise AreEyesOf (cell_roots less) now → AreEyesOf cell.root both → Pairwise AreEyesOf (cell_roots all) pushed
+  eyes-back now pushed both e p q = subst (λ z. Pairwise AreEyesOf z pushed) (sym roots-last) (subst (Pairwise AreEyesOf (cell_roots less ++ cell.root ∷ [])) (sym e) (pairs-more AreEyesOf (cell_roots less) now cell.root both p q))
 
   -- its lock is for it
-  pub lock-for : (net : NetParts) (phase n : ℕ) (lock : CellLock) → first_value lock ≡ cell → AreInPlace net phase (roots all) → n ≡ length less → IsLockFor net (n + 1) phase lock
+  pub lock-for : (net : NetParts) (phase n : ℕ) (lock : CellLock) → first_value lock ≡ cell → AreInPlace net phase (cell_roots all) → n ≡ length less → IsLockFor net (n + 1) phase lock
   lock-for net phase n lock e p long =
       let same : lock_root lock ≡ cell.root = ap (λ (c : CellParts). c.root) e in
       let last = place-last net phase p in
@@ -60,19 +60,19 @@ module _ (all less : List CellParts) (cell : CellParts) (is : all ≡ less ++ ce
 
   -- with its lock and crew behind the others
   pub locked-back : (net : NetParts) (phase : ℕ) (locks pushed : List CellLock) (crews behind : List Crew) (lock : CellLock) (crew : Crew) → pushed ≡ locks ++ lock ∷ [] → behind ≡ crews ++ crew ∷ [] → AreCrews net phase locks crews
-      → IsCrewOf net phase lock crew → map lock_root locks ≡ roots less → first_value lock ≡ cell → AreCrews net phase pushed behind × (map lock_root pushed ≡ roots all)
+      → IsCrewOf net phase lock crew → map lock_root locks ≡ cell_roots less → first_value lock ≡ cell → AreCrews net phase pushed behind × (map lock_root pushed ≡ cell_roots all)
   locked-back net phase locks pushed crews behind lock crew e f p q m v = (
     subst (λ z. AreCrews net phase z behind) (sym e) (subst (AreCrews net phase (locks ++ lock ∷ [])) (sym f) (pairs-more (IsCrewOf net phase) locks crews lock crew p q)),
-    ap (map lock_root) e ∙ map-append lock_root locks (lock ∷ []) ∙ ap (λ z. z ++ lock_root lock ∷ []) m ∙ ap (λ (z : Root). roots less ++ z ∷ []) (ap (λ (c : CellParts). c.root) v) ∙ sym roots-last,
+    ap (map lock_root) e ∙ map-append lock_root locks (lock ∷ []) ∙ ap (λ z. z ++ lock_root lock ∷ []) m ∙ ap (λ (z : Root). cell_roots less ++ z ∷ []) (ap (λ (c : CellParts). c.root) v) ∙ sym roots-last,
   )
 
-pub same-long : (xs ys : List CellParts) → roots xs ≡ roots ys → length xs ≡ length ys
+pub same-long : (xs ys : List CellParts) → cell_roots xs ≡ cell_roots ys → length xs ≡ length ys
 same-long xs ys e = sym (length-map xs (λ (c : CellParts). c.root)) ∙ ap length e ∙ length-map ys (λ (c : CellParts). c.root)
 
-pub eyes-long : (xs : List CellParts) (es : List Eyes) → Pairwise AreEyesOf (roots xs) es → length xs ≡ length es
-eyes-long xs es p = sym (length-map xs (λ (c : CellParts). c.root)) ∙ pairs-long AreEyesOf (roots xs) es p
+pub eyes-long : (xs : List CellParts) (es : List Eyes) → Pairwise AreEyesOf (cell_roots xs) es → length xs ≡ length es
+eyes-long xs es p = sym (length-map xs (λ (c : CellParts). c.root)) ∙ pairs-long AreEyesOf (cell_roots xs) es p
 
-pub locks-long : (locks : List CellLock) (xs : List CellParts) → map lock_root locks ≡ roots xs → length locks ≡ length xs
+pub locks-long : (locks : List CellLock) (xs : List CellParts) → map lock_root locks ≡ cell_roots xs → length locks ≡ length xs
 locks-long locks xs e = sym (length-map locks lock_root) ∙ ap length e ∙ length-map xs (λ (c : CellParts). c.root)
 
 -- what stands beside the other locks, and beside the last

@@ -8,7 +8,7 @@ use Rattle.ev_model.specs.Parts.{NetParts, EntryParts}
 use Rattle.ev_model.specs.Nets.{clients_of, topology_at}
 use Rattle.ev_session.specs.Session.{SessionParts}
 use Rattle.ev_server.specs.Core.{CoreParts}
-use Rattle.ev_server.specs.Clients.{numbers_of}
+use Rattle.ev_server.specs.Clients.{client_numbers}
 use Rattle.ev_node.specs.declared.held.ServerInHand.{ServerInHand}
 use Rattle.ev_node.specs.declared.held.Root.{Root}
 use Rattle.ev_node.specs.declared.what.What.TheVariants.{Command}
@@ -23,8 +23,8 @@ use Rattle.ev_workers.proofs.Counted.{has-commands}
 
 module _ (root : Root) (journal : List EntryParts) (held : ServerInHand) (kept : IsKept root.net.value root journal held) where
   -- who lives there has a session in hand
-  pub lives-here : (core : CoreParts) (client : ℕ) → core ≡ held.core → Suits (Command client) root → Has client (numbers_of core.clients)
-  lives-here core client e suits = subst (λ (z : CoreParts). Has client (numbers_of z.clients)) (sym e) (suits-held root.net.value root journal held kept (Command client) suits refl)
+  pub lives-here : (core : CoreParts) (client : ℕ) → core ≡ held.core → Suits (Command client) root → Has client (client_numbers core.clients)
+  lives-here core client e suits = subst (λ (z : CoreParts). Has client (client_numbers z.clients)) (sym e) (suits-held root.net.value root journal held kept (Command client) suits refl)
 
   -- whose next command is of a later phase doesn't wait, nor who has none
   pub later-past : (core : CoreParts) (client : ℕ) → core ≡ held.core → (s : SessionParts) → Has s core.clients → s.client ≡ client → (own : ℕ × WireCommand) → slice_get s.script s.taken ≡ Some own → root.phase < own.0

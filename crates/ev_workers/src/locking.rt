@@ -1,7 +1,7 @@
 //! Cells in their locks, and out of them.
 ghost use Rattle.std.specs.Prelude.{◌≡◌, ◌≤◌, ◌<◌, [], All, length, map, MatchBool, vec_capacity, ◌^◌};
 ghost use Rattle.ev_turnlock.specs.Passes.{pass_count};
-ghost use Rattle.ev_node.specs.Together.{roots};
+ghost use Rattle.ev_node.specs.Together.{cell_roots};
 ghost use Rattle.ev_workers.specs.Crews.{AreBackAt, AreCrews, AreEyesOf, AreInPlace, IsCrewOf, IsFreePass, IsSpareOf, Pairwise};
 ghost use Rattle.ev_workers.specs.Hands.{IsLockFor, lock_root};
 
@@ -96,15 +96,15 @@ pub(crate) fn lock_all<'a>(
     locks: &mut Vec<TurnLock<Cell<'a>>>,
     crews: &mut Vec<Crew>,
 ) -> bool
-    requires place { AreInPlace net.now phase (roots cells.old.items) }
+    requires place { AreInPlace net.now phase (cell_roots cells.old.items) }
     requires few { length cells.old.items < 2 ^ 32 }
-    requires eyes { Pairwise AreEyesOf (roots cells.old.items) eyes.old.items }
+    requires eyes { Pairwise AreEyesOf (cell_roots cells.old.items) eyes.old.items }
     requires empty { (locks.old.items ≡ []) × (crews.old.items ≡ []) }
     requires room { (length cells.old.items ≤ vec_capacity locks.old) × (length cells.old.items ≤ vec_capacity crews.old) }
-    ensures locked { MatchBool result (AreCrews net.now phase locks.new.items crews.new.items × (map lock_root locks.new.items ≡ roots cells.old.items))
+    ensures locked { MatchBool result (AreCrews net.now phase locks.new.items crews.new.items × (map lock_root locks.new.items ≡ cell_roots cells.old.items))
         ((locks.new.items ≡ []) × (crews.new.items ≡ [])) }
     ensures cells { MatchBool result ((cells.new.items ≡ []) × (eyes.new.items ≡ []))
-        ((roots cells.new.items ≡ roots cells.old.items) × Pairwise AreEyesOf (roots cells.old.items) eyes.new.items) }
+        ((cell_roots cells.new.items ≡ cell_roots cells.old.items) × Pairwise AreEyesOf (cell_roots cells.old.items) eyes.new.items) }
     ensures capacity { (vec_capacity cells.new ≡ vec_capacity cells.old) × (vec_capacity eyes.new ≡ vec_capacity eyes.old) }
     ensures room { (vec_capacity locks.new ≡ vec_capacity locks.old) × (vec_capacity crews.new ≡ vec_capacity crews.old) }
 {
@@ -146,8 +146,8 @@ pub(crate) fn unlock_all<'a>(
     requires empty { (cells.old.items ≡ []) × (eyes.old.items ≡ []) }
     requires room { (length locks.old.items ≤ vec_capacity cells.old) × (length locks.old.items ≤ vec_capacity eyes.old) }
     ensures empty { locks.new.items ≡ [] }
-    ensures roots { roots cells.new.items ≡ map lock_root locks.old.items }
-    ensures eyes { Pairwise AreEyesOf (roots cells.new.items) eyes.new.items }
+    ensures roots { cell_roots cells.new.items ≡ map lock_root locks.old.items }
+    ensures eyes { Pairwise AreEyesOf (cell_roots cells.new.items) eyes.new.items }
     ensures capacity { (vec_capacity cells.new ≡ vec_capacity cells.old) × (vec_capacity eyes.new ≡ vec_capacity eyes.old) }
 {
     let Some(lock) = locks.pop() else { return true };

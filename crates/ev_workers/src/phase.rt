@@ -1,6 +1,6 @@
 //! The workers of all servers in one phase.
 ghost use Rattle.std.specs.Prelude.{◌≡◌, ◌<◌, ◌^◌, length};
-ghost use Rattle.ev_node.specs.Together.{roots};
+ghost use Rattle.ev_node.specs.Together.{cell_roots};
 ghost use Rattle.ev_workers.specs.Crews.{AreEyesOf, AreInPlace, Pairwise};
 
 use crate::crew::Eyes;
@@ -27,11 +27,11 @@ pub fn run_phase<'a, R: Threads + Wait + Sync, G: Gate + Sync>(
     cells: &mut Vec<Cell<'a>>,
     eyes: &mut Vec<Eyes>,
 ) -> Result<(), NoMemory>
-    requires place { AreInPlace net.now phase (roots cells.old.items) }
+    requires place { AreInPlace net.now phase (cell_roots cells.old.items) }
     requires few { length cells.old.items < 2 ^ 32 }
-    requires eyes { Pairwise AreEyesOf (roots cells.old.items) eyes.old.items }
-    ensures roots { roots cells.new.items ≡ roots cells.old.items }
-    ensures eyes { Pairwise AreEyesOf (roots cells.new.items) eyes.new.items }
+    requires eyes { Pairwise AreEyesOf (cell_roots cells.old.items) eyes.old.items }
+    ensures roots { cell_roots cells.new.items ≡ cell_roots cells.old.items }
+    ensures eyes { Pairwise AreEyesOf (cell_roots cells.new.items) eyes.new.items }
 {
     let count = cells.len();
     let mut spares = Vec::with_capacity(alloc, count)?;

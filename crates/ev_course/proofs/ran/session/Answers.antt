@@ -1,7 +1,7 @@
 use Rattle.std.proofs.Common.{◌≡◌, ◌≤◌, ◌-◌, map, Some, slice_get, sym, ap, subst, ◌∙◌, arith}
 use Rattle.ev_sets.specs.Sets.{Has}
 use Rattle.ev_model.specs.Nets.{first_tree, home_of}
-use Rattle.ev_server.specs.Clients.{bare, numbers_of}
+use Rattle.ev_server.specs.Clients.{bare, client_numbers}
 use Rattle.ev_server.specs.Core.{CoreParts}
 use Rattle.ev_net.specs.Network.{moment_by}
 use Rattle.ev_net.proofs.Commanding.{home_low, lives_there}
@@ -21,7 +21,7 @@ bounds-cells-home c =
 
 pub session-requires : goal.session-requires
 session-requires c =
-    subst (λ (z : CoreParts). Has c.args.client (numbers_of z.clients)) (sym c.core.ensures)
+    subst (λ (z : CoreParts). Has c.args.client (client_numbers z.clients)) (sym c.core.ensures)
     (lives_there c.args.end.now.net.now c.requires.end.sound c.requires.end.phase (moment_by c.args.end.now.net.now c.args.end.now.journal.now).state (map (λ (k : CellParts). k.held.core) c.args.end.now.cells.now) c.requires.end.cores c.args.client c.requires.client c.index-cells-home.result.held.core
     (core-at c.args.end.now.cells.now (home_of c.args.end.now.net.now c.args.client) c.index-cells-home.result at))
   where

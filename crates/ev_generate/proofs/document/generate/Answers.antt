@@ -1,5 +1,5 @@
 use Rattle.std.proofs.Common.{◌∙◌, ◌++◌, ap}
-use Rattle.ev_generate.specs.Lines.{numbered}
+use Rattle.ev_generate.specs.Lines.{texts_drawn}
 use Rattle.ev_generate.specs.Document.{generated, script_text, script_draws}
 use Rattle.ev_generate.proofs.Chain.{join}
 use Rattle.ev_generate.proofs.document.generate.Goals as goal
@@ -10,4 +10,4 @@ returns c =
     join _ _ _ _
     (join _ _ _ _ (join _ _ _ _ c.in_ok-out.ensures.items c.in_ok-push_edges.ensures.text) (c.in_ok-push_clients.ensures c.args.seed))
     (c.in_ok-push_scripts.ensures
-    ∙ ap (λ s. c.push_clients.new.out.items ++ numbered script_text script_draws 64 0 s) c.in_ok-push_edges.ensures.state)
+    ∙ ap (λ s. c.push_clients.new.out.items ++ texts_drawn script_text script_draws 64 0 s) c.in_ok-push_edges.ensures.state)

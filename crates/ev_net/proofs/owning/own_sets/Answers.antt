@@ -4,7 +4,7 @@ use Rattle.ev_model.specs.Parts.{NetParts, ClientParts}
 use Rattle.ev_model.specs.Nets.{clients_of}
 use Rattle.ev_control.specs.declared.control.HeldLink.{HeldLink}
 use Rattle.ev_control.specs.Control.{by_adverts}
-use Rattle.ev_server.specs.Clients.{numbers_of}
+use Rattle.ev_server.specs.Clients.{client_numbers}
 use Rattle.ev_server.proofs.Sessions.{got}
 use Rattle.ev_net.specs.Owned.{IsOwn}
 use Rattle.ev_net.proofs.Gathered.{lives-here, lives-elsewhere, own-is, each-own, all-own, skip-own, none-own, done-own}
@@ -44,7 +44,7 @@ session-session-requires c =
     let within : c.loop-client.client-index < length c.args.net.now.clients = omega (arith, ap length same, c.loop-client-test.true) in
     let here = lives-here c.args.net.now c.args.server c.loop-client.client-index c.client-item.result at within home in
     let owned = subst (λ z. Has (c.loop-client.client-index + 1) (clients_of c.args.net.now z)) (sym c.requires.server) here in
-    subst (λ z. Has (z + 1) (numbers_of c.args.core.now.clients)) (sym c.loop-client.invariant.number) (subst (Has (c.loop-client.client-index + 1)) c.requires.own.clients owned)
+    subst (λ z. Has (z + 1) (client_numbers c.args.core.now.clients)) (sym c.loop-client.invariant.number) (subst (Has (c.loop-client.client-index + 1)) c.requires.own.clients owned)
 
 pub loop-client-preserved : goal.loop-client-preserved
 loop-client-preserved c =

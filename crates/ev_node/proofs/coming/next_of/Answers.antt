@@ -3,7 +3,7 @@ use Rattle.std.specs.Prelude.{IfSome}
 use Rattle.ev_node.specs.Turns.{HasCommand}
 use Rattle.ev_sets.specs.Sets.{Has}
 use Rattle.ev_model.specs.Parts.{ClientParts, NetParts}
-use Rattle.ev_server.specs.Clients.{numbers_of}
+use Rattle.ev_server.specs.Clients.{client_numbers}
 use Rattle.ev_node.specs.Coming.{IsFrom}
 use Rattle.ev_node.proofs.Housed.{at-home, index-at}
 use Rattle.ev_node.proofs.Comings.{AreFromLeast, all-from, least-more, least-same}
@@ -24,7 +24,7 @@ overflow_add-place c =
 
 pub next_at-requires-clause-lives : goal.next_at-requires-clause-lives
 next_at-requires-clause-lives c =
-    subst (λ k. Has k (numbers_of c.args.core.now.clients)) (omega arith)
+    subst (λ k. Has k (client_numbers c.args.core.now.clients)) (omega arith)
     (subst (Has (suc c.loop-place.place)) c.requires.clients
     (at-home c.args.net.now c.args.server c.loop-place.place c.index.result.now
     (ap (λ (z : NetParts). slice_get z.clients c.loop-place.place) (sym c.net.view_is) ∙ index-at c.net.inside.clients.items c.loop-place.place c.index.result.now (omega (arith, c.len-place-end.ensures, c.loop-place-test.true)) c.index.ensures)

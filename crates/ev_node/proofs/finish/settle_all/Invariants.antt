@@ -1,11 +1,11 @@
 use Rattle.std.proofs.Common.{◌≡◌, ℕ, ◌<◌}
-use Rattle.ev_node.specs.Together.{sights, roots}
+use Rattle.ev_node.specs.Together.{sights, cell_roots}
 use Rattle.ev_node.specs.InHand.{IsTakenInOrder}
 use Rattle.ev_node.proofs.finish.settle_all.Given as goal
 
 abbrev pub invariant-loop-k : goal.invariant-loop-k
 invariant-loop-k l = record {
   seen : sights l.cells ≡ sights l.initial.cells;
-  roots : roots l.cells ≡ roots l.initial.cells;
+  roots : cell_roots l.cells ≡ cell_roots l.initial.cells;
   order : (k p : ℕ) → k < l.k → IsTakenInOrder (sights l.cells) k p;
 }

@@ -1,11 +1,11 @@
 use Rattle.std.proofs.Common.{◌≡◌, ℕ, ◌<◌}
-use Rattle.ev_node.specs.Together.{sights, roots}
+use Rattle.ev_node.specs.Together.{sights, cell_roots}
 use Rattle.ev_node.specs.InHand.{IsTakenInOrder}
 use Rattle.ev_node.proofs.finish.settle_one.Given as goal
 
 abbrev pub invariant-loop-from : goal.invariant-loop-from
 invariant-loop-from l = record {
   seen : sights l.cells ≡ sights l.initial.cells;
-  roots : roots l.cells ≡ roots l.initial.cells;
+  roots : cell_roots l.cells ≡ cell_roots l.initial.cells;
   order : (p : ℕ) → p < l.from → IsTakenInOrder (sights l.cells) l.k p;
 }

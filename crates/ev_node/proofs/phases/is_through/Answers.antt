@@ -1,7 +1,7 @@
 use Rattle.std.proofs.Common.{suc, length, slice_get, refl, sym, ap, subst, ◌∙◌, arith}
 use Rattle.ev_sets.specs.Sets.{Has}
 use Rattle.ev_model.specs.Parts.{ClientParts, NetParts}
-use Rattle.ev_server.specs.Clients.{numbers_of}
+use Rattle.ev_server.specs.Clients.{client_numbers}
 use Rattle.ev_node.specs.Cell.{IsPast}
 use Rattle.ev_node.proofs.Housed.{at-home, all-past, index-at, one-more}
 use Rattle.ev_node.proofs.phases.is_through.Goals.{else-index-server-via-then-index-server+else-not-is_past, else-index-server-via-else-index-server}
@@ -21,7 +21,7 @@ overflow_add-place c =
 
 pub is_past-requires-clause-lives : goal.is_past-requires-clause-lives
 is_past-requires-clause-lives c =
-    subst (λ k. Has k (numbers_of c.args.core.now.clients)) (omega arith)
+    subst (λ k. Has k (client_numbers c.args.core.now.clients)) (omega arith)
     (subst (Has (suc c.loop-place.place)) c.requires.clients
     (at-home c.args.net.now c.args.server c.loop-place.place c.index.result.now
     (ap (λ (z : NetParts). slice_get z.clients c.loop-place.place) (sym c.net.view_is) ∙ index-at c.net.inside.clients.items c.loop-place.place c.index.result.now (omega (arith, c.len-place-end.ensures, c.loop-place-test.true)) c.index.ensures)

@@ -1,7 +1,7 @@
 use Rattle.std.proofs.Common.{◌≡◌, ◌++◌, [], vec_len, refl, sym, ap, ◌∙◌}
 use Rattle.ev_versions.specs.Ends.{published}
 use Rattle.ev_control.proofs.Named.{is-empty}
-use Rattle.ev_node.specs.Lanes.{named}
+use Rattle.ev_node.specs.Lanes.{neighbours_in}
 use Rattle.ev_node.specs.Relinking.{removals, additions}
 use Rattle.ev_node.proofs.Rehung.{still-held, put-held, stays, on-err}
 use Rattle.ev_node.proofs.rehanging.put_on.Goals as goal
@@ -38,9 +38,9 @@ returns-in_err-publish-clause-still g c =
 pub returns-clause-held : goal.returns-clause-held
 returns-clause-held g c =
     let none : c.args.held.now.handed.items ≡ [] = is-empty c.args.held.now.handed.items (vec_len c.args.held.now.handed) c.is_empty.result c.args.held.now.handed.ok.0 c.is_empty.ensures c.if-not-is_empty.false in
-    let gone : c.withdraw_all.new.handed.items ≡ removals c.args.held.now.core.control (named c.args.held.now.links.items) =
-    c.in_ok-withdraw_all.ensures.all ∙ ap (λ l. l ++ removals c.args.held.now.core.control (named c.deref.result.now)) none ∙ ap (λ l. removals c.args.held.now.core.control (named l)) c.deref.ensures.value in
-    let all : c.offer_all.new.handed.items ≡ removals c.args.held.now.core.control (named c.args.held.now.links.items) ++ additions c.args.given.now =
+    let gone : c.withdraw_all.new.handed.items ≡ removals c.args.held.now.core.control (neighbours_in c.args.held.now.links.items) =
+    c.in_ok-withdraw_all.ensures.all ∙ ap (λ l. l ++ removals c.args.held.now.core.control (neighbours_in c.deref.result.now)) none ∙ ap (λ l. removals c.args.held.now.core.control (neighbours_in l)) c.deref.ensures.value in
+    let all : c.offer_all.new.handed.items ≡ removals c.args.held.now.core.control (neighbours_in c.args.held.now.links.items) ++ additions c.args.given.now =
     c.in_ok-offer_all.ensures.all ∙ ap (λ l. l ++ additions c.args.given.now) gone in
     put-held c.args.held.now _ c.args.given.now c.in_ok-control.control c.requires.held c.requires.stands c.requires.calm c.requires.given c.requires.names c.requires.new
     c.staged-calm.ensures.staged c.in_ok-control.ensures.linked c.relink-before.ensures.core

@@ -6,7 +6,8 @@ use Rattle.ev_routing.specs.Step.{Version}
 use Rattle.ev_model.specs.declared.turn.Act.TheVariants as acts
 use Rattle.ev_model.specs.Parts.{entry_parts}
 use Rattle.ev_server.specs.Step.{MakesStep}
-use Rattle.ev_node.specs.Links.{Both, Each, IsUnmoved}
+use Rattle.ev_wire.specs.MessageText.{Each}
+use Rattle.ev_node.specs.Links.{Both, IsUnmoved}
 use Rattle.ev_node.proofs.Hands.{names}
 use Rattle.ev_node.proofs.Unmoved.{all-unmoved, unmoved-roomed}
 use Rattle.ev_node.proofs.Turning.{still, held-still, did, did-links, held-after, room-left, distinct-left, long-left, on_err}

@@ -1,5 +1,5 @@
 use Rattle.std.proofs.Common.{rules, ◌≡◌, ◌∙◌, sym, ap}
-use Rattle.ev_poset.specs.Standing.{is_root}
+use Rattle.ev_poset.specs.Standing.{stands_as_root}
 use Rattle.ev_poset.proofs.Standings.{more-same, more-found, more-told}
 use Rattle.ev_poset.proofs.standing.differences.Goals as goal
 use Rattle.ev_poset.proofs.standing.differences.Goals.{then-ne+in_ok-push, else-ne}
@@ -17,7 +17,7 @@ loop-key-preserved c = elim c.if-ne.branch [
       let one : c.standing_at-old.result ≡ c.standing_at-new.result = search (rules, c.ne.ensures, w.if-ne.false) in
       rw w.found-is (
         more-same c.args.old.now c.args.new.now c.loop-key.key c.loop-key.found.items c.loop-key.invariant.0
-            (λ l. sym (c.standing_at-old.ensures l) ∙ (ap (is_root l) one ∙ c.standing_at-new.ensures l)),
+            (λ l. sym (c.standing_at-old.ensures l) ∙ (ap (stands_as_root l) one ∙ c.standing_at-new.ensures l)),
         c.loop-key.invariant.1,
       )
 ]

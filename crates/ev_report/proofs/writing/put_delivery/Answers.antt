@@ -2,14 +2,14 @@ use Rattle.std.specs.Prelude.{◌++◌, codes}
 use Rattle.std.specs.Fmt.{decimal}
 use Rattle.ev_outside.specs.Pending.{outlet, Went}
 use Rattle.ev_outside.proofs.Outlets.{went-then}
-use Rattle.ev_report.specs.Lines.{name_of, publication_line}
+use Rattle.ev_report.specs.Lines.{client_name, publication_line}
 use Rattle.ev_report.specs.Deliveries.{delivery_line}
 use Rattle.ev_report.proofs.writing.put_delivery.Goals as goal
 
 pub returns : goal.returns
 unfolding delivery_line publication_line
 returns g c =
-    let name = name_of c.args.clients.now c.args.delivery.now.id.publisher in
+    let name = client_name c.args.clients.now c.args.delivery.now.id.publisher in
     let number = decimal c.args.delivery.now.id.ordinal in
     let text = c.args.delivery.now.bytes in
     let second : Went (outlet (g.K.Sink.written c.put.new.sink) (g.K.Sink.faults c.put.new.sink) c.put.new.self)

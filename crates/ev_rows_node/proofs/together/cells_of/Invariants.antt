@@ -1,10 +1,10 @@
 use Rattle.std.proofs.Common.{◌≡◌, ◌≤◌, ◌+◌, ◌++◌, length, map, vec_capacity}
-use Rattle.ev_node.specs.Together.{roots}
+use Rattle.ev_node.specs.Together.{cell_roots}
 use Rattle.ev_rows_node.proofs.together.cells_of.Given as goal
 
 abbrev pub invariant-loop-started : goal.invariant-loop-started
 invariant-loop-started l = record {
-  roots : roots l.cells.items ++ map (λ s. s.cell.root) l.started.items ≡ map (λ s. s.cell.root) l.initial.started.items;
+  roots : cell_roots l.cells.items ++ map (λ s. s.cell.root) l.started.items ≡ map (λ s. s.cell.root) l.initial.started.items;
   room : length l.cells.items + length l.started.items ≤ vec_capacity l.cells;
 }
 

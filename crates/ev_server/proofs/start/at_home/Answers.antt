@@ -6,7 +6,7 @@ use Rattle.ev_model.specs.Meaning.{phased_command}
 use Rattle.ev_sets.specs.Sets.{Has}
 use Rattle.ev_session.specs.Session.{session_parts}
 use Rattle.ev_control.proofs.Taken.{take-all}
-use Rattle.ev_server.specs.Clients.{numbers_of}
+use Rattle.ev_server.specs.Clients.{client_numbers}
 use Rattle.ev_server.specs.Start.{session_of, sessions_of}
 use Rattle.ev_server.proofs.Sessions.{got, got-has}
 use Rattle.ev_server.proofs.Starting.{home-none, home-skip, home-more, few-publishes, numbers-rise}
@@ -57,7 +57,7 @@ of-requires-clause-numbered c = c.loop-client.invariant.0.numbered
 pub of-requires-clause-rising : goal.of-requires-clause-rising
 of-requires-clause-rising c =
     let home = c.loop-client.invariant.0 in
-    subst IsStrictlyIncreasing (ap numbers_of (sym home.made) ∙ home.numbered) (numbers-rise c.args.net.now.semantics c.args.server 1 (take c.loop-client.client-index c.deref-client-items.result.now))
+    subst IsStrictlyIncreasing (ap client_numbers (sym home.made) ∙ home.numbered) (numbers-rise c.args.net.now.semantics c.args.server 1 (take c.loop-client.client-index c.deref-client-items.result.now))
 
 pub returns : goal.returns
 returns c =

@@ -2,7 +2,7 @@ use Rattle.std.proofs.Common.{◌≡◌, List, [], ◌∷◌, ◌++◌, length, 
 use Rattle.std.proofs.lemmas.List.{append_assoc, length-append}
 use Rattle.ev_node.specs.declared.starting.Started.{Started}
 use Rattle.ev_node.specs.Cell.{CellParts}
-use Rattle.ev_node.specs.Together.{roots}
+use Rattle.ev_node.specs.Together.{cell_roots}
 use Rattle.ev_workers.specs.declared.crew.Eyes.{Eyes}
 use Rattle.ev_workers.specs.Crews.{AreEyesOf, Pairwise}
 use Rattle.ev_siena.specs.Teams.{HaveEyes}
@@ -27,8 +27,8 @@ loop-started-preserved c =
     let room_eyes = i.room_eyes in record {
       cells = ap (λ l. l ++ map (λ (s : Started). s.cell) rest) c.push_reserved.ensures.items ∙ append_assoc c.loop-started.cells.items (one.cell ∷ []) (map (λ (s : Started). s.cell) rest)
           ∙ ap (λ l. c.loop-started.cells.items ++ map (λ (s : Started). s.cell) l) (sym out) ∙ i.cells;
-      pairs = subst (λ l. Pairwise AreEyesOf (roots l) c.push_reserved-in-loop-started.new.self.items) (sym c.push_reserved.ensures.items)
-          (subst (λ l. Pairwise AreEyesOf (roots (c.loop-started.cells.items ++ one.cell ∷ [])) l) (sym c.push_reserved-in-loop-started.ensures.items)
+      pairs = subst (λ l. Pairwise AreEyesOf (cell_roots l) c.push_reserved-in-loop-started.new.self.items) (sym c.push_reserved.ensures.items)
+          (subst (λ l. Pairwise AreEyesOf (cell_roots (c.loop-started.cells.items ++ one.cell ∷ [])) l) (sym c.push_reserved-in-loop-started.ensures.items)
           (eyes-more c.loop-started.cells.items c.loop-started.eyes.items one.cell (record { commands = one.commands; links = one.links }) i.pairs eyes.0));
       left = eyes.1;
       long = omega (arith, n, m, same);

@@ -3,7 +3,7 @@ use Rattle.std.specs.Prelude.{is_err, MatchResult}
 use Rattle.std.proofs.lemmas.List.{append-nil}
 use Rattle.ev_versions.specs.Pairs.{pair_set, pairs_after}
 use Rattle.ev_versions.specs.Chain.{IsFolded, changes_of, last_seen}
-use Rattle.ev_versions.specs.History.{head_of}
+use Rattle.ev_versions.specs.History.{length_word}
 use Rattle.ev_versions.specs.declared.version.Version.{Version}
 use Rattle.ev_versions.proofs.Pairs.{empty-set}
 use Rattle.ev_versions.proofs.Chains.{starts, shows_fold, Told, told, applied}
@@ -40,7 +40,7 @@ invariant_of-publisher g c =
     let again = c.again.ensures.1 in
     let log = c.open-front.result.0.seen.log in
     record {
-      word = (c.open-front.ensures.1 ∙ ap (λ s. head_of s.book) (sym again), ap (λ s. s.book) (sym again));
+      word = (c.open-front.ensures.1 ∙ ap (λ s. length_word s.book) (sym again), ap (λ s. s.book) (sym again));
       published = (seen, folded);
       staged = ap (λ s. s.log) again ∙ sym (append-nil log) ∙ ap (λ zs. log ++ zs) (sym (ap (λ d. changes_of d ++ c.new-in-Ok.result.items) none ∙ c.new-in-Ok.ensures.items));
       last = λ _. ap (last_seen c.open-front.result.0.seen) none ∙ sym again;

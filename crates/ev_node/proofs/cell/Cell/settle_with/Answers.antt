@@ -1,7 +1,7 @@
 use Rattle.std.proofs.Common.{refl, sym, ap, subst, ◌∙◌}
 use Rattle.ev_node.specs.Cell.{CellParts}
 use Rattle.ev_node.specs.Links.{At, IsOneLane, IsNextAt}
-use Rattle.ev_node.specs.Together.{sight, links_of}
+use Rattle.ev_node.specs.Together.{sight, root_links}
 use Rattle.ev_node.proofs.Places.{below-found, lane-at}
 use Rattle.ev_node.proofs.Lookings.{kept-looked}
 use Rattle.ev_node.proofs.Walkers.{sight-unmoved}
@@ -9,19 +9,19 @@ use Rattle.ev_node.proofs.cell.Cell.settle_with.Goals as goal
 
 pub settle_links-requires-clause-lane : goal.settle_links-requires-clause-lane
 settle_links-requires-clause-lane c =
-    lane-at c.args.to c.args.from (links_of c.self.inside.root) c.self.inside.held.links.items (links_of c.taker.inside.root) c.taker.inside.held.links.items c.self.invariant.links c.taker.invariant.links
-    (subst (λ (z : CellParts). At IsOneLane c.args.to (links_of z.root) c.args.from (links_of c.taker.inside.root)) (sym c.self.view_is) (subst (λ (z : CellParts). At IsOneLane c.args.to (links_of c.args.self.now.root) c.args.from (links_of z.root)) (sym c.taker.view_is) c.requires.lane))
+    lane-at c.args.to c.args.from (root_links c.self.inside.root) c.self.inside.held.links.items (root_links c.taker.inside.root) c.taker.inside.held.links.items c.self.invariant.links c.taker.invariant.links
+    (subst (λ (z : CellParts). At IsOneLane c.args.to (root_links z.root) c.args.from (root_links c.taker.inside.root)) (sym c.self.view_is) (subst (λ (z : CellParts). At IsOneLane c.args.to (root_links c.args.self.now.root) c.args.from (root_links z.root)) (sym c.taker.view_is) c.requires.lane))
 
 pub settle_links-requires-clause-to : goal.settle_links-requires-clause-to
 settle_links-requires-clause-to c =
-    let l = lane-at c.args.to c.args.from (links_of c.self.inside.root) c.self.inside.held.links.items (links_of c.taker.inside.root) c.taker.inside.held.links.items c.self.invariant.links c.taker.invariant.links
-    (subst (λ (z : CellParts). At IsOneLane c.args.to (links_of z.root) c.args.from (links_of c.taker.inside.root)) (sym c.self.view_is) (subst (λ (z : CellParts). At IsOneLane c.args.to (links_of c.args.self.now.root) c.args.from (links_of z.root)) (sym c.taker.view_is) c.requires.lane)) in
+    let l = lane-at c.args.to c.args.from (root_links c.self.inside.root) c.self.inside.held.links.items (root_links c.taker.inside.root) c.taker.inside.held.links.items c.self.invariant.links c.taker.invariant.links
+    (subst (λ (z : CellParts). At IsOneLane c.args.to (root_links z.root) c.args.from (root_links c.taker.inside.root)) (sym c.self.view_is) (subst (λ (z : CellParts). At IsOneLane c.args.to (root_links c.args.self.now.root) c.args.from (root_links z.root)) (sym c.taker.view_is) c.requires.lane)) in
     below-found c.args.to c.self.inside.held.links.items l.0 l.2
 
 pub settle_links-requires-clause-from : goal.settle_links-requires-clause-from
 settle_links-requires-clause-from c =
-    let l = lane-at c.args.to c.args.from (links_of c.self.inside.root) c.self.inside.held.links.items (links_of c.taker.inside.root) c.taker.inside.held.links.items c.self.invariant.links c.taker.invariant.links
-    (subst (λ (z : CellParts). At IsOneLane c.args.to (links_of z.root) c.args.from (links_of c.taker.inside.root)) (sym c.self.view_is) (subst (λ (z : CellParts). At IsOneLane c.args.to (links_of c.args.self.now.root) c.args.from (links_of z.root)) (sym c.taker.view_is) c.requires.lane)) in
+    let l = lane-at c.args.to c.args.from (root_links c.self.inside.root) c.self.inside.held.links.items (root_links c.taker.inside.root) c.taker.inside.held.links.items c.self.invariant.links c.taker.invariant.links
+    (subst (λ (z : CellParts). At IsOneLane c.args.to (root_links z.root) c.args.from (root_links c.taker.inside.root)) (sym c.self.view_is) (subst (λ (z : CellParts). At IsOneLane c.args.to (root_links c.args.self.now.root) c.args.from (root_links z.root)) (sym c.taker.view_is) c.requires.lane)) in
     below-found c.args.from c.taker.inside.held.links.items l.1 l.3
 
 pub invariant_of-self : goal.invariant_of-self

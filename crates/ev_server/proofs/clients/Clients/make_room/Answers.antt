@@ -2,12 +2,12 @@ use Rattle.std.proofs.Common.{◌≡◌, ◌≤◌, Result, Ok, Err, OnOk, inl, 
 use Rattle.ev_memory.specs.declared.NoMemory.{NoMemory}
 use Rattle.ev_sets.specs.Sets.{Has}
 use Rattle.ev_session.specs.Session.{SessionParts}
-use Rattle.ev_server.specs.Clients.{bare, numbers_of}
+use Rattle.ev_server.specs.Clients.{bare, client_numbers}
 use Rattle.ev_server.proofs.Sessions.{IsPlace, map-has, put-has, is-there, kept-numbers, kept-bare, the-new}
 use Rattle.ev_server.proofs.clients.Clients.make_room.Goals as goal
 
 pub returns-in_default-clause-room : goal.returns-in_default-clause-room
-returns-in_default-clause-room c = λ s m e. absurd (c.in_default.ensures.none (subst (λ z. Has z (numbers_of c.args.self.now)) e (map-has (λ z. z.client) c.args.self.now s m)))
+returns-in_default-clause-room c = λ s m e. absurd (c.in_default.ensures.none (subst (λ z. Has z (client_numbers c.args.self.now)) e (map-has (λ z. z.client) c.args.self.now s m)))
 
 pub invariant_of-self : goal.invariant_of-self
 invariant_of-self c =

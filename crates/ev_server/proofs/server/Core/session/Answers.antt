@@ -1,13 +1,13 @@
 use Rattle.std.proofs.Common.{◌≡◌, sym, subst}
 use Rattle.ev_sets.specs.Sets.{Has}
-use Rattle.ev_server.specs.Clients.{bare, numbers_of}
+use Rattle.ev_server.specs.Clients.{bare, client_numbers}
 use Rattle.ev_server.proofs.Commands.{numbers-bare}
 use Rattle.ev_server.proofs.Sessions.{map-has}
 use Rattle.ev_server.proofs.server.Core.session.Goals as goal
 
 pub unreachable-requires : goal.unreachable-requires
 unreachable-requires c =
-    c.in_default.ensures.none (subst (Has c.args.client) (numbers-bare c.self.inside.clients) (subst (λ z. Has c.args.client (numbers_of z.clients)) (sym c.self.view_is) c.requires))
+    c.in_default.ensures.none (subst (Has c.args.client) (numbers-bare c.self.inside.clients) (subst (λ z. Has c.args.client (client_numbers z.clients)) (sym c.self.view_is) c.requires))
 
 pub returns-clause-session : goal.returns-clause-session
 returns-clause-session c = subst (λ z. Has (bare c.in-Some.session.now) z.clients) c.self.view_is (map-has bare c.self.inside.clients c.in-Some.session.now c.in-Some.ensures.session.0)

@@ -5,7 +5,7 @@ use Rattle.ev_sets.specs.Sets.{Has}
 use Rattle.ev_session.specs.Session.{SessionParts}
 use Rattle.ev_session.specs.Plan.{next_plan}
 use Rattle.ev_server.specs.Acting.{HasDone, planned_message}
-use Rattle.ev_server.specs.Clients.{bare, numbers_of}
+use Rattle.ev_server.specs.Clients.{bare, client_numbers}
 use Rattle.ev_server.specs.Core.{core_parts}
 use Rattle.ev_server.specs.Kept.{IsCore}
 use Rattle.ev_server.specs.Routed.{RoutesNext}
@@ -19,14 +19,14 @@ pub returns-in-Err-clause-worn : goal.returns-in-Err-clause-worn
 returns-in-Err-clause-worn g c = λ s. worn-of c.in-Err.fault s (worn-none c.args.self.now.clock s c.in-Err.fault (c.in-Err.ensures.worn s))
 
 pub plan-requires-clause-lives : goal.plan-requires-clause-lives
-plan-requires-clause-lives g c = subst (Has c.args.client) (numbers-bare c.self.inside.clients) (subst (λ z. Has c.args.client (numbers_of z.clients)) (sym c.self.view_is) c.requires.lives)
+plan-requires-clause-lives g c = subst (Has c.args.client) (numbers-bare c.self.inside.clients) (subst (λ z. Has c.args.client (client_numbers z.clients)) (sym c.self.view_is) c.requires.lives)
 
 pub plan-requires-clause-left : goal.plan-requires-clause-left
 plan-requires-clause-left g c = λ s m e. subst (λ z. (s : SessionParts) → Has s z.clients → s.client ≡ c.args.client → s.taken < length s.script) (sym c.self.view_is) c.requires.left (bare s) (map-has bare c.self.inside.clients s m) e
 
 pub overflow_add-client : goal.overflow_add-client
 overflow_add-client g c =
-    let lives = subst (λ z. Has c.args.client (numbers_of z.clients)) (sym c.self.view_is) c.requires.lives in
+    let lives = subst (λ z. Has c.args.client (client_numbers z.clients)) (sym c.self.view_is) c.requires.lives in
     let r = has-map (λ s. s.client) (map bare c.self.inside.clients) c.args.client lives in
     let high = (c.self.invariant.ids r.0 r.1).1 in
     let same = r.2 in
@@ -34,7 +34,7 @@ overflow_add-client g c =
 
 pub act_on-requires-clause-clear : goal.act_on-requires-clause-clear
 act_on-requires-clause-clear g c =
-    let lives = subst (λ z. Has c.args.client (numbers_of z.clients)) (sym c.self.view_is) c.requires.lives in
+    let lives = subst (λ z. Has c.args.client (client_numbers z.clients)) (sym c.self.view_is) c.requires.lives in
     let r = has-map (λ s. s.client) (map bare c.self.inside.clients) c.args.client lives in
     let q = has-map bare c.self.inside.clients r.0 r.1 in
     let same : q.0.client ≡ c.args.client = sym (r.2 ∙ ap (λ z. z.client) q.2) in
@@ -43,7 +43,7 @@ act_on-requires-clause-clear g c =
 
 pub act_on-requires-clause-routed : goal.act_on-requires-clause-routed
 act_on-requires-clause-routed g c =
-    let lives = subst (λ z. Has c.args.client (numbers_of z.clients)) (sym c.self.view_is) c.requires.lives in
+    let lives = subst (λ z. Has c.args.client (client_numbers z.clients)) (sym c.self.view_is) c.requires.lives in
     let r = has-map (λ s. s.client) (map bare c.self.inside.clients) c.args.client lives in
     let q = has-map bare c.self.inside.clients r.0 r.1 in
     let same : q.0.client ≡ c.args.client = sym (r.2 ∙ ap (λ z. z.client) q.2) in
@@ -83,7 +83,7 @@ returns-clause-step g c =
     let some-left : (s : SessionParts) → Has s (map bare c.plan.new.self) → s.client ≡ c.args.client → s.taken < length s.script =
     subst (λ z. (s : SessionParts) → Has s z → s.client ≡ c.args.client → s.taken < length s.script) (sym same) (subst (λ z. (s : SessionParts) → Has s z.clients → s.client ≡ c.args.client → s.taken < length s.script) (sym c.self.view_is) c.requires.left) in
     let deed : HasDone (64 + c.args.client) (planned_message c.self.inside.ledger.control.semantics c.in_ok-plan.plan) c.args.route.now c.self.inside.ledger c.act_on.new.ledger c.plan.new.self c.act_on.new.clients (g.D.Due.sent c.in_ok-sent.sent) = c.in_ok-sent.ensures.done in
-    let lives = subst (λ z. Has c.args.client (numbers_of z)) (sym same) (subst (λ z. Has c.args.client (numbers_of z.clients)) (sym c.self.view_is) c.requires.lives) in
+    let lives = subst (λ z. Has c.args.client (client_numbers z)) (sym same) (subst (λ z. Has c.args.client (client_numbers z.clients)) (sym c.self.view_is) c.requires.lives) in
     let routes = subst (λ z. RoutesNext (core_parts c.self.inside.server c.self.inside.ledger z c.self.inside.clock) c.args.client c.args.route.now) (sym same) (subst (λ z. RoutesNext z c.args.client c.args.route.now) (sym c.self.view_is) c.requires.route) in
     let stamp : c.in-Ok.stamp ≡ suc (max c.self.inside.clock 0) = next-is c.in-Ok.stamp (max c.self.inside.clock 0) (subst (λ z. c.in-Ok.stamp ≡ 1 + max z.clock 0) (sym c.self.view_is) c.in-Ok.ensures.ok.0) in
     subst (λ z. MakesStep (Does (NextCommand c.args.client)) 0 z (core_parts c.self.inside.server c.act_on.new.ledger (map bare c.commit.new.self) c.in-Ok.stamp) c.in-Ok.stamp (g.D.Due.sent c.in_ok-sent.sent)) c.self.view_is
