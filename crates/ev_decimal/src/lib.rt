@@ -3,6 +3,7 @@
 
 ghost use Rattle.std.specs.Prelude.{◌≡◌, ◌++◌, OnOk};
 ghost use Rattle.std.specs.Fmt.{decimal, signed_decimal};
+ghost use Rattle.ev_decimal.specs.Text.{labelled};
 
 use ev_memory::NoMemory;
 use itoa::Buffer;
@@ -23,4 +24,13 @@ pub fn push_int(out: &mut Vec<u8>, int: i64) -> Result<(), NoMemory>
     let mut buffer = Buffer::new();
     out.extend_from_slice(buffer.format(int).as_bytes())?;
     Ok(())
+}
+
+/// Puts a label with a number behind it at the end.
+#[tactic(auto, unfolding(crate::specs::Text::labelled))]
+pub fn push_labelled(out: &mut Vec<u8>, label: &[u8], number: u64) -> Result<(), NoMemory>
+    ensures { OnOk result (out.new.items ≡ out.old.items ++ labelled label.now number) }
+{
+    out.extend_from_slice(label)?;
+    push_number(out, number)
 }

@@ -1,5 +1,6 @@
 -- The lines of a generated document, each ended by a newline (10), made of the numbers drawn from a state on.
 use Rattle.std.specs.Prelude.{ℕ, zero, suc, ◌+◌, ◌%◌, ◌==◌, Bool, true, false, List, [], ◌∷◌, ◌++◌, codes, decimal, if◌then◌else◌}
+use Rattle.ev_decimal.specs.Text.{labelled}
 use Rattle.ev_generate.specs.Draws.{draw, letter, after}
 
 -- the texts at places from one on, so many, each made of the state that is left by the draws of those before it
@@ -14,10 +15,6 @@ edge_line place state = codes "edge " ++ decimal (draw state (place + 1) + 1) ++
 -- client place + 1: clients go round the servers, no draw
 unfoldable pub client_line : ℕ → ℕ → List ℕ
 client_line place state = codes "client c" ++ decimal (place + 1) ++ codes " " ++ decimal (place % 16 + 1) ++ codes "\n"
-
--- a number behind a label
-unfoldable pub labelled : List ℕ → ℕ → List ℕ
-labelled label number = label ++ decimal number
 
 -- the kind, and an operator by its number, with its operand
 unfoldable pub test_text : ℕ → ℕ → List ℕ

@@ -1,21 +1,12 @@
 //! The lines of a document.
 ghost use Rattle.std.specs.Prelude.{◌≡◌, ◌++◌, ◌<◌, ℕ, OnOk};
 ghost use Rattle.ev_generate.specs.Draws.{after};
-ghost use Rattle.ev_generate.specs.Lines.{labelled, edge_line, client_line, test_text, prefix_text};
+ghost use Rattle.ev_generate.specs.Lines.{edge_line, client_line, test_text, prefix_text};
 ghost use Rattle.ev_generate.specs.Lines.{subscribe_text, subscribe_line, attribute_text, publish_line};
 
 use crate::draws::Draws;
-use ev_decimal::push_number;
+use ev_decimal::{push_labelled, push_number};
 use ev_memory::NoMemory;
-
-// A number behind a label.
-#[tactic(auto, unfolding(crate::specs::Lines::labelled))]
-fn push_labelled(out: &mut Vec<u8>, label: &[u8], number: u64) -> Result<(), NoMemory>
-    ensures { OnOk result (out.new.items ≡ out.old.items ++ labelled label.now number) }
-{
-    out.extend_from_slice(label)?;
-    push_number(out, number)
-}
 
 // A text.
 fn push_text(out: &mut Vec<u8>, text: &[u8]) -> Result<(), NoMemory>

@@ -1,14 +1,10 @@
 -- Texts of one line.
 use Rattle.std.specs.Prelude.{ℕ, List, ◌++◌, length, codes}
-use Rattle.std.specs.Fmt.{decimal}
+use Rattle.ev_decimal.specs.Text.{labelled}
 use Rattle.ev_sets.specs.Numbers.{sum_over}
 use Rattle.ev_model.specs.Parts.{NetParts}
 use Rattle.ev_model.specs.Nets.{first_tree, phases_of}
 use Rattle.ev_model.specs.Sound.{publishes, controls}
-
--- a number behind a label
-unfoldable pub labelled : List ℕ → ℕ → List ℕ
-labelled label number = label ++ decimal number
 
 -- what a net has, by numbers
 unfoldable pub counts_text : ℕ → ℕ → ℕ → ℕ → ℕ → ℕ → List ℕ

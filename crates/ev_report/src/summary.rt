@@ -1,27 +1,17 @@
 //! Texts of one line.
 ghost use Rattle.std.specs.Prelude.{◌≡◌, ◌++◌, ℕ, ◌+◌, ◌≤◌, ◌<◌, ◌^◌, IfOk, OnOk};
-ghost use Rattle.std.specs.Fmt.{decimal};
 ghost use Rattle.ev_sets.specs.Numbers.{sum_over};
 ghost use Rattle.ev_routing.specs.Clients.{is_publish};
 ghost use Rattle.ev_theory.specs.Real.{real};
 ghost use Rattle.ev_model.specs.Meaning.{command_of};
 ghost use Rattle.ev_model.specs.Nets.{first_tree};
 ghost use Rattle.ev_model.specs.Sound.{IsSound, publishes, controls};
-ghost use Rattle.ev_report.specs.Summary.{labelled, counts_text, check_text, summary_text};
+ghost use Rattle.ev_report.specs.Summary.{counts_text, check_text, summary_text};
 
-use ev_decimal::push_number;
+use ev_decimal::push_labelled;
 use ev_memory::NoMemory;
 use ev_model::{Client, Command, Net};
 use std::alloc::Global;
-
-// A number behind a word and a space.
-#[tactic(auto, unfolding(crate::specs::Summary::labelled))]
-fn push_labelled(out: &mut Vec<u8>, label: &[u8], number: u64) -> Result<(), NoMemory>
-    ensures { OnOk result (out.new.items ≡ out.old.items ++ labelled label.now number) }
-{
-    out.extend_from_slice(label)?;
-    push_number(out, number)
-}
 
 // The line of how much a run did.
 #[tactic(auto, unfolding(crate::specs::Summary::summary_text))]
