@@ -1,5 +1,5 @@
 -- What the words of a line are.
-use Rattle.std.specs.Prelude.{Bool, ℕ, ◌+◌, ◌*◌, ◌-◌, List, [], ◌∷◌, ◌&&◌, nat_lt, nat_le, length, if◌then◌else◌, Option, Some, None}
+use Rattle.std.specs.Prelude.{ℕ, ◌+◌, ◌*◌, ◌-◌, List, [], ◌∷◌, ◌&&◌, nat_lt, nat_le, length, if◌then◌else◌, Option, Some, None}
 use Rattle.std.specs.Option.{option_and_then, option_zip}
 use Rattle.ev_values.specs.Name.{is_name}
 use Rattle.ev_script.specs.Form.{is_digit}

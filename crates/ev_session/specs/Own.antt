@@ -1,6 +1,5 @@
 -- How the code of a session is followed on lists; no promise to a caller speaks of it.
 use Rattle.std.specs.Prelude.{ℕ, suc, ◌≤◌, List, [], ◌∷◌, ◌++◌, length}
-use Rattle.ev_constraint.specs.Constraint.{ConstraintParts}
 use Rattle.ev_notice.specs.Before.{list_before}
 use Rattle.ev_sets.specs.Sets.{minus}
 use Rattle.ev_wire.specs.declared.command.Command.{Command}

@@ -15,7 +15,8 @@ use Rattle.ev_counting.specs.declared.change.Change.{Change}
 use Rattle.ev_counting.specs.declared.change.Change.TheVariants.{Add, Remove}
 use Rattle.ev_counting.proofs.Unique.{one-route}
 use Rattle.ev_counting.specs.Table.{HeldFilter, IsAdded, IsTaken, IsApplied, AreApplied, IsMatched, IsRouteOf}
-use Rattle.ev_versions.specs.Pairs.{pair_before, pair_set, changed, pairs_after, route_of}
+use Rattle.ev_counting.specs.Order.{pair_before}
+use Rattle.ev_versions.specs.Pairs.{pair_set, changed, pairs_after, route_of}
 use Rattle.ev_versions.proofs.Members.{has-contains, contains-has, has-map, map-has, number_laws, increasing}
 
 irreflexive : (x : HeldFilter) → pair_before x x ≡ false

@@ -1,16 +1,12 @@
 -- The pairs of an interface and a filter after a list of changes, and a notice's route by them.
-use Rattle.std.specs.Prelude.{ℕ, Bool, nat_lt, ◌==◌, ◌&&◌, ◌||◌, List, [], ◌∷◌, map, filter, fold}
+use Rattle.std.specs.Prelude.{ℕ, nat_lt, List, [], ◌∷◌, map, filter, fold}
 use Rattle.ev_sets.specs.Sets.{put_in, minus, set_of}
 use Rattle.ev_notice.specs.Notice.{Attribute}
 use Rattle.ev_notice.specs.Cover.{matches}
-use Rattle.ev_notice.specs.Before.{list_before}
 use Rattle.ev_counting.specs.declared.change.Change.{Change}
 use Rattle.ev_counting.specs.declared.change.Change.TheVariants.{Add, Remove}
 use Rattle.ev_counting.specs.Table.{HeldFilter}
-
--- the canonical order of pairs: by the interface, then by the filter
-unfoldable pub pair_before : HeldFilter → HeldFilter → Bool
-pair_before x y = nat_lt x.0 y.0 || ((x.0 == y.0) && list_before x.1 y.1)
+use Rattle.ev_counting.specs.Order.{pair_before}
 
 -- the set of a table's pairs
 unfoldable pub pair_set : List HeldFilter → List HeldFilter
