@@ -6,7 +6,7 @@ use Rattle.ev_sets.specs.Sets.{Has, IsRising, roots, same}
 use Rattle.ev_sets.proofs.Sets.{ext, rising-roots, rising-set_of}
 use Rattle.ev_pool.specs.Pool.{Pooled, IsAt, IsAbsent, HasDistinctItems}
 use Rattle.ev_poset.specs.Poset.{Held, Agrees, held_by_others}
-use Rattle.ev_poset.specs.Graph.{is_marked}
+use Rattle.ev_poset.specs.Graph.{has_mark}
 use Rattle.ev_poset.specs.Standing.{AreOf, PassesMarked}
 use Rattle.ev_poset.proofs.Rows.{at-one}
 use Rattle.ev_control.specs.Stock.{AreMarked, stays}
@@ -22,14 +22,14 @@ same-tests false false f g = refl
 
 module _ {T : Type 0} where
   -- marks, so far and with one more
-  pub marked-none : (pool : Pooled T) (items : List T) (marks : List Bool) → ((k : ℕ) → is_marked marks k ≡ false) → AreMarked pool (take 0 items) marks
-  marked-none pool [] marks clear k x is = ((λ e. absurd (go (is_marked marks k) e (clear k))), λ h. absurd h)
+  pub marked-none : (pool : Pooled T) (items : List T) (marks : List Bool) → ((k : ℕ) → has_mark marks k ≡ false) → AreMarked pool (take 0 items) marks
+  marked-none pool [] marks clear k x is = ((λ e. absurd (go (has_mark marks k) e (clear k))), λ h. absurd h)
     where
       go : (b : Bool) → b ≡ true → b ≡ false → ⊥
       go b e f =
           let no : true ≡ false = sym e ∙ f in
           cc
-  marked-none pool (y ∷ ys) marks clear k x is = ((λ e. absurd (go (is_marked marks k) e (clear k))), λ h. absurd h)
+  marked-none pool (y ∷ ys) marks clear k x is = ((λ e. absurd (go (has_mark marks k) e (clear k))), λ h. absurd h)
     where
       go : (b : Bool) → b ≡ true → b ≡ false → ⊥
       go b e f =
@@ -37,16 +37,16 @@ module _ {T : Type 0} where
           cc
 
   pub marked-more : (pool : Pooled T) (items : List T) (n : ℕ) (item : T) (key : ℕ) (old new : List Bool) → HasDistinctItems pool → slice_get items n ≡ Some item → IsAt pool key item
-      → ((k : ℕ) → (is_marked new k ≡ true) ↔ ((is_marked old k ≡ true) ⊎ (k ≡ key))) → AreMarked pool (take n items) old → AreMarked pool (take (n + 1) items) new
+      → ((k : ℕ) → (has_mark new k ≡ true) ↔ ((has_mark old k ≡ true) ⊎ (k ≡ key))) → AreMarked pool (take n items) old → AreMarked pool (take (n + 1) items) new
   marked-more pool items n item key old new apart at here more before k x is = (to, from)
     where
-      to : is_marked new k ≡ true → Has x (take (n + 1) items)
+      to : has_mark new k ≡ true → Has x (take (n + 1) items)
       to e = (has-next items n item x at).1 (elim ((more k).0 e) [
         | inl o ↦ inl ((before k x is).0 o)
         | inr q ↦ inr (at-one T pool key x item (subst (λ z. IsAt pool z x) q is) here)
       ])
 
-      from : Has x (take (n + 1) items) → is_marked new k ≡ true
+      from : Has x (take (n + 1) items) → has_mark new k ≡ true
       from h = (more k).1 (elim ((has-next items n item x at).0 h) [
         | inl m ↦ inl ((before k x is).1 m)
         | inr q ↦ inr (apart k key item (subst (IsAt pool k) q is) here)
@@ -55,7 +55,7 @@ module _ {T : Type 0} where
   pub marked-absent : (pool : Pooled T) (items : List T) (n : ℕ) (item : T) (marks : List Bool) → slice_get items n ≡ Some item → IsAbsent pool.slots item → AreMarked pool (take n items) marks → AreMarked pool (take (n + 1) items) marks
   marked-absent pool items n item marks at absent before k x is = ((λ e. (has-next items n item x at).1 (inl ((before k x is).0 e))), from)
     where
-      from : Has x (take (n + 1) items) → is_marked marks k ≡ true
+      from : Has x (take (n + 1) items) → has_mark marks k ≡ true
       from h = elim ((has-next items n item x at).0 h) [
         | inl m ↦ (before k x is).1 m
         | inr q ↦ absurd (absent k (record { item = x; count = is.0 }) is.1 q)
@@ -70,8 +70,8 @@ module _ {T : Type 0} where
   stays-marked {before = before} laws pool pairs agrees apart items marks told interface l passes says h m =
       says h.item ∙ ap₂ (λ a b. not a || b) among (sym (beyond-key laws pool pairs interface l h.key h.item agrees apart (agrees h m)))
     where
-      among : list_any (λ y. same before h.item y) items ≡ is_marked marks h.key
-      among = same-tests (list_any (λ y. same before h.item y) items) (is_marked marks h.key)
+      among : list_any (λ y. same before h.item y) items ≡ has_mark marks h.key
+      among = same-tests (list_any (λ y. same before h.item y) items) (has_mark marks h.key)
           (λ e. let r = any-has (λ y. same before h.item y) items e in (told h.key h.item (agrees h m)).1 (subst (λ z. Has z items) (sym (same-is laws h.item r.0 r.2)) r.1))
           (λ e. any-of (λ y. same before h.item y) items h.item ((told h.key h.item (agrees h m)).0 e) (same-yes laws h.item h.item refl))
 

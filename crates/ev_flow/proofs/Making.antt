@@ -3,14 +3,14 @@ use Rattle.std.proofs.Common.{◌≡◌, ◌↔◌, ℕ, ◌&&◌, Bool, true, L
 use Rattle.ev_sets.specs.Laws.{CoverLaws}
 use Rattle.ev_sets.specs.Sets.{Has, IsRising, roots}
 use Rattle.ev_pool.specs.Pool.{Pooled, IsAt, Names}
-use Rattle.ev_poset.specs.Graph.{is_marked}
+use Rattle.ev_poset.specs.Graph.{has_mark}
 use Rattle.ev_poset.specs.Poset.{Held, held_by_others}
 use Rattle.ev_tree.specs.Tree.{Topology}
 use Rattle.ev_flow.specs.Rows.{IsStocked, is_marked_item, IsNeeded, IsNeededItem}
 use Rattle.ev_flow.proofs.Stocked.{both, and, marked-iff, passing}
 
 module _ {T : Type 0} {covers before : T → T → Bool} (laws : CoverLaws covers before) (pool : Pooled T) (s : List (Held T)) (stocked : IsStocked pool s)
-    (tree : Topology) (homes table : List (List ℕ)) (a b : ℕ) (marks : List Bool) (said : (k : ℕ) → (is_marked marks k ≡ true) ↔ IsNeeded tree homes table a b k) (row : List ℕ) where
+    (tree : Topology) (homes table : List (List ℕ)) (a b : ℕ) (marks : List Bool) (said : (k : ℕ) → (has_mark marks k ≡ true) ↔ IsNeeded tree homes table a b k) (row : List ℕ) where
   needed-iff : (x : T) → IsNeededItem pool tree homes table a b x ↔ (is_marked_item before marks s x ≡ true)
   needed-iff x = (λ r. (marked-iff laws pool s stocked marks x).1 (r.0, r.2, (said r.0).1 r.1), λ e. (let r = (marked-iff laws pool s stocked marks x).0 e in (r.0, (said r.0).0 r.2, r.1)))
 

@@ -5,7 +5,7 @@ use Rattle.ev_sets.specs.Sets.{Has, IsRising, same}
 use Rattle.ev_sets.proofs.Sets.{ext, rising-set_of}
 use Rattle.ev_pool.specs.Pool.{Pooled, IsAt, IsAbsent, IsKeptAt, SameElsewhere, KeepsItems, HasDistinctItems}
 use Rattle.ev_pool.proofs.Holders.{kept-at}
-use Rattle.ev_poset.specs.Graph.{is_marked}
+use Rattle.ev_poset.specs.Graph.{has_mark}
 use Rattle.ev_poset.specs.Poset.{Held, held_by_others, items_where}
 use Rattle.ev_poset.proofs.Changes.{has-where}
 use Rattle.ev_poset.proofs.Rows.{at-one}
@@ -48,33 +48,33 @@ module _ {T : Type 0} where
   module _ {covers before : T → T → Bool} (laws : CoverLaws covers before) (pool : Pooled T) (s : List (Held T)) (stocked : IsStocked pool s) where
     module _ (marks : List Bool) where
       -- an item is marked where its key is
-      pub marked-iff : (x : T) → (is_marked_item before marks s x ≡ true) ↔ ((key : ℕ) × IsAt pool key x × (is_marked marks key ≡ true))
+      pub marked-iff : (x : T) → (is_marked_item before marks s x ≡ true) ↔ ((key : ℕ) × IsAt pool key x × (has_mark marks key ≡ true))
       marked-iff x = (to, from)
         where
           test : Held T → Bool
-          test h = same before h.item x && is_marked marks h.key
+          test h = same before h.item x && has_mark marks h.key
 
-          to : is_marked_item before marks s x ≡ true → (key : ℕ) × IsAt pool key x × (is_marked marks key ≡ true)
+          to : is_marked_item before marks s x ≡ true → (key : ℕ) × IsAt pool key x × (has_mark marks key ≡ true)
           to e =
               let r = any-has test s e in
-              let b = both (same before r.0.item x) (is_marked marks r.0.key) r.2 in
+              let b = both (same before r.0.item x) (has_mark marks r.0.key) r.2 in
               (r.0.key, subst (IsAt pool r.0.key) (same-is laws r.0.item x b.0) (stocked.agrees r.0 r.1), b.1)
 
-          from : (key : ℕ) × IsAt pool key x × (is_marked marks key ≡ true) → is_marked_item before marks s x ≡ true
+          from : (key : ℕ) × IsAt pool key x × (has_mark marks key ≡ true) → is_marked_item before marks s x ≡ true
           from (key, at, m) =
               let r = stocked.held key x at in
               let is : r.0.item ≡ x = at-one T pool key r.0.item x (subst (λ z. IsAt pool z r.0.item) r.2 (stocked.agrees r.0 r.1)) at in
-              any-of test s r.0 r.1 (and (same before r.0.item x) (is_marked marks r.0.key) (same-yes laws r.0.item x is) (subst (λ z. is_marked marks z ≡ true) (sym r.2) m))
+              any-of test s r.0 r.1 (and (same before r.0.item x) (has_mark marks r.0.key) (same-yes laws r.0.item x is) (subst (λ z. has_mark marks z ≡ true) (sym r.2) m))
 
-      pub marked-key : HasDistinctItems pool → (key : ℕ) (x : T) → IsAt pool key x → is_marked marks key ≡ is_marked_item before marks s x
-      marked-key apart key x at = go (is_marked marks key) refl (is_marked_item before marks s x) refl
+      pub marked-key : HasDistinctItems pool → (key : ℕ) (x : T) → IsAt pool key x → has_mark marks key ≡ is_marked_item before marks s x
+      marked-key apart key x at = go (has_mark marks key) refl (is_marked_item before marks s x) refl
         where
-          go : (a : Bool) → is_marked marks key ≡ a → (b : Bool) → is_marked_item before marks s x ≡ b → a ≡ b
+          go : (a : Bool) → has_mark marks key ≡ a → (b : Bool) → is_marked_item before marks s x ≡ b → a ≡ b
           go true e b f = sym ((marked-iff x).1 (key, at, e)) ∙ f
           go false e false f = refl
           go false e true f =
               let r = (marked-iff x).0 f in
-              absurd (split (is_marked marks key) (subst (λ z. is_marked marks z ≡ true) (apart r.0 key x r.1 at) r.2) e)
+              absurd (split (has_mark marks key) (subst (λ z. has_mark marks z ≡ true) (apart r.0 key x r.1 at) r.2) e)
 
       pub marked-none : (x : T) → IsAbsent pool.slots x → false ≡ is_marked_item before marks s x
       marked-none x absent = go (is_marked_item before marks s x) refl

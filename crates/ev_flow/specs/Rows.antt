@@ -5,7 +5,7 @@ use Rattle.ev_sets.specs.Sets.{Has, IsRising, roots, same}
 use Rattle.ev_constraint.specs.Constraint.{ConstraintParts}
 use Rattle.ev_pool.specs.Pool.{Pooled, IsAt, Names}
 use Rattle.ev_poset.specs.Poset.{Held, Agrees}
-use Rattle.ev_poset.specs.Graph.{is_marked}
+use Rattle.ev_poset.specs.Graph.{has_mark}
 use Rattle.ev_wire.specs.declared.semantics.Semantics.{Semantics}
 use Rattle.ev_tree.specs.Hops.{side_size}
 use Rattle.ev_tree.specs.Tree.{Topology, IsServer, servers_of, links_of, hop_of}
@@ -46,7 +46,7 @@ module _ {T : Type 0} where
 
   -- whether an item is held under a marked key
   abbrev pub is_marked_item : (T → T → Bool) → List Bool → List (Held T) → T → Bool
-  is_marked_item before marks pairs x = list_any (λ h. same before h.item x && is_marked marks h.key) pairs
+  is_marked_item before marks pairs x = list_any (λ h. same before h.item x && has_mark marks h.key) pairs
 
   -- an item of a needed key
   abbrev pub IsNeededItem : Pooled T → Topology → List (List ℕ) → List (List ℕ) → ℕ → ℕ → T → Type 0

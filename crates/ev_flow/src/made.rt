@@ -5,7 +5,7 @@ ghost use Rattle.ev_constraint.specs.Constraint.{ConstraintParts};
 ghost use Rattle.ev_notice.specs.Before.{list_before};
 ghost use Rattle.ev_notice.specs.Cover.{filter_covers, advert_covers, overlaps};
 ghost use Rattle.ev_pool.specs.Pool.{Names};
-ghost use Rattle.ev_poset.specs.Graph.{is_marked};
+ghost use Rattle.ev_poset.specs.Graph.{has_mark};
 ghost use Rattle.ev_tree.specs.Tree.{IsServer, links_of};
 ghost use Rattle.ev_routing.specs.Clients.{some_pass};
 ghost use Rattle.ev_control.specs.Stock.{named, AreLive};
@@ -45,7 +45,7 @@ fn needed(
     requires at { IsServer tree.now at }
     requires of { IsServer tree.now of }
     requires homes { length homes.now ≡ tree.now.count }
-    ensures { IfOk result (λ marks. (k : ℕ) → (is_marked marks.items k ≡ true) ↔ IsNeeded tree.now homes.now table.now at of k) }
+    ensures { IfOk result (λ marks. (k : ℕ) → (has_mark marks.items k ≡ true) ↔ IsNeeded tree.now homes.now table.now at of k) }
 {
     tree.laws();
     let mut marks = Vec::new(alloc);

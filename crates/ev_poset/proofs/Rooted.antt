@@ -4,7 +4,7 @@ use Rattle.ev_sets.specs.Laws.{CoverLaws}
 use Rattle.ev_sets.specs.Sets.{Has, roots}
 use Rattle.ev_pool.specs.Pool.{Pooled}
 use Rattle.ev_poset.specs.Poset.{Agrees, held_by_others}
-use Rattle.ev_poset.specs.Graph.{Stand, is_marked, over, is_held, counts, IsTop, pairs_from}
+use Rattle.ev_poset.specs.Graph.{Stand, has_mark, over, is_held, counts, IsTop, pairs_from}
 use Rattle.ev_poset.specs.Standing.{SkipsMarked, PassesMarked, AreOf}
 use Rattle.ev_poset.proofs.Flat.{has-flat}
 use Rattle.ev_poset.proofs.Leaving.{beyond-flat, test_of}
@@ -23,7 +23,7 @@ skips-marked nodes skipped marks l passes p k n e f =
     let one = some-holder n f in
     let m = (has-flat nodes (record { key = k; holder = one.0; item = n.item })).1 (n, e, (one.1, refl)) in
     p (record { key = k; holder = one.0; item = n.item }) m
-    ∙ ap (λ z. not (is_marked marks k) || z) (beyond-flat nodes k (λ h. not (h == skipped) && not (h == l)) ∙ ap (test_of (λ h. not (h == skipped) && not (h == l))) e)
+    ∙ ap (λ z. not (has_mark marks k) || z) (beyond-flat nodes k (λ h. not (h == skipped) && not (h == l)) ∙ ap (test_of (λ h. not (h == skipped) && not (h == l))) e)
 
 pub roots-shown : {T : Type 0} {covers before : T → T → Bool} (laws : CoverLaws covers before) (pool : Pooled T) (nodes : List (Stand T)) → Agrees pool (pairs_from 0 nodes) → (holder : ℕ) (passes : T → Bool) (shown : ℕ → Bool)
     → ((k : ℕ) → (shown k ≡ true) ↔ IsTop (over covers before) nodes (counts holder passes) k) → AreOf pool shown (roots covers before (held_by_others before holder passes (pairs_from 0 nodes)))

@@ -6,7 +6,7 @@ use Rattle.std.proofs.lemmas.Bool.Decides.{nat_tests}
 use Rattle.ev_pool.specs.Sorted.{place_of}
 use Rattle.ev_pool.proofs.Order.{trichotomy}
 use Rattle.ev_poset.specs.Row.{In}
-use Rattle.ev_poset.specs.Graph.{Stand, NodeAt, over, is_marked, Signs, IsSigned, IsLine, SameButLinks}
+use Rattle.ev_poset.specs.Graph.{Stand, NodeAt, over, has_mark, Signs, IsSigned, IsLine, SameButLinks}
 use Rattle.ev_poset.proofs.Graphs.{signed-same}
 use Rattle.ev_poset.proofs.Pairs.{some-same}
 
@@ -26,7 +26,7 @@ among-among a b c e f = ap (λ z. bit_and z c) (sym e) ∙ (and_assoc c a b ∙ 
 module _ {T : Type 0} (nodes : List (Stand T)) (line : List ℕ) (held : List Bool) where
   -- the bits that the first i nodes of the line without a mark have in common
   abbrev pub CommonTo : ℕ → ℕ → Type 0
-  CommonTo common i = (j : ℕ) (n : Stand T) → j < i → NodeAt nodes (place_of line j) n → is_marked held (place_of line j) ≡ false → bit_and common n.signature ≡ common
+  CommonTo common i = (j : ℕ) (n : Stand T) → j < i → NodeAt nodes (place_of line j) n → has_mark held (place_of line j) ≡ false → bit_and common n.signature ≡ common
 
   pub common-less : (common i : ℕ) (n : Stand T) → NodeAt nodes (place_of line i) n → CommonTo common i → CommonTo (bit_and common n.signature) (i + 1)
   common-less common i n is was j m l e f = elim (trichotomy j i) [
@@ -37,11 +37,11 @@ module _ {T : Type 0} (nodes : List (Stand T)) (line : List ℕ) (held : List Bo
     | inr (inr k) ↦ absurd (omega arith)
   ]
 
-  pub common-same : (common i : ℕ) → is_marked held (place_of line i) ≡ true → CommonTo common i → CommonTo common (i + 1)
+  pub common-same : (common i : ℕ) → has_mark held (place_of line i) ≡ true → CommonTo common i → CommonTo common (i + 1)
   common-same common i y was j m l e f = elim (trichotomy j i) [
     | inl k ↦ was j m k e f
     | inr (inl k) ↦
-        let no : true ≡ false = sym y ∙ (ap (λ z. is_marked held (place_of line z)) (sym k) ∙ f) in
+        let no : true ≡ false = sym y ∙ (ap (λ z. has_mark held (place_of line z)) (sym k) ∙ f) in
         absurd cc
     | inr (inr k) ↦ absurd (omega arith)
   ]
@@ -56,11 +56,11 @@ module _ {T : Type 0} (covers before : T → T → Bool) (marked : T → ℕ) (m
       inr (rw (p, q) (misses x y c))
 
   pub clear-links : (old nodes : List (Stand T)) (line : List ℕ) → IsLine (over covers before) nodes line → SameButLinks old nodes → IsSigned marked old → (held : List Bool) (common : ℕ)
-      → ((k : ℕ) (n : Stand T) → In line k → NodeAt old k n → is_marked held k ≡ false → bit_and common n.signature ≡ common)
-      → (k : ℕ) (n : Stand T) → In line k → NodeAt nodes k n → ((n.signature == 0) || (bit_and common n.signature == common)) ≡ false → (c : ℕ) → In n.above c → is_marked held c ≡ true
-  clear-links old nodes line ix s signs held common shared k n h is lacks c v = go (is_marked held c) refl
+      → ((k : ℕ) (n : Stand T) → In line k → NodeAt old k n → has_mark held k ≡ false → bit_and common n.signature ≡ common)
+      → (k : ℕ) (n : Stand T) → In line k → NodeAt nodes k n → ((n.signature == 0) || (bit_and common n.signature == common)) ≡ false → (c : ℕ) → In n.above c → has_mark held c ≡ true
+  clear-links old nodes line ix s signs held common shared k n h is lacks c v = go (has_mark held c) refl
     where
-      go : (b : Bool) → is_marked held c ≡ b → b ≡ true
+      go : (b : Bool) → has_mark held c ≡ b → b ≡ true
       go true e = refl
       go false e =
           let x = ix.linked k c n h is v in

@@ -2,7 +2,7 @@
 use Rattle.std.proofs.Common.{◌≡◌, ◌≢◌, ◌⊎◌, ◌↔◌, inl, inr, ◌==◌, ◌&&◌, ◌||◌, not, cond, ℕ, suc, zero, ◌<◌, ◌≤◌, ◌+◌, ◌++◌, Bool, true, false, List, [], ◌∷◌, map, length, replicate, refl, sym, ap, subst, ◌∙◌, arith, slice_set}
 use Rattle.std.specs.List.{list_any}
 use Rattle.std.proofs.lemmas.Bool.Decides.{nat_tests}
-use Rattle.ev_poset.specs.Graph.{Stand, NodeAt, is_marked, counts}
+use Rattle.ev_poset.specs.Graph.{Stand, NodeAt, has_mark, counts}
 use Rattle.ev_poset.specs.Standing.{stands_as_root, is_root_for, SkipsMarked, SameRoots, differs}
 use Rattle.ev_poset.specs.declared.standing.Standing.{Standing}
 use Rattle.ev_poset.specs.declared.standing.Difference.{Difference}
@@ -20,19 +20,19 @@ module _ {A : Type 0} (f : A → Bool) where
   set-long (x ∷ xs) zero v = refl
   set-long (x ∷ xs) (suc k) v = ap suc (set-long xs k v)
 
-  pub set-here : (xs : List A) (k : ℕ) (v : A) → k < length (map f xs) → is_marked (map f (slice_set xs k v)) k ≡ f v
+  pub set-here : (xs : List A) (k : ℕ) (v : A) → k < length (map f xs) → has_mark (map f (slice_set xs k v)) k ≡ f v
   set-here [] k v l = absurd (omega (arith, l))
   set-here (x ∷ xs) zero v l = refl
   set-here (x ∷ xs) (suc k) v l = set-here xs k v (omega (arith, l))
 
-  pub set-else : (xs : List A) (k : ℕ) (v : A) (j : ℕ) → j ≢ k → is_marked (map f (slice_set xs k v)) j ≡ is_marked (map f xs) j
+  pub set-else : (xs : List A) (k : ℕ) (v : A) (j : ℕ) → j ≢ k → has_mark (map f (slice_set xs k v)) j ≡ has_mark (map f xs) j
   set-else [] k v j f = refl
   set-else (x ∷ xs) zero v zero g = absurd (g refl)
   set-else (x ∷ xs) zero v (suc j) g = refl
   set-else (x ∷ xs) (suc k) v zero g = refl
   set-else (x ∷ xs) (suc k) v (suc j) g = set-else xs k v j (λ q. g (ap suc q))
 
-  pub replicate-off : (n : ℕ) (v : A) → f v ≡ false → (k : ℕ) → is_marked (map f (replicate n v)) k ≡ false
+  pub replicate-off : (n : ℕ) (v : A) → f v ≡ false → (k : ℕ) → has_mark (map f (replicate n v)) k ≡ false
   replicate-off zero v e k = refl
   replicate-off (suc n) v e zero = e
   replicate-off (suc n) v e (suc k) = replicate-off n v e k
@@ -52,13 +52,13 @@ cons-held : (h : ℕ) (hs : List ℕ) → not (length (h ∷ hs) == 0) ≡ true
 cons-held h hs = grind (arith, nat_tests)
 
 pub own-counts : {T : Type 0} (nodes : List (Stand T)) (skipped : ℕ) (marks : List Bool) (l : ℕ) (passes : T → Bool) → SkipsMarked nodes skipped marks l passes
-    → (k : ℕ) (n : Stand T) → NodeAt nodes k n → list_any (λ h. not (h == l) && not (is_marked marks k && (h == skipped))) n.holders ≡ counts l passes n
+    → (k : ℕ) (n : Stand T) → NodeAt nodes k n → list_any (λ h. not (h == l) && not (has_mark marks k && (h == skipped))) n.holders ≡ counts l passes n
 own-counts {T} nodes skipped marks l passes s k n e = go n.holders refl
   where
-    go : (hs : List ℕ) → n.holders ≡ hs → list_any (λ h. not (h == l) && not (is_marked marks k && (h == skipped))) n.holders ≡ counts l passes n
+    go : (hs : List ℕ) → n.holders ≡ hs → list_any (λ h. not (h == l) && not (has_mark marks k && (h == skipped))) n.holders ≡ counts l passes n
     go [] q = rw q refl
     go (h ∷ hs) q =
-        any-and (is_marked marks k) skipped l n.holders
+        any-and (has_mark marks k) skipped l n.holders
         ∙ ap (λ z. list_any (λ h. not (h == l) && not (h == l)) n.holders && z) (sym (s k n e (rw q (cons-held h hs))))
 
 -- an equation between tests gives both ways

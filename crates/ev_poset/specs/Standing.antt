@@ -4,7 +4,7 @@ use Rattle.std.specs.List.{list_any}
 use Rattle.ev_sets.specs.Sets.{Has}
 use Rattle.ev_pool.specs.Pool.{Pooled, IsAt}
 use Rattle.ev_poset.specs.Poset.{Held}
-use Rattle.ev_poset.specs.Graph.{Stand, NodeAt, is_held, is_marked}
+use Rattle.ev_poset.specs.Graph.{Stand, NodeAt, is_held, has_mark}
 use Rattle.ev_poset.specs.declared.standing.Reach.{Reach}
 use Rattle.ev_poset.specs.declared.standing.Reach.TheVariants.{Nobody, AllBut, All}
 use Rattle.ev_poset.specs.declared.standing.Standing.{Standing}
@@ -30,7 +30,7 @@ roots_for l standings = map (stands_as_root l) standings
 
 -- whether the item of a key is one of these roots
 abbrev pub is_root_for : List Standing → ℕ → ℕ → Bool
-is_root_for standings l k = is_marked (roots_for l standings) k
+is_root_for standings l k = has_mark (roots_for l standings) k
 
 -- for a holder, the same keys have a root before and after
 abbrev pub SameRoots : List Standing → List Standing → ℕ → Type 0
@@ -44,12 +44,12 @@ module _ {T : Type 0} where
   -- a test lets the item of a held node pass: of a marked node, where a holder other than the skipped one and this one has it
   abbrev pub SkipsMarked : List (Stand T) → ℕ → List Bool → ℕ → (T → Bool) → Type 0
   SkipsMarked nodes skipped marks l passes = (k : ℕ) (n : Stand T) → NodeAt nodes k n → is_held n ≡ true
-      → passes n.item ≡ (not (is_marked marks k) || list_any (λ h. not (h == skipped) && not (h == l)) n.holders)
+      → passes n.item ≡ (not (has_mark marks k) || list_any (λ h. not (h == skipped) && not (h == l)) n.holders)
 
   -- the same of pairs: of a marked key, where one of its pairs has such a holder
   abbrev pub PassesMarked : List (Held T) → ℕ → List Bool → ℕ → (T → Bool) → Type 0
   PassesMarked pairs skipped marks l passes = (h : Held T) → Has h pairs
-      → passes h.item ≡ (not (is_marked marks h.key) || list_any (λ g. (g.key == h.key) && (not (g.holder == skipped) && not (g.holder == l))) pairs)
+      → passes h.item ≡ (not (has_mark marks h.key) || list_any (λ g. (g.key == h.key) && (not (g.holder == skipped) && not (g.holder == l))) pairs)
 
   -- the keys that are shown are those of some items
   pub record AreOf (pool : Pooled T) (shown : ℕ → Bool) (items : List T) : Type 0 where

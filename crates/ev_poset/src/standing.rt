@@ -2,7 +2,7 @@
 ghost use Rattle.std.specs.Prelude.{◌≡◌, ◌↔◌, ◌==◌, ◌&&◌, ◌||◌, not, ◌<◌, ℕ, Bool, List, length, IfOk, true, false};
 ghost use Rattle.std.specs.List.{list_any};
 ghost use Rattle.ev_poset.specs.Row.{In};
-ghost use Rattle.ev_poset.specs.Graph.{over, is_marked, counts, NodeAt, IsLine, IsTop};
+ghost use Rattle.ev_poset.specs.Graph.{over, has_mark, counts, NodeAt, IsLine, IsTop};
 ghost use Rattle.ev_poset.specs.Standing.{reaches, stands_as_root, marks_for, is_root_for, SkipsMarked, SameRoots, differs};
 
 use crate::marks::is_marked;
@@ -94,7 +94,7 @@ fn own_reach(holders: &[u32], marked: bool, skipped: u32) -> Reach
 
 /// For whom the node of a key is held by another, or has something over it that is.
 fn reach_at(standings: &[Standing], key: Key) -> Reach
-    ensures { (l : ℕ) → reaches result l ≡ is_marked (marks_for l standings.now) key }
+    ensures { (l : ℕ) → reaches result l ≡ has_mark (marks_for l standings.now) key }
 {
     match standings.get(key) {
         Some(standing) => standing.own.join(standing.shade),
@@ -104,8 +104,8 @@ fn reach_at(standings: &[Standing], key: Key) -> Reach
 
 /// For whom one of these links leads to such a node.
 fn shade_of(links: &[Key], standings: &[Standing]) -> Reach
-    ensures yes { (l : ℕ) → reaches result l ≡ true → (c : ℕ) × In links.now c × (is_marked (marks_for l standings.now) c ≡ true) }
-    ensures no { (l : ℕ) → reaches result l ≡ false → (c : ℕ) → In links.now c → is_marked (marks_for l standings.now) c ≡ false }
+    ensures yes { (l : ℕ) → reaches result l ≡ true → (c : ℕ) × In links.now c × (has_mark (marks_for l standings.now) c ≡ true) }
+    ensures no { (l : ℕ) → reaches result l ≡ false → (c : ℕ) → In links.now c → has_mark (marks_for l standings.now) c ≡ false }
 {
     let mut shade = Reach::Nobody;
     for link in links {
