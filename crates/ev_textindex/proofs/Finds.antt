@@ -1,24 +1,22 @@
 -- Where a pair stands among the rows.
-use Rattle.std.proofs.Common.{◌≡◌, ◌<◌, ◌≤◌, ◌==◌, ◌&&◌, ◌∙◌, ap, sym, ℕ, Bool, true, arith, List, [], ◌∷◌, ◌++◌, ◌+◌, length, get_or, zero, suc, cond}
+use Rattle.std.proofs.Common.{◌≡◌, ◌<◌, ◌==◌, ◌&&◌, ◌∙◌, ap, sym, ℕ, Bool, true, arith, List, [], ◌∷◌, ◌++◌, ◌+◌, length, get_or, zero, suc, cond}
 use Rattle.std.proofs.Common.{subst}
 use Rattle.std.proofs.Math.ListN.{set}
-use Rattle.std.specs.Prelude.{Vec}
-use Rattle.std.specs.declared.alloc.Global.{Global}
 use Rattle.std.proofs.lemmas.Bool.Decides.{nat_tests}
 use Rattle.ev_values.specs.declared.value.Kind.{Kind}
 use Rattle.ev_values.specs.declared.value.Kind.TheVariants as kinds
 use Rattle.ev_constraint.specs.declared.op.Op.{Op}
 use Rattle.ev_constraint.specs.Constraint.{ConstraintParts, IsConstraint, IsTest}
 use Rattle.ev_index.specs.Pairs.{tally, IsIn, test_of, Test, Pair}
-use Rattle.ev_index.specs.Groups.{keyed}
 use Rattle.ev_index.proofs.Rows.{tally-in, flat-set}
-use Rattle.ev_index.proofs.Keyed.{tally-said}
-use Rattle.ev_index.proofs.Members.{in-flat, in-keyed}
+use Rattle.ev_index.proofs.Members.{in-flat}
 use Rattle.ev_textindex.specs.declared.row.Row.{Row}
-use Rattle.ev_textindex.specs.Keys.{same_bytes, key_of, test_at, bytes_of}
-use Rattle.ev_textindex.specs.Rows.{HasTextAt, rows_pairs, row_pairs, said}
+use Rattle.ev_textindex.specs.Keys.{same_bytes, key_of, test_at}
+use Rattle.ev_textindex.specs.Kept.{pairs_in}
+use Rattle.ev_textindex.specs.Rows.{HasTextAt, rows_pairs, row_pairs}
 use Rattle.ev_textindex.proofs.Keys.{same-self}
 use Rattle.ev_textindex.proofs.Codes.{decode, encode}
+use Rattle.ev_textindex.proofs.Lines.{in-told}
 
 itself : (k : List ℕ) (id : ℕ) → (same_bytes k k && (id == id)) ≡ true
 itself k id = ap {B = Bool} (λ b. b && (id == id)) (same-self k) ∙ here id
@@ -31,14 +29,11 @@ in-rows : (c : ConstraintParts) (op : Op) (key : List ℕ) (id : ℕ) (rows : Li
 in-rows c op key id rows n b e none d m =
     let r = in-flat row_pairs (test_of c, id) rows m in
     let row = get_or rows r.place d in
-    let g = in-keyed (said row.op) (test_of c, id) row.groups.entries (r.there d) in
-    let t = decode row.op g.key.items (test_of c) n g.tells in
+    let g = in-told (test_at row.op) (test_of c, id) (pairs_in row.kept) (r.there d) in
+    let t = decode row.op g.key (test_of c) n g.tells in
     let p = λ (x : List ℕ × ℕ). same_bytes key x.0 && (x.1 == id) in
-    let h : p (g.key.items, id) ≡ true = ap {B = Bool} (λ k. same_bytes key k && (id == id)) (t.key ∙ sym e) ∙ itself key id in
-    none r.place r.within d (t.ops_same ∙ sym b, under-bytes p g.key id row.groups.entries h g.there)
-  where
-    under-bytes : (p : List ℕ × ℕ → Bool) (k : Vec ℕ Global) (id : ℕ) (es : List (Vec ℕ Global × Vec ℕ Global)) → p (k.items, id) ≡ true → IsIn (k, id) (keyed (λ j. j) es) → 1 ≤ tally p (keyed bytes_of es)
-    under-bytes p k id es h m = omega (arith, tally-in (λ (x : Vec ℕ Global × ℕ). p (x.0.items, x.1)) (k, id) (keyed (λ j. j) es) h m, tally-said bytes_of p es)
+    let h : p (g.key, id) ≡ true = ap {B = Bool} (λ k. same_bytes key k && (id == id)) (t.key ∙ sym e) ∙ itself key id in
+    none r.place r.within d (t.ops_same ∙ sym b, tally-in p (g.key, id) (pairs_in row.kept) h g.there)
 
 pub not-in-rows : (c : ConstraintParts) (op : Op) (key : List ℕ) (id : ℕ) (rows : List Row) → c.kind ≡ kinds.Str → op ≡ c.op → key ≡ key_of c.operand → ((k : ℕ) → k < length rows → (d : Row) → HasTextAt op key id (get_or rows k d) → ⊥) → IsIn (test_of c, id) (rows_pairs rows) → ⊥
 not-in-rows c op key id [] n b e none m = m

@@ -3,11 +3,12 @@ use Rattle.std.proofs.Common.{◌≡◌, ◌==◌, List, [], ◌∷◌, length, 
 use Rattle.std.specs.Prelude.{Vec}
 use Rattle.std.specs.declared.alloc.Global.{Global}
 use Rattle.std.specs.declared.cmp.Ordering.TheVariants.{Less, Equal, Greater}
-use Rattle.std.specs.Ordering.{nat_cmp, is_eq}
+use Rattle.std.specs.Ordering.{nat_cmp, is_eq, is_lt, is_gt, ordering_reverse}
 use Rattle.std.specs.Cmp.Lexicographic.{slice_cmp}
 use Rattle.std.proofs.lemmas.Map.Lookups.{exact_bytes}
 use Rattle.std.proofs.lemmas.Bool.Decides.{nat_tests}
 use Rattle.std.proofs.lemmas.Cmp.{nat_list_cmp_total, tied_itself}
+use Rattle.ev_constraint.specs.Bytes.{less}
 use Rattle.ev_index.specs.Pairs.{tally}
 use Rattle.ev_index.proofs.Tallies.{tally-none, tally-at}
 use Rattle.ev_textindex.specs.Keys.{same_bytes, at_key, key_cmp, bytes_of}
@@ -49,3 +50,17 @@ same-tells a b h = exact_bytes a b (equal (slice_cmp nat_cmp a b) h)
 
 pub same-told : (a b : List ℕ) → a ≡ b → same_bytes a b ≡ true
 same-told a b e = ap {B = Bool} (λ c. same_bytes a c) (sym e) ∙ same-self a
+
+-- the order of bytes by their comparison, one way round and the other
+pub less-before : (a b : List ℕ) → less a b ≡ is_lt (slice_cmp nat_cmp a b)
+unfolding less
+less-before a b = refl
+
+pub less-after : (a b : List ℕ) → less a b ≡ is_gt (slice_cmp nat_cmp b a)
+unfolding less
+less-after a b = rw (nat_list_cmp_total.antisymm a b) (turned (slice_cmp nat_cmp b a))
+  where
+    turned : (o : Ordering) → is_lt (ordering_reverse o) ≡ is_gt o
+    turned Less = refl
+    turned Equal = refl
+    turned Greater = refl

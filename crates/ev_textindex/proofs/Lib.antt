@@ -5,7 +5,7 @@ pub mod Meets
 pub mod Said
 pub mod Appended
 pub mod Walked
-pub mod Ordered
+pub mod Lines
 pub mod Probes
 pub mod Beyond
 pub mod Parts

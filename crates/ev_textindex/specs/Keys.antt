@@ -1,5 +1,5 @@
 -- Keys of groups: the bytes of the operand, and none where there is no operand.
-use Rattle.std.specs.Prelude.{ℕ, Bool, not, nat_lt, length, List, [], ◌∷◌, Option, Some, None, Vec}
+use Rattle.std.specs.Prelude.{ℕ, Bool, nat_lt, length, List, [], ◌∷◌, Option, Some, None, Vec}
 use Rattle.std.specs.declared.alloc.Global.{Global}
 use Rattle.std.specs.declared.cmp.Ordering.{Ordering}
 use Rattle.std.specs.Ordering.{nat_cmp, is_eq}
@@ -9,11 +9,8 @@ use Rattle.ev_values.specs.declared.value.Value.{Value}
 use Rattle.ev_values.specs.declared.value.Value.TheVariants as values
 use Rattle.ev_constraint.specs.declared.op.Op.{Op}
 use Rattle.ev_constraint.specs.declared.op.Op.TheVariants as ops
-use Rattle.ev_constraint.specs.Bytes.{less}
 use Rattle.ev_index.specs.Pairs.{Test, tally}
 use Rattle.ev_index.specs.Groups.{keyed}
-use Rattle.ev_textindex.specs.declared.edge.Edge.{Edge}
-use Rattle.ev_textindex.specs.declared.edge.Edge.TheVariants as edges
 
 abbrev pub bytes_of : Vec ℕ Global → List ℕ
 bytes_of k = k.items
@@ -49,13 +46,3 @@ any_test (b ∷ k) = no_test (b ∷ k)
 abbrev pub test_at : Op → List ℕ → Test
 test_at ops.Any k = any_test k
 test_at op k = record { kind = kinds.Str; op = op; operand = Some (values.Str k) }
-
--- the key is above the text, or equal where that counts
-abbrev pub is_above : Edge → List ℕ → List ℕ → Bool
-is_above edges.Included x k = not (less k x)
-is_above edges.Excluded x k = less x k
-
--- the key is below the text, or equal where that counts
-abbrev pub is_below : Edge → List ℕ → List ℕ → Bool
-is_below edges.Included x k = not (less x k)
-is_below edges.Excluded x k = less k x

@@ -1,24 +1,22 @@
-//! A row: the groups of one operator.
+//! A row: the ids of one operator.
 ghost use Rattle.std.specs.Prelude.{◌≡◌};
 ghost use Rattle.std.specs.Option.{option_copied};
-ghost use Rattle.ev_textindex.specs.Keys.{key_of, ids_beyond};
+ghost use Rattle.ev_textindex.specs.Heads.{is_pattern_op};
+ghost use Rattle.ev_textindex.specs.Keys.{key_of};
+ghost use Rattle.ev_textindex.specs.Kept.{is_in_groups};
 
-use crate::groups::{Key, has, put, take};
-use crate::longest::Longest;
-use crate::meet::meet;
+use crate::kept::Kept;
 use ev_constraint::Op;
 use ev_memory::NoMemory;
 use ev_values::Value;
 use std::alloc::Global;
-use std::collections::BTreeMap;
 
-/// Ids in groups by operand, for one operator.
+/// Ids by operand, for one operator.
 #[derive(Drop)]
 pub struct Row {
     pub(crate) op: Op,
-    pub(crate) groups: BTreeMap<Key, Vec<u32>>,
-    pub(crate) longest: Longest,
-    ghost fits: { ids_beyond longest.bytes groups.entries ≡ 0 },
+    pub(crate) kept: Kept,
+    ghost suits: { is_in_groups kept ≡ is_pattern_op op },
 }
 
 /// The key of an operand.
@@ -32,31 +30,27 @@ pub(crate) fn key_of<'a>(operand: Option<&'a Value>) -> &'a [u8]
 }
 
 impl Row {
-    ghost use Rattle.std.specs.Prelude.{◌∷◌, ◌++◌, ◌==◌, ◌&&◌, ◌↔◌, [], IfOk, OnOk, OnErr, IsTrue, nat_lt, true, false};
+    ghost use Rattle.std.specs.Prelude.{◌∷◌, ◌==◌, ◌&&◌, ◌↔◌, [], IfOk, OnOk, OnErr, IsTrue, nat_lt, true, false};
     ghost use Rattle.ev_values.specs.declared.value.Value.{Value};
     ghost use Rattle.ev_index.specs.Pairs.{Same, Appends, KeepsBeginning, tally, ids_met};
-    ghost use Rattle.ev_index.specs.Groups.{keyed};
-    ghost use Rattle.ev_textindex.specs.Keys.{test_at, same_bytes, bytes_of};
+    ghost use Rattle.ev_textindex.specs.Keys.{test_at, same_bytes};
+    ghost use Rattle.ev_textindex.specs.Kept.{pairs_in};
     ghost use Rattle.ev_textindex.specs.Rows.{row_pairs};
 
     /// The row of an operator with one id.
     pub(crate) fn with(alloc: Global, op: Op, key: &[u8], id: u32) -> Result<Row, NoMemory>
         ensures { IfOk result (λ row. Same (row_pairs row) ((test_at op key.now, id) ∷ [])) }
     {
-        let mut groups = BTreeMap::new(alloc);
-        put(alloc, &mut groups, key, id)?;
-        Ok(Row {
-            op,
-            groups,
-            longest: Longest::none().with(key.len(), 1),
-        })
+        let mut kept = Kept::new(alloc, op);
+        kept.put(alloc, key, id)?;
+        Ok(Row { op, kept })
     }
 
     /// Whether the row has an id under a key.
     pub(crate) fn has(&self, key: &[u8], id: u32) -> bool
-        ensures { result ≡ nat_lt 0 (tally (λ x. same_bytes key.now x.0 && (x.1 == id)) (keyed bytes_of self.now.groups.entries)) }
+        ensures { result ≡ nat_lt 0 (tally (λ x. same_bytes key.now x.0 && (x.1 == id)) (pairs_in self.now.kept)) }
     {
-        has(&self.groups, key, id)
+        self.kept.has(key, id)
     }
 
     /// Puts an id under a key.
@@ -65,26 +59,16 @@ impl Row {
         ensures added { OnOk result (Same (row_pairs self.new) ((test_at self.old.op key.now, id) ∷ row_pairs self.old)) }
         ensures err { OnErr result (row_pairs self.new ≡ row_pairs self.old) }
     {
-        match put(alloc, &mut self.groups, key, id) {
-            Ok(()) => {
-                self.longest = self.longest.with(key.len(), 1);
-                Ok(())
-            }
-            Err(e) => Err(e),
-        }
+        self.kept.put(alloc, key, id)
     }
 
     /// Takes an id from under a key; whether it was there.
     pub(crate) fn take(&mut self, key: &[u8], id: u32) -> bool
         ensures of { self.new.op ≡ self.old.op }
         ensures there { result ≡ true → Same (row_pairs self.old) ((test_at self.old.op key.now, id) ∷ row_pairs self.new) }
-        ensures none { result ≡ false → tally (λ x. same_bytes key.now x.0 && (x.1 == id)) (keyed bytes_of self.old.groups.entries) ≡ 0 }
+        ensures none { result ≡ false → tally (λ x. same_bytes key.now x.0 && (x.1 == id)) (pairs_in self.old.kept) ≡ 0 }
     {
-        let there = take(&mut self.groups, key, id);
-        if there {
-            self.longest = self.longest.without(key.len(), &self.groups);
-        }
-        there
+        self.kept.take(key, id)
     }
 
     /// Whether it is the row of the operator.
@@ -99,6 +83,6 @@ impl Row {
         ensures ok { OnOk result (Appends found.old.items found.new.items (ids_met (Value.Str text.now) (row_pairs self.now))) }
         ensures begins { KeepsBeginning found.old.items found.new.items }
     {
-        meet(&self.groups, self.longest.bytes, self.op, text, found)
+        self.kept.meet(self.op, text, found)
     }
 }

@@ -1,14 +1,12 @@
-//! Walks over the groups of a row, and what each appends.
-ghost use Rattle.std.specs.Prelude.{◌≡◌, ◌++◌, not, OnOk};
+//! Walks over the groups of a pattern's row, and what each appends.
+ghost use Rattle.std.specs.Prelude.{◌≡◌, ◌++◌, OnOk};
 ghost use Rattle.std.specs.List.{filter};
-ghost use Rattle.std.specs.Str.{bytes_eq};
 ghost use Rattle.ev_constraint.specs.Bytes.{has_prefix, has_suffix, has_part};
 ghost use Rattle.ev_index.specs.Pairs.{Appends, KeepsBeginning};
 ghost use Rattle.ev_index.specs.Groups.{ids_of};
-ghost use Rattle.ev_textindex.specs.Keys.{at_key, ids_beyond, is_below, is_above};
+ghost use Rattle.ev_textindex.specs.Keys.{at_key, ids_beyond};
 
 use crate::bytes::{begins_with, ends_with, has_part};
-use crate::edge::{Edge, is_above, is_below};
 use crate::groups::Key;
 use ev_index::append_ids;
 use ev_memory::NoMemory;
@@ -37,61 +35,6 @@ pub(crate) fn walk_one(
         return Ok(());
     };
     append_ids(found, ids)?;
-    Ok(())
-}
-
-/// Appends the ids of all keys but one.
-pub(crate) fn walk_others(
-    groups: &BTreeMap<Key, Vec<u32>>,
-    key: &[u8],
-    found: &mut Vec<u32>,
-) -> Result<(), NoMemory>
-    ensures ok { OnOk result (found.new.items ≡ found.old.items ++ ids_of (filter (λ e. not (bytes_eq key.now e.0.items)) groups.now.entries)) }
-    ensures begins { KeepsBeginning found.old.items found.new.items }
-{
-    for (other, ids) in groups {
-        if key != other.as_slice() {
-            append_ids(found, ids)?;
-        }
-    }
-    Ok(())
-}
-
-/// Appends the ids of the keys below a text, from the least on up to the first that isn't.
-pub(crate) fn walk_below(
-    groups: &BTreeMap<Key, Vec<u32>>,
-    x: &[u8],
-    edge: Edge,
-    found: &mut Vec<u32>,
-) -> Result<(), NoMemory>
-    ensures ok { OnOk result (found.new.items ≡ found.old.items ++ ids_of (filter (λ e. is_below edge x.now e.0.items) groups.now.entries)) }
-    ensures begins { KeepsBeginning found.old.items found.new.items }
-{
-    for (key, ids) in groups.iter() {
-        if !is_below(key, x, edge) {
-            return Ok(());
-        }
-        append_ids(found, ids)?;
-    }
-    Ok(())
-}
-
-/// Appends the ids of the keys above a text, from the greatest on down to the first that isn't.
-pub(crate) fn walk_above(
-    groups: &BTreeMap<Key, Vec<u32>>,
-    x: &[u8],
-    edge: Edge,
-    found: &mut Vec<u32>,
-) -> Result<(), NoMemory>
-    ensures ok { OnOk result (Appends found.old.items found.new.items (ids_of (filter (λ e. is_above edge x.now e.0.items) groups.now.entries))) }
-    ensures begins { KeepsBeginning found.old.items found.new.items }
-{
-    for (key, ids) in groups.iter().rev() {
-        if !is_above(key, x, edge) {
-            return Ok(());
-        }
-        append_ids(found, ids)?;
-    }
     Ok(())
 }
 

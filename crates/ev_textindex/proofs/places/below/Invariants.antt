@@ -1,0 +1,15 @@
+use Rattle.std.proofs.Common.{◌≡◌, ◌<◌, ◌≤◌, ◌-◌, ℕ, length, true, false}
+use Rattle.ev_constraint.specs.Bytes.{less}
+use Rattle.ev_textindex.specs.Lines.{key_in}
+use Rattle.ev_textindex.proofs.places.below.Given as goal
+
+abbrev pub invariant-loop-low : goal.invariant-loop-low
+invariant-loop-low l = record {
+  ordered : l.low ≤ l.high;
+  within : l.high ≤ length l.entries;
+  before : (k : ℕ) → k < l.low → less (key_in l.entries k) l.x ≡ true;
+  behind : (k : ℕ) → l.high ≤ k → k < length l.entries → less (key_in l.entries k) l.x ≡ false;
+}
+
+abbrev pub decreases-loop-low : goal.decreases-loop-low
+decreases-loop-low l = l.high - l.low
