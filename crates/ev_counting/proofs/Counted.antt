@@ -1,28 +1,20 @@
 -- Counting the hits of a notice, one after another.
-use Rattle.std.proofs.Common.{◌≡◌, inl, inr, ◌+◌, ◌-◌, ◌≤◌, ◌<◌, ◌==◌, ◌∙◌, refl, sym, ap, subst, arith, ℕ, Bool, true, false, cond, List, [], ◌∷◌, ◌++◌, length, take, get_or, zero, suc}
+use Rattle.std.proofs.Common.{◌≡◌, inl, inr, ◌+◌, ◌-◌, ◌≤◌, ◌<◌, ◌==◌, ◌∙◌, refl, sym, ap, subst, arith, ℕ, Bool, true, false, cond, List, [], ◌∷◌, ◌++◌, length, take, get_or, append_assoc, append-nil}
 use Rattle.std.proofs.lemmas.Bool.Decides.{nat_tests}
 use Rattle.std.proofs.lemmas.List.{get_or-set_same, get_or-set_other, length-set}
 use Rattle.std.specs.List.{Contains}
 use Rattle.std.proofs.lemmas.List.Elements.{Contains-push, Contains-push_cases, Contains-append_left}
 use Rattle.ev_index.specs.Pairs.{tally}
-use Rattle.ev_index.proofs.Tallies.{tally-more}
+use Rattle.ev_index.proofs.Tallies.{tally-append}
 use Rattle.ev_counting.specs.declared.goal.Goal.{Goal}
 use Rattle.ev_counting.specs.Slots.{goal_at}
-use Rattle.ev_counting.specs.Counting.{Counts, count_at, is_marked, counted, marked, IsOfRounds, IsFreshRound, IsFull, AreFull}
+use Rattle.ev_counting.specs.Counting.{Counts, count_at, is_marked, counted, marked, IsOfRounds, IsFreshRound, IsFull, AreFull, AreCounted, AreCountedMore, IsUnderway}
 use Rattle.ev_counting.proofs.Rounds.{same-round, rounds-counted, rounds-marked}
 use Rattle.ev_counting.proofs.Sound.{differ}
 
--- how many of the first hits name the filter
-abbrev pub hits_of : ℕ → ℕ → List ℕ → ℕ
-hits_of k i found = tally (λ x. x == k) (take i found)
-
-pub record Counting (goals : List Goal) (ifaces found : List ℕ) (c : Counts) (matched : List ℕ) (i : ℕ) : Type 0 where
-  pub rounds : IsOfRounds c
-  pub filters_fit : length goals ≤ length c.counts
-  pub ifaces_fit : length ifaces ≤ length c.marks
-  pub so_often : (k : ℕ) → 0 < (goal_at goals k).constraints → is_marked c (goal_at goals k).place ≡ false → (count_at c k ≡ hits_of k i found) × (hits_of k i found < (goal_at goals k).constraints)
-  pub told : (k : ℕ) → 0 < (goal_at goals k).constraints → is_marked c (goal_at goals k).place ≡ true → Contains matched (get_or ifaces (goal_at goals k).place 0)
-  pub sound : (iface : ℕ) → Contains matched iface → IsFull goals ifaces found iface
+-- how many hits name the filter
+abbrev pub hits_of : ℕ → List ℕ → ℕ
+hits_of k hits = tally (λ x. x == k) hits
 
 same-of : (a b : ℕ) → (a == b) ≡ true → a ≡ b
 same-of a b h = grind (arith, nat_tests)
@@ -31,68 +23,59 @@ other-of : (a b : ℕ) → (a == b) ≡ false → a ≡ b → ⊥
 other-of a b h e = grind (arith, nat_tests)
 
 -- one hit more, of this filter or of another
-hit-more : (k i : ℕ) (found : List ℕ) → i < length found → hits_of k (i + 1) found ≡ hits_of k i found + cond (get_or found i 0 == k) 1 0
-hit-more k i found l = tally-more (λ x. x == k) found i 0 l
+hit-more : (k id : ℕ) (hits : List ℕ) → hits_of k (hits ++ id ∷ []) ≡ hits_of k hits + cond (id == k) 1 0
+hit-more k id hits = omega (arith, tally-append (λ x. x == k) hits (id ∷ []))
 
-hit-same : (k i : ℕ) (found : List ℕ) → i < length found → get_or found i 0 ≡ k → hits_of k (i + 1) found ≡ hits_of k i found + 1
-hit-same k i found l e = let t : (get_or found i 0 == k) ≡ true = grind (arith, nat_tests) in omega (arith, hit-more k i found l, ap {B = ℕ} (λ b. cond b 1 0) t)
+hit-same : (k id : ℕ) (hits : List ℕ) → id ≡ k → hits_of k (hits ++ id ∷ []) ≡ hits_of k hits + 1
+hit-same k id hits e = let t : (id == k) ≡ true = grind (arith, nat_tests) in omega (arith, hit-more k id hits, ap {B = ℕ} (λ b. cond b 1 0) t)
 
-hit-other : (k i : ℕ) (found : List ℕ) → i < length found → (get_or found i 0 ≡ k → ⊥) → hits_of k (i + 1) found ≡ hits_of k i found
-hit-other k i found l n = go (get_or found i 0 == k) refl
+hit-other : (k id : ℕ) (hits : List ℕ) → (id ≡ k → ⊥) → hits_of k (hits ++ id ∷ []) ≡ hits_of k hits
+hit-other k id hits n = go (id == k) refl
   where
-    go : (b : Bool) → (get_or found i 0 == k) ≡ b → hits_of k (i + 1) found ≡ hits_of k i found
-    go true h = absurd (n (same-of (get_or found i 0) k h))
-    go false h = omega (arith, hit-more k i found l, ap {B = ℕ} (λ b. cond b 1 0) h)
+    go : (b : Bool) → (id == k) ≡ b → hits_of k (hits ++ id ∷ []) ≡ hits_of k hits
+    go true h = absurd (n (same-of id k h))
+    go false h = omega (arith, hit-more k id hits, ap {B = ℕ} (λ b. cond b 1 0) h)
 
--- the first hits are no more than all
-hits-few : (p : ℕ → Bool) (i : ℕ) (found : List ℕ) → tally p (take i found) ≤ tally p found
-hits-few p zero [] = omega arith
-hits-few p zero (x ∷ found) = omega arith
-hits-few p (suc i) [] = omega arith
-hits-few p (suc i) (x ∷ found) = omega (arith, hits-few p i found)
+-- what is full stays so
+full-more : (goals : List Goal) (ifaces hits more : List ℕ) (iface : ℕ) → IsFull goals ifaces hits iface → IsFull goals ifaces (hits ++ more) iface
+full-more goals ifaces hits more iface f = record {
+  id = f.id;
+  some = f.some;
+  mine = f.mine;
+  full = omega (arith, f.full, tally-append (λ x. x == f.id) hits more);
+}
 
-hits-all : (p : ℕ → Bool) (i : ℕ) (found : List ℕ) → length found ≤ i → tally p (take i found) ≡ tally p found
-hits-all p zero [] l = refl
-hits-all p zero (x ∷ found) l = absurd (omega (arith, l))
-hits-all p (suc i) [] l = refl
-hits-all p (suc i) (x ∷ found) l = omega (arith, hits-all p i found (omega (arith, l)))
-
-pub counting-start : (goals : List Goal) (ifaces found : List ℕ) (c : Counts) → IsOfRounds c → IsFreshRound (length goals) (length ifaces) c → Counting goals ifaces found c [] 0
-counting-start goals ifaces found c rounds f = record {
-  rounds = rounds;
+-- nothing is counted yet
+pub counted-none : (goals : List Goal) (ifaces : List ℕ) (c : Counts) → IsFreshRound (length goals) (length ifaces) c → AreCounted goals ifaces [] c []
+counted-none goals ifaces c f = record {
   filters_fit = f.filters_fit;
   ifaces_fit = f.ifaces_fit;
-  so_often = λ k h m. (f.counts_none k ∙ sym (none k found), omega (arith, none k found, h));
+  so_often = λ k h m. (f.counts_none k, h);
   told = λ k h m. absurd (differ (is_marked c (goal_at goals k).place) m (f.marks_none (goal_at goals k).place));
   sound = λ iface h. absurd (omega (arith, h.1));
 }
-  where
-    none : (k : ℕ) (found : List ℕ) → hits_of k 0 found ≡ 0
-    none k [] = refl
-    none k (x ∷ found) = refl
 
-module _ (goals : List Goal) (ifaces found : List ℕ) (c : Counts) (matched : List ℕ) (i : ℕ) (l : i < length found) (short : (goal_at goals (get_or found i 0)).constraints ≤ 16) (s : Counting goals ifaces found c matched i) where
-  abbrev id : ℕ
-  id = get_or found i 0
-
+module _ (goals : List Goal) (ifaces hits : List ℕ) (c : Counts) (matched : List ℕ) (id : ℕ) (s : AreCounted goals ifaces hits c matched) where
   abbrev place_at : ℕ → ℕ
   place_at k = (goal_at goals k).place
 
   same-place : (k : ℕ) → id ≡ k → place_at id ≡ place_at k
   same-place k g = ap {B = ℕ} place_at g
 
+  sound-more : (iface : ℕ) → Contains matched iface → IsFull goals ifaces (hits ++ id ∷ []) iface
+  sound-more iface h = full-more goals ifaces hits (id ∷ []) iface (s.sound iface h)
+
   -- its interface is matched already
-  counting-passed : is_marked c (place_at id) ≡ true → Counting goals ifaces found c matched (i + 1)
-  counting-passed y = record {
-    rounds = s.rounds;
+  counted-passed : is_marked c (place_at id) ≡ true → AreCounted goals ifaces (hits ++ id ∷ []) c matched
+  counted-passed y = record {
     filters_fit = s.filters_fit;
     ifaces_fit = s.ifaces_fit;
     so_often = λ k h m. (
-        let o = hit-other k i found l (λ g. differ (is_marked c (place_at id)) y (ap {B = Bool} (is_marked c) (same-place k g) ∙ m)) in
+        let o = hit-other k id hits (λ g. differ (is_marked c (place_at id)) y (ap {B = Bool} (is_marked c) (same-place k g) ∙ m)) in
         let t = s.so_often k h m in
         (omega (arith, o, t.0), omega (arith, o, t.1)));
     told = s.told;
-    sound = s.sound;
+    sound = sound-more;
   }
 
   module _ (room : id < length c.counts) (some : 0 < (goal_at goals id).constraints) (unmarked : is_marked c (place_at id) ≡ false) where
@@ -105,25 +88,21 @@ module _ (goals : List Goal) (ifaces found : List ℕ) (c : Counts) (matched : L
     at-other : (k : ℕ) → (id ≡ k → ⊥) → count_at (counted c id) k ≡ count_at c k
     at-other k n = ap {B = ℕ} (λ v. v - c.base) (get_or-set_other c.counts id k (c.base + (count_at c id + 1)) 0 (λ g. n (sym g)))
 
-    few-so-far : count_at c id < 16
-    few-so-far = let t = s.so_often id some unmarked in omega (arith, t.0, t.1, short)
-
     -- it is counted, and has more constraints than that
-    counting-part : count_at c id + 1 < (goal_at goals id).constraints → Counting goals ifaces found (counted c id) matched (i + 1)
-    counting-part few = record {
-      rounds = rounds-counted c id few-so-far s.rounds;
+    counted-part : count_at c id + 1 < (goal_at goals id).constraints → AreCounted goals ifaces (hits ++ id ∷ []) (counted c id) matched
+    counted-part few = record {
       filters_fit = omega (arith, s.filters_fit, length-set c.counts id (c.base + (count_at c id + 1)));
       ifaces_fit = s.ifaces_fit;
       so_often = λ k h m. go k h m (id == k) refl;
       told = s.told;
-      sound = s.sound;
+      sound = sound-more;
     }
       where
-        go : (k : ℕ) → 0 < (goal_at goals k).constraints → is_marked c (place_at k) ≡ false → (b : Bool) → (id == k) ≡ b → (count_at (counted c id) k ≡ hits_of k (i + 1) found) × (hits_of k (i + 1) found < (goal_at goals k).constraints)
+        go : (k : ℕ) → 0 < (goal_at goals k).constraints → is_marked c (place_at k) ≡ false → (b : Bool) → (id == k) ≡ b → (count_at (counted c id) k ≡ hits_of k (hits ++ id ∷ [])) × (hits_of k (hits ++ id ∷ []) < (goal_at goals k).constraints)
         go k h m true w =
             let g = same-of id k w in
             let t = s.so_often k h m in
-            let o = hit-same k i found l g in
+            let o = hit-same k id hits g in
             let a = at-same k g in
             let f = ap {B = ℕ} (λ j. count_at c j + 1) g in
             let z = ap {B = ℕ} (λ j. (goal_at goals j).constraints) g in
@@ -131,14 +110,13 @@ module _ (goals : List Goal) (ifaces found : List ℕ) (c : Counts) (matched : L
         go k h m false w =
             let n = other-of id k w in
             let t = s.so_often k h m in
-            let o = hit-other k i found l n in
+            let o = hit-other k id hits n in
             let a = at-other k n in
             (omega (arith, t.0, o, a), omega (arith, o, t.1))
 
     -- it is counted as often as it has constraints
-    pub counting-full : place_at id < length ifaces → count_at c id + 1 ≡ (goal_at goals id).constraints → Counting goals ifaces found (marked (counted c id) (place_at id)) (matched ++ get_or ifaces (place_at id) 0 ∷ []) (i + 1)
-    counting-full within full = record {
-      rounds = rounds-marked (counted c id) (place_at id) (rounds-counted c id few-so-far s.rounds);
+    counted-full : place_at id < length ifaces → count_at c id + 1 ≡ (goal_at goals id).constraints → AreCounted goals ifaces (hits ++ id ∷ []) (marked (counted c id) (place_at id)) (matched ++ get_or ifaces (place_at id) 0 ∷ [])
+    counted-full within full = record {
       filters_fit = omega (arith, s.filters_fit, length-set c.counts id (c.base + (count_at c id + 1)));
       ifaces_fit = omega (arith, s.ifaces_fit, length-set c.marks (place_at id) c.base);
       so_often = λ k h m. (
@@ -146,12 +124,12 @@ module _ (goals : List Goal) (ifaces found : List ℕ) (c : Counts) (matched : L
           let before : is_marked c (place_at k) ≡ false = sym (still (place_at k) other) ∙ m in
           let n : id ≡ k → ⊥ = λ g. other (same-place k g) in
           let t = s.so_often k h before in
-          let o = hit-other k i found l n in
+          let o = hit-other k id hits n in
           let a = at-other k n in
           (omega (arith, t.0, o, a), omega (arith, o, t.1)));
       told = λ k h m. tells k h m (place_at id == place_at k) refl;
       sound = λ iface h. elim (Contains-push_cases matched (get_or ifaces (place_at id) 0) iface h) [
-        | inl g ↦ s.sound iface g
+        | inl g ↦ sound-more iface g
         | inr g ↦ record { id = id; some = some; mine = g; full = enough }
       ];
     }
@@ -162,27 +140,74 @@ module _ (goals : List Goal) (ifaces found : List ℕ) (c : Counts) (matched : L
         still : (p : ℕ) → (place_at id ≡ p → ⊥) → is_marked (marked c (place_at id)) p ≡ is_marked c p
         still p n = ap {B = Bool} (λ m. m == c.base) (get_or-set_other c.marks (place_at id) p c.base 0 (λ g. n (sym g)))
 
-        enough : (goal_at goals id).constraints ≤ tally (λ x. x == id) found
-        enough = omega (arith, full, (s.so_often id some unmarked).0, hit-same id i found l refl, hits-few (λ x. x == id) (i + 1) found)
+        enough : (goal_at goals id).constraints ≤ tally (λ x. x == id) (hits ++ id ∷ [])
+        enough = omega (arith, full, (s.so_often id some unmarked).0, hit-same id id hits refl)
 
         tells : (k : ℕ) → 0 < (goal_at goals k).constraints → is_marked (marked c (place_at id)) (place_at k) ≡ true → (b : Bool) → (place_at id == place_at k) ≡ b → Contains (matched ++ get_or ifaces (place_at id) 0 ∷ []) (get_or ifaces (place_at k) 0)
         tells k h m true w = subst (Contains (matched ++ get_or ifaces (place_at id) 0 ∷ [])) (ap {B = ℕ} (λ p. get_or ifaces p 0) (same-of (place_at id) (place_at k) w)) (Contains-push matched (get_or ifaces (place_at id) 0))
         tells k h m false w = Contains-append_left matched (get_or ifaces (place_at id) 0 ∷ []) (get_or ifaces (place_at k) 0) (s.told k h (sym (still (place_at k) (other-of (place_at id) (place_at k) w)) ∙ m))
 
   -- a hit that does not make its filter's interface matched
-  pub counting-less : (new : Counts) → id < length c.counts → 0 < (goal_at goals id).constraints → (is_marked c (place_at id) ≡ true → new ≡ c) → (is_marked c (place_at id) ≡ false → (new ≡ counted c id) × (count_at c id + 1 < (goal_at goals id).constraints)) → Counting goals ifaces found new matched (i + 1)
-  counting-less new room some passed part = go (is_marked c (place_at id)) refl
+  counted-less : (new : Counts) → id < length c.counts → 0 < (goal_at goals id).constraints → (is_marked c (place_at id) ≡ true → new ≡ c) → (is_marked c (place_at id) ≡ false → (new ≡ counted c id) × (count_at c id + 1 < (goal_at goals id).constraints)) → AreCounted goals ifaces (hits ++ id ∷ []) new matched
+  counted-less new room some passed part = go (is_marked c (place_at id)) refl
     where
-      go : (b : Bool) → is_marked c (place_at id) ≡ b → Counting goals ifaces found new matched (i + 1)
-      go true h = subst (λ (x : Counts). Counting goals ifaces found x matched (i + 1)) (sym (passed h)) (counting-passed h)
-      go false h = subst (λ (x : Counts). Counting goals ifaces found x matched (i + 1)) (sym (part h).0) (counting-part room some h (part h).1)
+      go : (b : Bool) → is_marked c (place_at id) ≡ b → AreCounted goals ifaces (hits ++ id ∷ []) new matched
+      go true h = subst (λ (x : Counts). AreCounted goals ifaces (hits ++ id ∷ []) x matched) (sym (passed h)) (counted-passed h)
+      go false h = subst (λ (x : Counts). AreCounted goals ifaces (hits ++ id ∷ []) x matched) (sym (part h).0) (counted-part room some h (part h).1)
 
-pub counting-end : (goals : List Goal) (ifaces found : List ℕ) (c : Counts) (matched : List ℕ) (i : ℕ) → length found ≤ i → Counting goals ifaces found c matched i → AreFull goals ifaces found matched
-counting-end goals ifaces found c matched i l s = record {
+-- what counting the first of the found hits makes of what there was before
+pub record Counting (goals : List Goal) (ifaces first : List ℕ) (old : Counts) (was : List ℕ) (c : Counts) (matched : List ℕ) : Type 0 where
+  pub rounds : IsOfRounds c
+  pub more : AreCountedMore goals ifaces first old was c matched
+
+take-none : (xs : List ℕ) → take 0 xs ≡ []
+take-none [] = refl
+take-none (x ∷ xs) = refl
+
+pub counting-start : (goals : List Goal) (ifaces found : List ℕ) (c : Counts) (matched : List ℕ) → IsOfRounds c → Counting goals ifaces (take 0 found) c matched c matched
+counting-start goals ifaces found c matched rounds = record {
+  rounds = rounds;
+  more = λ hits h. subst (λ (xs : List ℕ). AreCounted goals ifaces xs c matched) (sym (ap {B = List ℕ} (λ (xs : List ℕ). hits ++ xs) (take-none found) ∙ append-nil hits)) h;
+}
+
+-- the filters whose interface isn't marked have fewer hits than constraints
+pub counting-few : (goals : List Goal) (ifaces first : List ℕ) (old : Counts) (was : List ℕ) (c : Counts) (matched : List ℕ) (k : ℕ) → IsUnderway goals ifaces old was → Counting goals ifaces first old was c matched → 0 < (goal_at goals k).constraints → is_marked c (goal_at goals k).place ≡ false → count_at c k < (goal_at goals k).constraints
+counting-few goals ifaces first old was c matched k u s some unmarked = let t = (s.more u.0 u.1).so_often k some unmarked in omega (arith, t.0, t.1)
+
+pub counting-fits : (goals : List Goal) (ifaces first : List ℕ) (old : Counts) (was : List ℕ) (c : Counts) (matched : List ℕ) → IsUnderway goals ifaces old was → Counting goals ifaces first old was c matched → (length goals ≤ length c.counts) × (length ifaces ≤ length c.marks)
+counting-fits goals ifaces first old was c matched u s = let t = s.more u.0 u.1 in (t.filters_fit, t.ifaces_fit)
+
+-- one hit more behind the first ones
+behind : (goals : List Goal) (ifaces hits first more : List ℕ) (id : ℕ) (c : Counts) (matched : List ℕ) → more ≡ first ++ id ∷ [] → AreCounted goals ifaces ((hits ++ first) ++ id ∷ []) c matched → AreCounted goals ifaces (hits ++ more) c matched
+behind goals ifaces hits first more id c matched e h = subst (λ (xs : List ℕ). AreCounted goals ifaces xs c matched) (append_assoc hits first (id ∷ []) ∙ sym (ap {B = List ℕ} (λ (xs : List ℕ). hits ++ xs) e)) h
+
+module _ (goals : List Goal) (ifaces first more : List ℕ) (old : Counts) (was : List ℕ) (c : Counts) (matched : List ℕ) (id : ℕ) (next : more ≡ first ++ id ∷ []) (short : (goal_at goals id).constraints ≤ 16) (s : Counting goals ifaces first old was c matched) (room : id < length c.counts) (some : 0 < (goal_at goals id).constraints) where
+  pub counting-full : is_marked c (goal_at goals id).place ≡ false → (goal_at goals id).place < length ifaces → count_at c id + 1 ≡ (goal_at goals id).constraints → Counting goals ifaces more old was (marked (counted c id) (goal_at goals id).place) (matched ++ get_or ifaces (goal_at goals id).place 0 ∷ [])
+  counting-full unmarked within full = record {
+    rounds = rounds-marked (counted c id) (goal_at goals id).place (rounds-counted c id (omega (arith, full, short)) s.rounds);
+    more = λ hits h. behind goals ifaces hits first more id (marked (counted c id) (goal_at goals id).place) (matched ++ get_or ifaces (goal_at goals id).place 0 ∷ []) next (counted-full goals ifaces (hits ++ first) c matched id (s.more hits h) room some unmarked within full);
+  }
+
+  pub counting-less : (new : Counts) → (is_marked c (goal_at goals id).place ≡ true → new ≡ c) → (is_marked c (goal_at goals id).place ≡ false → (new ≡ counted c id) × (count_at c id + 1 < (goal_at goals id).constraints)) → Counting goals ifaces more old was new matched
+  counting-less new passed part = record {
+    rounds = go (is_marked c (goal_at goals id).place) refl;
+    more = λ hits h. behind goals ifaces hits first more id new matched next (counted-less goals ifaces (hits ++ first) c matched id (s.more hits h) new room some passed part);
+  }
+    where
+      go : (b : Bool) → is_marked c (goal_at goals id).place ≡ b → IsOfRounds new
+      go true h = subst IsOfRounds (sym (passed h)) s.rounds
+      go false h = subst IsOfRounds (sym (part h).0) (rounds-counted c id (omega (arith, (part h).1, short)) s.rounds)
+
+pub counting-end : (goals : List Goal) (ifaces first found : List ℕ) (old : Counts) (was : List ℕ) (c : Counts) (matched : List ℕ) → first ≡ found → Counting goals ifaces first old was c matched → AreCountedMore goals ifaces found old was c matched
+counting-end goals ifaces first found old was c matched e s = λ hits h. subst (λ (xs : List ℕ). AreCounted goals ifaces (hits ++ xs) c matched) e (s.more hits h)
+
+-- once all hits are counted, exactly the interfaces of full filters are matched
+pub counted-all : (goals : List Goal) (ifaces hits : List ℕ) (c : Counts) (matched : List ℕ) → AreCounted goals ifaces hits c matched → AreFull goals ifaces hits matched
+counted-all goals ifaces hits c matched s = record {
   sound = s.sound;
   whole = λ iface f. subst (Contains matched) f.mine (go f.id f.some f.full (is_marked c (goal_at goals f.id).place) refl);
 }
   where
-    go : (k : ℕ) → 0 < (goal_at goals k).constraints → (goal_at goals k).constraints ≤ tally (λ x. x == k) found → (b : Bool) → is_marked c (goal_at goals k).place ≡ b → Contains matched (get_or ifaces (goal_at goals k).place 0)
+    go : (k : ℕ) → 0 < (goal_at goals k).constraints → (goal_at goals k).constraints ≤ tally (λ x. x == k) hits → (b : Bool) → is_marked c (goal_at goals k).place ≡ b → Contains matched (get_or ifaces (goal_at goals k).place 0)
     go k h f true m = s.told k h m
-    go k h f false m = absurd (omega (arith, f, (s.so_often k h m).1, hits-all (λ x. x == k) i found l))
+    go k h f false m = absurd (omega (arith, f, (s.so_often k h m).1))

@@ -1,18 +1,19 @@
 -- What is counted is what matches.
-use Rattle.std.proofs.Common.{◌≡◌, ◌+◌, ◌≤◌, ◌<◌, ◌==◌, ◌&&◌, ◌∙◌, refl, sym, ap, subst, arith, ℕ, Bool, true, false, cond, List, [], ◌∷◌, length, get_or, zero, suc, Some, None}
+use Rattle.std.proofs.Common.{◌≡◌, ◌+◌, ◌≤◌, ◌<◌, ◌==◌, ◌&&◌, ◌∙◌, refl, sym, ap, subst, arith, ℕ, Bool, true, false, cond, List, [], ◌∷◌, ◌++◌, length, get_or, zero, suc, Some, None}
 use Rattle.std.proofs.lemmas.Bool.Decides.{nat_tests}
 use Rattle.std.specs.List.{Contains, list_all}
 use Rattle.ev_constraint.specs.Constraint.{ConstraintParts}
-use Rattle.ev_notice.specs.Notice.{Attribute}
+use Rattle.ev_notice.specs.Notice.{Attribute, AreRising}
 use Rattle.ev_notice.specs.Cover.{matches}
-use Rattle.ev_index.specs.Pairs.{tally, Same, Appends}
+use Rattle.ev_index.specs.Pairs.{tally, Same}
 use Rattle.ev_index.proofs.Tallies.{tally-append, tally-map, tally-agree, tally-none, tally-le, tally-at}
 use Rattle.ev_counting.specs.declared.goal.Goal.{Goal}
 use Rattle.ev_counting.specs.Table.{HeldFilter, AreMatched, IsMatched}
 use Rattle.ev_counting.specs.Index.{Use, is_satisfied, ids_satisfied}
 use Rattle.ev_counting.specs.Slots.{Slot, held, slot_at, constraints_in, numbered, uses_from, goal_of, goal_at, AreAimed, ArePlaced}
-use Rattle.ev_counting.specs.Counting.{AreGoals, AreFull}
-use Rattle.ev_counting.proofs.Satisfied.{tally-satisfied}
+use Rattle.ev_counting.specs.Counting.{Counts, IsFreshRound, AreGoals, AreKnown, AreFull, AreCounted, AreCountedMore, IsUnderway}
+use Rattle.ev_counting.proofs.Satisfied.{Walked, tally-satisfied, walked-start, walked-more, walked-end}
+use Rattle.ev_counting.proofs.Counted.{counted-none, counted-all}
 use Rattle.ev_counting.proofs.Rounds.{same-round}
 use Rattle.ev_counting.proofs.Standing.{held-at, held-from, within}
 
@@ -62,17 +63,16 @@ met-at n i (suc j) (s ∷ slots) =
     omega (arith, a, b, c, d)
 
 -- the hits name a filter as often as it has constraints that the notice satisfies
-pub hits-tell : (n : List Attribute) (slots : List Slot) (index : List Use) (found : List ℕ) → Same index (uses_from 0 slots) → Appends [] found (ids_satisfied n index) → (k : ℕ) → tally (λ x. x == k) found ≡ tally (is_satisfied n) (constraints_in (slot_at slots k))
-hits-tell n slots index found same app k =
+pub hits-tell : (n : List Attribute) (slots : List Slot) (index : List Use) (found : List ℕ) → Same index (uses_from 0 slots) → Same found (ids_satisfied n index) → (k : ℕ) → tally (λ x. x == k) found ≡ tally (is_satisfied n) (constraints_in (slot_at slots k))
+hits-tell n slots index found same hits k =
     let q = λ (x : ℕ). x == k in
-    let a = ap {B = ℕ} (tally q) app.whole in
-    let b = app.same q in
+    let b = hits q in
     let c = tally-satisfied q n index in
     let d = same (met n k) in
     let e = met-at n 0 k slots in
     let z : 0 + k ≡ k = omega arith in
     let f = ap {B = ℕ} (λ j. tally (met n j) (uses_from 0 slots)) z in
-    omega (arith, a, b, c, d, e, f)
+    omega (arith, b, c, d, e, f)
 
 -- a filter is matched where as many of its constraints are satisfied as it has
 all-count : {X : Type 0} (p : X → Bool) (xs : List X) → list_all p xs ≡ true → length xs ≤ tally p xs
@@ -154,3 +154,29 @@ full-matched n slots goals ifaces found matched aimed placed tell a = record {
         let t : tally (λ x. x == k) found ≡ tally (is_satisfied n) d.filter = tell k ∙ ap {B = ℕ} (λ s. tally (is_satisfied n) (constraints_in s)) e in
         let i : d.iface ≡ iface = sym (placed k d e).there ∙ sym (ap {B = ℕ} (λ (x : Goal). get_or ifaces x.place 0) g) ∙ mine in
         (d.filter, subst (λ j. Contains (held slots) (j, d.filter)) i (held-at slots k d e), count-matches n d.filter (omega (arith, t, full, ap {B = ℕ} (λ (x : Goal). x.constraints) g)))
+
+-- the hits of some attributes are counted, and the rest of the attributes is left
+pub record Routing (n rest : List Attribute) (index : List Use) (goals : List Goal) (ifaces : List ℕ) (c : Counts) (matched : List ℕ) : Type 0 where
+  pub hits : List ℕ
+  pub counted : AreCounted goals ifaces hits c matched
+  pub walked : Walked n rest index hits
+
+pub routing-start : (n : List Attribute) (index : List Use) (goals : List Goal) (ifaces : List ℕ) (c : Counts) → AreRising n → IsFreshRound (length goals) (length ifaces) c → Routing n n index goals ifaces c []
+routing-start n index goals ifaces c r fresh = record { hits = []; counted = counted-none goals ifaces c fresh; walked = walked-start n index r }
+
+pub routing-underway : (n rest : List Attribute) (index : List Use) (goals : List Goal) (ifaces : List ℕ) (c : Counts) (matched : List ℕ) → Routing n rest index goals ifaces c matched → IsUnderway goals ifaces c matched
+routing-underway n rest index goals ifaces c matched r = (r.hits, r.counted)
+
+pub routing-more : (n rest : List Attribute) (a : Attribute) (index : List Use) (goals : List Goal) (ifaces found : List ℕ) (c : Counts) (matched : List ℕ) (new : Counts) (more : List ℕ) → Routing n (a ∷ rest) index goals ifaces c matched → Same found (ids_satisfied (a ∷ []) index) → AreCountedMore goals ifaces found c matched new more → Routing n rest index goals ifaces new more
+routing-more n rest a index goals ifaces found c matched new more r same h = record {
+  hits = r.hits ++ found;
+  counted = h r.hits r.counted;
+  walked = walked-more n rest a index r.hits found r.walked same;
+}
+
+-- what an attribute brings is known
+pub attribute-known : (a : Attribute) (slots : List Slot) (index : List Use) (goals : List Goal) (found : List ℕ) → AreAimed slots goals → Same index (uses_from 0 slots) → Same found (ids_satisfied (a ∷ []) index) → AreKnown goals found
+attribute-known a slots index goals found aimed same h = hits-known (a ∷ []) slots goals found aimed (hits-tell (a ∷ []) slots index found same h)
+
+pub routing-end : (n : List Attribute) (slots : List Slot) (index : List Use) (goals : List Goal) (ifaces : List ℕ) (c : Counts) (matched : List ℕ) → AreAimed slots goals → ArePlaced ifaces slots → Same index (uses_from 0 slots) → Routing n [] index goals ifaces c matched → AreMatched n (held slots) matched
+routing-end n slots index goals ifaces c matched aimed placed same r = full-matched n slots goals ifaces r.hits matched aimed placed (hits-tell n slots index r.hits same (walked-end n index r.hits r.walked)) (counted-all goals ifaces r.hits c matched r.counted)

@@ -84,3 +84,7 @@ appends-of old new ids e = record { tail = ids; whole = e; same = λ p. refl }
 
 pub appends-same : (old new xs ys : List ℕ) → Appends old new xs → Same xs ys → Appends old new ys
 appends-same old new xs ys h g = record { tail = h.tail; whole = h.whole; same = λ p. h.same p ∙ g p }
+
+-- what is appended to nothing is all that there is
+pub appended-same : (old new ids : List ℕ) → old ≡ [] → Appends old new ids → Same new ids
+appended-same old new ids e h = λ p. ap {B = ℕ} (λ xs. tally p xs) (h.whole ∙ ap {B = List ℕ} (λ (xs : List ℕ). xs ++ h.tail) e) ∙ h.same p

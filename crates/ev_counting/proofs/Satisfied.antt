@@ -16,12 +16,11 @@ use Rattle.ev_constraint.proofs.BytesLemmas.{bytes_eq-tells, bytes_eq-self}
 use Rattle.ev_notice.specs.Notice.{Attribute, attribute_at, AreRising}
 use Rattle.ev_notice.specs.Cover.{attribute_satisfies}
 use Rattle.ev_notice.proofs.SideBySide.{later_rising}
-use Rattle.ev_index.specs.Pairs.{tally, Same, Appends, Test, Pair, passes, ids_met}
-use Rattle.ev_index.proofs.Tallies.{tally-append, tally-agree, Appends-append}
+use Rattle.ev_index.specs.Pairs.{tally, Same, Test, Pair, passes, ids_met}
+use Rattle.ev_index.proofs.Tallies.{tally-append, tally-agree}
 use Rattle.ev_textindex.specs.Keys.{same_bytes, at_key, key_cmp}
 use Rattle.ev_counting.specs.Index.{Use, is_satisfied, ids_satisfied}
 use Rattle.ev_counting.specs.Shelves.{constraint_of, uses_of}
-use Rattle.ev_counting.proofs.Same.{appends-none, appends-same}
 use Rattle.ev_counting.proofs.Shelves.{AreNamed, shelf-only, shelf-none}
 
 pub tally-satisfied : (q : ℕ → Bool) (n : List Attribute) (us : List Use) → tally q (ids_satisfied n us) ≡ tally (λ u. is_satisfied n u.0 && q u.1) us
@@ -99,27 +98,23 @@ split-first a n us r = λ q. tally-append q (ids_satisfied (a ∷ []) us) (ids_s
     counted : (q : ℕ → Bool) (us : List Use) → tally q (ids_satisfied (a ∷ []) us) + tally q (ids_satisfied n us) ≡ tally q (ids_satisfied (a ∷ n) us)
     counted q us = omega (arith, tally-satisfied q (a ∷ []) us, tally-satisfied q n us, tally-satisfied q (a ∷ n) us, each q us)
 
--- the ids that the attributes have brought so far, and what is left
-pub record Walked (n rest : List Attribute) (us : List Use) (old new : List ℕ) : Type 0 where
-  pub done : List ℕ
-  pub appended : Appends old new done
-  pub same : Same (done ++ ids_satisfied rest us) (ids_satisfied n us)
-  pub rising : AreRising rest
-
-pub walked-start : (n : List Attribute) (us : List Use) (old : List ℕ) → AreRising n → Walked n n us old old
-walked-start n us old r = record { done = []; appended = appends-none old; same = λ p. refl; rising = r }
-
-pub walked-more : (n rest : List Attribute) (a : Attribute) (us : List Use) (old new newer : List ℕ) → Walked n (a ∷ rest) us old new → Appends new newer (ids_satisfied (a ∷ []) us) → Walked n rest us old newer
-walked-more n rest a us old new newer w h = record {
-  done = w.done ++ ids_satisfied (a ∷ []) us;
-  appended = Appends-append old new newer w.done (ids_satisfied (a ∷ []) us) w.appended h;
-  same = λ p. omega (arith, w.same p, split-first a rest us w.rising p, tally-append p w.done (ids_satisfied (a ∷ []) us), tally-append p (w.done ++ ids_satisfied (a ∷ []) us) (ids_satisfied rest us), tally-append p w.done (ids_satisfied (a ∷ rest) us), tally-append p (ids_satisfied (a ∷ []) us) (ids_satisfied rest us));
-  rising = later_rising (a ∷ rest) a rest refl w.rising;
-}
-
 none-satisfied : (us : List Use) → ids_satisfied [] us ≡ []
 none-satisfied [] = refl
 none-satisfied (u ∷ us) = none-satisfied us
 
-pub walked-end : (n : List Attribute) (us : List Use) (old new : List ℕ) → Walked n [] us old new → Appends old new (ids_satisfied n us)
-walked-end n us old new w = appends-same old new w.done (ids_satisfied n us) w.appended (λ p. omega (arith, w.same p, tally-append p w.done (ids_satisfied [] us), ap (tally p) (none-satisfied us)))
+-- the ids that some attributes have brought, and those that the rest of the attributes will bring
+pub record Walked (n rest : List Attribute) (us : List Use) (hits : List ℕ) : Type 0 where
+  pub same : Same (hits ++ ids_satisfied rest us) (ids_satisfied n us)
+  pub rising : AreRising rest
+
+pub walked-start : (n : List Attribute) (us : List Use) → AreRising n → Walked n n us []
+walked-start n us r = record { same = λ p. refl; rising = r }
+
+pub walked-more : (n rest : List Attribute) (a : Attribute) (us : List Use) (hits found : List ℕ) → Walked n (a ∷ rest) us hits → Same found (ids_satisfied (a ∷ []) us) → Walked n rest us (hits ++ found)
+walked-more n rest a us hits found w h = record {
+  same = λ p. omega (arith, w.same p, h p, split-first a rest us w.rising p, tally-append p hits found, tally-append p (hits ++ found) (ids_satisfied rest us), tally-append p hits (ids_satisfied (a ∷ rest) us), tally-append p (ids_satisfied (a ∷ []) us) (ids_satisfied rest us));
+  rising = later_rising (a ∷ rest) a rest refl w.rising;
+}
+
+pub walked-end : (n : List Attribute) (us : List Use) (hits : List ℕ) → Walked n [] us hits → Same hits (ids_satisfied n us)
+walked-end n us hits w = λ p. omega (arith, w.same p, tally-append p hits (ids_satisfied [] us), ap (tally p) (none-satisfied us))

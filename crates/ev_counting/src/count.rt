@@ -1,11 +1,10 @@
 //! Counting the hits of a notice.
-ghost use Rattle.std.specs.Prelude.{◌≡◌, ◌<◌, ◌≤◌, ◌+◌, ◌^◌, [], true, false, length, IfOk, OnOk};
-ghost use Rattle.ev_counting.specs.Counting.{counts_of, count_at, is_marked, counted, marked, IsOfRounds, IsFreshRound, AreGoals, AreFull, AreKnown};
+ghost use Rattle.std.specs.Prelude.{◌≡◌, ◌<◌, ◌≤◌, ◌+◌, ◌^◌, true, false, length, OnOk};
+ghost use Rattle.ev_counting.specs.Counting.{counts_of, count_at, is_marked, counted, marked, IsOfRounds, IsUnderway, AreGoals, AreCountedMore, AreKnown};
 
 use crate::counters::Counters;
 use crate::goal::Goal;
 use ev_memory::NoMemory;
-use std::alloc::Global;
 
 /// Counts a filter once more, unless its interface is matched already; whether it is then counted as often as it has
 /// constraints, so that its interface is matched from now on.
@@ -37,8 +36,8 @@ fn count_hit(goal: Goal, id: usize, base: u32, counts: &mut [u32], marks: &mut [
     true
 }
 
-/// The interfaces of the filters that the hits name as often as they have constraints. An interface that is matched is
-/// counted no further.
+/// Counts the hits, and appends the interface of each filter that is then counted as often as it has constraints. An
+/// interface that is matched is counted no further.
 fn count_all(
     matched: &mut Vec<u32>,
     goals: &[Goal],
@@ -51,10 +50,10 @@ fn count_all(
     requires goals { AreGoals (length ifaces.now) goals.now }
     requires known { AreKnown goals.now found.now }
     requires rounds { IsOfRounds (counts_of base counts.old marks.old) }
-    requires fresh { IsFreshRound (length goals.now) (length ifaces.now) (counts_of base counts.old marks.old) }
-    requires none { matched.old.items ≡ [] }
+    requires underway { IsUnderway goals.now ifaces.now (counts_of base counts.old marks.old) matched.old.items }
     ensures rounds { IsOfRounds (counts_of base counts.new marks.new) }
-    ensures full { OnOk result (AreFull goals.now ifaces.now found.now matched.new.items) }
+    ensures more { OnOk result (AreCountedMore goals.now ifaces.now found.now
+        (counts_of base counts.old marks.old) matched.old.items (counts_of base counts.new marks.new) matched.new.items) }
 {
     for id in found {
         let id = *id as usize;
@@ -68,27 +67,25 @@ fn count_all(
 
 /// The same in the round of the counters.
 pub(crate) fn count_hits(
-    alloc: Global,
+    matched: &mut Vec<u32>,
     goals: &[Goal],
     ifaces: &[u32],
     found: &[u32],
     counters: &mut Counters,
-) -> Result<Vec<u32>, NoMemory>
+) -> Result<(), NoMemory>
     requires goals { AreGoals (length ifaces.now) goals.now }
     requires known { AreKnown goals.now found.now }
-    requires fresh { IsFreshRound (length goals.now) (length ifaces.now) counters.old }
-    ensures { IfOk result (λ matched. AreFull goals.now ifaces.now found.now matched.items) }
+    requires underway { IsUnderway goals.now ifaces.now counters.old matched.old.items }
+    ensures { OnOk result (AreCountedMore goals.now ifaces.now found.now counters.old matched.old.items counters.new matched.new.items) }
 {
-    let mut matched = Vec::new(alloc);
     let base = counters.base;
     count_all(
-        &mut matched,
+        matched,
         goals,
         ifaces,
         found,
         base,
         &mut counters.counts,
         &mut counters.marks,
-    )?;
-    Ok(matched)
+    )
 }

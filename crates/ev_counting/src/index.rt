@@ -1,14 +1,12 @@
 //! The constraints of all filters, found by name.
 ghost use Rattle.std.specs.Prelude.{◌≡◌, ◌∷◌, [], true, false, OnOk, OnErr};
 ghost use Rattle.ev_index.specs.Pairs.{Same, IsIn, Appends};
-ghost use Rattle.ev_notice.specs.Notice.{AreRising};
 ghost use Rattle.ev_counting.specs.Index.{ids_satisfied};
 ghost use Rattle.ev_counting.specs.Shelves.{uses_of, AreNamesUsed, AreNamesUsedBut};
 
 use crate::shelf::Shelf;
 use ev_constraint::Constraint;
 use ev_memory::NoMemory;
-use ev_notice::Notice;
 use ev_values::{Name, Value};
 use std::alloc::Global;
 use std::collections::BTreeMap;
@@ -115,21 +113,6 @@ fn meet(
     }
 }
 
-/// Appends the ids of the constraints that some attribute satisfies.
-fn walk(
-    shelves: &BTreeMap<Key, Shelf>,
-    attributes: &[(Name, Value)],
-    found: &mut Vec<u32>,
-) -> Result<(), NoMemory>
-    requires { AreRising attributes.now }
-    ensures { OnOk result (Appends found.old.items found.new.items (ids_satisfied attributes.now (uses_of shelves.now.entries))) }
-{
-    for (name, value) in attributes {
-        meet(shelves, name, value, found)?;
-    }
-    Ok(())
-}
-
 impl Index {
     /// An index of nothing.
     pub(crate) fn new(alloc: Global) -> Index
@@ -157,10 +140,15 @@ impl Index {
         take(&mut self.shelves, constraint, id)
     }
 
-    /// Appends, for each constraint that the notice satisfies, the number of its filter.
-    pub(crate) fn hits(&self, notice: &Notice, found: &mut Vec<u32>) -> Result<(), NoMemory>
-        ensures { OnOk result (Appends found.old.items found.new.items (ids_satisfied notice.now self.now)) }
+    /// Appends, for each constraint that the attribute satisfies, the number of its filter.
+    pub(crate) fn hits(
+        &self,
+        name: &Name,
+        value: &Value,
+        found: &mut Vec<u32>,
+    ) -> Result<(), NoMemory>
+        ensures { OnOk result (Appends found.old.items found.new.items (ids_satisfied ((name.now, value.now) ∷ []) self.now)) }
     {
-        walk(&self.shelves, notice.attributes(), found)
+        meet(&self.shelves, name, value, found)
     }
 }

@@ -4,7 +4,7 @@ use std::alloc::Global;
 
 /// Room for the counting of one notice after another. Any table may use it.
 ///
-/// It is not cleared between notices, and grows only where a table has more filters or interfaces, or a notice more
+/// It is not cleared between notices, and grows only where a table has more filters or interfaces, or an attribute more
 /// hits, than any before.
 #[derive(Drop)]
 pub struct Scratch {

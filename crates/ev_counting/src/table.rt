@@ -206,18 +206,21 @@ impl Table {
     pub fn route(&self, notice: &Notice, scratch: &mut Scratch) -> Result<Route, NoMemory>
         ensures { IfOk result (IsRouteOf notice.now self.now) }
     {
-        scratch.found.clear();
-        self.index.hits(notice, &mut scratch.found)?;
         let goals = self.places.goals();
         let interfaces = self.interfaces.numbers();
         scratch.counters.begin(goals.len(), interfaces.len())?;
-        let ifaces = count_hits(
-            self.alloc,
-            goals,
-            interfaces,
-            &scratch.found,
-            &mut scratch.counters,
-        )?;
+        let mut ifaces = Vec::new(self.alloc);
+        for (name, value) in notice.attributes() {
+            scratch.found.clear();
+            self.index.hits(name, value, &mut scratch.found)?;
+            count_hits(
+                &mut ifaces,
+                goals,
+                interfaces,
+                &scratch.found,
+                &mut scratch.counters,
+            )?;
+        }
         Ok(Route::to(ifaces))
     }
 
