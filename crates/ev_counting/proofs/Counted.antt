@@ -1,15 +1,15 @@
 -- Counting the hits of a notice, one after another.
 use Rattle.std.proofs.Common.{◌≡◌, inl, inr, ◌+◌, ◌-◌, ◌≤◌, ◌<◌, ◌==◌, ◌∙◌, refl, sym, ap, subst, arith, ℕ, Bool, true, false, cond, List, [], ◌∷◌, ◌++◌, length, take, get_or, append_assoc, append-nil}
 use Rattle.std.proofs.lemmas.Bool.Decides.{nat_tests}
-use Rattle.std.proofs.lemmas.List.{get_or-set_same, get_or-set_other, length-set}
+use Rattle.std.proofs.lemmas.List.{get_or-set_same, get_or-set_other, length-set, length_push}
 use Rattle.std.specs.List.{Contains}
 use Rattle.std.proofs.lemmas.List.Elements.{Contains-push, Contains-push_cases, Contains-append_left}
 use Rattle.ev_index.specs.Pairs.{tally}
 use Rattle.ev_index.proofs.Tallies.{tally-append}
 use Rattle.ev_counting.specs.declared.goal.Goal.{Goal}
 use Rattle.ev_counting.specs.Slots.{goal_at}
-use Rattle.ev_counting.specs.Counting.{Counts, count_at, is_marked, counted, marked, IsOfRounds, IsFreshRound, IsFull, AreFull, AreCounted, AreCountedMore, IsUnderway}
-use Rattle.ev_counting.proofs.Rounds.{same-round, rounds-counted, rounds-marked}
+use Rattle.ev_counting.specs.Counting.{Counts, count_at, is_marked, counted, marked, IsOfRounds, IsFreshRound, IsFull, AreGoals, AreFull, AreCounted, AreCountedMore, IsUnderway}
+use Rattle.ev_counting.proofs.Rounds.{same-round, rounds-counted, rounds-marked, tally-set, all-first}
 use Rattle.ev_counting.proofs.Sound.{differ}
 
 -- how many hits name the filter
@@ -53,6 +53,7 @@ counted-none goals ifaces c f = record {
   so_often = λ k h m. (f.counts_none k, h);
   told = λ k h m. absurd (differ (is_marked c (goal_at goals k).place) m (f.marks_none (goal_at goals k).place));
   sound = λ iface h. absurd (omega (arith, h.1));
+  no_more = omega arith;
 }
 
 module _ (goals : List Goal) (ifaces hits : List ℕ) (c : Counts) (matched : List ℕ) (id : ℕ) (s : AreCounted goals ifaces hits c matched) where
@@ -76,6 +77,7 @@ module _ (goals : List Goal) (ifaces hits : List ℕ) (c : Counts) (matched : Li
         (omega (arith, o, t.0), omega (arith, o, t.1)));
     told = s.told;
     sound = sound-more;
+    no_more = s.no_more;
   }
 
   module _ (room : id < length c.counts) (some : 0 < (goal_at goals id).constraints) (unmarked : is_marked c (place_at id) ≡ false) where
@@ -96,6 +98,7 @@ module _ (goals : List Goal) (ifaces hits : List ℕ) (c : Counts) (matched : Li
       so_often = λ k h m. go k h m (id == k) refl;
       told = s.told;
       sound = sound-more;
+      no_more = s.no_more;
     }
       where
         go : (k : ℕ) → 0 < (goal_at goals k).constraints → is_marked c (place_at k) ≡ false → (b : Bool) → (id == k) ≡ b → (count_at (counted c id) k ≡ hits_of k (hits ++ id ∷ [])) × (hits_of k (hits ++ id ∷ []) < (goal_at goals k).constraints)
@@ -132,6 +135,7 @@ module _ (goals : List Goal) (ifaces hits : List ℕ) (c : Counts) (matched : Li
         | inl g ↦ sound-more iface g
         | inr g ↦ record { id = id; some = some; mine = g; full = enough }
       ];
+      no_more = omega (arith, s.no_more, length_push matched (get_or ifaces (place_at id) 0), one-more);
     }
       where
         now-marked : (p : ℕ) → place_at id ≡ p → is_marked (marked c (place_at id)) p ≡ true
@@ -139,6 +143,9 @@ module _ (goals : List Goal) (ifaces hits : List ℕ) (c : Counts) (matched : Li
 
         still : (p : ℕ) → (place_at id ≡ p → ⊥) → is_marked (marked c (place_at id)) p ≡ is_marked c p
         still p n = ap {B = Bool} (λ m. m == c.base) (get_or-set_other c.marks (place_at id) p c.base 0 (λ g. n (sym g)))
+
+        one-more : tally (λ mark. mark == c.base) (take (length ifaces) (marked (counted c id) (place_at id)).marks) ≡ tally (λ mark. mark == c.base) (take (length ifaces) c.marks) + 1
+        one-more = tally-set (λ mark. mark == c.base) c.marks (length ifaces) (place_at id) c.base within (omega (arith, within, s.ifaces_fit)) unmarked (same-round c.base)
 
         enough : (goal_at goals id).constraints ≤ tally (λ x. x == id) (hits ++ id ∷ [])
         enough = omega (arith, full, (s.so_often id some unmarked).0, hit-same id id hits refl)
@@ -211,3 +218,10 @@ counted-all goals ifaces hits c matched s = record {
     go : (k : ℕ) → 0 < (goal_at goals k).constraints → (goal_at goals k).constraints ≤ tally (λ x. x == k) hits → (b : Bool) → is_marked c (goal_at goals k).place ≡ b → Contains matched (get_or ifaces (goal_at goals k).place 0)
     go k h f true m = s.told k h m
     go k h f false m = absurd (omega (arith, f, (s.so_often k h m).1))
+
+-- where as many interfaces are matched as there are, the rest of the hits brings nothing
+pub counted-enough : (goals : List Goal) (ifaces hits rest : List ℕ) (c : Counts) (matched : List ℕ) → AreGoals (length ifaces) goals → length ifaces ≤ length matched → AreCounted goals ifaces hits c matched → AreFull goals ifaces (hits ++ rest) matched
+counted-enough goals ifaces hits rest c matched aims enough s = record {
+  sound = λ iface h. full-more goals ifaces hits rest iface (s.sound iface h);
+  whole = λ iface f. subst (Contains matched) f.mine (s.told f.id f.some (all-first (λ mark. mark == c.base) c.marks (length ifaces) (goal_at goals f.id).place (omega (arith, enough, s.no_more)) (aims.placed f.id f.some)));
+}

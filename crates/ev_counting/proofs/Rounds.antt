@@ -1,7 +1,8 @@
 -- Counters and marks of rounds.
-use Rattle.std.proofs.Common.{◌≡◌, ◌+◌, ◌≤◌, ◌<◌, ◌^◌, ◌==◌, refl, ap, arith, ℕ, true, false, List, [], ◌∷◌, ◌++◌, get_or, zero, suc}
+use Rattle.std.proofs.Common.{◌≡◌, ◌+◌, ◌≤◌, ◌<◌, ◌^◌, ◌==◌, refl, ap, arith, ℕ, Bool, true, false, cond, List, [], ◌∷◌, ◌++◌, length, take, get_or, zero, suc}
 use Rattle.std.proofs.Math.ListN.{set}
 use Rattle.std.proofs.lemmas.Bool.Decides.{nat_tests}
+use Rattle.ev_index.specs.Pairs.{tally}
 use Rattle.ev_counting.specs.Counting.{Counts, counts_of, count_at, is_marked, counted, marked, IsOfRounds}
 
 -- a value behind a list that is what is read past its end
@@ -69,3 +70,32 @@ rounds-marked c place h = record {
   counted_by = h.counted_by;
   marked_by = λ k. set-bound c.marks place k c.base c.base (omega arith) h.marked_by;
 }
+
+-- what passes of the first ones, once one that does not is set to what does
+pub tally-set : (q : ℕ → Bool) (xs : List ℕ) (n i v : ℕ) → i < n → i < length xs → q (get_or xs i 0) ≡ false → q v ≡ true → tally q (take n (set xs i v)) ≡ tally q (take n xs) + 1
+tally-set q [] n i v l r a b = absurd (omega (arith, r))
+tally-set q (x ∷ xs) zero i v l r a b = absurd (omega (arith, l))
+tally-set q (x ∷ xs) (suc n) zero v l r a b = omega (arith, ap {B = ℕ} (λ t. cond t 1 0) a, ap {B = ℕ} (λ t. cond t 1 0) b)
+tally-set q (x ∷ xs) (suc n) (suc i) v l r a b = omega (arith, tally-set q xs n i v (omega (arith, l)) (omega (arith, r)) a b)
+
+at-most-one : (b : Bool) → cond b 1 0 ≤ 1
+at-most-one true = omega arith
+at-most-one false = omega arith
+
+tally-first : (q : ℕ → Bool) (xs : List ℕ) (n : ℕ) → tally q (take n xs) ≤ n
+tally-first q [] zero = omega arith
+tally-first q [] (suc n) = omega arith
+tally-first q (x ∷ xs) zero = omega arith
+tally-first q (x ∷ xs) (suc n) = omega (arith, tally-first q xs n, at-most-one (q x))
+
+-- where as many of the first ones pass as there are, each does
+pub all-first : (q : ℕ → Bool) (xs : List ℕ) (n i : ℕ) → n ≤ tally q (take n xs) → i < n → q (get_or xs i 0) ≡ true
+all-first q [] zero i h l = absurd (omega (arith, l))
+all-first q [] (suc n) i h l = absurd (omega (arith, h))
+all-first q (x ∷ xs) zero i h l = absurd (omega (arith, l))
+all-first q (x ∷ xs) (suc n) zero h l = go (q x) refl
+  where
+    go : (b : Bool) → q x ≡ b → q x ≡ true
+    go true e = e
+    go false e = absurd (omega (arith, h, tally-first q xs n, ap {B = ℕ} (λ t. cond t 1 0) e))
+all-first q (x ∷ xs) (suc n) (suc i) h l = all-first q xs n i (omega (arith, h, at-most-one (q x))) (omega (arith, l))

@@ -13,7 +13,7 @@ use Rattle.ev_counting.specs.Index.{Use, is_satisfied, ids_satisfied}
 use Rattle.ev_counting.specs.Slots.{Slot, held, slot_at, constraints_in, numbered, uses_from, goal_of, goal_at, AreAimed, ArePlaced}
 use Rattle.ev_counting.specs.Counting.{Counts, IsFreshRound, AreGoals, AreKnown, AreFull, AreCounted, AreCountedMore, IsUnderway}
 use Rattle.ev_counting.proofs.Satisfied.{Walked, tally-satisfied, walked-start, walked-more, walked-end}
-use Rattle.ev_counting.proofs.Counted.{counted-none, counted-all}
+use Rattle.ev_counting.proofs.Counted.{counted-none, counted-all, counted-enough}
 use Rattle.ev_counting.proofs.Rounds.{same-round}
 use Rattle.ev_counting.proofs.Standing.{held-at, held-from, within}
 
@@ -180,3 +180,10 @@ attribute-known a slots index goals found aimed same h = hits-known (a ∷ []) s
 
 pub routing-end : (n : List Attribute) (slots : List Slot) (index : List Use) (goals : List Goal) (ifaces : List ℕ) (c : Counts) (matched : List ℕ) → AreAimed slots goals → ArePlaced ifaces slots → Same index (uses_from 0 slots) → Routing n [] index goals ifaces c matched → AreMatched n (held slots) matched
 routing-end n slots index goals ifaces c matched aimed placed same r = full-matched n slots goals ifaces r.hits matched aimed placed (hits-tell n slots index r.hits same (walked-end n index r.hits r.walked)) (counted-all goals ifaces r.hits c matched r.counted)
+
+-- where all interfaces are matched, the rest of the attributes is not needed
+pub routing-stop : (n rest : List Attribute) (slots : List Slot) (index : List Use) (goals : List Goal) (ifaces : List ℕ) (c : Counts) (matched : List ℕ) → AreAimed slots goals → ArePlaced ifaces slots → Same index (uses_from 0 slots) → length ifaces ≤ length matched → Routing n rest index goals ifaces c matched → AreMatched n (held slots) matched
+routing-stop n rest slots index goals ifaces c matched aimed placed same enough r =
+    let all = r.hits ++ ids_satisfied rest index in
+    let full = counted-enough goals ifaces r.hits (ids_satisfied rest index) c matched (sound-goals slots goals ifaces aimed placed) enough r.counted in
+    full-matched n slots goals ifaces all matched aimed placed (hits-tell n slots index all same r.walked.same) full

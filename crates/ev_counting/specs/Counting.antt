@@ -1,5 +1,5 @@
 -- Counting: a filter is matched where as many hits name it as it has constraints.
-use Rattle.std.specs.Prelude.{◌≡◌, ◌<◌, ◌≤◌, ◌==◌, ◌+◌, ◌-◌, ◌^◌, ℕ, List, length, Bool, true, false, ◌++◌, slice_index_or, slice_set}
+use Rattle.std.specs.Prelude.{◌≡◌, ◌<◌, ◌≤◌, ◌==◌, ◌+◌, ◌-◌, ◌^◌, ℕ, List, length, Bool, true, false, ◌++◌, slice_index_or, slice_set, take}
 use Rattle.std.specs.List.{Contains}
 use Rattle.ev_index.specs.Pairs.{tally}
 use Rattle.ev_counting.specs.declared.goal.Goal.{Goal}
@@ -65,7 +65,8 @@ pub record AreFull (goals : List Goal) (ifaces found matched : List ℕ) : Type 
   pub whole : (iface : ℕ) → IsFull goals ifaces found iface → Contains matched iface
 
 -- what counting these hits makes of the counters and of the matched interfaces: a filter whose interface isn't marked was
--- counted as often as the hits name it, which is too few; the marked interfaces are matched, and the matched ones are full
+-- counted as often as the hits name it, which is too few; the marked interfaces are matched, the matched ones are full, and
+-- no more are matched than marked
 pub record AreCounted (goals : List Goal) (ifaces hits : List ℕ) (c : Counts) (matched : List ℕ) : Type 0 where
   pub filters_fit : length goals ≤ length c.counts
   pub ifaces_fit : length ifaces ≤ length c.marks
@@ -74,6 +75,7 @@ pub record AreCounted (goals : List Goal) (ifaces hits : List ℕ) (c : Counts) 
   pub told : (k : ℕ) → 0 < (goal_at goals k).constraints → is_marked c (goal_at goals k).place ≡ true
       → Contains matched (slice_index_or ifaces (goal_at goals k).place 0)
   pub sound : (iface : ℕ) → Contains matched iface → IsFull goals ifaces hits iface
+  pub no_more : length matched ≤ tally (λ mark. mark == c.base) (take (length ifaces) c.marks)
 
 -- some hits were counted
 abbrev pub IsUnderway : List Goal → List ℕ → Counts → List ℕ → Type 0
@@ -81,4 +83,5 @@ IsUnderway goals ifaces c matched = (hits : List ℕ) × AreCounted goals ifaces
 
 -- after whatever hits were counted before, these are counted too
 abbrev pub AreCountedMore : List Goal → List ℕ → List ℕ → Counts → List ℕ → Counts → List ℕ → Type 0
-AreCountedMore goals ifaces found c matched new more = (hits : List ℕ) → AreCounted goals ifaces hits c matched → AreCounted goals ifaces (hits ++ found) new more
+AreCountedMore goals ifaces found c matched new more = (hits : List ℕ) → AreCounted goals ifaces hits c matched
+    → AreCounted goals ifaces (hits ++ found) new more

@@ -201,8 +201,9 @@ impl Table {
         })
     }
 
-    /// The interfaces with a filter that the notice matches. After the scratch's first growth it takes memory for its
-    /// answer alone.
+    /// The interfaces with a filter that the notice matches. It goes attribute by attribute, and stops once every
+    /// interface that the table has numbered is matched. After the scratch's first growth it takes memory for its answer
+    /// alone.
     pub fn route(&self, notice: &Notice, scratch: &mut Scratch) -> Result<Route, NoMemory>
         ensures { IfOk result (IsRouteOf notice.now self.now) }
     {
@@ -211,6 +212,9 @@ impl Table {
         scratch.counters.begin(goals.len(), interfaces.len())?;
         let mut ifaces = Vec::new(self.alloc);
         for (name, value) in notice.attributes() {
+            if ifaces.len() == interfaces.len() {
+                break;
+            }
             scratch.found.clear();
             self.index.hits(name, value, &mut scratch.found)?;
             count_hits(

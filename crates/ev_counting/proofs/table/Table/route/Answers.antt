@@ -1,14 +1,15 @@
-use Rattle.std.proofs.Common.{◌≡◌, ◌+◌, ◌∙◌, ap, sym, subst, drop, ℕ, List, [], ◌∷◌}
+use Rattle.std.proofs.Common.{◌≡◌, ◌+◌, ◌∙◌, ◌≤◌, ap, sym, subst, arith, length, drop, ℕ, List, [], ◌∷◌}
 use Rattle.std.proofs.lemmas.List.{drop_more, drop_all}
 use Rattle.ev_notice.specs.Notice.{Attribute, AreRising}
 use Rattle.ev_index.specs.Pairs.{Same}
 use Rattle.ev_counting.specs.Table.{HeldFilter, AreMatched}
 use Rattle.ev_counting.specs.Index.{ids_satisfied}
 use Rattle.ev_counting.specs.Counting.{AreCountedMore}
-use Rattle.ev_counting.specs.Slots.{ArePlaced}
+use Rattle.ev_counting.specs.Slots.{ArePlaced, held}
 use Rattle.ev_counting.proofs.Sets.{to-route}
 use Rattle.ev_counting.proofs.Same.{appended-same}
-use Rattle.ev_counting.proofs.Routed.{Routing, routing-start, routing-more, routing-end, attribute-known}
+use Rattle.ev_counting.proofs.Routed.{Routing, routing-start, routing-more, routing-end, routing-stop, attribute-known}
+use Rattle.ev_counting.proofs.table.Table.route.Goals.{else-loop-name-test, then-loop-name-test+then-len-interfaces}
 use Rattle.ev_counting.proofs.table.Table.route.Goals as goal
 
 -- what an attribute brought
@@ -53,12 +54,19 @@ returns c =
     let index = c.self.inside.index in
     let goals = c.goals-goals.result.now in
     let ifaces = c.numbers-interfaces.result.now in
+    let i = c.loop-name.name-index in
     let counters = c.loop-name.scratch.counters in
     let matched = c.loop-name.ifaces.items in
-    let e : drop c.loop-name.name-index n ≡ [] = drop_all c.loop-name.name-index n c.loop-name-test.false in
-    let r = subst (λ (left : List Attribute). Routing n left index goals ifaces counters matched) e c.loop-name.invariant in
     let placed = subst (λ (xs : List ℕ). ArePlaced xs slots) (sym c.numbers-interfaces.ensures) c.self.invariant.placed in
-    let m = routing-end n slots index goals ifaces counters matched c.goals-goals.ensures placed c.self.invariant.indexed r in
-    let b = subst (λ (held : List HeldFilter). AreMatched n held matched) c.self.view_is m in
+    let all : AreMatched n (held slots) matched = elim c.loop-name-test.branch [
+      | else-loop-name-test w ↦ (
+          let e : drop i n ≡ [] = drop_all i n w.loop-name-test.false in
+          let r = subst (λ (left : List Attribute). Routing n left index goals ifaces counters matched) e c.loop-name.invariant in
+          routing-end n slots index goals ifaces counters matched c.goals-goals.ensures placed c.self.invariant.indexed r)
+      | then-loop-name-test+then-len-interfaces w ↦ (
+          let enough : length ifaces ≤ length matched = omega (arith, w.if-len-interfaces, w.len.ensures, c.loop-name.ifaces.ok.0) in
+          routing-stop n (drop i n) slots index goals ifaces counters matched c.goals-goals.ensures placed c.self.invariant.indexed enough c.loop-name.invariant)
+    ] in
+    let b = subst (λ (pairs : List HeldFilter). AreMatched n pairs matched) c.self.view_is all in
     let d = subst (λ (x : List Attribute). AreMatched x c.args.self.now matched) c.attributes-name-items.ensures.same b in
     to-route c.args.notice.now c.args.self.now matched c.to.result d c.to.ensures.rising c.to.ensures.same
