@@ -45,7 +45,22 @@ fn note_taken(
     Ok(())
 }
 
-/// The pairs whose last change takes them, in the order of those changes, which are gone through from the last one on.
+/// Reverses a list whose first pair is greater than its last one. Pairs are taken from the end of the list, and a table
+/// that loses its greatest pairs first moves the fewest others.
+fn put_greatest_last(pairs: &mut Vec<Pair>)
+    ensures { (x : HeldFilter) → Contains pairs.new.items x ↔ Contains pairs.old.items x }
+{
+    let falls = match (pairs.first(), pairs.last()) {
+        (Some(first), Some(last)) => last < first,
+        _ => false,
+    };
+    if falls {
+        pairs.reverse();
+    }
+}
+
+/// The pairs whose last change takes them, in the order of those changes or the other way round, so that pairs that rise
+/// or fall end with the greatest. The changes are gone through from the last one on.
 fn withdrawn(alloc: Global, changes: &[Change]) -> Result<Vec<Pair>, NoMemory>
     ensures { IfOk result (λ pairs. (x : HeldFilter) → Contains pairs.items x ↔ IsWithdrawn changes.now x) }
 {
@@ -58,7 +73,7 @@ fn withdrawn(alloc: Global, changes: &[Change]) -> Result<Vec<Pair>, NoMemory>
         note_taken(alloc, change, last, &mut taken)?;
         left = earlier;
     }
-    taken.reverse();
+    put_greatest_last(&mut taken);
     Ok(taken)
 }
 

@@ -1,5 +1,4 @@
 use Rattle.std.specs.Prelude.{Bool}
-use Rattle.std.proofs.lemmas.List.Sorted.{Contains-permutation, IsPermutation-sym}
 use Rattle.std.specs.BTreeSet.{contains}
 use Rattle.ev_counting.specs.Table.{HeldFilter}
 use Rattle.ev_counting.proofs.Gathered.{pair_cmp, gathers-next, gathers-end, put-in}
@@ -17,7 +16,5 @@ pub returns : goal.returns
 returns c = λ x.
     let has : HeldFilter → Bool = λ y. contains pair_cmp c.loop-change.changed y in
     let all = gathers-end c.args.changes.now c.loop-change.left.now has c.loop-change.taken.items c.in_default.ensures.cases c.loop-change.invariant x in
-    let same = c.reverse.ensures.permutation in (
-      (λ h. all.0 (Contains-permutation c.reverse.new.self.items c.loop-change.taken.items x (IsPermutation-sym c.loop-change.taken.items c.reverse.new.self.items same) h)),
-      λ h. Contains-permutation c.loop-change.taken.items c.reverse.new.self.items x same (all.1 h),
-    )
+    let same = c.put_greatest_last.ensures x in
+    ((λ h. all.0 (same.0 h)), λ h. same.1 (all.1 h))
