@@ -6,7 +6,8 @@ ghost use Rattle.ev_model.specs.Parts.{NetParts};
 ghost use Rattle.ev_node.specs.declared.held.Root.{Root as RootParts};
 ghost use Rattle.ev_node.specs.Cell.{CellParts, IsKept, machine_in};
 ghost use Rattle.ev_node.specs.Links.{At, IsNextAt, IsOneLane, IsSettledLane};
-ghost use Rattle.ev_node.specs.Together.{AreTogether, AreBegun, AreDone, IsCellDone, IsFinished, IsLaneOf, IsTakenUp, IsWornSomewhere, root_links, cell_roots, sights};
+ghost use Rattle.ev_node.specs.Together.{AreTogether, AreBegun, AreDone, IsCellDone, IsFinished, IsLaneOf, IsTakenUp, IsWornSomewhere};
+ghost use Rattle.ev_node.specs.Together.{root_links, cell_roots, sights};
 ghost use Rattle.ev_node.specs.InHand.{AreAllInHand, AreTakenInOrder, IsTakenInOrder};
 
 use crate::cell::Cell;
