@@ -1,7 +1,7 @@
 -- Within a phase, with all cells in hand, the entries so far are a run: so no clock and no frame has the last stamp.
 use Rattle.std.proofs.Common.{◌≡◌, ℕ, suc, ◌<◌, ◌==◌, Bool, true, false, cond, List, [], ◌∷◌, ◌++◌, ◌⊎◌, inl, inr, Option, Some, None, refl, sym, ap, subst, ◌∙◌, arith, eq-eqb, ne_eqb}
 use Rattle.ev_sets.specs.Sets.{Has}
-use Rattle.ev_links.proofs.Numbers.{Same, Is, Not, compare}
+use Rattle.ev_sets.proofs.Numbers.{Same, Is, Not, compare}
 use Rattle.ev_run.specs.Machine.{Stamped, act_phase}
 use Rattle.ev_run.specs.Runs.{greatest, IsQuiet, IsThrough}
 use Rattle.ev_run.specs.Journals.{Cell, IsInPhase, IsReplay, IsPhaseRun, network_of}

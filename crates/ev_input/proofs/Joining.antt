@@ -6,7 +6,7 @@ use Rattle.ev_tree.specs.Labels.{AreLabelsOf, ServerLabels}
 use Rattle.ev_tree.specs.Graph.{joins, has_edge, IsTrail, AreJoined, IsForest, IsTree, IsApart, servers_to}
 use Rattle.ev_tree.specs.declared.fault.EdgeFault.{EdgeFault}
 use Rattle.ev_tree.specs.declared.fault.EdgeFault.TheVariants.{Twice, Loop}
-use Rattle.ev_tree.proofs.Numbers.{Test, Yes, No, test, both-left, both-right, either-right, differ}
+use Rattle.ev_tree.proofs.Truths.{Test, Yes, No, test, both-left, both-right, either-right, differ}
 use Rattle.ev_tree.proofs.Joined.{joined-on, joined-edge as trail-edge, joined-same}
 use Rattle.ev_input.specs.Drawn.{Drawn, edge_fault, is_apart, are_joined}
 

@@ -7,7 +7,7 @@ use Rattle.std.proofs.lemmas.Grind.{common_steps}
 use Rattle.std.proofs.lemmas.List.Quantifiers.{all_pairs_push}
 use Rattle.ev_sets.specs.Numbers.{sum_over, count}
 use Rattle.ev_tree.specs.Graph.{IsCount, has_edge}
-use Rattle.ev_tree.proofs.Numbers.{both-left, both-right}
+use Rattle.ev_tree.proofs.Truths.{both-left, both-right}
 use Rattle.ev_routing.specs.Clients.{is_publish}
 use Rattle.ev_theory.specs.Real.{real}
 use Rattle.ev_wire.specs.declared.command.Command.{Command}

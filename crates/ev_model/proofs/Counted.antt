@@ -4,7 +4,7 @@ use Rattle.std.proofs.lemmas.Nat.{mul-le}
 use Rattle.std.specs.List.{range_with_len}
 use Rattle.ev_sets.specs.Numbers.{IsDistinct, sum_over, count}
 use Rattle.ev_tree.specs.Graph.{servers_to}
-use Rattle.ev_tree.proofs.Numbers.{Same, Is, Not, compare}
+use Rattle.ev_sets.proofs.Numbers.{Same, Is, Not, compare}
 use Rattle.ev_run.proofs.Bound.{only, only-at, sum-more, only-sum, zeros}
 use Rattle.ev_routing.specs.Clients.{is_publish}
 use Rattle.ev_routing.specs.Routing.{all_commands}

@@ -2,7 +2,7 @@
 use Rattle.std.proofs.Common.{◌≡◌, ℕ, zero, suc, ◌≤◌, ◌==◌, ◌&&◌, ◌⊎◌, cond, Bool, true, false, List, [], ◌∷◌, ◌++◌, length, map, drop, inl, inr, slice_get, slice_set, Some, refl, sym, ap, subst, ◌∙◌, arith, eq-eqb, ne_eqb}
 use Rattle.ev_sets.specs.Sets.{Has}
 use Rattle.ev_sets.specs.Numbers.{IsDistinct}
-use Rattle.ev_links.proofs.Numbers.{Same, Is, Not, compare}
+use Rattle.ev_sets.proofs.Numbers.{Same, Is, Not, compare}
 use Rattle.ev_tree.specs.Hops.{side_size}
 use Rattle.ev_run.specs.Machine.{Does, Takes, Outcome, Stamped, at, stamped, receivers, unstamped, next_stamp, act_of as machine_act}
 use Rattle.ev_run.specs.Load.{MeasureLaws}

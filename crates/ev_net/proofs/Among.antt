@@ -2,7 +2,7 @@
 use Rattle.std.proofs.Common.{◌≡◌, ◌↔◌, ℕ, zero, suc, ◌<◌, ◌≤◌, ◌==◌, ◌||◌, nat_le, cond, Bool, true, false, List, [], ◌∷◌, length, slice_get, slice_index_or, Some, inl, inr, refl, sym, ap, ◌∙◌, arith, eq-eqb, IsTrue}
 use Rattle.std.specs.List.{list_any}
 use Rattle.ev_sets.specs.Sets.{Has}
-use Rattle.ev_links.proofs.Numbers.{Same, Is, Not, compare}
+use Rattle.ev_sets.proofs.Numbers.{Same, Is, Not, compare}
 use Rattle.ev_tree.specs.Tree.{Topology, servers_of}
 use Rattle.ev_tree.proofs.Servers.{server-in, in-server}
 use Rattle.ev_phases.specs.Trees.{tree_after}

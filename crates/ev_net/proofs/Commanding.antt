@@ -32,7 +32,7 @@ use Rattle.ev_net.specs.Seen.{seen, calm_in, calm_at, AreCalmCores}
 use Rattle.ev_frame.specs.Frame.{FrameParts}
 use Rattle.ev_net.specs.Sessions.{is_phase_below}
 use Rattle.std.proofs.lemmas.Bool.Decides.{nat_tests}
-use Rattle.ev_links.proofs.Numbers.{Same, Is, Not, compare}
+use Rattle.ev_sets.proofs.Numbers.{Same, Is, Not, compare}
 use Rattle.ev_memory.specs.declared.NoMemory.{NoMemory}
 use Rattle.ev_net.specs.Network.{network_parts, moment_by, IsLegal, taken_by, phase_in, next_phase_by}
 use Rattle.ev_net.specs.Turns.{IsMade, IsBarred}

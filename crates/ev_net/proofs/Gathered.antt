@@ -3,7 +3,7 @@ use Rattle.std.proofs.Common.{◌≡◌, ◌⊎◌, ◌↔◌, inl, inr, ℕ, su
 use Rattle.std.proofs.lemmas.List.{length-append}
 use Rattle.std.specs.List.{Contains, range_with_len}
 use Rattle.ev_sets.specs.Sets.{Has}
-use Rattle.ev_links.proofs.Numbers.{Is, Not, compare}
+use Rattle.ev_sets.proofs.Numbers.{Is, Not, compare}
 use Rattle.ev_sets.proofs.Roots.{Has-filter, filter-Has}
 use Rattle.ev_sets.proofs.Sets.{has-set_of}
 use Rattle.ev_cover.specs.Laws.{sub_laws, ad_laws}

@@ -1,7 +1,7 @@
 -- A server set on the tree of another phase, by what flows over it.
 use Rattle.std.proofs.Common.{◌≡◌, ◌≢◌, ◌⊎◌, inl, inr, ℕ, zero, suc, ◌+◌, ◌<◌, ◌≤◌, nat_lt, ◌==◌, ◌||◌, eqb-true, Bool, true, false, cond, List, [], ◌∷◌, map, length, refl, sym, ap, subst, ◌∙◌, arith}
 use Rattle.std.proofs.lemmas.Bool.Decides.{nat_tests}
-use Rattle.ev_links.proofs.Numbers.{Is, Not, compare}
+use Rattle.ev_sets.proofs.Numbers.{Is, Not, compare}
 use Rattle.ev_sets.specs.Sets.{Has, roots}
 use Rattle.ev_constraint.specs.Constraint.{ConstraintParts}
 use Rattle.ev_wire.specs.declared.semantics.Semantics.{Semantics}

@@ -2,7 +2,7 @@
 use Rattle.std.proofs.Common.{◌≡◌, ℕ, zero, suc, ◌==◌, ◌&&◌, cond, true, List, [], ◌∷◌, ◌++◌, length, map, filter, drop, inr, slice_get, slice_set, Option, Some, None, refl, sym, ap, subst, ◌∙◌, arith, eq-eqb, ne_eqb}
 use Rattle.ev_sets.specs.Sets.{Has}
 use Rattle.ev_sets.specs.Numbers.{IsDistinct}
-use Rattle.ev_links.proofs.Numbers.{Same, Is, Not, compare}
+use Rattle.ev_sets.proofs.Numbers.{Same, Is, Not, compare}
 use Rattle.ev_run.proofs.Lists.{append-nothing, append-together}
 use Rattle.ev_routing.proofs.Listing.{has-map}
 use Rattle.ev_wire.specs.declared.sent.Sent.{Sent}

@@ -1,7 +1,7 @@
 -- Standings that are taken on one place after the other.
 use Rattle.std.proofs.Common.{◌≡◌, ℕ, zero, suc, ◌+◌, ◌<◌, ◌≤◌, List, [], ◌∷◌, length, set, Some, slice_get, refl, sym, ap, subst, ◌∙◌, arith}
 use Rattle.std.proofs.lemmas.Option.{slice_get_within}
-use Rattle.ev_links.proofs.Numbers.{Same, Is, Not, compare}
+use Rattle.ev_sets.proofs.Numbers.{Same, Is, Not, compare}
 use Rattle.ev_server.specs.Core.{CoreParts}
 use Rattle.ev_net.specs.declared.relinking.Standing.{Standing}
 use Rattle.ev_net.specs.Begin.{IsExchanged, CanTake, CanAllTake, AreExchanged}

@@ -2,7 +2,7 @@
 use Rattle.std.proofs.Common.{◌≡◌, ℕ, suc, ◌+◌, ◌-◌, ◌<◌, ◌≤◌, List, [], ◌∷◌, ◌++◌, length, slice_get, Option, Some, None, Result, Ok, Err, OnOk, OnErr, refl, sym, ap, subst, ◌∙◌, arith, add-one}
 use Rattle.std.proofs.lemmas.List.{append-nil, append_assoc, map-append}
 use Rattle.std.proofs.lemmas.Option.{same_Some}
-use Rattle.ev_links.proofs.Numbers.{Same, Is, Not, compare}
+use Rattle.ev_sets.proofs.Numbers.{Same, Is, Not, compare}
 use Rattle.ev_run.specs.Machine.{Act, Did, Took, act_phase}
 use Rattle.ev_routing.specs.Theory.{Theory}
 use Rattle.ev_routing.specs.Net.{PhasedCommand}

@@ -1,7 +1,7 @@
 -- At every moment of a legal run no more is taken of a link than was put on it.
 use Rattle.std.proofs.Common.{◌≡◌, ℕ, zero, suc, ◌≤◌, ◌<◌, Bool, true, false, cond, List, [], ◌∷◌, inl, inr, length, slice_get, Option, Some, None, sym, subst, arith, length-append}
 use Rattle.std.proofs.lemmas.Option.{slice_get_within}
-use Rattle.ev_links.proofs.Numbers.{Same, Is, Not, compare}
+use Rattle.ev_sets.proofs.Numbers.{Same, Is, Not, compare}
 use Rattle.ev_run.specs.Machine.{Machine, Input, Does, Takes, Outcome, Stamped, next_stamp, stamped, act_phase}
 use Rattle.ev_run.specs.Network.{NetworkState, IsAvailable, taken_after, network_after}
 use Rattle.ev_run.specs.Runs.{raised, IsWithinPuts}

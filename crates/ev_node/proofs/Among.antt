@@ -2,7 +2,7 @@
 use Rattle.std.proofs.Common.{◌≡◌, ◌↔◌, ℕ, ◌==◌, ◌||◌, Bool, true, false, List, [], ◌∷◌, inl, inr, refl, sym, ap, ◌∙◌, eq-eqb, IsTrue}
 use Rattle.std.specs.List.{list_any}
 use Rattle.ev_sets.specs.Sets.{Has}
-use Rattle.ev_links.proofs.Numbers.{Same, Is, Not, compare}
+use Rattle.ev_sets.proofs.Numbers.{Same, Is, Not, compare}
 
 has-any : (x : ℕ) (xs : List ℕ) → Has x xs → list_any (λ y. y == x) xs ≡ true
 has-any x [] h = absurd h

@@ -1,6 +1,6 @@
 -- The turns of a phase on another tree make nothing, or begin it.
 use Rattle.std.proofs.Common.{◌≡◌, ℕ, ◌≤◌, ◌<◌, ◌==◌, true, ◌&&◌, cond, List, [], ◌∷◌, inl, inr, map, slice_get, Option, Some, None, refl, sym, ap, subst, ◌∙◌, arith, eq-eqb, ne_eqb}
-use Rattle.ev_links.proofs.Numbers.{Same, Is, Not, compare}
+use Rattle.ev_sets.proofs.Numbers.{Same, Is, Not, compare}
 use Rattle.ev_run.specs.Machine.{Machine, Input, Does, Takes, Outcome, Stamped, Act, Entry, unstamped, act_of, act_phase}
 use Rattle.ev_run.specs.Network.{NetworkState, IsAvailable, IsStep, entry_at}
 use Rattle.ev_run.specs.Runs.{IsReady, IsQuiet, IsThrough, IsRun, MachineLaws}

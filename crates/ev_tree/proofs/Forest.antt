@@ -3,7 +3,7 @@ use Rattle.std.proofs.Common.{◌≡◌, ℕ, ◌≤◌, ◌==◌, Bool, true, f
 use Rattle.ev_tree.specs.Graph.{has_edge, IsTrail, AreJoined}
 use Rattle.ev_tree.specs.Hops.{side}
 use Rattle.ev_tree.specs.Labels.{Labelled}
-use Rattle.ev_tree.proofs.Numbers.{Same, Is, Not, compare}
+use Rattle.ev_sets.proofs.Numbers.{Same, Is, Not, compare}
 use Rattle.ev_tree.proofs.Joined.{IsOf, Old, Out, Back, split-edge, joined-on, joined-back, joined-more, joined-edge, has_edge-old, has_edge-new, has_edge-back}
 
 abbrev pub In : ℕ → ℕ → Type 0

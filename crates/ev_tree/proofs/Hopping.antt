@@ -9,7 +9,8 @@ use Rattle.ev_tree.specs.Growing.{hop_after, IsJoinedByEdge}
 use Rattle.ev_tree.specs.Hops.{AreHops, side}
 use Rattle.ev_tree.specs.Labels.{IsPartition}
 use Rattle.ev_tree.specs.Tree.{entry, IsTable}
-use Rattle.ev_tree.proofs.Numbers.{Same, Is, Not, compare, Test, Yes, No, test}
+use Rattle.ev_sets.proofs.Numbers.{Same, Is, Not, compare}
+use Rattle.ev_tree.proofs.Truths.{Test, Yes, No, test}
 use Rattle.ev_tree.proofs.Forest.{In, Hopped, hopped, level}
 use Rattle.ev_tree.proofs.Servers.{hops-of, in-server}
 use Rattle.ev_tree.proofs.Steps.{edge-in, ends-joined}

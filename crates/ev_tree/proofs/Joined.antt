@@ -1,7 +1,7 @@
 -- Edges and what they join.
 use Rattle.std.proofs.Common.{◌≡◌, ℕ, ◌==◌, Bool, true, false, ◌&&◌, ◌||◌, List, [], ◌∷◌, ◌++◌, refl, sym, subst, ◌∙◌, arith, eqb-true, eq-eqb}
 use Rattle.ev_tree.specs.Graph.{joins, has_edge, IsTrail, AreJoined}
-use Rattle.ev_tree.proofs.Numbers.{Test, Yes, No, test, both-left, both-right, either-left, either-right}
+use Rattle.ev_tree.proofs.Truths.{Test, Yes, No, test, both-left, both-right, either-left, either-right}
 
 or-swap : (a b : Bool) → a || b ≡ b || a
 or-swap true true = refl

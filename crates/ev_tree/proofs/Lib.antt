@@ -1,4 +1,4 @@
-pub mod Numbers
+pub mod Truths
 pub mod Joined
 pub mod Forest
 pub mod Servers

@@ -5,7 +5,8 @@ use Rattle.ev_sets.specs.Numbers.{IsDistinct}
 use Rattle.ev_tree.specs.Hops.{side, side_size, AreHops}
 use Rattle.ev_tree.specs.Tree.{IsWay, NeverTurnsBack, IsPath}
 use Rattle.ev_tree.specs.Sides.{size_but, IsToward, AreSides}
-use Rattle.ev_tree.proofs.Numbers.{Same, Is, Not, compare, differ, both-right, not-true}
+use Rattle.ev_sets.proofs.Numbers.{Same, Is, Not, compare}
+use Rattle.ev_tree.proofs.Truths.{differ, both-right, not-true}
 use Rattle.ev_tree.proofs.Sums.{part-sum}
 use Rattle.ev_tree.proofs.Sizes.{weighs, total}
 

@@ -4,7 +4,7 @@ use Rattle.ev_sets.specs.Sets.{Has}
 use Rattle.ev_sets.specs.Numbers.{sum_over, count}
 use Rattle.ev_tree.specs.Hops.{side, side_size, AreHops}
 use Rattle.ev_tree.specs.Sides.{size_but}
-use Rattle.ev_tree.proofs.Numbers.{Same, Is, Not, compare}
+use Rattle.ev_sets.proofs.Numbers.{Same, Is, Not, compare}
 use Rattle.ev_tree.proofs.Sums.{sum-same, sum-plus, sum-swap, sum-cond, zeros, ones, only, only-at, only-off, only-one}
 
 flat : (y : Bool) → cond y 0 (count false) ≡ count false

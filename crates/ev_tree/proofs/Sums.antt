@@ -2,7 +2,7 @@
 use Rattle.std.proofs.Common.{◌≡◌, ℕ, ◌+◌, ◌≤◌, ◌==◌, Bool, true, false, cond, List, [], ◌∷◌, inl, inr, length, refl, sym, ap, subst, ◌∙◌, arith, ne_eqb, eq-eqb}
 use Rattle.ev_sets.specs.Sets.{Has}
 use Rattle.ev_sets.specs.Numbers.{sum_over, IsDistinct}
-use Rattle.ev_tree.proofs.Numbers.{Same, Is, Not, compare}
+use Rattle.ev_sets.proofs.Numbers.{Same, Is, Not, compare}
 
 pub sum-same : (f g : ℕ → ℕ) (xs : List ℕ) → ((x : ℕ) → Has x xs → f x ≡ g x) → sum_over f xs ≡ sum_over g xs
 sum-same f g [] e = refl

@@ -6,7 +6,7 @@ use Rattle.ev_tree.specs.Graph.{has_edge, AreJoined, IsForest, IsTree, IsTwice, 
 use Rattle.ev_tree.specs.Labels.{IsFault}
 use Rattle.ev_tree.specs.declared.fault.TreeFault.{TreeFault}
 use Rattle.ev_tree.specs.declared.fault.TreeFault.TheVariants.{TooFew, TooMany, Twice, Loop, Apart, NoMemory}
-use Rattle.ev_tree.proofs.Numbers.{differ}
+use Rattle.ev_tree.proofs.Truths.{differ}
 use Rattle.ev_tree.proofs.Joined.{joined-edge}
 
 -- edge i is the first whose ends are joined already

@@ -1,6 +1,6 @@
 use Rattle.std.proofs.Common.{◌==◌, eq-eqb}
 use Rattle.ev_tree.specs.Tree.{servers_of, links_of, hop_of}
-use Rattle.ev_tree.proofs.Numbers.{not-now}
+use Rattle.ev_tree.proofs.Truths.{not-now}
 use Rattle.ev_tree.proofs.Servers.{in-server}
 use Rattle.ev_tree.proofs.Paths.{side-test, side-end}
 use Rattle.ev_tree.proofs.tree.Tree.side.Goals as goal

@@ -1,16 +1,5 @@
--- Two numbers are the same or not, with the test.
-use Rattle.std.proofs.Common.{◌≡◌, ℕ, ◌==◌, Bool, true, false, not, ◌&&◌, ◌||◌, refl, arith, eqb-true, eq-eqb}
-
-pub data Same (x y : ℕ) : Type 0 where
-  Is : x ≡ y → (x == y) ≡ true → Same x y
-  Not : (x ≡ y → ⊥) → (x == y) ≡ false → Same x y
-
-same_by : (x y : ℕ) (b : Bool) → (x == y) ≡ b → Same x y
-same_by x y true e = Is (eqb-true x y e) e
-same_by x y false e = Not (λ q. grind (arith, eq-eqb x y q)) e
-
-pub compare : (x y : ℕ) → Same x y
-compare x y = same_by x y (x == y) refl
+-- Truth values: which they are, and what they are of.
+use Rattle.std.proofs.Common.{◌≡◌, Bool, true, false, not, ◌&&◌, ◌||◌, refl}
 
 pub data Test (b : Bool) : Type 0 where
   Yes : b ≡ true → Test b
