@@ -38,7 +38,6 @@ pub struct Cell<'a> {
 }
 
 impl<'a> Model for Cell<'a> {
-    ghost use Rattle.ev_wire.specs.MessageText.{Each};
     ghost use Rattle.ev_node.specs.Cell.{CellParts, IsKept, cell_parts};
 
     ghost Value = { CellParts };
@@ -70,6 +69,7 @@ impl<'a> Cell<'a> {
     ghost use Rattle.ev_node.specs.Cell.{IsKept, HasEntered, HasNoneBelow};
     ghost use Rattle.ev_node.specs.Turns.{IsStill};
     ghost use Rattle.ev_versions.specs.Ends.{staged, published, IsAheadBy, IsSameViewer, IsViewerOf};
+    ghost use Rattle.ev_wire.specs.MessageText.{Each};
     ghost use Rattle.ev_node.specs.Lanes.{IsNew};
     ghost use Rattle.ev_node.specs.Started.{IsFreshCell};
     ghost use Rattle.ev_node.specs.Asked.{Answers, IsWorn, Suits};
