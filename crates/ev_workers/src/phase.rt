@@ -34,6 +34,7 @@ pub fn run_phase<'a, R: Threads + Wait + Sync, G: Gate + Sync>(
     ensures eyes { Pairwise AreEyesOf (cell_roots cells.new.items) eyes.new.items }
 {
     let count = cells.len();
+    let pace = Pace::new(count as u64);
     let mut spares = Vec::with_capacity(alloc, count)?;
     let done = Vec::with_capacity(alloc, count)?;
     let mut crews = Vec::with_capacity(alloc, count)?;
@@ -46,7 +47,6 @@ pub fn run_phase<'a, R: Threads + Wait + Sync, G: Gate + Sync>(
         locks.destroy_empty();
         return Err(NoMemory);
     }
-    let pace = Pace::new(count as u64);
     let site = Site {
         rt,
         alloc,
