@@ -5,3 +5,5 @@ pub mod Rows
 pub mod Members
 pub mod Found
 pub mod Begins
+pub mod Orders
+pub mod Lines

@@ -12,7 +12,7 @@ use Rattle.ev_numindex.specs.declared.row.Row.{Row}
 use Rattle.ev_numindex.specs.Keys.{same_key, key_of, test_at}
 use Rattle.ev_numindex.specs.Rows.{HasAt, IsNumeric, rows_pairs, row_pairs}
 use Rattle.ev_numindex.proofs.Keys.{same-self}
-use Rattle.ev_numindex.proofs.Lines.{in-told}
+use Rattle.ev_index.proofs.Lines.{in-told}
 use Rattle.ev_numindex.proofs.Codes.{decode, encode, tells-a-number}
 
 itself : (k : ℤ) (id : ℕ) → (same_key k k && (id == id)) ≡ true

@@ -2,4 +2,3 @@ pub mod Keys
 pub mod Codes
 pub mod Meets
 pub mod Finds
-pub mod Lines

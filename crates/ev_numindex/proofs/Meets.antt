@@ -1,7 +1,10 @@
 -- Which keys of a row have a test that a value passes.
 use Rattle.std.proofs.Common.{◌≡◌, ◌+ℤ◌, ◌^◌, ◌∙◌, ℕ, ℤ, Bool, true, false, not, refl, arith, pos, negsuc}
 use Rattle.std.proofs.lemmas.Int.{ints}
-use Rattle.std.specs.Ordering.{int_eq}
+use Rattle.std.specs.declared.cmp.Ordering.{Ordering}
+use Rattle.std.specs.declared.cmp.Ordering.TheVariants.{Less, Equal, Greater}
+use Rattle.std.specs.Ordering.{int_cmp, int_eq, is_eq}
+use Rattle.std.proofs.lemmas.Cmp.{int_cmp_total}
 use Rattle.ev_values.specs.declared.value.Kind.{Kind}
 use Rattle.ev_values.specs.declared.value.Value.{Value}
 use Rattle.ev_values.specs.declared.value.Kind.TheVariants as kinds
@@ -10,8 +13,23 @@ use Rattle.ev_constraint.specs.declared.op.Op.{Op}
 use Rattle.ev_constraint.specs.declared.op.Op.TheVariants as ops
 use Rattle.std.specs.Prelude.{Some, None, int_lt, if◌then◌else◌}
 use Rattle.ev_index.specs.Pairs.{passes}
+use Rattle.ev_index.specs.Lines.{on_side}
+use Rattle.ev_index.specs.declared.sides.Sides.{Sides}
+use Rattle.ev_index.proofs.Orders.{same-turned}
 use Rattle.ev_constraint.specs.Numbers.{number_satisfies}
 use Rattle.ev_numindex.specs.Keys.{same_key, truth_key, time_key, key_meets, test_at, time_test, below_test, no_test}
+
+-- an equal key alone
+abbrev pub alone : Sides
+alone = record { below = false; equal = true; above = false }
+
+pub equal-alone : (x k : ℤ) → on_side alone (int_cmp k x) ≡ same_key x k
+equal-alone x k = go (int_cmp k x) ∙ same-turned int_cmp_total k x
+  where
+    go : (o : Ordering) → on_side alone o ≡ is_eq o
+    go Less = refl
+    go Equal = refl
+    go Greater = refl
 
 -- a number finds the groups whose operand it meets
 number-said : (op : Op) → (op ≡ ops.Any → ⊥) → (x k : ℤ) → key_meets op x k ≡ number_satisfies op x k

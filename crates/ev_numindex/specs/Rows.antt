@@ -8,7 +8,7 @@ use Rattle.ev_index.specs.Pairs.{Pair, tally}
 use Rattle.ev_index.specs.Groups.{flat}
 use Rattle.ev_numindex.specs.declared.row.Row.{Row}
 use Rattle.ev_numindex.specs.Keys.{test_at, same_key}
-use Rattle.ev_numindex.specs.Lines.{told}
+use Rattle.ev_index.specs.Lines.{told}
 
 -- the row is of this kind and operator
 abbrev pub IsRowOf : Kind → Op → Row → Type 0

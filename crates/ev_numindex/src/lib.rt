@@ -2,10 +2,7 @@
 #![tactic(auto)]
 
 mod index;
-mod line;
 mod meet;
-mod places;
 mod row;
-mod sides;
 
 pub use index::NumIndex;

@@ -1,15 +1,15 @@
 //! The ids of a row whose test a value passes.
 ghost use Rattle.std.specs.Prelude.{◌≡◌, ◌≢◌, ◌++◌, ℤ, pos, Bool, true, false, not, OnOk};
+ghost use Rattle.std.specs.Ordering.{int_cmp};
 ghost use Rattle.ev_values.specs.declared.value.Kind.{Kind};
 ghost use Rattle.ev_values.specs.declared.value.Value.{Value};
 ghost use Rattle.ev_index.specs.Pairs.{KeepsBeginning, ids_met};
 ghost use Rattle.ev_constraint.specs.declared.op.Op.{Op};
-ghost use Rattle.ev_numindex.specs.Lines.{told, ids_with, on_side};
+ghost use Rattle.ev_index.specs.Lines.{told, ids_with, on_side};
 ghost use Rattle.ev_numindex.specs.Keys.{test_at, truth_key, time_key, key_meets};
 
-use crate::line::Line;
-use crate::sides::Sides;
 use ev_constraint::Op;
+use ev_index::{Line, Sides};
 use ev_memory::NoMemory;
 
 /// The key of a truth value.
@@ -39,7 +39,7 @@ const EQUAL: Sides = Sides {
 
 /// The sides of a number that an operator asks for.
 fn sides(op: Op) -> Sides
-    ensures { op ≢ Op.Any → (x k : ℤ) → on_side result x k ≡ key_meets op x k }
+    ensures { op ≢ Op.Any → (x k : ℤ) → on_side result (int_cmp k x) ≡ key_meets op x k }
 {
     let (below, equal, above) = match op {
         Op::Eq => (false, true, false),
@@ -58,18 +58,23 @@ fn sides(op: Op) -> Sides
 }
 
 /// Appends the ids of the keys that a number finds by its own, in a row of an operator.
-fn meet_key(line: &Line, op: Op, x: i64, found: &mut Vec<u32>) -> Result<(), NoMemory>
+fn meet_key(line: &Line<i64>, op: Op, x: i64, found: &mut Vec<u32>) -> Result<(), NoMemory>
     ensures ok { OnOk result (found.new.items ≡ found.old.items ++ ids_with (key_meets op x) line.now) }
     ensures begins { KeepsBeginning found.old.items found.new.items }
 {
     match op {
-        Op::Any => line.meet(EQUAL, 0, found),
-        _ => line.meet(sides(op), x, found),
+        Op::Any => line.meet(EQUAL, &0, found),
+        _ => line.meet(sides(op), &x, found),
     }
 }
 
 /// Appends the ids of an int row whose test the number passes.
-pub(crate) fn meet_number(line: &Line, op: Op, x: i64, found: &mut Vec<u32>) -> Result<(), NoMemory>
+pub(crate) fn meet_number(
+    line: &Line<i64>,
+    op: Op,
+    x: i64,
+    found: &mut Vec<u32>,
+) -> Result<(), NoMemory>
     ensures ok { OnOk result (found.new.items ≡ found.old.items ++ ids_met (Value.Int x) (told (test_at Kind.Int op) line.now)) }
     ensures begins { KeepsBeginning found.old.items found.new.items }
 {
@@ -77,7 +82,12 @@ pub(crate) fn meet_number(line: &Line, op: Op, x: i64, found: &mut Vec<u32>) -> 
 }
 
 /// Appends the ids of a time row whose test the time passes.
-pub(crate) fn meet_time(line: &Line, op: Op, x: u64, found: &mut Vec<u32>) -> Result<(), NoMemory>
+pub(crate) fn meet_time(
+    line: &Line<i64>,
+    op: Op,
+    x: u64,
+    found: &mut Vec<u32>,
+) -> Result<(), NoMemory>
     ensures ok { OnOk result (found.new.items ≡ found.old.items ++ ids_met (Value.Time x) (told (test_at Kind.Time op) line.now)) }
     ensures begins { KeepsBeginning found.old.items found.new.items }
 {
@@ -85,14 +95,19 @@ pub(crate) fn meet_time(line: &Line, op: Op, x: u64, found: &mut Vec<u32>) -> Re
 }
 
 /// Appends the ids of a bool row whose test the truth value passes.
-pub(crate) fn meet_truth(line: &Line, op: Op, x: bool, found: &mut Vec<u32>) -> Result<(), NoMemory>
+pub(crate) fn meet_truth(
+    line: &Line<i64>,
+    op: Op,
+    x: bool,
+    found: &mut Vec<u32>,
+) -> Result<(), NoMemory>
     ensures ok { OnOk result (found.new.items ≡ found.old.items ++ ids_met (Value.Bool x) (told (test_at Kind.Bool op) line.now)) }
     ensures begins { KeepsBeginning found.old.items found.new.items }
 {
     match op {
-        Op::Any => line.meet(EQUAL, 0, found),
-        Op::Eq => line.meet(EQUAL, truth_key(x), found),
-        Op::Ne => line.meet(EQUAL, truth_key(!x), found),
+        Op::Any => line.meet(EQUAL, &0, found),
+        Op::Eq => line.meet(EQUAL, &truth_key(x), found),
+        Op::Ne => line.meet(EQUAL, &truth_key(!x), found),
         _ => Ok(()),
     }
 }

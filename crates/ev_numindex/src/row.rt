@@ -5,9 +5,9 @@ ghost use Rattle.ev_numindex.specs.Keys.{key_of};
 ghost use Rattle.std.specs.Option.{option_copied};
 ghost use Rattle.ev_numindex.specs.Rows.{IsRowOf, HasAt};
 
-use crate::line::Line;
 use crate::meet::{meet_number, meet_time, meet_truth, time_key, truth_key};
 use ev_constraint::Op;
+use ev_index::Line;
 use ev_memory::NoMemory;
 use ev_values::{Kind, Value};
 use std::alloc::Global;
@@ -17,7 +17,7 @@ use std::alloc::Global;
 pub struct Row {
     pub(crate) kind: Kind,
     pub(crate) op: Op,
-    pub(crate) line: Line,
+    pub(crate) line: Line<i64>,
 }
 
 /// The key of an operand.
@@ -63,7 +63,7 @@ impl Row {
     fn has(&self, key: &i64, id: u32) -> bool
         ensures { result ≡ nat_lt 0 (tally (λ x. same_key key.now x.0 && (x.1 == id)) self.now.line) }
     {
-        self.line.has(*key, id)
+        self.line.has(key, id)
     }
 
     /// Puts an id under a key.
@@ -81,7 +81,7 @@ impl Row {
         ensures there { result ≡ true → Same (row_pairs self.old) ((test_at self.old.kind self.old.op key.now, id) ∷ row_pairs self.new) }
         ensures none { result ≡ false → tally (λ x. same_key key.now x.0 && (x.1 == id)) self.old.line ≡ 0 }
     {
-        self.line.take(*key, id)
+        self.line.take(key, id)
     }
 
     /// Whether it is the row of the kind and the operator.

@@ -16,7 +16,7 @@ use Rattle.ev_textindex.specs.Kept.{pairs_in}
 use Rattle.ev_textindex.specs.Rows.{HasTextAt, rows_pairs, row_pairs}
 use Rattle.ev_textindex.proofs.Keys.{same-self}
 use Rattle.ev_textindex.proofs.Codes.{decode, encode}
-use Rattle.ev_textindex.proofs.Lines.{in-told}
+use Rattle.ev_index.proofs.Lines.{in-told}
 
 itself : (k : List ℕ) (id : ℕ) → (same_bytes k k && (id == id)) ≡ true
 itself k id = ap {B = Bool} (λ b. b && (id == id)) (same-self k) ∙ here id

@@ -5,7 +5,6 @@ pub mod Meets
 pub mod Said
 pub mod Appended
 pub mod Walked
-pub mod Lines
 pub mod Probes
 pub mod Beyond
 pub mod Parts

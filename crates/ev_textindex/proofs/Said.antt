@@ -6,7 +6,7 @@ use Rattle.ev_constraint.specs.declared.op.Op.{Op}
 use Rattle.ev_index.specs.Pairs.{Pair}
 use Rattle.ev_index.specs.Groups.{keyed, under}
 use Rattle.ev_textindex.specs.Keys.{test_at, bytes_of}
-use Rattle.ev_textindex.specs.Lines.{told}
+use Rattle.ev_index.specs.Lines.{told}
 use Rattle.ev_textindex.specs.Rows.{said}
 
 pub tests-of : (op : Op) (es : List (Vec ℕ Global × Vec ℕ Global)) → keyed (said op) es ≡ told (test_at op) (keyed bytes_of es)

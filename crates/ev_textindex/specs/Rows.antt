@@ -7,7 +7,7 @@ use Rattle.ev_index.specs.Groups.{flat}
 use Rattle.ev_textindex.specs.declared.row.Row.{Row}
 use Rattle.ev_textindex.specs.Keys.{test_at, same_bytes}
 use Rattle.ev_textindex.specs.Kept.{pairs_in}
-use Rattle.ev_textindex.specs.Lines.{told}
+use Rattle.ev_index.specs.Lines.{told}
 
 -- the row has the id under the key
 abbrev pub HasIdUnder : List ℕ → ℕ → Row → Type 0

@@ -34,7 +34,7 @@ impl Groups {
     ghost use Rattle.ev_index.specs.Pairs.{tally, Same, Appends, KeepsBeginning, ids_met};
     ghost use Rattle.ev_textindex.specs.Heads.{is_pattern_op};
     ghost use Rattle.ev_textindex.specs.Keys.{same_bytes, test_at};
-    ghost use Rattle.ev_textindex.specs.Lines.{told};
+    ghost use Rattle.ev_index.specs.Lines.{told};
 
     /// No ids. It takes no memory.
     pub(crate) fn new(alloc: Global) -> Groups

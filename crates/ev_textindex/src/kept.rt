@@ -3,9 +3,10 @@ ghost use Rattle.std.specs.Prelude.{◌≡◌};
 
 use crate::grouped::Groups;
 use crate::head::is_pattern;
-use crate::line::Line;
+use crate::key::TextKey;
 use crate::meet::meet_line;
 use ev_constraint::Op;
+use ev_index::Line;
 use ev_memory::NoMemory;
 use std::alloc::Global;
 
@@ -13,7 +14,7 @@ use std::alloc::Global;
 #[derive(Drop)]
 pub enum Kept {
     /// Of an operator that is no pattern: a text asks for keys that lie side by side.
-    Line(Line),
+    Line(Line<TextKey>),
     /// Of a pattern: a text asks for some keys that lie apart.
     Groups(Groups),
 }
@@ -24,7 +25,7 @@ impl Kept {
     ghost use Rattle.ev_index.specs.Pairs.{tally, Same, Appends, KeepsBeginning, ids_met};
     ghost use Rattle.ev_textindex.specs.Heads.{is_pattern_op};
     ghost use Rattle.ev_textindex.specs.Keys.{same_bytes, test_at};
-    ghost use Rattle.ev_textindex.specs.Lines.{told};
+    ghost use Rattle.ev_index.specs.Lines.{told};
     ghost use Rattle.ev_textindex.specs.Kept.{is_in_groups, pairs_in};
 
     /// No ids, for an operator. It takes no memory.
@@ -46,7 +47,7 @@ impl Kept {
         ensures way { is_in_groups self.new ≡ is_in_groups self.old }
     {
         match self {
-            Kept::Line(line) => line.put(alloc, key, id),
+            Kept::Line(line) => line.put(TextKey::with(alloc, key)?, id),
             Kept::Groups(groups) => groups.put(alloc, key, id),
         }
     }

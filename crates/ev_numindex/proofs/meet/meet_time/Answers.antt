@@ -5,8 +5,8 @@ use Rattle.std.proofs.lemmas.Int.{to_z-of_z}
 use Rattle.std.proofs.lemmas.Result.{on_ok_weaker}
 use Rattle.ev_values.specs.declared.value.Kind.TheVariants as kinds
 use Rattle.ev_values.specs.declared.value.Value.TheVariants as values
-use Rattle.ev_numindex.specs.Lines.{ids_with}
-use Rattle.ev_numindex.proofs.Lines.{met-told}
+use Rattle.ev_index.specs.Lines.{ids_with}
+use Rattle.ev_index.proofs.Lines.{met-told}
 use Rattle.ev_numindex.specs.Keys.{test_at, time_key, key_meets}
 use Rattle.ev_numindex.proofs.Meets.{time-meets}
 use Rattle.ev_numindex.proofs.meet.meet_time.Goals as goal

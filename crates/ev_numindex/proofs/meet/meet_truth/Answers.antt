@@ -1,29 +1,30 @@
-use Rattle.std.proofs.Common.{◌∙◌, sym, pos, not, arith, refl, append-nil}
+use Rattle.std.proofs.Common.{◌∙◌, sym, pos, not, arith, append-nil}
+use Rattle.std.specs.Ordering.{int_cmp}
 use Rattle.std.proofs.lemmas.Int.{to_z-of_z}
 use Rattle.ev_values.specs.declared.value.Kind.TheVariants as kinds
 use Rattle.ev_values.specs.declared.value.Value.TheVariants as values
 use Rattle.ev_constraint.specs.declared.op.Op.TheVariants as ops
 use Rattle.ev_numindex.specs.Keys.{test_at, truth_key}
-use Rattle.ev_numindex.specs.Lines.{on_side}
-use Rattle.ev_numindex.proofs.Lines.{met-told, none-met-told, alone, equal-alone}
-use Rattle.ev_numindex.proofs.Meets.{truth-any, truth-eq, truth-ne, truth-never}
+use Rattle.ev_index.specs.Lines.{on_side}
+use Rattle.ev_index.proofs.Lines.{met-told, none-met-told}
+use Rattle.ev_numindex.proofs.Meets.{alone, equal-alone, truth-any, truth-eq, truth-ne, truth-never}
 use Rattle.ev_numindex.proofs.meet.meet_truth.Goals as goal
 
 pub returns-in-Any-clause-ok : goal.returns-in-Any-clause-ok
 returns-in-Any-clause-ok c =
-    let e = met-told (values.Bool c.args.x) (test_at kinds.Bool ops.Any) (on_side alone (pos 0)) c.args.line.now (λ k. equal-alone alone refl refl refl (pos 0) k ∙ truth-any c.args.x k) in
+    let e = met-told (values.Bool c.args.x) (test_at kinds.Bool ops.Any) (λ k. on_side alone (int_cmp k (pos 0))) c.args.line.now (λ k. equal-alone (pos 0) k ∙ truth-any c.args.x k) in
     let o = c.in-Any.is in
     grind (arith, e, o, to_z-of_z, c.meet.ensures.ok)
 
 pub returns-in-Eq-clause-ok : goal.returns-in-Eq-clause-ok
 returns-in-Eq-clause-ok c =
-    let e = met-told (values.Bool c.args.x) (test_at kinds.Bool ops.Eq) (on_side alone (truth_key c.args.x)) c.args.line.now (λ k. equal-alone alone refl refl refl (truth_key c.args.x) k ∙ truth-eq c.args.x k) in
+    let e = met-told (values.Bool c.args.x) (test_at kinds.Bool ops.Eq) (λ k. on_side alone (int_cmp k (truth_key c.args.x))) c.args.line.now (λ k. equal-alone (truth_key c.args.x) k ∙ truth-eq c.args.x k) in
     let o = c.in-Eq.is in
     grind (arith, e, o, to_z-of_z, c.meet-in-Eq.ensures.ok)
 
 pub returns-in-Ne-clause-ok : goal.returns-in-Ne-clause-ok
 returns-in-Ne-clause-ok c =
-    let e = met-told (values.Bool c.args.x) (test_at kinds.Bool ops.Ne) (on_side alone (truth_key (not c.args.x))) c.args.line.now (λ k. equal-alone alone refl refl refl (truth_key (not c.args.x)) k ∙ truth-ne c.args.x k) in
+    let e = met-told (values.Bool c.args.x) (test_at kinds.Bool ops.Ne) (λ k. on_side alone (int_cmp k (truth_key (not c.args.x)))) c.args.line.now (λ k. equal-alone (truth_key (not c.args.x)) k ∙ truth-ne c.args.x k) in
     let o = c.in-Ne.is in
     grind (arith, e, o, to_z-of_z, c.meet-in-Ne.ensures.ok)
 

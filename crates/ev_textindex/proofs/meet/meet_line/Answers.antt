@@ -1,12 +1,14 @@
 use Rattle.std.proofs.Common.{◌∙◌, ◌++◌, [], ap, sym, true, false, ℕ, List}
+use Rattle.std.specs.Ordering.{nat_cmp}
+use Rattle.std.specs.Cmp.Lexicographic.{slice_cmp}
 use Rattle.std.proofs.lemmas.Result.{on_ok_weaker}
 use Rattle.ev_values.specs.declared.value.Value.TheVariants as values
 use Rattle.ev_constraint.specs.declared.op.Op.{Op}
 use Rattle.ev_constraint.specs.declared.op.Op.TheVariants as ops
 use Rattle.ev_index.specs.Pairs.{ids_met}
 use Rattle.ev_textindex.specs.Keys.{test_at}
-use Rattle.ev_textindex.specs.Lines.{told, on_side}
-use Rattle.ev_textindex.proofs.Lines.{met-told}
+use Rattle.ev_index.specs.Lines.{told, on_side}
+use Rattle.ev_index.proofs.Lines.{met-told}
 use Rattle.ev_textindex.proofs.Meets.{asked, any-key, equal-side}
 use Rattle.ev_textindex.proofs.meet.meet_line.Goals as goal
 
@@ -14,7 +16,7 @@ pub returns-in-Any-clause-ok : goal.returns-in-Any-clause-ok
 returns-in-Any-clause-ok c =
     let v = values.Str c.args.x.now in
     let line = c.args.line.now in
-    let met = met-told v (test_at ops.Any) (on_side (asked false true false) []) line (λ k. equal-side [] k ∙ any-key c.args.x.now k) in
+    let met = met-told v (test_at ops.Any) (λ k. on_side (asked false true false) (slice_cmp nat_cmp k [])) line (λ k. equal-side [] k ∙ any-key c.args.x.now k) in
     let all = met ∙ ap {B = List ℕ} (λ (op : Op). ids_met v (told (test_at op) line)) (sym c.in-Any.is) in
     on_ok_weaker c.meet.result (λ h. h ∙ ap (λ ids. c.args.found.now.items ++ ids) all) c.meet.ensures.ok
 
@@ -22,5 +24,5 @@ pub returns-in_default-clause-ok : goal.returns-in_default-clause-ok
 returns-in_default-clause-ok c =
     let v = values.Str c.args.x.now in
     let line = c.args.line.now in
-    let met = met-told v (test_at c.args.op) (on_side c.sides.result c.args.x.now) line (c.sides.ensures c.requires c.in_default.not-Any c.args.x.now) in
+    let met = met-told v (test_at c.args.op) (λ k. on_side c.sides.result (slice_cmp nat_cmp k c.args.x.now)) line (c.sides.ensures c.requires c.in_default.not-Any c.args.x.now) in
     on_ok_weaker c.meet-in_default.result (λ h. h ∙ ap (λ ids. c.args.found.now.items ++ ids) met) c.meet-in_default.ensures.ok

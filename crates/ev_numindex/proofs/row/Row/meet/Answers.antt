@@ -1,6 +1,6 @@
 use Rattle.std.proofs.Common.{sym, append-nil}
 use Rattle.ev_numindex.specs.Keys.{test_at}
-use Rattle.ev_numindex.proofs.Lines.{none-met-told}
+use Rattle.ev_index.proofs.Lines.{none-met-told}
 use Rattle.ev_numindex.proofs.Meets.{other-truth, other-number, other-time, other-text}
 use Rattle.ev_numindex.proofs.row.Row.meet.Goals as goal
 

@@ -3,8 +3,8 @@ use Rattle.std.specs.Int.{w64}
 use Rattle.std.proofs.lemmas.Int.{to_z-of_z}
 use Rattle.std.proofs.lemmas.Result.{on_ok_weaker, on_err_weaker}
 use Rattle.ev_numindex.specs.Keys.{test_at}
-use Rattle.ev_numindex.specs.Lines.{told}
-use Rattle.ev_numindex.proofs.Lines.{tally-told}
+use Rattle.ev_index.specs.Lines.{told}
+use Rattle.ev_index.proofs.Lines.{tally-told}
 use Rattle.ev_numindex.proofs.row.Row.put.Goals as goal
 
 pub returns-clause-added : goal.returns-clause-added

@@ -3,7 +3,7 @@ use Rattle.std.specs.Int.{w64}
 use Rattle.std.proofs.lemmas.Int.{to_z-of_z}
 use Rattle.ev_index.specs.Pairs.{tally}
 use Rattle.ev_numindex.specs.Keys.{test_at}
-use Rattle.ev_numindex.proofs.Lines.{tally-told}
+use Rattle.ev_index.proofs.Lines.{tally-told}
 use Rattle.ev_numindex.proofs.row.Row.with.Goals as goal
 
 pub returns-clause-one : goal.returns-clause-one

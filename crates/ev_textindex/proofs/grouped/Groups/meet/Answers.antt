@@ -4,7 +4,7 @@ use Rattle.ev_values.specs.declared.value.Value.TheVariants as values
 use Rattle.ev_index.specs.Pairs.{ids_met}
 use Rattle.ev_index.specs.Groups.{keyed}
 use Rattle.ev_textindex.specs.Keys.{test_at}
-use Rattle.ev_textindex.specs.Lines.{told}
+use Rattle.ev_index.specs.Lines.{told}
 use Rattle.ev_textindex.specs.Rows.{said}
 use Rattle.ev_textindex.proofs.Appended.{those-appended}
 use Rattle.ev_textindex.proofs.Said.{tests-of}

@@ -5,7 +5,7 @@ use Rattle.ev_index.specs.Pairs.{ids_met}
 use Rattle.ev_textindex.specs.declared.kept.Kept.{Kept}
 use Rattle.ev_textindex.specs.Keys.{test_at}
 use Rattle.ev_textindex.specs.Kept.{pairs_in}
-use Rattle.ev_textindex.specs.Lines.{told}
+use Rattle.ev_index.specs.Lines.{told}
 use Rattle.ev_textindex.proofs.Appended.{appended, those-appended}
 use Rattle.ev_textindex.proofs.kept.Kept.meet.Goals as goal
 

@@ -1,9 +1,9 @@
 use Rattle.std.proofs.Common.{ap, arith}
 use Rattle.std.proofs.lemmas.Result.{on_ok_weaker, on_err_weaker}
 use Rattle.ev_textindex.specs.Keys.{test_at}
-use Rattle.ev_textindex.specs.Lines.{told}
+use Rattle.ev_index.specs.Lines.{told}
 use Rattle.ev_textindex.specs.Kept.{pairs_in}
-use Rattle.ev_textindex.proofs.Lines.{tally-told}
+use Rattle.ev_index.proofs.Lines.{tally-told}
 use Rattle.ev_textindex.proofs.row.Row.put.Goals as goal
 
 pub returns-clause-added : goal.returns-clause-added

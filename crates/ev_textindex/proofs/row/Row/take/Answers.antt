@@ -1,7 +1,7 @@
 use Rattle.std.proofs.Common.{arith}
 use Rattle.ev_textindex.specs.Keys.{test_at}
 use Rattle.ev_textindex.specs.Kept.{pairs_in}
-use Rattle.ev_textindex.proofs.Lines.{tally-told}
+use Rattle.ev_index.proofs.Lines.{tally-told}
 use Rattle.ev_textindex.proofs.row.Row.take.Goals as goal
 
 pub returns-clause-there : goal.returns-clause-there

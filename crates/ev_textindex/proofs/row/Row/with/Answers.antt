@@ -2,7 +2,7 @@ use Rattle.std.proofs.Common.{◌≡◌, ap, arith, ℕ, List}
 use Rattle.ev_index.specs.Pairs.{tally}
 use Rattle.ev_textindex.specs.Keys.{test_at}
 use Rattle.ev_textindex.specs.Kept.{pairs_in}
-use Rattle.ev_textindex.proofs.Lines.{tally-told}
+use Rattle.ev_index.proofs.Lines.{tally-told}
 use Rattle.ev_textindex.proofs.row.Row.with.Goals as goal
 
 pub returns : goal.returns
