@@ -1,6 +1,6 @@
 -- What the places of a table keep, through the steps of a change.
 use Rattle.std.proofs.Common.{◌≡◌, ◌≢◌, ◌⊎◌, inl, inr, ◌+◌, ◌^◌, ◌≤◌, ◌<◌, ◌∙◌, refl, sym, ap, subst, arith, ℕ, List, [], ◌∷◌, ◌++◌, length, zero, suc, Some, None, IsSome, Option, IfSome, IfNone, Result, Ok, Err, IfOk, IfErr, Bool, true, false, ◌↔◌}
-use Rattle.std.specs.Prelude.{is_ok, IsTrue}
+use Rattle.std.specs.Prelude.{is_ok, is_some, IsTrue}
 use Rattle.std.proofs.Math.ListN.{set}
 use Rattle.std.proofs.lemmas.Bool.{cases_eq}
 use Rattle.std.proofs.lemmas.List.{length-set, get_or-set_same, get_or-set_other}
@@ -162,6 +162,10 @@ taken-back between put new id e pair (Some j) is mine l vacant absent some none 
 pub seek-tells : (slots : List Slot) (sorted : List ℕ) (pair : HeldFilter) (r : Result ℕ ℕ) (b : Bool) → b ≡ is_ok r → IfOk r (λ i. IsHere slots sorted pair i) → IfErr r (λ i. IsPairGap slots sorted pair i) → IsTrue b ↔ Contains (held slots) pair
 seek-tells slots sorted pair (Ok i) b e ok err = ((λ h. here-held slots sorted pair i ok), λ h. e)
 seek-tells slots sorted pair (Err i) b e ok err = ((λ h. let f : true ≡ false = sym h ∙ e in absurd cc), λ h. absurd (err.absent h))
+
+pub find-tells : (slots : List Slot) (pair : HeldFilter) (r : Option ℕ) → IfSome r (λ id. HasPair (slot_at slots id) pair) → IfNone r (Contains (held slots) pair → ⊥) → IsTrue (is_some r) ↔ Contains (held slots) pair
+find-tells slots pair None some none = ((λ h. let f : true ≡ false = sym h in absurd cc), λ h. absurd (none h))
+find-tells slots pair (Some id) some none = ((λ h. held-has slots id pair some), λ h. refl)
 
 -- the same entries at the same places
 pub gap-kept : (old new : List Slot) (sorted : List ℕ) (pair : HeldFilter) (i : ℕ) → KeepsPlaces old new → IsPairGap old sorted pair i → IsPairGap new sorted pair i

@@ -74,6 +74,17 @@ impl Places {
         seek(&self.slots, &self.sorted, iface, filter).is_ok()
     }
 
+    /// The place of a pair, if it stands at some place.
+    pub(crate) fn find(&self, iface: u32, filter: &Filter) -> Option<u32>
+        ensures some { IfSome result (λ id. HasPair (slot_at self.now id) (iface, filter.now)) }
+        ensures none { IfNone result (Contains (held self.now) (iface, filter.now) → ⊥) }
+    {
+        match seek(&self.slots, &self.sorted, iface, filter) {
+            Ok(i) => Some(self.sorted[i]),
+            Err(_) => None,
+        }
+    }
+
     /// Puts a pair that isn't there at a free place; the place.
     pub(crate) fn put(&mut self, iface: u32, place: u32, filter: Filter) -> Result<u32, NoMemory>
         requires { Contains (held self.old) (iface, filter) → ⊥ }

@@ -98,7 +98,7 @@ fn matched(alloc: Global, slots: &[Option<Entry>], notice: &Notice) -> Result<Ve
 }
 
 impl Table {
-    ghost use Rattle.std.specs.Prelude.{◌↔◌, IsTrue};
+    ghost use Rattle.std.specs.Prelude.{◌↔◌, IsTrue, is_some};
     ghost use Rattle.std.specs.List.{Contains};
     ghost use Rattle.ev_counting.specs.Table.{IsApplied, IsRouteOf};
     ghost use Rattle.ev_counting.specs.Changes.{IsIdleChange, IsOnce};
@@ -156,6 +156,13 @@ impl Table {
         ensures { IsTrue result ↔ Contains self.now (iface, filter.now) }
     {
         self.places.holds(iface, filter)
+    }
+
+    /// The number of a pair's filter: its place, if the pair is there.
+    pub(crate) fn number(&self, iface: u32, filter: &Filter) -> Option<u32>
+        ensures { IsTrue (is_some result) ↔ Contains self.now (iface, filter.now) }
+    {
+        self.places.find(iface, filter)
     }
 
     /// Adds a pair that isn't there.

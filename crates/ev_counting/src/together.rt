@@ -45,22 +45,7 @@ fn note_taken(
     Ok(())
 }
 
-/// Reverses a list whose first pair is greater than its last one. Pairs are taken from the end of the list, and a table
-/// that loses its greatest pairs first moves the fewest others.
-fn put_greatest_last(pairs: &mut Vec<Pair>)
-    ensures { (x : HeldFilter) → Contains pairs.new.items x ↔ Contains pairs.old.items x }
-{
-    let falls = match (pairs.first(), pairs.last()) {
-        (Some(first), Some(last)) => last < first,
-        _ => false,
-    };
-    if falls {
-        pairs.reverse();
-    }
-}
-
-/// The pairs whose last change takes them, in the order of those changes or the other way round, so that pairs that rise
-/// or fall end with the greatest. The changes are gone through from the last one on.
+/// The pairs whose last change takes them. The changes are gone through from the last one on.
 fn withdrawn(alloc: Global, changes: &[Change]) -> Result<Vec<Pair>, NoMemory>
     ensures { IfOk result (λ pairs. (x : HeldFilter) → Contains pairs.items x ↔ IsWithdrawn changes.now x) }
 {
@@ -73,7 +58,6 @@ fn withdrawn(alloc: Global, changes: &[Change]) -> Result<Vec<Pair>, NoMemory>
         note_taken(alloc, change, last, &mut taken)?;
         left = earlier;
     }
-    put_greatest_last(&mut taken);
     Ok(taken)
 }
 
@@ -94,12 +78,13 @@ impl Table {
         if changes.is_empty() {
             return Ok(());
         }
-        let withdrawn = withdrawn(self.alloc, changes)?;
+        let mut withdrawn = withdrawn(self.alloc, changes)?;
         let mut fresh = Vec::new(self.alloc);
         if let Err(fault) = self.enter_all(changes, &mut fresh) {
             self.take_back(fresh);
             return Err(fault);
         }
+        self.put_greatest_last(&mut withdrawn);
         self.take_back(withdrawn);
         Ok(())
     }
@@ -136,6 +121,22 @@ impl Table {
         self.enter(iface, filter)?;
         fresh.push_reserved((iface, copy));
         Ok(())
+    }
+
+    /// Reverses a list whose first filter has a greater number in the table than its last one. Pairs are taken from the end
+    /// of the list, and where the greatest number goes first, the fewest others are moved.
+    fn put_greatest_last(&self, pairs: &mut Vec<Pair>)
+        ensures { (x : HeldFilter) → Contains pairs.new.items x ↔ Contains pairs.old.items x }
+    {
+        let falls = match (pairs.first(), pairs.last()) {
+            (Some(first), Some(last)) => {
+                self.number(last.0, &last.1) < self.number(first.0, &first.1)
+            }
+            _ => false,
+        };
+        if falls {
+            pairs.reverse();
+        }
     }
 
     /// Takes pairs away, the last of them first.

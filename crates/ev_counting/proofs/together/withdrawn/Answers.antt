@@ -13,8 +13,6 @@ loop-change-preserved c =
     (λ x. put-in pair x (has x) (next x) (c.in_ok-last.ensures.updates.0 x)) c.in_ok-note_taken.ensures.last c.in_ok-note_taken.ensures.again
 
 pub returns : goal.returns
-returns c = λ x.
+returns c =
     let has : HeldFilter → Bool = λ y. contains pair_cmp c.loop-change.changed y in
-    let all = gathers-end c.args.changes.now c.loop-change.left.now has c.loop-change.taken.items c.in_default.ensures.cases c.loop-change.invariant x in
-    let same = c.put_greatest_last.ensures x in
-    ((λ h. all.0 (same.0 h)), λ h. same.1 (all.1 h))
+    gathers-end c.args.changes.now c.loop-change.left.now has c.loop-change.taken.items c.in_default.ensures.cases c.loop-change.invariant

@@ -1,5 +1,5 @@
 use Rattle.std.proofs.lemmas.List.Sorted.{Contains-permutation, IsPermutation-sym}
-use Rattle.ev_counting.proofs.together.put_greatest_last.Goals as goal
+use Rattle.ev_counting.proofs.table.Table.put_greatest_last.Goals as goal
 
 pub returns-then-falls : goal.returns-then-falls
 returns-then-falls c = λ x.
