@@ -1,16 +1,17 @@
 -- Counting the hits of a notice, one after another.
-use Rattle.std.proofs.Common.{◌≡◌, inl, inr, ◌+◌, ◌-◌, ◌≤◌, ◌<◌, ◌==◌, ◌∙◌, refl, sym, ap, subst, arith, ℕ, Bool, true, false, cond, List, [], ◌∷◌, ◌++◌, length, take, get_or, append_assoc, append-nil}
+use Rattle.std.proofs.Common.{◌≡◌, inl, inr, ◌+◌, ◌-◌, ◌≤◌, ◌<◌, ◌==◌, ◌∙◌, refl, sym, ap, subst, arith, ℕ, Bool, true, false, cond, List, [], ◌∷◌, ◌++◌, length, take, get_or, append_assoc, append-nil, zero, suc}
 use Rattle.std.proofs.lemmas.Bool.Decides.{nat_tests}
 use Rattle.std.proofs.lemmas.List.{get_or-set_same, get_or-set_other, length-set, length_push}
 use Rattle.std.specs.List.{Contains}
 use Rattle.std.proofs.lemmas.List.Elements.{Contains-push, Contains-push_cases, Contains-append_left}
 use Rattle.ev_index.specs.Pairs.{tally}
-use Rattle.ev_index.proofs.Tallies.{tally-append}
+use Rattle.ev_index.proofs.Tallies.{tally-append, tally-more}
 use Rattle.ev_counting.specs.declared.goal.Goal.{Goal}
 use Rattle.ev_counting.specs.Slots.{goal_at}
 use Rattle.ev_counting.specs.Counting.{Counts, count_at, is_marked, counted, marked, IsOfRounds, IsFreshRound, IsFull, AreGoals, AreFull, AreCounted, AreCountedMore, IsUnderway}
 use Rattle.ev_counting.proofs.Rounds.{same-round, rounds-counted, rounds-marked, tally-set, all-first}
 use Rattle.ev_counting.proofs.Sound.{differ}
+use Rattle.ev_counting.proofs.Order.{trichotomy}
 
 -- how many hits name the filter
 abbrev pub hits_of : ℕ → List ℕ → ℕ
@@ -50,7 +51,8 @@ pub counted-none : (goals : List Goal) (ifaces : List ℕ) (c : Counts) → IsFr
 counted-none goals ifaces c f = record {
   filters_fit = f.filters_fit;
   ifaces_fit = f.ifaces_fit;
-  so_often = λ k h m. (f.counts_none k, h);
+  so_often = f.counts_none;
+  full = λ k h e. absurd (omega (arith, h, e));
   told = λ k h m. absurd (differ (is_marked c (goal_at goals k).place) m (f.marks_none (goal_at goals k).place));
   sound = λ iface h. absurd (omega (arith, h.1));
   no_more = omega arith;
@@ -66,21 +68,7 @@ module _ (goals : List Goal) (ifaces hits : List ℕ) (c : Counts) (matched : Li
   sound-more : (iface : ℕ) → Contains matched iface → IsFull goals ifaces (hits ++ id ∷ []) iface
   sound-more iface h = full-more goals ifaces hits (id ∷ []) iface (s.sound iface h)
 
-  -- its interface is matched already
-  counted-passed : is_marked c (place_at id) ≡ true → AreCounted goals ifaces (hits ++ id ∷ []) c matched
-  counted-passed y = record {
-    filters_fit = s.filters_fit;
-    ifaces_fit = s.ifaces_fit;
-    so_often = λ k h m. (
-        let o = hit-other k id hits (λ g. differ (is_marked c (place_at id)) y (ap {B = Bool} (is_marked c) (same-place k g) ∙ m)) in
-        let t = s.so_often k h m in
-        (omega (arith, o, t.0), omega (arith, o, t.1)));
-    told = s.told;
-    sound = sound-more;
-    no_more = s.no_more;
-  }
-
-  module _ (room : id < length c.counts) (some : 0 < (goal_at goals id).constraints) (unmarked : is_marked c (place_at id) ≡ false) where
+  module _ (room : id < length c.counts) (some : 0 < (goal_at goals id).constraints) where
     at-same : (k : ℕ) → id ≡ k → count_at (counted c id) k ≡ count_at c k + 1
     at-same k g =
         let a = get_or-set_same c.counts id (c.base + (count_at c id + 1)) 0 room in
@@ -90,50 +78,49 @@ module _ (goals : List Goal) (ifaces hits : List ℕ) (c : Counts) (matched : Li
     at-other : (k : ℕ) → (id ≡ k → ⊥) → count_at (counted c id) k ≡ count_at c k
     at-other k n = ap {B = ℕ} (λ v. v - c.base) (get_or-set_other c.counts id k (c.base + (count_at c id + 1)) 0 (λ g. n (sym g)))
 
-    -- it is counted, and has more constraints than that
-    counted-part : count_at c id + 1 < (goal_at goals id).constraints → AreCounted goals ifaces (hits ++ id ∷ []) (counted c id) matched
-    counted-part few = record {
+    counts-more : (k : ℕ) → count_at (counted c id) k ≡ hits_of k (hits ++ id ∷ [])
+    counts-more k = go (id == k) refl
+      where
+        go : (b : Bool) → (id == k) ≡ b → count_at (counted c id) k ≡ hits_of k (hits ++ id ∷ [])
+        go true w = let g = same-of id k w in omega (arith, s.so_often k, hit-same k id hits g, at-same k g)
+        go false w = let n = other-of id k w in omega (arith, s.so_often k, hit-other k id hits n, at-other k n)
+
+    -- this hit does not make it full, or its interface is matched already
+    counted-part : (count_at c id + 1 ≡ (goal_at goals id).constraints → is_marked c (place_at id) ≡ true) → AreCounted goals ifaces (hits ++ id ∷ []) (counted c id) matched
+    counted-part already = record {
       filters_fit = omega (arith, s.filters_fit, length-set c.counts id (c.base + (count_at c id + 1)));
       ifaces_fit = s.ifaces_fit;
-      so_often = λ k h m. go k h m (id == k) refl;
+      so_often = counts-more;
+      full = λ k h e. go k h e (id == k) refl;
       told = s.told;
       sound = sound-more;
       no_more = s.no_more;
     }
       where
-        go : (k : ℕ) → 0 < (goal_at goals k).constraints → is_marked c (place_at k) ≡ false → (b : Bool) → (id == k) ≡ b → (count_at (counted c id) k ≡ hits_of k (hits ++ id ∷ [])) × (hits_of k (hits ++ id ∷ []) < (goal_at goals k).constraints)
-        go k h m true w =
-            let g = same-of id k w in
-            let t = s.so_often k h m in
-            let o = hit-same k id hits g in
-            let a = at-same k g in
-            let f = ap {B = ℕ} (λ j. count_at c j + 1) g in
-            let z = ap {B = ℕ} (λ j. (goal_at goals j).constraints) g in
-            (omega (arith, t.0, o, a), omega (arith, t.0, o, few, f, z))
-        go k h m false w =
-            let n = other-of id k w in
-            let t = s.so_often k h m in
-            let o = hit-other k id hits n in
-            let a = at-other k n in
-            (omega (arith, t.0, o, a), omega (arith, o, t.1))
+        own : (goal_at goals id).constraints ≤ hits_of id (hits ++ id ∷ []) → is_marked c (place_at id) ≡ true
+        own e = elim (trichotomy (hits_of id hits) (goal_at goals id).constraints) [
+          | inl l ↦ already (omega (arith, l, e, hit-same id id hits refl, s.so_often id))
+          | inr (inl q) ↦ s.full id some (omega (arith, q))
+          | inr (inr q) ↦ s.full id some (omega (arith, q))
+        ]
 
-    -- it is counted as often as it has constraints
-    counted-full : place_at id < length ifaces → count_at c id + 1 ≡ (goal_at goals id).constraints → AreCounted goals ifaces (hits ++ id ∷ []) (marked (counted c id) (place_at id)) (matched ++ get_or ifaces (place_at id) 0 ∷ [])
-    counted-full within full = record {
+        go : (k : ℕ) → 0 < (goal_at goals k).constraints → (goal_at goals k).constraints ≤ hits_of k (hits ++ id ∷ []) → (b : Bool) → (id == k) ≡ b → is_marked c (place_at k) ≡ true
+        go k h e true w =
+            let g = same-of id k w in
+            subst (λ (j : ℕ). is_marked c (place_at j) ≡ true) g (own (subst (λ (j : ℕ). (goal_at goals j).constraints ≤ hits_of j (hits ++ id ∷ [])) (sym g) e))
+        go k h e false w = s.full k h (omega (arith, e, hit-other k id hits (other-of id k w)))
+
+    -- it is counted as often as it has constraints, and its interface is not matched yet
+    counted-full : place_at id < length ifaces → count_at c id + 1 ≡ (goal_at goals id).constraints → is_marked c (place_at id) ≡ false → AreCounted goals ifaces (hits ++ id ∷ []) (marked (counted c id) (place_at id)) (matched ++ get_or ifaces (place_at id) 0 ∷ [])
+    counted-full within enough unmarked = record {
       filters_fit = omega (arith, s.filters_fit, length-set c.counts id (c.base + (count_at c id + 1)));
       ifaces_fit = omega (arith, s.ifaces_fit, length-set c.marks (place_at id) c.base);
-      so_often = λ k h m. (
-          let other : place_at id ≡ place_at k → ⊥ = λ g. differ (is_marked (marked c (place_at id)) (place_at k)) (now-marked (place_at k) g) m in
-          let before : is_marked c (place_at k) ≡ false = sym (still (place_at k) other) ∙ m in
-          let n : id ≡ k → ⊥ = λ g. other (same-place k g) in
-          let t = s.so_often k h before in
-          let o = hit-other k id hits n in
-          let a = at-other k n in
-          (omega (arith, t.0, o, a), omega (arith, o, t.1)));
+      so_often = counts-more;
+      full = λ k h e. fills k h e (place_at id == place_at k) refl;
       told = λ k h m. tells k h m (place_at id == place_at k) refl;
       sound = λ iface h. elim (Contains-push_cases matched (get_or ifaces (place_at id) 0) iface h) [
         | inl g ↦ sound-more iface g
-        | inr g ↦ record { id = id; some = some; mine = g; full = enough }
+        | inr g ↦ record { id = id; some = some; mine = g; full = omega (arith, enough, s.so_often id, hit-same id id hits refl) }
       ];
       no_more = omega (arith, s.no_more, length_push matched (get_or ifaces (place_at id) 0), one-more);
     }
@@ -147,20 +134,15 @@ module _ (goals : List Goal) (ifaces hits : List ℕ) (c : Counts) (matched : Li
         one-more : tally (λ mark. mark == c.base) (take (length ifaces) (marked (counted c id) (place_at id)).marks) ≡ tally (λ mark. mark == c.base) (take (length ifaces) c.marks) + 1
         one-more = tally-set (λ mark. mark == c.base) c.marks (length ifaces) (place_at id) c.base within (omega (arith, within, s.ifaces_fit)) unmarked (same-round c.base)
 
-        enough : (goal_at goals id).constraints ≤ tally (λ x. x == id) (hits ++ id ∷ [])
-        enough = omega (arith, full, (s.so_often id some unmarked).0, hit-same id id hits refl)
+        fills : (k : ℕ) → 0 < (goal_at goals k).constraints → (goal_at goals k).constraints ≤ hits_of k (hits ++ id ∷ []) → (b : Bool) → (place_at id == place_at k) ≡ b → is_marked (marked c (place_at id)) (place_at k) ≡ true
+        fills k h e true w = now-marked (place_at k) (same-of (place_at id) (place_at k) w)
+        fills k h e false w =
+            let n = other-of (place_at id) (place_at k) w in
+            still (place_at k) n ∙ s.full k h (omega (arith, e, hit-other k id hits (λ g. n (same-place k g))))
 
         tells : (k : ℕ) → 0 < (goal_at goals k).constraints → is_marked (marked c (place_at id)) (place_at k) ≡ true → (b : Bool) → (place_at id == place_at k) ≡ b → Contains (matched ++ get_or ifaces (place_at id) 0 ∷ []) (get_or ifaces (place_at k) 0)
         tells k h m true w = subst (Contains (matched ++ get_or ifaces (place_at id) 0 ∷ [])) (ap {B = ℕ} (λ p. get_or ifaces p 0) (same-of (place_at id) (place_at k) w)) (Contains-push matched (get_or ifaces (place_at id) 0))
         tells k h m false w = Contains-append_left matched (get_or ifaces (place_at id) 0 ∷ []) (get_or ifaces (place_at k) 0) (s.told k h (sym (still (place_at k) (other-of (place_at id) (place_at k) w)) ∙ m))
-
-  -- a hit that does not make its filter's interface matched
-  counted-less : (new : Counts) → id < length c.counts → 0 < (goal_at goals id).constraints → (is_marked c (place_at id) ≡ true → new ≡ c) → (is_marked c (place_at id) ≡ false → (new ≡ counted c id) × (count_at c id + 1 < (goal_at goals id).constraints)) → AreCounted goals ifaces (hits ++ id ∷ []) new matched
-  counted-less new room some passed part = go (is_marked c (place_at id)) refl
-    where
-      go : (b : Bool) → is_marked c (place_at id) ≡ b → AreCounted goals ifaces (hits ++ id ∷ []) new matched
-      go true h = subst (λ (x : Counts). AreCounted goals ifaces (hits ++ id ∷ []) x matched) (sym (passed h)) (counted-passed h)
-      go false h = subst (λ (x : Counts). AreCounted goals ifaces (hits ++ id ∷ []) x matched) (sym (part h).0) (counted-part room some h (part h).1)
 
 -- what counting the first of the found hits makes of what there was before
 pub record Counting (goals : List Goal) (ifaces first : List ℕ) (old : Counts) (was : List ℕ) (c : Counts) (matched : List ℕ) : Type 0 where
@@ -177,33 +159,43 @@ counting-start goals ifaces found c matched rounds = record {
   more = λ hits h. subst (λ (xs : List ℕ). AreCounted goals ifaces xs c matched) (sym (ap {B = List ℕ} (λ (xs : List ℕ). hits ++ xs) (take-none found) ∙ append-nil hits)) h;
 }
 
--- the filters whose interface isn't marked have fewer hits than constraints
-pub counting-few : (goals : List Goal) (ifaces first : List ℕ) (old : Counts) (was : List ℕ) (c : Counts) (matched : List ℕ) (k : ℕ) → IsUnderway goals ifaces old was → Counting goals ifaces first old was c matched → 0 < (goal_at goals k).constraints → is_marked c (goal_at goals k).place ≡ false → count_at c k < (goal_at goals k).constraints
-counting-few goals ifaces first old was c matched k u s some unmarked = let t = (s.more u.0 u.1).so_often k some unmarked in omega (arith, t.0, t.1)
+-- of some hits the first ones, and the next
+tally-first : (p : ℕ → Bool) (n : ℕ) (xs : List ℕ) → tally p (take n xs) ≤ tally p xs
+tally-first p zero xs = omega (arith, ap {B = ℕ} (tally p) (take-none xs))
+tally-first p (suc n) [] = omega arith
+tally-first p (suc n) (x ∷ xs) = omega (arith, tally-first p n xs)
 
-pub counting-fits : (goals : List Goal) (ifaces first : List ℕ) (old : Counts) (was : List ℕ) (c : Counts) (matched : List ℕ) → IsUnderway goals ifaces old was → Counting goals ifaces first old was c matched → (length goals ≤ length c.counts) × (length ifaces ≤ length c.marks)
-counting-fits goals ifaces first old was c matched u s = let t = s.more u.0 u.1 in (t.filters_fit, t.ifaces_fit)
+-- a filter that is hit next was hit less often than it has constraints
+pub counting-few : (goals : List Goal) (ifaces found : List ℕ) (i : ℕ) (old : Counts) (was : List ℕ) (c : Counts) (matched : List ℕ) → IsUnderway goals ifaces found old was → Counting goals ifaces (take i found) old was c matched → i < length found → (goal_at goals (get_or found i 0)).constraints ≤ 16 → count_at c (get_or found i 0) < 16
+counting-few goals ifaces found i old was c matched u s l short =
+    let id = get_or found i 0 in
+    let q = λ (x : ℕ). x == id in
+    let a = (s.more u.0 u.1).so_often id in
+    let b = tally-append q u.0 (take i found) in
+    let d = tally-append q u.0 found in
+    let e = tally-more q found i 0 l in
+    let f = ap {B = ℕ} (λ b. cond b 1 0) (same-round id) in
+    omega (arith, a, b, d, e, f, tally-first q (i + 1) found, u.2 id, short)
+
+pub counting-fits : (goals : List Goal) (ifaces found first : List ℕ) (old : Counts) (was : List ℕ) (c : Counts) (matched : List ℕ) → IsUnderway goals ifaces found old was → Counting goals ifaces first old was c matched → (length goals ≤ length c.counts) × (length ifaces ≤ length c.marks)
+counting-fits goals ifaces found first old was c matched u s = let t = s.more u.0 u.1 in (t.filters_fit, t.ifaces_fit)
 
 -- one hit more behind the first ones
 behind : (goals : List Goal) (ifaces hits first more : List ℕ) (id : ℕ) (c : Counts) (matched : List ℕ) → more ≡ first ++ id ∷ [] → AreCounted goals ifaces ((hits ++ first) ++ id ∷ []) c matched → AreCounted goals ifaces (hits ++ more) c matched
 behind goals ifaces hits first more id c matched e h = subst (λ (xs : List ℕ). AreCounted goals ifaces xs c matched) (append_assoc hits first (id ∷ []) ∙ sym (ap {B = List ℕ} (λ (xs : List ℕ). hits ++ xs) e)) h
 
-module _ (goals : List Goal) (ifaces first more : List ℕ) (old : Counts) (was : List ℕ) (c : Counts) (matched : List ℕ) (id : ℕ) (next : more ≡ first ++ id ∷ []) (short : (goal_at goals id).constraints ≤ 16) (s : Counting goals ifaces first old was c matched) (room : id < length c.counts) (some : 0 < (goal_at goals id).constraints) where
-  pub counting-full : is_marked c (goal_at goals id).place ≡ false → (goal_at goals id).place < length ifaces → count_at c id + 1 ≡ (goal_at goals id).constraints → Counting goals ifaces more old was (marked (counted c id) (goal_at goals id).place) (matched ++ get_or ifaces (goal_at goals id).place 0 ∷ [])
-  counting-full unmarked within full = record {
-    rounds = rounds-marked (counted c id) (goal_at goals id).place (rounds-counted c id (omega (arith, full, short)) s.rounds);
-    more = λ hits h. behind goals ifaces hits first more id (marked (counted c id) (goal_at goals id).place) (matched ++ get_or ifaces (goal_at goals id).place 0 ∷ []) next (counted-full goals ifaces (hits ++ first) c matched id (s.more hits h) room some unmarked within full);
+module _ (goals : List Goal) (ifaces first more : List ℕ) (old : Counts) (was : List ℕ) (c : Counts) (matched : List ℕ) (id : ℕ) (next : more ≡ first ++ id ∷ []) (few : count_at c id < 16) (s : Counting goals ifaces first old was c matched) (room : id < length c.counts) (some : 0 < (goal_at goals id).constraints) where
+  pub counting-part : (count_at c id + 1 ≡ (goal_at goals id).constraints → is_marked c (goal_at goals id).place ≡ true) → Counting goals ifaces more old was (counted c id) matched
+  counting-part already = record {
+    rounds = rounds-counted c id few s.rounds;
+    more = λ hits h. behind goals ifaces hits first more id (counted c id) matched next (counted-part goals ifaces (hits ++ first) c matched id (s.more hits h) room some already);
   }
 
-  pub counting-less : (new : Counts) → (is_marked c (goal_at goals id).place ≡ true → new ≡ c) → (is_marked c (goal_at goals id).place ≡ false → (new ≡ counted c id) × (count_at c id + 1 < (goal_at goals id).constraints)) → Counting goals ifaces more old was new matched
-  counting-less new passed part = record {
-    rounds = go (is_marked c (goal_at goals id).place) refl;
-    more = λ hits h. behind goals ifaces hits first more id new matched next (counted-less goals ifaces (hits ++ first) c matched id (s.more hits h) new room some passed part);
+  pub counting-full : (goal_at goals id).place < length ifaces → count_at c id + 1 ≡ (goal_at goals id).constraints → is_marked c (goal_at goals id).place ≡ false → Counting goals ifaces more old was (marked (counted c id) (goal_at goals id).place) (matched ++ get_or ifaces (goal_at goals id).place 0 ∷ [])
+  counting-full within full unmarked = record {
+    rounds = rounds-marked (counted c id) (goal_at goals id).place (rounds-counted c id few s.rounds);
+    more = λ hits h. behind goals ifaces hits first more id (marked (counted c id) (goal_at goals id).place) (matched ++ get_or ifaces (goal_at goals id).place 0 ∷ []) next (counted-full goals ifaces (hits ++ first) c matched id (s.more hits h) room some within full unmarked);
   }
-    where
-      go : (b : Bool) → is_marked c (goal_at goals id).place ≡ b → IsOfRounds new
-      go true h = subst IsOfRounds (sym (passed h)) s.rounds
-      go false h = subst IsOfRounds (sym (part h).0) (rounds-counted c id (omega (arith, (part h).1, short)) s.rounds)
 
 pub counting-end : (goals : List Goal) (ifaces first found : List ℕ) (old : Counts) (was : List ℕ) (c : Counts) (matched : List ℕ) → first ≡ found → Counting goals ifaces first old was c matched → AreCountedMore goals ifaces found old was c matched
 counting-end goals ifaces first found old was c matched e s = λ hits h. subst (λ (xs : List ℕ). AreCounted goals ifaces (hits ++ xs) c matched) e (s.more hits h)
@@ -212,12 +204,8 @@ counting-end goals ifaces first found old was c matched e s = λ hits h. subst (
 pub counted-all : (goals : List Goal) (ifaces hits : List ℕ) (c : Counts) (matched : List ℕ) → AreCounted goals ifaces hits c matched → AreFull goals ifaces hits matched
 counted-all goals ifaces hits c matched s = record {
   sound = s.sound;
-  whole = λ iface f. subst (Contains matched) f.mine (go f.id f.some f.full (is_marked c (goal_at goals f.id).place) refl);
+  whole = λ iface f. subst (Contains matched) f.mine (s.told f.id f.some (s.full f.id f.some f.full));
 }
-  where
-    go : (k : ℕ) → 0 < (goal_at goals k).constraints → (goal_at goals k).constraints ≤ tally (λ x. x == k) hits → (b : Bool) → is_marked c (goal_at goals k).place ≡ b → Contains matched (get_or ifaces (goal_at goals k).place 0)
-    go k h f true m = s.told k h m
-    go k h f false m = absurd (omega (arith, f, (s.so_often k h m).1))
 
 -- where as many interfaces are matched as there are, the rest of the hits brings nothing
 pub counted-enough : (goals : List Goal) (ifaces hits rest : List ℕ) (c : Counts) (matched : List ℕ) → AreGoals (length ifaces) goals → length ifaces ≤ length matched → AreCounted goals ifaces hits c matched → AreFull goals ifaces (hits ++ rest) matched

@@ -164,8 +164,21 @@ pub record Routing (n rest : List Attribute) (index : List Use) (goals : List Go
 pub routing-start : (n : List Attribute) (index : List Use) (goals : List Goal) (ifaces : List ℕ) (c : Counts) → AreRising n → IsFreshRound (length goals) (length ifaces) c → Routing n n index goals ifaces c []
 routing-start n index goals ifaces c r fresh = record { hits = []; counted = counted-none goals ifaces c fresh; walked = walked-start n index r }
 
-pub routing-underway : (n rest : List Attribute) (index : List Use) (goals : List Goal) (ifaces : List ℕ) (c : Counts) (matched : List ℕ) → Routing n rest index goals ifaces c matched → IsUnderway goals ifaces c matched
-routing-underway n rest index goals ifaces c matched r = (r.hits, r.counted)
+-- no filter has more hits than constraints
+pub routing-underway : (n rest : List Attribute) (a : Attribute) (slots : List Slot) (index : List Use) (goals : List Goal) (ifaces found : List ℕ) (c : Counts) (matched : List ℕ) → AreAimed slots goals → Same index (uses_from 0 slots) → Same found (ids_satisfied (a ∷ []) index) → Routing n (a ∷ rest) index goals ifaces c matched → IsUnderway goals ifaces found c matched
+routing-underway n rest a slots index goals ifaces found c matched aimed same h r = (r.hits, r.counted, few)
+  where
+    so-many : (s : Slot) → (goal_of s).constraints ≡ length (constraints_in s)
+    so-many None = refl
+    so-many (Some e) = refl
+
+    few : (k : ℕ) → tally (λ x. x == k) (r.hits ++ found) ≤ (goal_at goals k).constraints
+    few k =
+        let q = λ (x : ℕ). x == k in
+        let w = (walked-more n rest a index r.hits found r.walked h).same q in
+        let t = hits-tell n slots index (ids_satisfied n index) same (λ p. refl) k in
+        let m = ap {B = ℕ} (λ (x : Goal). x.constraints) (aimed.aims k) ∙ so-many (slot_at slots k) in
+        omega (arith, w, tally-append q (r.hits ++ found) (ids_satisfied rest index), t, tally-le (is_satisfied n) (constraints_in (slot_at slots k)), m)
 
 pub routing-more : (n rest : List Attribute) (a : Attribute) (index : List Use) (goals : List Goal) (ifaces found : List ℕ) (c : Counts) (matched : List ℕ) (new : Counts) (more : List ℕ) → Routing n (a ∷ rest) index goals ifaces c matched → Same found (ids_satisfied (a ∷ []) index) → AreCountedMore goals ifaces found c matched new more → Routing n rest index goals ifaces new more
 routing-more n rest a index goals ifaces found c matched new more r same h = record {

@@ -64,22 +64,27 @@ pub record AreFull (goals : List Goal) (ifaces found matched : List ℕ) : Type 
   pub sound : (iface : ℕ) → Contains matched iface → IsFull goals ifaces found iface
   pub whole : (iface : ℕ) → IsFull goals ifaces found iface → Contains matched iface
 
--- what counting these hits makes of the counters and of the matched interfaces: a filter whose interface isn't marked was
--- counted as often as the hits name it, which is too few; the marked interfaces are matched, the matched ones are full, and
--- no more are matched than marked
+-- what counting these hits makes of the counters and of the matched interfaces: each filter was counted as often as the hits
+-- name it; the interfaces of full filters are marked, the marked ones are matched, the matched ones are those of full filters,
+-- and no more are matched than marked
 pub record AreCounted (goals : List Goal) (ifaces hits : List ℕ) (c : Counts) (matched : List ℕ) : Type 0 where
   pub filters_fit : length goals ≤ length c.counts
   pub ifaces_fit : length ifaces ≤ length c.marks
-  pub so_often : (k : ℕ) → 0 < (goal_at goals k).constraints → is_marked c (goal_at goals k).place ≡ false
-      → (count_at c k ≡ tally (λ x. x == k) hits) × (tally (λ x. x == k) hits < (goal_at goals k).constraints)
+  pub so_often : (k : ℕ) → count_at c k ≡ tally (λ x. x == k) hits
+  pub full : (k : ℕ) → 0 < (goal_at goals k).constraints → (goal_at goals k).constraints ≤ tally (λ x. x == k) hits
+      → is_marked c (goal_at goals k).place ≡ true
   pub told : (k : ℕ) → 0 < (goal_at goals k).constraints → is_marked c (goal_at goals k).place ≡ true
       → Contains matched (slice_index_or ifaces (goal_at goals k).place 0)
   pub sound : (iface : ℕ) → Contains matched iface → IsFull goals ifaces hits iface
   pub no_more : length matched ≤ tally (λ mark. mark == c.base) (take (length ifaces) c.marks)
 
--- some hits were counted
-abbrev pub IsUnderway : List Goal → List ℕ → Counts → List ℕ → Type 0
-IsUnderway goals ifaces c matched = (hits : List ℕ) × AreCounted goals ifaces hits c matched
+-- no filter is named more often than it has constraints
+abbrev pub AreFew : List Goal → List ℕ → Type 0
+AreFew goals hits = (k : ℕ) → tally (λ x. x == k) hits ≤ (goal_at goals k).constraints
+
+-- some hits were counted, and with those found next they are few
+abbrev pub IsUnderway : List Goal → List ℕ → List ℕ → Counts → List ℕ → Type 0
+IsUnderway goals ifaces found c matched = (hits : List ℕ) × AreCounted goals ifaces hits c matched × AreFew goals (hits ++ found)
 
 -- after whatever hits were counted before, these are counted too
 abbrev pub AreCountedMore : List Goal → List ℕ → List ℕ → Counts → List ℕ → Counts → List ℕ → Type 0

@@ -6,38 +6,34 @@ use crate::counters::Counters;
 use crate::goal::Goal;
 use ev_memory::NoMemory;
 
-/// Counts a filter once more, unless its interface is matched already; whether it is then counted as often as it has
-/// constraints, so that its interface is matched from now on.
+/// Counts a filter once more; whether it is then counted as often as it has constraints, and its interface is matched by
+/// that for the first time.
 fn count_hit(goal: Goal, id: usize, base: u32, counts: &mut [u32], marks: &mut [u32]) -> bool
     requires known { id < length counts.old }
     requires placed { goal.place < length marks.old }
-    requires short { goal.constraints ≤ 16 }
     requires fits { base + 16 < 2 ^ 32 }
-    requires few { is_marked (counts_of base counts.old marks.old) goal.place ≡ false → count_at (counts_of base counts.old marks.old) id < goal.constraints }
-    ensures passed { is_marked (counts_of base counts.old marks.old) goal.place ≡ true
-        → (result ≡ false) × (counts_of base counts.new marks.new ≡ counts_of base counts.old marks.old) }
-    ensures part { is_marked (counts_of base counts.old marks.old) goal.place ≡ false → result ≡ false
-        → (counts_of base counts.new marks.new ≡ counted (counts_of base counts.old marks.old) id)
-        × (count_at (counts_of base counts.old marks.old) id + 1 < goal.constraints) }
-    ensures full { is_marked (counts_of base counts.old marks.old) goal.place ≡ false → result ≡ true
-        → (counts_of base counts.new marks.new ≡ marked (counted (counts_of base counts.old marks.old) id) goal.place)
-        × (count_at (counts_of base counts.old marks.old) id + 1 ≡ goal.constraints) }
+    requires few { count_at (counts_of base counts.old marks.old) id < 16 }
+    ensures part { result ≡ false → (counts_of base counts.new marks.new ≡ counted (counts_of base counts.old marks.old) id)
+        × (count_at (counts_of base counts.old marks.old) id + 1 ≡ goal.constraints
+        → is_marked (counts_of base counts.old marks.old) goal.place ≡ true) }
+    ensures full { result ≡ true → (counts_of base counts.new marks.new ≡ marked (counted (counts_of base counts.old marks.old) id) goal.place)
+        × (count_at (counts_of base counts.old marks.old) id + 1 ≡ goal.constraints)
+        × (is_marked (counts_of base counts.old marks.old) goal.place ≡ false) }
 {
-    let place = goal.place as usize;
-    if marks[place] == base {
-        return false;
-    }
     let count = counts[id].max(base) + 1;
     counts[id] = count;
     if count - base != goal.constraints {
+        return false;
+    }
+    let place = goal.place as usize;
+    if marks[place] == base {
         return false;
     }
     marks[place] = base;
     true
 }
 
-/// Counts the hits, and appends the interface of each filter that is then counted as often as it has constraints. An
-/// interface that is matched is counted no further.
+/// Counts the hits, and appends the interface of each filter that is then counted as often as it has constraints, once.
 fn count_all(
     matched: &mut Vec<u32>,
     goals: &[Goal],
@@ -50,7 +46,7 @@ fn count_all(
     requires goals { AreGoals (length ifaces.now) goals.now }
     requires known { AreKnown goals.now found.now }
     requires rounds { IsOfRounds (counts_of base counts.old marks.old) }
-    requires underway { IsUnderway goals.now ifaces.now (counts_of base counts.old marks.old) matched.old.items }
+    requires underway { IsUnderway goals.now ifaces.now found.now (counts_of base counts.old marks.old) matched.old.items }
     ensures rounds { IsOfRounds (counts_of base counts.new marks.new) }
     ensures more { OnOk result (AreCountedMore goals.now ifaces.now found.now
         (counts_of base counts.old marks.old) matched.old.items (counts_of base counts.new marks.new) matched.new.items) }
@@ -75,7 +71,7 @@ pub(crate) fn count_hits(
 ) -> Result<(), NoMemory>
     requires goals { AreGoals (length ifaces.now) goals.now }
     requires known { AreKnown goals.now found.now }
-    requires underway { IsUnderway goals.now ifaces.now counters.old matched.old.items }
+    requires underway { IsUnderway goals.now ifaces.now found.now counters.old matched.old.items }
     ensures { OnOk result (AreCountedMore goals.now ifaces.now found.now counters.old matched.old.items counters.new matched.new.items) }
 {
     let base = counters.base;

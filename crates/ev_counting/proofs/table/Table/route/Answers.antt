@@ -8,7 +8,7 @@ use Rattle.ev_counting.specs.Counting.{AreCountedMore}
 use Rattle.ev_counting.specs.Slots.{ArePlaced, held}
 use Rattle.ev_counting.proofs.Sets.{to-route}
 use Rattle.ev_counting.proofs.Same.{appended-same}
-use Rattle.ev_counting.proofs.Routed.{Routing, routing-start, routing-more, routing-end, routing-stop, attribute-known}
+use Rattle.ev_counting.proofs.Routed.{Routing, routing-start, routing-underway, routing-more, routing-end, routing-stop, attribute-known}
 use Rattle.ev_counting.proofs.table.Table.route.Goals.{else-loop-name-test, then-loop-name-test+then-len-interfaces}
 use Rattle.ev_counting.proofs.table.Table.route.Goals as goal
 
@@ -29,7 +29,19 @@ count_hits-requires-clause-known c =
     rw c.deref.ensures.value (attribute-known a c.self.inside.places c.self.inside.index c.goals-goals.result.now c.hits.new.found.items c.goals-goals.ensures c.self.invariant.indexed (brought c))
 
 pub count_hits-requires-clause-underway : goal.count_hits-requires-clause-underway
-count_hits-requires-clause-underway c = (c.loop-name.invariant.hits, c.loop-name.invariant.counted)
+count_hits-requires-clause-underway c =
+    let n = c.attributes-name-items.result.now in
+    let slots = c.self.inside.places in
+    let index = c.self.inside.index in
+    let goals = c.goals-goals.result.now in
+    let ifaces = c.numbers-interfaces.result.now in
+    let counters = c.loop-name.scratch.counters in
+    let matched = c.loop-name.ifaces.items in
+    let a : Attribute = (c.loop-name-item.result.0, c.loop-name-item.result.1) in
+    let rest = drop (c.loop-name.name-index + 1) n in
+    let e : drop c.loop-name.name-index n ≡ a ∷ rest = drop_more n c.loop-name.name-index a c.loop-name-test.true ∙ ap {B = List Attribute} (λ (x : Attribute). x ∷ rest) (sym c.loop-name-item.is) in
+    let r = subst (λ (left : List Attribute). Routing n left index goals ifaces counters matched) e c.loop-name.invariant in
+    rw c.deref.ensures.value (routing-underway n rest a slots index goals ifaces c.hits.new.found.items counters matched c.goals-goals.ensures c.self.invariant.indexed (brought c) r)
 
 pub loop-name-preserved : goal.loop-name-preserved
 loop-name-preserved c =
