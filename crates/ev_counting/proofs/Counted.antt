@@ -6,8 +6,7 @@ use Rattle.std.specs.List.{Contains}
 use Rattle.std.proofs.lemmas.List.Elements.{Contains-push, Contains-push_cases, Contains-append_left}
 use Rattle.ev_index.specs.Pairs.{tally}
 use Rattle.ev_index.proofs.Tallies.{tally-append, tally-more}
-use Rattle.ev_counting.specs.declared.goal.Goal.{Goal}
-use Rattle.ev_counting.specs.Slots.{goal_at}
+use Rattle.ev_counting.specs.Slots.{GoalLists, goal_at}
 use Rattle.ev_counting.specs.Counting.{Counts, count_at, is_marked, counted, marked, IsOfRounds, IsFreshRound, IsFull, AreGoals, AreFull, AreCounted, AreCountedMore, IsUnderway}
 use Rattle.ev_counting.proofs.Rounds.{same-round, rounds-counted, rounds-marked, tally-set, all-first}
 use Rattle.ev_counting.proofs.Sound.{differ}
@@ -38,7 +37,7 @@ hit-other k id hits n = go (id == k) refl
     go false h = omega (arith, hit-more k id hits, ap {B = ℕ} (λ b. cond b 1 0) h)
 
 -- what is full stays so
-full-more : (goals : List Goal) (ifaces hits more : List ℕ) (iface : ℕ) → IsFull goals ifaces hits iface → IsFull goals ifaces (hits ++ more) iface
+full-more : (goals : GoalLists) (ifaces hits more : List ℕ) (iface : ℕ) → IsFull goals ifaces hits iface → IsFull goals ifaces (hits ++ more) iface
 full-more goals ifaces hits more iface f = record {
   id = f.id;
   some = f.some;
@@ -47,7 +46,7 @@ full-more goals ifaces hits more iface f = record {
 }
 
 -- nothing is counted yet
-pub counted-none : (goals : List Goal) (ifaces : List ℕ) (c : Counts) → IsFreshRound (length goals) (length ifaces) c → AreCounted goals ifaces [] c []
+pub counted-none : (goals : GoalLists) (ifaces : List ℕ) (c : Counts) → IsFreshRound (length goals.constraints) (length ifaces) c → AreCounted goals ifaces [] c []
 counted-none goals ifaces c f = record {
   filters_fit = f.filters_fit;
   ifaces_fit = f.ifaces_fit;
@@ -58,7 +57,7 @@ counted-none goals ifaces c f = record {
   no_more = omega arith;
 }
 
-module _ (goals : List Goal) (ifaces hits : List ℕ) (c : Counts) (matched : List ℕ) (id : ℕ) (s : AreCounted goals ifaces hits c matched) where
+module _ (goals : GoalLists) (ifaces hits : List ℕ) (c : Counts) (matched : List ℕ) (id : ℕ) (s : AreCounted goals ifaces hits c matched) where
   abbrev place_at : ℕ → ℕ
   place_at k = (goal_at goals k).place
 
@@ -145,7 +144,7 @@ module _ (goals : List Goal) (ifaces hits : List ℕ) (c : Counts) (matched : Li
         tells k h m false w = Contains-append_left matched (get_or ifaces (place_at id) 0 ∷ []) (get_or ifaces (place_at k) 0) (s.told k h (sym (still (place_at k) (other-of (place_at id) (place_at k) w)) ∙ m))
 
 -- what counting the first of the found hits makes of what there was before
-pub record Counting (goals : List Goal) (ifaces first : List ℕ) (old : Counts) (was : List ℕ) (c : Counts) (matched : List ℕ) : Type 0 where
+pub record Counting (goals : GoalLists) (ifaces first : List ℕ) (old : Counts) (was : List ℕ) (c : Counts) (matched : List ℕ) : Type 0 where
   pub rounds : IsOfRounds c
   pub more : AreCountedMore goals ifaces first old was c matched
 
@@ -153,7 +152,7 @@ take-none : (xs : List ℕ) → take 0 xs ≡ []
 take-none [] = refl
 take-none (x ∷ xs) = refl
 
-pub counting-start : (goals : List Goal) (ifaces found : List ℕ) (c : Counts) (matched : List ℕ) → IsOfRounds c → Counting goals ifaces (take 0 found) c matched c matched
+pub counting-start : (goals : GoalLists) (ifaces found : List ℕ) (c : Counts) (matched : List ℕ) → IsOfRounds c → Counting goals ifaces (take 0 found) c matched c matched
 counting-start goals ifaces found c matched rounds = record {
   rounds = rounds;
   more = λ hits h. subst (λ (xs : List ℕ). AreCounted goals ifaces xs c matched) (sym (ap {B = List ℕ} (λ (xs : List ℕ). hits ++ xs) (take-none found) ∙ append-nil hits)) h;
@@ -166,7 +165,7 @@ tally-first p (suc n) [] = omega arith
 tally-first p (suc n) (x ∷ xs) = omega (arith, tally-first p n xs)
 
 -- a filter that is hit next was hit less often than it has constraints
-pub counting-few : (goals : List Goal) (ifaces found : List ℕ) (i : ℕ) (old : Counts) (was : List ℕ) (c : Counts) (matched : List ℕ) → IsUnderway goals ifaces found old was → Counting goals ifaces (take i found) old was c matched → i < length found → (goal_at goals (get_or found i 0)).constraints ≤ 16 → count_at c (get_or found i 0) < 16
+pub counting-few : (goals : GoalLists) (ifaces found : List ℕ) (i : ℕ) (old : Counts) (was : List ℕ) (c : Counts) (matched : List ℕ) → IsUnderway goals ifaces found old was → Counting goals ifaces (take i found) old was c matched → i < length found → (goal_at goals (get_or found i 0)).constraints ≤ 16 → count_at c (get_or found i 0) < 16
 counting-few goals ifaces found i old was c matched u s l short =
     let id = get_or found i 0 in
     let q = λ (x : ℕ). x == id in
@@ -177,14 +176,14 @@ counting-few goals ifaces found i old was c matched u s l short =
     let f = ap {B = ℕ} (λ b. cond b 1 0) (same-round id) in
     omega (arith, a, b, d, e, f, tally-first q (i + 1) found, u.2 id, short)
 
-pub counting-fits : (goals : List Goal) (ifaces found first : List ℕ) (old : Counts) (was : List ℕ) (c : Counts) (matched : List ℕ) → IsUnderway goals ifaces found old was → Counting goals ifaces first old was c matched → (length goals ≤ length c.counts) × (length ifaces ≤ length c.marks)
+pub counting-fits : (goals : GoalLists) (ifaces found first : List ℕ) (old : Counts) (was : List ℕ) (c : Counts) (matched : List ℕ) → IsUnderway goals ifaces found old was → Counting goals ifaces first old was c matched → (length goals.constraints ≤ length c.counts) × (length ifaces ≤ length c.marks)
 counting-fits goals ifaces found first old was c matched u s = let t = s.more u.0 u.1 in (t.filters_fit, t.ifaces_fit)
 
 -- one hit more behind the first ones
-behind : (goals : List Goal) (ifaces hits first more : List ℕ) (id : ℕ) (c : Counts) (matched : List ℕ) → more ≡ first ++ id ∷ [] → AreCounted goals ifaces ((hits ++ first) ++ id ∷ []) c matched → AreCounted goals ifaces (hits ++ more) c matched
+behind : (goals : GoalLists) (ifaces hits first more : List ℕ) (id : ℕ) (c : Counts) (matched : List ℕ) → more ≡ first ++ id ∷ [] → AreCounted goals ifaces ((hits ++ first) ++ id ∷ []) c matched → AreCounted goals ifaces (hits ++ more) c matched
 behind goals ifaces hits first more id c matched e h = subst (λ (xs : List ℕ). AreCounted goals ifaces xs c matched) (append_assoc hits first (id ∷ []) ∙ sym (ap {B = List ℕ} (λ (xs : List ℕ). hits ++ xs) e)) h
 
-module _ (goals : List Goal) (ifaces first more : List ℕ) (old : Counts) (was : List ℕ) (c : Counts) (matched : List ℕ) (id : ℕ) (next : more ≡ first ++ id ∷ []) (few : count_at c id < 16) (s : Counting goals ifaces first old was c matched) (room : id < length c.counts) (some : 0 < (goal_at goals id).constraints) where
+module _ (goals : GoalLists) (ifaces first more : List ℕ) (old : Counts) (was : List ℕ) (c : Counts) (matched : List ℕ) (id : ℕ) (next : more ≡ first ++ id ∷ []) (few : count_at c id < 16) (s : Counting goals ifaces first old was c matched) (room : id < length c.counts) (some : 0 < (goal_at goals id).constraints) where
   pub counting-part : (count_at c id + 1 ≡ (goal_at goals id).constraints → is_marked c (goal_at goals id).place ≡ true) → Counting goals ifaces more old was (counted c id) matched
   counting-part already = record {
     rounds = rounds-counted c id few s.rounds;
@@ -197,18 +196,18 @@ module _ (goals : List Goal) (ifaces first more : List ℕ) (old : Counts) (was 
     more = λ hits h. behind goals ifaces hits first more id (marked (counted c id) (goal_at goals id).place) (matched ++ get_or ifaces (goal_at goals id).place 0 ∷ []) next (counted-full goals ifaces (hits ++ first) c matched id (s.more hits h) room some within full unmarked);
   }
 
-pub counting-end : (goals : List Goal) (ifaces first found : List ℕ) (old : Counts) (was : List ℕ) (c : Counts) (matched : List ℕ) → first ≡ found → Counting goals ifaces first old was c matched → AreCountedMore goals ifaces found old was c matched
+pub counting-end : (goals : GoalLists) (ifaces first found : List ℕ) (old : Counts) (was : List ℕ) (c : Counts) (matched : List ℕ) → first ≡ found → Counting goals ifaces first old was c matched → AreCountedMore goals ifaces found old was c matched
 counting-end goals ifaces first found old was c matched e s = λ hits h. subst (λ (xs : List ℕ). AreCounted goals ifaces (hits ++ xs) c matched) e (s.more hits h)
 
 -- once all hits are counted, exactly the interfaces of full filters are matched
-pub counted-all : (goals : List Goal) (ifaces hits : List ℕ) (c : Counts) (matched : List ℕ) → AreCounted goals ifaces hits c matched → AreFull goals ifaces hits matched
+pub counted-all : (goals : GoalLists) (ifaces hits : List ℕ) (c : Counts) (matched : List ℕ) → AreCounted goals ifaces hits c matched → AreFull goals ifaces hits matched
 counted-all goals ifaces hits c matched s = record {
   sound = s.sound;
   whole = λ iface f. subst (Contains matched) f.mine (s.told f.id f.some (s.full f.id f.some f.full));
 }
 
 -- where as many interfaces are matched as there are, the rest of the hits brings nothing
-pub counted-enough : (goals : List Goal) (ifaces hits rest : List ℕ) (c : Counts) (matched : List ℕ) → AreGoals (length ifaces) goals → length ifaces ≤ length matched → AreCounted goals ifaces hits c matched → AreFull goals ifaces (hits ++ rest) matched
+pub counted-enough : (goals : GoalLists) (ifaces hits rest : List ℕ) (c : Counts) (matched : List ℕ) → AreGoals (length ifaces) goals → length ifaces ≤ length matched → AreCounted goals ifaces hits c matched → AreFull goals ifaces (hits ++ rest) matched
 counted-enough goals ifaces hits rest c matched aims enough s = record {
   sound = λ iface h. full-more goals ifaces hits rest iface (s.sound iface h);
   whole = λ iface f. subst (Contains matched) f.mine (s.told f.id f.some (all-first (λ mark. mark == c.base) c.marks (length ifaces) (goal_at goals f.id).place (omega (arith, enough, s.no_more)) (aims.placed f.id f.some)));

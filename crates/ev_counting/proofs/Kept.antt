@@ -6,9 +6,8 @@ use Rattle.std.proofs.lemmas.Bool.{cases_eq}
 use Rattle.std.proofs.lemmas.List.{length-set, get_or-set_same, get_or-set_other}
 use Rattle.std.specs.List.{Contains, insert, remove}
 use Rattle.ev_counting.specs.declared.entry.Entry.{Entry}
-use Rattle.ev_counting.specs.declared.goal.Goal.{Goal}
 use Rattle.ev_counting.specs.Table.{HeldFilter}
-use Rattle.ev_counting.specs.Slots.{Slot, pair_of, held, slot_at, goal_of, HasPair, AreAimed, KeepsPlaces}
+use Rattle.ev_counting.specs.Slots.{Slot, pair_of, held, slot_at, goal_of, GoalLists, with_goal, HasPair, AreAimed, KeepsPlaces}
 use Rattle.ev_counting.specs.Changes.{IsOnce}
 use Rattle.ev_counting.specs.Order.{nth, IsOrdered, IsPairGap, IsHere, AreFree, IsNone, ArePlacesKept}
 use Rattle.ev_counting.proofs.Standing.{held-from, held-has}
@@ -61,8 +60,8 @@ pub apart-empty : (id : ℕ) (free : List ℕ) → length free ≡ 0 → IsNone 
 apart-empty id free e k l = absurd (omega (arith, l, e))
 
 -- an entry of the pair at a free place
-pub kept-put : (slots : List Slot) (goals : List Goal) (sorted free : List ℕ) (pair : HeldFilter) (i id : ℕ) (e : Entry) → AreAimed slots goals → IsOrdered slots sorted → AreFree slots free → length slots ≤ 2 ^ 32
-    → IsPairGap slots sorted pair i → pair_of e ≡ pair → id < length slots → slot_at slots id ≡ None → IsNone id free → ArePlacesKept (set slots id (Some e)) (set goals id (goal_of (Some e))) (insert sorted i id) free
+pub kept-put : (slots : List Slot) (goals : GoalLists) (sorted free : List ℕ) (pair : HeldFilter) (i id : ℕ) (e : Entry) → AreAimed slots goals → IsOrdered slots sorted → AreFree slots free → length slots ≤ 2 ^ 32
+    → IsPairGap slots sorted pair i → pair_of e ≡ pair → id < length slots → slot_at slots id ≡ None → IsNone id free → ArePlacesKept (set slots id (Some e)) (with_goal goals id (goal_of (Some e))) (insert sorted i id) free
 kept-put slots goals sorted free pair i id e aimed ordered f few gap mine l vacant apart = record {
   aimed = aimed-set slots goals id (Some e) l aimed;
   ordered = ordered-insert slots (set slots id (Some e)) sorted ordered id pair e i gap.within vacant (get_or-set_same slots id (Some e) None l) mine (λ other n. get_or-set_other slots id other (Some e) None n) gap.below gap.above;
@@ -75,8 +74,8 @@ kept-put slots goals sorted free pair i id e aimed ordered f few gap mine l vaca
 }
 
 -- the place of the pair set free
-pub kept-taken : (slots : List Slot) (goals : List Goal) (sorted free : List ℕ) (pair : HeldFilter) (i id : ℕ) → ArePlacesKept slots goals sorted free → IsHere slots sorted pair i → nth sorted i ≡ id
-    → ArePlacesKept (set slots id None) (set goals id (goal_of None)) (remove sorted i) (free ++ id ∷ [])
+pub kept-taken : (slots : List Slot) (goals : GoalLists) (sorted free : List ℕ) (pair : HeldFilter) (i id : ℕ) → ArePlacesKept slots goals sorted free → IsHere slots sorted pair i → nth sorted i ≡ id
+    → ArePlacesKept (set slots id None) (with_goal goals id (goal_of None)) (remove sorted i) (free ++ id ∷ [])
 kept-taken slots goals sorted free pair i id kept here is = record {
   aimed = aimed-set slots goals id None within kept.aimed;
   ordered = ordered-remove slots (set slots id None) sorted kept.ordered id i here.within is (get_or-set_same slots id None None within) (λ other n. get_or-set_other slots id other None None n);

@@ -10,7 +10,7 @@ use Rattle.ev_index.proofs.Tallies.{tally-append, tally-map, tally-agree, tally-
 use Rattle.ev_counting.specs.declared.goal.Goal.{Goal}
 use Rattle.ev_counting.specs.Table.{HeldFilter, AreMatched, IsMatched}
 use Rattle.ev_counting.specs.Index.{Use, is_satisfied, ids_satisfied}
-use Rattle.ev_counting.specs.Slots.{Slot, held, slot_at, constraints_in, numbered, uses_from, goal_of, goal_at, AreAimed, ArePlaced}
+use Rattle.ev_counting.specs.Slots.{Slot, held, slot_at, constraints_in, numbered, uses_from, goal_of, GoalLists, goal_at, AreAimed, ArePlaced}
 use Rattle.ev_counting.specs.Counting.{Counts, IsFreshRound, AreGoals, AreKnown, AreFull, AreCounted, AreCountedMore, IsUnderway}
 use Rattle.ev_counting.proofs.Satisfied.{Walked, tally-satisfied, walked-start, walked-more, walked-end}
 use Rattle.ev_counting.proofs.Counted.{counted-none, counted-all, counted-enough}
@@ -100,7 +100,7 @@ unfolding matches
 count-matches n f h = count-all (is_satisfied n) f h
 
 -- each hit names a filter
-pub hits-known : (n : List Attribute) (slots : List Slot) (goals : List Goal) (found : List ℕ) → AreAimed slots goals → ((k : ℕ) → tally (λ x. x == k) found ≡ tally (is_satisfied n) (constraints_in (slot_at slots k))) → (i : ℕ) → i < length found → (get_or found i 0 < length goals) × (0 < (goal_at goals (get_or found i 0)).constraints)
+pub hits-known : (n : List Attribute) (slots : List Slot) (goals : GoalLists) (found : List ℕ) → AreAimed slots goals → ((k : ℕ) → tally (λ x. x == k) found ≡ tally (is_satisfied n) (constraints_in (slot_at slots k))) → (i : ℕ) → i < length found → (get_or found i 0 < length goals.constraints) × (0 < (goal_at goals (get_or found i 0)).constraints) × (get_or found i 0 < length goals.places)
 hits-known n slots goals found aimed tell i l = go (slot_at slots id) refl
   where
     id : ℕ
@@ -109,15 +109,15 @@ hits-known n slots goals found aimed tell i l = go (slot_at slots id) refl
     some : 1 ≤ tally (is_satisfied n) (constraints_in (slot_at slots id))
     some = omega (arith, tell id, tally-at (λ x. x == id) found i 0 l (same-round id))
 
-    go : (s : Slot) → slot_at slots id ≡ s → (id < length goals) × (0 < (goal_at goals id).constraints)
+    go : (s : Slot) → slot_at slots id ≡ s → (id < length goals.constraints) × (0 < (goal_at goals id).constraints) × (id < length goals.places)
     go None e = absurd (omega (arith, some, ap {B = ℕ} (λ s. tally (is_satisfied n) (constraints_in s)) e))
     go (Some d) e =
         let t = ap {B = ℕ} (λ s. tally (is_satisfied n) (constraints_in s)) e in
         let g : (goal_at goals id).constraints ≡ length d.filter = ap {B = ℕ} (λ (x : Goal). x.constraints) (aimed.aims id ∙ ap {B = Goal} goal_of e) in
-        (omega (arith, within slots id d e, aimed.enough), omega (arith, some, t, g, tally-le (is_satisfied n) d.filter))
+        (omega (arith, within slots id d e, aimed.counted), omega (arith, some, t, g, tally-le (is_satisfied n) d.filter), omega (arith, within slots id d e, aimed.placed))
 
 -- the goals of a table
-pub sound-goals : (slots : List Slot) (goals : List Goal) (ifaces : List ℕ) → AreAimed slots goals → ArePlaced ifaces slots → AreGoals (length ifaces) goals
+pub sound-goals : (slots : List Slot) (goals : GoalLists) (ifaces : List ℕ) → AreAimed slots goals → ArePlaced ifaces slots → AreGoals (length ifaces) goals
 sound-goals slots goals ifaces aimed placed = record {
   few = λ k. few k (slot_at slots k) refl;
   placed = λ k h. there k (slot_at slots k) refl h;
@@ -131,7 +131,7 @@ sound-goals slots goals ifaces aimed placed = record {
     there k None e h = absurd (omega (arith, h, ap {B = ℕ} (λ (x : Goal). x.constraints) (aimed.aims k ∙ ap {B = Goal} goal_of e)))
     there k (Some d) e h = omega (arith, ap {B = ℕ} (λ (x : Goal). x.place) (aimed.aims k ∙ ap {B = Goal} goal_of e), (placed k d e).within)
 
-pub full-matched : (n : List Attribute) (slots : List Slot) (goals : List Goal) (ifaces found matched : List ℕ) → AreAimed slots goals → ArePlaced ifaces slots → ((k : ℕ) → tally (λ x. x == k) found ≡ tally (is_satisfied n) (constraints_in (slot_at slots k))) → AreFull goals ifaces found matched → AreMatched n (held slots) matched
+pub full-matched : (n : List Attribute) (slots : List Slot) (goals : GoalLists) (ifaces found matched : List ℕ) → AreAimed slots goals → ArePlaced ifaces slots → ((k : ℕ) → tally (λ x. x == k) found ≡ tally (is_satisfied n) (constraints_in (slot_at slots k))) → AreFull goals ifaces found matched → AreMatched n (held slots) matched
 full-matched n slots goals ifaces found matched aimed placed tell a = record {
   sound = λ iface h. (let f = a.sound iface h in is f.id (slot_at slots f.id) refl f.some iface f.mine f.full);
   whole = λ iface h. (
@@ -156,16 +156,16 @@ full-matched n slots goals ifaces found matched aimed placed tell a = record {
         (d.filter, subst (λ j. Contains (held slots) (j, d.filter)) i (held-at slots k d e), count-matches n d.filter (omega (arith, t, full, ap {B = ℕ} (λ (x : Goal). x.constraints) g)))
 
 -- the hits of some attributes are counted, and the rest of the attributes is left
-pub record Routing (n rest : List Attribute) (index : List Use) (goals : List Goal) (ifaces : List ℕ) (c : Counts) (matched : List ℕ) : Type 0 where
+pub record Routing (n rest : List Attribute) (index : List Use) (goals : GoalLists) (ifaces : List ℕ) (c : Counts) (matched : List ℕ) : Type 0 where
   pub hits : List ℕ
   pub counted : AreCounted goals ifaces hits c matched
   pub walked : Walked n rest index hits
 
-pub routing-start : (n : List Attribute) (index : List Use) (goals : List Goal) (ifaces : List ℕ) (c : Counts) → AreRising n → IsFreshRound (length goals) (length ifaces) c → Routing n n index goals ifaces c []
+pub routing-start : (n : List Attribute) (index : List Use) (goals : GoalLists) (ifaces : List ℕ) (c : Counts) → AreRising n → IsFreshRound (length goals.constraints) (length ifaces) c → Routing n n index goals ifaces c []
 routing-start n index goals ifaces c r fresh = record { hits = []; counted = counted-none goals ifaces c fresh; walked = walked-start n index r }
 
 -- no filter has more hits than constraints
-pub routing-underway : (n rest : List Attribute) (a : Attribute) (slots : List Slot) (index : List Use) (goals : List Goal) (ifaces found : List ℕ) (c : Counts) (matched : List ℕ) → AreAimed slots goals → Same index (uses_from 0 slots) → Same found (ids_satisfied (a ∷ []) index) → Routing n (a ∷ rest) index goals ifaces c matched → IsUnderway goals ifaces found c matched
+pub routing-underway : (n rest : List Attribute) (a : Attribute) (slots : List Slot) (index : List Use) (goals : GoalLists) (ifaces found : List ℕ) (c : Counts) (matched : List ℕ) → AreAimed slots goals → Same index (uses_from 0 slots) → Same found (ids_satisfied (a ∷ []) index) → Routing n (a ∷ rest) index goals ifaces c matched → IsUnderway goals ifaces found c matched
 routing-underway n rest a slots index goals ifaces found c matched aimed same h r = (r.hits, r.counted, few)
   where
     so-many : (s : Slot) → (goal_of s).constraints ≡ length (constraints_in s)
@@ -180,7 +180,7 @@ routing-underway n rest a slots index goals ifaces found c matched aimed same h 
         let m = ap {B = ℕ} (λ (x : Goal). x.constraints) (aimed.aims k) ∙ so-many (slot_at slots k) in
         omega (arith, w, tally-append q (r.hits ++ found) (ids_satisfied rest index), t, tally-le (is_satisfied n) (constraints_in (slot_at slots k)), m)
 
-pub routing-more : (n rest : List Attribute) (a : Attribute) (index : List Use) (goals : List Goal) (ifaces found : List ℕ) (c : Counts) (matched : List ℕ) (new : Counts) (more : List ℕ) → Routing n (a ∷ rest) index goals ifaces c matched → Same found (ids_satisfied (a ∷ []) index) → AreCountedMore goals ifaces found c matched new more → Routing n rest index goals ifaces new more
+pub routing-more : (n rest : List Attribute) (a : Attribute) (index : List Use) (goals : GoalLists) (ifaces found : List ℕ) (c : Counts) (matched : List ℕ) (new : Counts) (more : List ℕ) → Routing n (a ∷ rest) index goals ifaces c matched → Same found (ids_satisfied (a ∷ []) index) → AreCountedMore goals ifaces found c matched new more → Routing n rest index goals ifaces new more
 routing-more n rest a index goals ifaces found c matched new more r same h = record {
   hits = r.hits ++ found;
   counted = h r.hits r.counted;
@@ -188,14 +188,14 @@ routing-more n rest a index goals ifaces found c matched new more r same h = rec
 }
 
 -- what an attribute brings is known
-pub attribute-known : (a : Attribute) (slots : List Slot) (index : List Use) (goals : List Goal) (found : List ℕ) → AreAimed slots goals → Same index (uses_from 0 slots) → Same found (ids_satisfied (a ∷ []) index) → AreKnown goals found
+pub attribute-known : (a : Attribute) (slots : List Slot) (index : List Use) (goals : GoalLists) (found : List ℕ) → AreAimed slots goals → Same index (uses_from 0 slots) → Same found (ids_satisfied (a ∷ []) index) → AreKnown goals found
 attribute-known a slots index goals found aimed same h = hits-known (a ∷ []) slots goals found aimed (hits-tell (a ∷ []) slots index found same h)
 
-pub routing-end : (n : List Attribute) (slots : List Slot) (index : List Use) (goals : List Goal) (ifaces : List ℕ) (c : Counts) (matched : List ℕ) → AreAimed slots goals → ArePlaced ifaces slots → Same index (uses_from 0 slots) → Routing n [] index goals ifaces c matched → AreMatched n (held slots) matched
+pub routing-end : (n : List Attribute) (slots : List Slot) (index : List Use) (goals : GoalLists) (ifaces : List ℕ) (c : Counts) (matched : List ℕ) → AreAimed slots goals → ArePlaced ifaces slots → Same index (uses_from 0 slots) → Routing n [] index goals ifaces c matched → AreMatched n (held slots) matched
 routing-end n slots index goals ifaces c matched aimed placed same r = full-matched n slots goals ifaces r.hits matched aimed placed (hits-tell n slots index r.hits same (walked-end n index r.hits r.walked)) (counted-all goals ifaces r.hits c matched r.counted)
 
 -- where all interfaces are matched, the rest of the attributes is not needed
-pub routing-stop : (n rest : List Attribute) (slots : List Slot) (index : List Use) (goals : List Goal) (ifaces : List ℕ) (c : Counts) (matched : List ℕ) → AreAimed slots goals → ArePlaced ifaces slots → Same index (uses_from 0 slots) → length ifaces ≤ length matched → Routing n rest index goals ifaces c matched → AreMatched n (held slots) matched
+pub routing-stop : (n rest : List Attribute) (slots : List Slot) (index : List Use) (goals : GoalLists) (ifaces : List ℕ) (c : Counts) (matched : List ℕ) → AreAimed slots goals → ArePlaced ifaces slots → Same index (uses_from 0 slots) → length ifaces ≤ length matched → Routing n rest index goals ifaces c matched → AreMatched n (held slots) matched
 routing-stop n rest slots index goals ifaces c matched aimed placed same enough r =
     let all = r.hits ++ ids_satisfied rest index in
     let full = counted-enough goals ifaces r.hits (ids_satisfied rest index) c matched (sound-goals slots goals ifaces aimed placed) enough r.counted in

@@ -12,7 +12,7 @@ use Rattle.ev_notice.specs.Notice.{Attribute}
 use Rattle.ev_notice.specs.Cover.{matches}
 use Rattle.ev_counting.specs.Table.{HeldFilter, AreMatched}
 use Rattle.ev_counting.specs.Index.{Use}
-use Rattle.ev_counting.specs.Slots.{Slot, pair_of, held, slot_at, HasPair, constraints_in, numbered, uses_from, KeepsPlaces, IsPlaced, IsSoundTable, goal_of, goal_at, AreAimed}
+use Rattle.ev_counting.specs.Slots.{Slot, pair_of, held, slot_at, HasPair, constraints_in, numbered, uses_from, KeepsPlaces, IsPlaced, IsSoundTable, goal_of, GoalLists, lists_of, goal_at, with_goal, AreAimed}
 use Rattle.ev_counting.proofs.Sets.{step, matched-yes, matched-no}
 use Rattle.ev_counting.proofs.Rounds.{get-push}
 use Rattle.ev_counting.proofs.Standing.{uses-set}
@@ -59,48 +59,56 @@ set-either (x ∷ slots) zero (suc k) s e h = inr h
 set-either (x ∷ slots) (suc j) zero s e h = inr h
 set-either (x ∷ slots) (suc j) (suc k) s e h = set-either slots j k s e h
 
+-- a goal by its parts
+parts : (p q c d : ℕ) → p ≡ q → c ≡ d → goal_at (lists_of (c ∷ []) (p ∷ [])) 0 ≡ goal_at (lists_of (d ∷ []) (q ∷ [])) 0
+parts p q c d e f = rw (e, f) refl
+
 -- another content of a place with its goal
-pub aimed-set : (slots : List Slot) (goals : List Goal) (i : ℕ) (s : Slot) → i < length slots → AreAimed slots goals → AreAimed (set slots i s) (set goals i (goal_of s))
+pub aimed-set : (slots : List Slot) (goals : GoalLists) (i : ℕ) (s : Slot) → i < length slots → AreAimed slots goals → AreAimed (set slots i s) (with_goal goals i (goal_of s))
 aimed-set slots goals i s l a = record {
-  enough = omega (arith, length-set slots i s, length-set goals i (goal_of s), a.enough);
+  counted = omega (arith, length-set slots i s, length-set goals.constraints i (goal_of s).constraints, a.counted);
+  placed = omega (arith, length-set slots i s, length-set goals.places i (goal_of s).place, a.placed);
   aims = λ k. go k (i == k) refl;
 }
   where
-    go : (k : ℕ) (b : Bool) → (i == k) ≡ b → goal_at (set goals i (goal_of s)) k ≡ goal_of (slot_at (set slots i s) k)
+    new : GoalLists
+    new = with_goal goals i (goal_of s)
+
+    same : goal_at new i ≡ goal_of s
+    same = parts (get_or new.places i 0) (goal_of s).place (get_or new.constraints i 0) (goal_of s).constraints (get_or-set_same goals.places i (goal_of s).place 0 (omega (arith, l, a.placed))) (get_or-set_same goals.constraints i (goal_of s).constraints 0 (omega (arith, l, a.counted)))
+
+    other : (k : ℕ) → k ≢ i → goal_at new k ≡ goal_at goals k
+    other k n = parts (get_or new.places k 0) (get_or goals.places k 0) (get_or new.constraints k 0) (get_or goals.constraints k 0) (get_or-set_other goals.places i k (goal_of s).place 0 n) (get_or-set_other goals.constraints i k (goal_of s).constraints 0 n)
+
+    go : (k : ℕ) (b : Bool) → (i == k) ≡ b → goal_at new k ≡ goal_of (slot_at (set slots i s) k)
     go k true w =
         let e : i ≡ k = grind (arith, nat_tests) in
-        let m : i < length goals = omega (arith, l, a.enough) in
-        ap {B = Goal} (goal_at (set goals i (goal_of s))) (sym e) ∙ get_or-set_same goals i (goal_of s) (goal_of None) m ∙ sym (ap {B = Goal} goal_of (get_or-set_same slots i s None l)) ∙ ap {B = Goal} (λ j. goal_of (slot_at (set slots i s) j)) e
+        ap {B = Goal} (goal_at new) (sym e) ∙ same ∙ sym (ap {B = Goal} goal_of (get_or-set_same slots i s None l)) ∙ ap {B = Goal} (λ j. goal_of (slot_at (set slots i s) j)) e
     go k false w =
         let n : k ≢ i = λ e. (let t : (i == k) ≡ true = grind (arith, nat_tests) in differ (i == k) t w) in
-        get_or-set_other goals i k (goal_of s) (goal_of None) n ∙ a.aims k ∙ sym (ap {B = Goal} goal_of (get_or-set_other slots i k s None n))
+        other k n ∙ a.aims k ∙ sym (ap {B = Goal} goal_of (get_or-set_other slots i k s None n))
 
--- a place more, with its goal
-pub aimed-push : (slots : List Slot) (goals : List Goal) (s : Slot) → length slots ≡ length goals → AreAimed slots goals → AreAimed (slots ++ s ∷ []) (goals ++ goal_of s ∷ [])
-aimed-push slots goals s e a = record {
-  enough = omega (arith, length-push {X = Slot} slots s, length-push {X = Goal} goals (goal_of s), a.enough);
-  aims = both slots goals e a.aims;
+-- a goal of a free place that some place may take
+pub aimed-spare : (slots : List Slot) (goals : GoalLists) → AreAimed slots goals → AreAimed slots (lists_of (goals.constraints ++ 0 ∷ []) goals.places)
+aimed-spare slots goals a = record {
+  counted = omega (arith, length-push {X = ℕ} goals.constraints 0, a.counted);
+  placed = a.placed;
+  aims = λ k. parts (get_or goals.places k 0) (get_or goals.places k 0) (get_or (goals.constraints ++ 0 ∷ []) k 0) (get_or goals.constraints k 0) refl (get-push goals.constraints k 0) ∙ a.aims k;
 }
-  where
-    both : (slots : List Slot) (goals : List Goal) → length slots ≡ length goals → ((k : ℕ) → goal_at goals k ≡ goal_of (slot_at slots k)) → (k : ℕ) → goal_at (goals ++ goal_of s ∷ []) k ≡ goal_of (slot_at (slots ++ s ∷ []) k)
-    both [] [] e h zero = refl
-    both [] [] e h (suc k) = h k
-    both [] (g ∷ goals) e h k = absurd (omega (arith, e))
-    both (x ∷ slots) [] e h k = absurd (omega (arith, e))
-    both (x ∷ slots) (g ∷ goals) e h zero = h zero
-    both (x ∷ slots) (g ∷ goals) e h (suc k) = both slots goals (omega (arith, e)) (λ j. h (suc j)) k
+
+pub aimed-both : (slots : List Slot) (goals : GoalLists) → AreAimed slots goals → AreAimed slots (lists_of (goals.constraints ++ 0 ∷ []) (goals.places ++ 0 ∷ []))
+aimed-both slots goals a = record {
+  counted = omega (arith, length-push {X = ℕ} goals.constraints 0, a.counted);
+  placed = omega (arith, length-push {X = ℕ} goals.places 0, a.placed);
+  aims = λ k. parts (get_or (goals.places ++ 0 ∷ []) k 0) (get_or goals.places k 0) (get_or (goals.constraints ++ 0 ∷ []) k 0) (get_or goals.constraints k 0) (get-push goals.places k 0) (get-push goals.constraints k 0) ∙ a.aims k;
+}
 
 -- a free place more
-pub aimed-more : (slots : List Slot) (goals : List Goal) → AreAimed slots goals → AreAimed (slots ++ None ∷ []) (goals ++ goal_of None ∷ [])
+pub aimed-more : (slots : List Slot) (goals : GoalLists) → AreAimed slots goals → AreAimed (slots ++ None ∷ []) (lists_of (goals.constraints ++ 0 ∷ []) (goals.places ++ 0 ∷ []))
 aimed-more slots goals a = record {
-  enough = omega (arith, length-push {X = Slot} slots None, length-push {X = Goal} goals (goal_of None), a.enough);
-  aims = λ k. get-push goals k (goal_of None) ∙ a.aims k ∙ sym (ap {B = Goal} goal_of (get-push slots k None));
-}
-
-pub aimed-spare : (slots : List Slot) (goals : List Goal) → AreAimed slots goals → AreAimed slots (goals ++ goal_of None ∷ [])
-aimed-spare slots goals a = record {
-  enough = omega (arith, length-push {X = Goal} goals (goal_of None), a.enough);
-  aims = λ k. get-push goals k (goal_of None) ∙ a.aims k;
+  counted = omega (arith, length-push {X = Slot} slots None, length-push {X = ℕ} goals.constraints 0, a.counted);
+  placed = omega (arith, length-push {X = Slot} slots None, length-push {X = ℕ} goals.places 0, a.placed);
+  aims = λ k. (aimed-both slots goals a).aims k ∙ sym (ap {B = Goal} goal_of (get-push slots k None));
 }
 
 pub sound-added : (old new : List Use) (slots : List Slot) (ifaces : List ℕ) (id : ℕ) (e : Entry) → id < length slots → slot_at slots id ≡ None → IsPlaced ifaces e → Same new (numbered id e.filter ++ old) → IsSoundTable old slots ifaces → IsSoundTable new (set slots id (Some e)) ifaces

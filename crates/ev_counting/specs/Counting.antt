@@ -2,8 +2,7 @@
 use Rattle.std.specs.Prelude.{◌≡◌, ◌<◌, ◌≤◌, ◌==◌, ◌+◌, ◌-◌, ◌^◌, ℕ, List, length, Bool, true, false, ◌++◌, slice_index_or, slice_set, take}
 use Rattle.std.specs.List.{Contains}
 use Rattle.ev_index.specs.Pairs.{tally}
-use Rattle.ev_counting.specs.declared.goal.Goal.{Goal}
-use Rattle.ev_counting.specs.Slots.{goal_at}
+use Rattle.ev_counting.specs.Slots.{GoalLists, goal_at}
 
 -- the base of a round, a counter for each filter and a mark for each interface
 pub record Counts : Type 0 where
@@ -44,31 +43,32 @@ pub record IsFreshRound (filters ifaces : ℕ) (c : Counts) : Type 0 where
   pub marks_none : (k : ℕ) → is_marked c k ≡ false
 
 -- each goal of some constraints has at most 16, and names an interface's place
-pub record AreGoals (ifaces : ℕ) (goals : List Goal) : Type 0 where
+pub record AreGoals (ifaces : ℕ) (goals : GoalLists) : Type 0 where
   pub few : (k : ℕ) → (goal_at goals k).constraints ≤ 16
   pub placed : (k : ℕ) → 0 < (goal_at goals k).constraints → (goal_at goals k).place < ifaces
 
 -- each hit names a filter
-abbrev pub AreKnown : List Goal → List ℕ → Type 0
-AreKnown goals found = (i : ℕ) → i < length found → (slice_index_or found i 0 < length goals) × (0 < (goal_at goals (slice_index_or found i 0)).constraints)
+abbrev pub AreKnown : GoalLists → List ℕ → Type 0
+AreKnown goals found = (i : ℕ) → i < length found → (slice_index_or found i 0 < length goals.constraints)
+    × (0 < (goal_at goals (slice_index_or found i 0)).constraints) × (slice_index_or found i 0 < length goals.places)
 
 -- the hits name a filter of the interface as often as it has constraints
-pub record IsFull (goals : List Goal) (ifaces found : List ℕ) (iface : ℕ) : Type 0 where
+pub record IsFull (goals : GoalLists) (ifaces found : List ℕ) (iface : ℕ) : Type 0 where
   pub id : ℕ
   pub some : 0 < (goal_at goals id).constraints
   pub mine : slice_index_or ifaces (goal_at goals id).place 0 ≡ iface
   pub full : (goal_at goals id).constraints ≤ tally (λ x. x == id) found
 
 -- the interfaces of exactly the filters that the hits name so often
-pub record AreFull (goals : List Goal) (ifaces found matched : List ℕ) : Type 0 where
+pub record AreFull (goals : GoalLists) (ifaces found matched : List ℕ) : Type 0 where
   pub sound : (iface : ℕ) → Contains matched iface → IsFull goals ifaces found iface
   pub whole : (iface : ℕ) → IsFull goals ifaces found iface → Contains matched iface
 
 -- what counting these hits makes of the counters and of the matched interfaces: each filter was counted as often as the hits
 -- name it; the interfaces of full filters are marked, the marked ones are matched, the matched ones are those of full filters,
 -- and no more are matched than marked
-pub record AreCounted (goals : List Goal) (ifaces hits : List ℕ) (c : Counts) (matched : List ℕ) : Type 0 where
-  pub filters_fit : length goals ≤ length c.counts
+pub record AreCounted (goals : GoalLists) (ifaces hits : List ℕ) (c : Counts) (matched : List ℕ) : Type 0 where
+  pub filters_fit : length goals.constraints ≤ length c.counts
   pub ifaces_fit : length ifaces ≤ length c.marks
   pub so_often : (k : ℕ) → count_at c k ≡ tally (λ x. x == k) hits
   pub full : (k : ℕ) → 0 < (goal_at goals k).constraints → (goal_at goals k).constraints ≤ tally (λ x. x == k) hits
@@ -79,14 +79,14 @@ pub record AreCounted (goals : List Goal) (ifaces hits : List ℕ) (c : Counts) 
   pub no_more : length matched ≤ tally (λ mark. mark == c.base) (take (length ifaces) c.marks)
 
 -- no filter is named more often than it has constraints
-abbrev pub AreFew : List Goal → List ℕ → Type 0
+abbrev pub AreFew : GoalLists → List ℕ → Type 0
 AreFew goals hits = (k : ℕ) → tally (λ x. x == k) hits ≤ (goal_at goals k).constraints
 
 -- some hits were counted, and with those found next they are few
-abbrev pub IsUnderway : List Goal → List ℕ → List ℕ → Counts → List ℕ → Type 0
+abbrev pub IsUnderway : GoalLists → List ℕ → List ℕ → Counts → List ℕ → Type 0
 IsUnderway goals ifaces found c matched = (hits : List ℕ) × AreCounted goals ifaces hits c matched × AreFew goals (hits ++ found)
 
 -- after whatever hits were counted before, these are counted too
-abbrev pub AreCountedMore : List Goal → List ℕ → List ℕ → Counts → List ℕ → Counts → List ℕ → Type 0
+abbrev pub AreCountedMore : GoalLists → List ℕ → List ℕ → Counts → List ℕ → Counts → List ℕ → Type 0
 AreCountedMore goals ifaces found c matched new more = (hits : List ℕ) → AreCounted goals ifaces hits c matched
     → AreCounted goals ifaces (hits ++ found) new more

@@ -5,8 +5,7 @@ use Rattle.std.specs.List.{Contains}
 use Rattle.ev_notice.specs.Before.{list_before}
 use Rattle.ev_counting.specs.Table.{HeldFilter}
 use Rattle.ev_counting.specs.declared.entry.Entry.{Entry}
-use Rattle.ev_counting.specs.declared.goal.Goal.{Goal}
-use Rattle.ev_counting.specs.Slots.{Slot, pair_of, slot_at, held, AreAimed, KeepsPlaces}
+use Rattle.ev_counting.specs.Slots.{Slot, pair_of, slot_at, held, GoalLists, AreAimed, KeepsPlaces}
 
 -- the order of pairs: by the interface, then by the filter
 unfoldable pub pair_before : HeldFilter → HeldFilter → Bool
@@ -58,7 +57,7 @@ abbrev pub IsNone : ℕ → List ℕ → Type 0
 IsNone id free = (k : ℕ) → k < length free → nth free k ≢ id
 
 -- what the places of every table keep
-pub record ArePlacesKept (slots : List Slot) (goals : List Goal) (sorted spare : List ℕ) : Type 0 where
+pub record ArePlacesKept (slots : List Slot) (goals : GoalLists) (sorted spare : List ℕ) : Type 0 where
   pub aimed : AreAimed slots goals
   pub ordered : IsOrdered slots sorted
   pub free : AreFree slots spare

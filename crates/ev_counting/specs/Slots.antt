@@ -1,5 +1,5 @@
 -- The places of a table: each is free or has a filter with the interface that holds it.
-use Rattle.std.specs.Prelude.{◌≡◌, ◌<◌, ◌≤◌, ◌^◌, ℕ, suc, List, [], ◌∷◌, ◌++◌, length, map, slice_index_or, Some, None}
+use Rattle.std.specs.Prelude.{◌≡◌, ◌<◌, ◌≤◌, ◌^◌, ℕ, suc, List, [], ◌∷◌, ◌++◌, length, map, slice_index_or, slice_set, Some, None}
 use Rattle.std.specs.declared.option.Option.{Option}
 use Rattle.ev_constraint.specs.Constraint.{ConstraintParts}
 use Rattle.ev_index.specs.Pairs.{Same}
@@ -41,12 +41,25 @@ abbrev pub goal_of : Slot → Goal
 goal_of None = record { place = 0; constraints = 0 }
 goal_of (Some e) = record { place = e.place; constraints = length e.filter }
 
-abbrev pub goal_at : List Goal → ℕ → Goal
-goal_at goals k = slice_index_or goals k (record { place = 0; constraints = 0 })
+-- of each place how many constraints its filter has, and the place of its interface
+pub record GoalLists : Type 0 where
+  pub constraints : List ℕ
+  pub places : List ℕ
+
+abbrev pub lists_of : List ℕ → List ℕ → GoalLists
+lists_of constraints places = record { constraints = constraints; places = places }
+
+abbrev pub goal_at : GoalLists → ℕ → Goal
+goal_at goals k = record { place = slice_index_or goals.places k 0; constraints = slice_index_or goals.constraints k 0 }
+
+-- another goal of a place
+abbrev pub with_goal : GoalLists → ℕ → Goal → GoalLists
+with_goal goals k goal = lists_of (slice_set goals.constraints k goal.constraints) (slice_set goals.places k goal.place)
 
 -- each place has its goal
-pub record AreAimed (slots : List Slot) (goals : List Goal) : Type 0 where
-  pub enough : length slots ≤ length goals
+pub record AreAimed (slots : List Slot) (goals : GoalLists) : Type 0 where
+  pub counted : length slots ≤ length goals.constraints
+  pub placed : length slots ≤ length goals.places
   pub aims : (k : ℕ) → goal_at goals k ≡ goal_of (slot_at slots k)
 
 -- a filter's constraints, each with the filter's number

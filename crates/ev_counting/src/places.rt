@@ -1,6 +1,6 @@
 //! The places of a table: each is free or has a filter with the interface that holds it.
 use crate::entry::{Entry, copy_slot};
-use crate::goal::{FREE, Goal};
+use crate::goal::{FREE, Goals};
 use crate::slots::{goal, seek, vacate};
 use ev_memory::NoMemory;
 use ev_notice::Filter;
@@ -14,7 +14,7 @@ use std::marker::Model;
 #[derive(Drop)]
 pub(crate) struct Places {
     slots: Vec<Option<Entry>>,
-    goals: Vec<Goal>,
+    goals: Goals,
     sorted: Vec<u32>,
     free: Vec<u32>,
 }
@@ -28,7 +28,7 @@ impl Model for Places {
 
     ghost view = { λ places. places.slots.items };
 
-    ghost invariant = { λ places. ArePlacesKept places.slots.items places.goals.items places.sorted.items places.free.items
+    ghost invariant = { λ places. ArePlacesKept places.slots.items places.goals places.sorted.items places.free.items
         × (vec_len places.free + vec_len places.sorted ≤ vec_capacity places.free) };
 }
 
@@ -45,7 +45,7 @@ impl Places {
     {
         Places {
             slots: Vec::new(alloc),
-            goals: Vec::new(alloc),
+            goals: Goals::new(alloc),
             sorted: Vec::new(alloc),
             free: Vec::new(alloc),
         }
@@ -61,7 +61,7 @@ impl Places {
     }
 
     /// What it takes to match the filter of each place.
-    pub(crate) fn goals(&self) -> &[Goal]
+    pub(crate) fn goals(&self) -> &Goals
         ensures { AreAimed self.now result.now }
     {
         &self.goals
@@ -103,7 +103,7 @@ impl Places {
             self.sorted.len(),
         )?;
         self.sorted.insert(i, id)?;
-        self.goals[id as usize] = goal(place, &filter);
+        self.goals.set(id, goal(place, &filter));
         self.slots[id as usize] = Some(Entry {
             iface,
             place,
@@ -123,7 +123,7 @@ impl Places {
             return None;
         };
         let id = self.sorted.remove(i);
-        self.goals[id as usize] = FREE;
+        self.goals.set(id, FREE);
         self.slots[id as usize] = None;
         self.free.push_reserved(id);
         Some(id)
@@ -134,7 +134,7 @@ impl Places {
         ensures { IfOk result (λ copy. copy ≡ self.now) }
     {
         let slots = copied(alloc, &self.slots)?;
-        let goals = Vec::from_slice(alloc, &self.goals)?;
+        let goals = self.goals.copy(alloc)?;
         let sorted = Vec::from_slice(alloc, &self.sorted)?;
         let mut free = Vec::from_slice(alloc, &self.free)?;
         free.reserve(sorted.len())?;

@@ -4,7 +4,7 @@ ghost use Rattle.ev_counting.specs.Slots.{slot_at, KeepsPlaces, AreAimed};
 ghost use Rattle.ev_counting.specs.Order.{slot_before, slot_behind, nth, IsOrdered, IsPairGap, IsHere, AreFree, IsNone};
 
 use crate::entry::Entry;
-use crate::goal::{FREE, Goal};
+use crate::goal::{Goal, Goals};
 use ev_memory::NoMemory;
 use ev_notice::Filter;
 
@@ -72,19 +72,19 @@ pub(crate) fn seek(
 /// A place that was free, made where there is none. Of the places that have a filter there are so many.
 pub(crate) fn vacate(
     slots: &mut Vec<Option<Entry>>,
-    goals: &mut Vec<Goal>,
+    goals: &mut Goals,
     free: &mut Vec<u32>,
     live: usize,
 ) -> Result<u32, NoMemory>
     requires few { length slots.old.items ≤ 2 ^ 32 }
-    requires aimed { AreAimed slots.old.items goals.old.items }
+    requires aimed { AreAimed slots.old.items goals.old }
     requires free { AreFree slots.old.items free.old.items }
     requires room { vec_len free.old + live ≤ vec_capacity free.old }
     requires bounded { live < 2 ^ 63 }
     ensures vacant { IfOk result (λ id. (id < length slots.new.items) × (slot_at slots.new.items id ≡ None)) }
     ensures apart { IfOk result (λ id. IsNone id free.new.items) }
     ensures kept { KeepsPlaces slots.old.items slots.new.items }
-    ensures aimed { AreAimed slots.new.items goals.new.items }
+    ensures aimed { AreAimed slots.new.items goals.new }
     ensures free { AreFree slots.new.items free.new.items }
     ensures room { vec_len free.new + live ≤ vec_capacity free.new }
     ensures more { OnOk result (vec_len free.new + live + 1 ≤ vec_capacity free.new) }
@@ -96,7 +96,7 @@ pub(crate) fn vacate(
         return Err(NoMemory);
     };
     free.reserve(live + 1)?;
-    goals.push(FREE)?;
+    goals.push_free()?;
     slots.push(None)?;
     Ok(id)
 }
@@ -108,6 +108,6 @@ pub(crate) fn goal(place: u32, filter: &Filter) -> Goal
     let constraints = filter.constraints();
     Goal {
         place,
-        constraints: constraints.len() as u32,
+        constraints: constraints.len() as u8,
     }
 }

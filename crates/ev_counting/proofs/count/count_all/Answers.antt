@@ -40,12 +40,12 @@ loop-id-preserved c =
     let room : id < length now.counts = omega (arith, known.0, fits.0) in
     elim c.if-count_hit.branch [
       | then-count_hit+in_ok-push w ↦ (
-          let f = c.count_hit.ensures.full w.if-count_hit.true in
+          let f = rw (c.constraints-constraints.ensures, c.places-places.ensures) at (c.count_hit.ensures.full w.if-count_hit.true) in
           let t = counting-full goals ifaces first more old was now out id next few s room known.1 (c.requires.goals.placed id known.1) f.1 f.2 in
-          let u = subst (λ (x : List ℕ). Counting goals ifaces more old was (marked (counted now id) place) x) (sym w.in_ok-push.ensures.items) t in
+          let u = subst (λ (x : List ℕ). Counting goals ifaces more old was (marked (counted now id) place) x) (sym (rw c.places-places.ensures at w.in_ok-push.ensures.items)) t in
           rw w.matched-is (subst (λ (x : Counts). Counting goals ifaces more old was x w.push.new.self.items) (sym f.0) u))
       | else-count_hit w ↦ (
-          let f = c.count_hit.ensures.part w.if-count_hit.false in
+          let f = rw (c.constraints-constraints.ensures, c.places-places.ensures) at (c.count_hit.ensures.part w.if-count_hit.false) in
           let t = counting-part goals ifaces first more old was now out id next few s room known.1 f.1 in
           rw w.matched-is (subst (λ (x : Counts). Counting goals ifaces more old was x out) (sym f.0) t))
     ]

@@ -28,7 +28,7 @@ invariant_of-self-2 c =
           let g : IsPairGap old sorted pair w.in-Err.i = subst (λ (xs : List Slot). IsPairGap xs sorted pair w.in-Err.i) c.deref.ensures.value (subst (λ (ks : List ℕ). IsPairGap c.deref.result.now ks pair w.in-Err.i) c.deref-2.ensures.value w.in-Err.ensures.err) in
           subst (IsPairGap old sorted pair) (sym w.i-is) g)
     ] in
-    let a = kept-put slots c.vacate.new.goals.items sorted free pair i id e c.in_ok-id.ensures.aimed (ordered-kept old slots sorted c.in_ok-id.ensures.kept kept.ordered) c.in_ok-id.ensures.free c.in_ok-id.ensures.kept.few (gap-kept old slots sorted pair i c.in_ok-id.ensures.kept gap) refl c.in_ok-id.ensures.vacant.0 c.in_ok-id.ensures.vacant.1 c.in_ok-id.ensures.apart in
+    let a = kept-put slots c.vacate.new.goals sorted free pair i id e c.in_ok-id.ensures.aimed (ordered-kept old slots sorted c.in_ok-id.ensures.kept kept.ordered) c.in_ok-id.ensures.free c.in_ok-id.ensures.kept.few (gap-kept old slots sorted pair i c.in_ok-id.ensures.kept gap) refl c.in_ok-id.ensures.vacant.0 c.in_ok-id.ensures.vacant.1 c.in_ok-id.ensures.apart in
     let s : c.insert.new.self.items ≡ insert sorted i id = c.in_ok-insert.ensures.items ∙ ap (λ (ks : List ℕ). insert ks i id) c.reserve.ensures.items in
-    let b : ArePlacesKept (set slots id (Some e)) (set c.vacate.new.goals.items id c.goal.result) c.insert.new.self.items free = rw (c.goal.ensures, s) a in
+    let b : ArePlacesKept (set slots id (Some e)) c.set.new.self c.insert.new.self.items free = rw (c.set.ensures, c.goal.ensures, s) a in
     (b, omega (arith, c.in_ok-id.ensures.more, c.in_ok-insert.ensures.len, c.len.ensures))

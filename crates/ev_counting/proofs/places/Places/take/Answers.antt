@@ -16,8 +16,8 @@ is c = stands-here c.self.inside.sorted.items c.in-Ok.i c.remove-id.result 0 (he
 
 pub invariant_of-self : goal.invariant_of-self
 invariant_of-self c =
-    let a = kept-taken c.self.inside.slots.items c.self.inside.goals.items c.self.inside.sorted.items c.self.inside.free.items (c.args.iface, c.args.filter.now) c.in-Ok.i c.remove-id.result c.self.invariant.0 (here c) (is c) in
-    (rw (c.remove-id.ensures.items, c.push_reserved.ensures.items) a, omega (arith, c.self.invariant.1, c.push_reserved.ensures.len, c.push_reserved.ensures.capacity, c.remove-id.ensures.len))
+    let a = kept-taken c.self.inside.slots.items c.self.inside.goals c.self.inside.sorted.items c.self.inside.free.items (c.args.iface, c.args.filter.now) c.in-Ok.i c.remove-id.result c.self.invariant.0 (here c) (is c) in
+    (rw (c.set.ensures, c.remove-id.ensures.items, c.push_reserved.ensures.items) a, omega (arith, c.self.invariant.1, c.push_reserved.ensures.len, c.push_reserved.ensures.capacity, c.remove-id.ensures.len))
 
 pub returns-clause-gone : goal.returns-clause-gone
 returns-clause-gone c = taken-gone c.self.inside.slots.items c.self.inside.sorted.items (c.args.iface, c.args.filter.now) c.in-Ok.i c.remove-id.result c.self.invariant.0.ordered (here c) (is c)

@@ -4,7 +4,7 @@ use Rattle.ev_notice.specs.Notice.{Attribute, AreRising}
 use Rattle.ev_index.specs.Pairs.{Same}
 use Rattle.ev_counting.specs.Table.{HeldFilter, AreMatched}
 use Rattle.ev_counting.specs.Index.{ids_satisfied}
-use Rattle.ev_counting.specs.Counting.{AreCountedMore}
+use Rattle.ev_counting.specs.Counting.{IsFreshRound, AreCountedMore}
 use Rattle.ev_counting.specs.Slots.{ArePlaced, held}
 use Rattle.ev_counting.proofs.Sets.{to-route}
 use Rattle.ev_counting.proofs.Same.{appended-same}
@@ -20,7 +20,8 @@ pub loop-name-init : goal.loop-name-init
 loop-name-init c =
     let n = c.attributes-name-items.result.now in
     let rising : AreRising n = subst AreRising (sym c.attributes-name-items.ensures.same) c.attributes-name-items.ensures.whole.rising in
-    let start = routing-start n c.self.inside.index c.goals-goals.result.now c.numbers-interfaces.result.now c.begin.new.self rising c.in_ok-begin.ensures in
+    let fresh = subst (λ (k : ℕ). IsFreshRound k (length c.numbers-interfaces.result.now) c.begin.new.self) c.len.ensures c.in_ok-begin.ensures in
+    let start = routing-start n c.self.inside.index c.goals-goals.result.now c.numbers-interfaces.result.now c.begin.new.self rising fresh in
     subst (λ (x : List ℕ). Routing n n c.self.inside.index c.goals-goals.result.now c.numbers-interfaces.result.now c.begin.new.self x) (sym c.new-ifaces.ensures.items) start
 
 pub count_hits-requires-clause-known : goal.count_hits-requires-clause-known
@@ -76,7 +77,7 @@ returns c =
           let r = subst (λ (left : List Attribute). Routing n left index goals ifaces counters matched) e c.loop-name.invariant in
           routing-end n slots index goals ifaces counters matched c.goals-goals.ensures placed c.self.invariant.indexed r)
       | then-loop-name-test+then-len-interfaces w ↦ (
-          let enough : length ifaces ≤ length matched = omega (arith, w.if-len-interfaces, w.len.ensures, c.loop-name.ifaces.ok.0) in
+          let enough : length ifaces ≤ length matched = omega (arith, w.if-len-interfaces, w.len-in-loop-name.ensures, c.loop-name.ifaces.ok.0) in
           routing-stop n (drop i n) slots index goals ifaces counters matched c.goals-goals.ensures placed c.self.invariant.indexed enough c.loop-name.invariant)
     ] in
     let b = subst (λ (pairs : List HeldFilter). AreMatched n pairs matched) c.self.view_is all in
