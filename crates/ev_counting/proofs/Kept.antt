@@ -5,6 +5,7 @@ use Rattle.std.proofs.Math.ListN.{set}
 use Rattle.std.proofs.lemmas.Bool.{cases_eq}
 use Rattle.std.proofs.lemmas.List.{length-set, get_or-set_same, get_or-set_other}
 use Rattle.std.specs.List.{Contains, insert, remove}
+use Rattle.std.proofs.lemmas.List.Edits.{length-insert}
 use Rattle.ev_counting.specs.declared.entry.Entry.{Entry}
 use Rattle.ev_counting.specs.Table.{HeldFilter}
 use Rattle.ev_counting.specs.Slots.{Slot, pair_of, held, slot_at, goal_of, GoalLists, with_goal, HasPair, AreAimed, KeepsPlaces}
@@ -12,7 +13,7 @@ use Rattle.ev_counting.specs.Changes.{IsOnce}
 use Rattle.ev_counting.specs.Order.{nth, IsOrdered, IsPairGap, IsHere, AreFree, IsNone, ArePlacesKept}
 use Rattle.ev_counting.proofs.Standing.{held-from, held-has}
 use Rattle.ev_counting.proofs.Sound.{aimed-set}
-use Rattle.ev_counting.proofs.Order.{trichotomy, ordered-insert, ordered-remove, one-place, live-within}
+use Rattle.ev_counting.proofs.Order.{inserted, ordered-insert, ordered-remove, one-place, live-within}
 
 -- a number behind others
 nth-below : (xs : List ℕ) (x k : ℕ) → k < length xs → nth (xs ++ x ∷ []) k ≡ nth xs k
@@ -59,6 +60,42 @@ free-empty slots free e = record {
 pub apart-empty : (id : ℕ) (free : List ℕ) → length free ≡ 0 → IsNone id free
 apart-empty id free e k l = absurd (omega (arith, l, e))
 
+-- a free place more, somewhere among them
+pub free-more : (slots : List Slot) (free : List ℕ) (i id : ℕ) → i ≤ length free → AreFree slots free → id < length slots → slot_at slots id ≡ None → IsNone id free → AreFree slots (insert free i id)
+free-more slots free i id w f l none apart = record {
+  within = λ k m. elim (spot k m) [
+    | inl a ↦ subst (λ n. n < length slots) (sym a.1) (f.within k (omega (arith, a.0, w)))
+    | inr (inl a) ↦ subst (λ n. n < length slots) (sym a.1) l
+    | inr (inr a) ↦ subst (λ n. n < length slots) (sym a.4) (f.within a.0 a.3)
+  ];
+  none = λ k m. elim (spot k m) [
+    | inl a ↦ subst (λ n. slot_at slots n ≡ None) (sym a.1) (f.none k (omega (arith, a.0, w)))
+    | inr (inl a) ↦ subst (λ n. slot_at slots n ≡ None) (sym a.1) none
+    | inr (inr a) ↦ subst (λ n. slot_at slots n ≡ None) (sym a.4) (f.none a.0 a.3)
+  ];
+  once = λ j k s m. two j k s (spot j (omega (arith, s, m))) (spot k m);
+}
+  where
+    new : List ℕ
+    new = insert free i id
+
+    Spot : ℕ → Type 0
+    Spot k = ((k < i) × (nth new k ≡ nth free k)) ⊎ (((k ≡ i) × (nth new k ≡ id)) ⊎ ((j : ℕ) × (k ≡ j + 1) × (i ≤ j) × (j < length free) × (nth new k ≡ nth free j)))
+
+    spot : (k : ℕ) → k < length new → Spot k
+    spot k m = inserted free i id k w (omega (arith, m, length-insert free i id w))
+
+    two : (j k : ℕ) → j < k → Spot j → Spot k → nth new j ≢ nth new k
+    two j k s (inl a) (inl b) e = f.once j k s (omega (arith, b.0, w)) (sym a.1 ∙ e ∙ b.1)
+    two j k s (inl a) (inr (inl b)) e = apart j (omega (arith, a.0, w)) (sym a.1 ∙ e ∙ b.1)
+    two j k s (inl a) (inr (inr b)) e = f.once j b.0 (omega (arith, a.0, b.2)) b.3 (sym a.1 ∙ e ∙ b.4)
+    two j k s (inr (inl a)) (inl b) e = absurd (omega (arith, s, a.0, b.0))
+    two j k s (inr (inl a)) (inr (inl b)) e = absurd (omega (arith, s, a.0, b.0))
+    two j k s (inr (inl a)) (inr (inr b)) e = apart b.0 b.3 (sym b.4 ∙ sym e ∙ a.1)
+    two j k s (inr (inr a)) (inl b) e = absurd (omega (arith, s, a.1, a.2, b.0))
+    two j k s (inr (inr a)) (inr (inl b)) e = absurd (omega (arith, s, a.1, a.2, b.0))
+    two j k s (inr (inr a)) (inr (inr b)) e = f.once a.0 b.0 (omega (arith, s, a.1, b.1)) b.3 (sym a.4 ∙ e ∙ b.4)
+
 -- an entry of the pair at a free place
 pub kept-put : (slots : List Slot) (goals : GoalLists) (sorted free : List ℕ) (pair : HeldFilter) (i id : ℕ) (e : Entry) → AreAimed slots goals → IsOrdered slots sorted → AreFree slots free → length slots ≤ 2 ^ 32
     → IsPairGap slots sorted pair i → pair_of e ≡ pair → id < length slots → slot_at slots id ≡ None → IsNone id free → ArePlacesKept (set slots id (Some e)) (with_goal goals id (goal_of (Some e))) (insert sorted i id) free
@@ -74,25 +111,12 @@ kept-put slots goals sorted free pair i id e aimed ordered f few gap mine l vaca
 }
 
 -- the place of the pair set free
-pub kept-taken : (slots : List Slot) (goals : GoalLists) (sorted free : List ℕ) (pair : HeldFilter) (i id : ℕ) → ArePlacesKept slots goals sorted free → IsHere slots sorted pair i → nth sorted i ≡ id
-    → ArePlacesKept (set slots id None) (with_goal goals id (goal_of None)) (remove sorted i) (free ++ id ∷ [])
-kept-taken slots goals sorted free pair i id kept here is = record {
+pub kept-taken : (slots : List Slot) (goals : GoalLists) (sorted free : List ℕ) (pair : HeldFilter) (i id rank : ℕ) → ArePlacesKept slots goals sorted free → IsHere slots sorted pair i → nth sorted i ≡ id → rank ≤ length free
+    → ArePlacesKept (set slots id None) (with_goal goals id (goal_of None)) (remove sorted i) (insert free rank id)
+kept-taken slots goals sorted free pair i id rank kept here is w = record {
   aimed = aimed-set slots goals id None within kept.aimed;
   ordered = ordered-remove slots (set slots id None) sorted kept.ordered id i here.within is (get_or-set_same slots id None None within) (λ other n. get_or-set_other slots id other None None n);
-  free = record {
-    within = λ k l. elim (last-or k l) [
-      | inl m ↦ subst (λ n. n < length (set slots id None)) (sym (nth-below free id k m)) (omega (arith, kept.free.within k m, length-set slots id None))
-      | inr e ↦ subst (λ n. n < length (set slots id None)) (sym (last k e)) (omega (arith, within, length-set slots id None))
-    ];
-    none = λ k l. elim (last-or k l) [
-      | inl m ↦ subst (λ n. slot_at (set slots id None) n ≡ None) (sym (nth-below free id k m)) (get_or-set_other slots id (nth free k) None None (apart k m) ∙ kept.free.none k m)
-      | inr e ↦ subst (λ n. slot_at (set slots id None) n ≡ None) (sym (last k e)) (get_or-set_same slots id None None within)
-    ];
-    once = λ j k l m. elim (last-or k m) [
-      | inl n ↦ (λ q. kept.free.once j k l n (sym (nth-below free id j (omega (arith, l, n))) ∙ q ∙ nth-below free id k n))
-      | inr e ↦ (λ q. apart j (omega (arith, l, e)) (sym (nth-below free id j (omega (arith, l, e))) ∙ q ∙ last k e))
-    ];
-  };
+  free = free-more (set slots id None) free rank id w still (omega (arith, within, length-set slots id None)) (get_or-set_same slots id None None within) apart;
   few = omega (arith, kept.few, length-set slots id None);
 }
   where
@@ -109,11 +133,12 @@ kept-taken slots goals sorted free pair i id kept here is = record {
         no : Some here.entry ≡ None → ⊥
         no h = cc
 
-    last-or : (k : ℕ) → k < length (free ++ id ∷ []) → (k < length free) ⊎ (k ≡ length free)
-    last-or k l = elim (trichotomy k (length free)) [ inl a ↦ inl a | inr (inl a) ↦ inr a | inr (inr a) ↦ absurd (omega (arith, a, l, length-more free id)) ]
-
-    last : (k : ℕ) → k ≡ length free → nth (free ++ id ∷ []) k ≡ id
-    last k e = ap (nth (free ++ id ∷ [])) e ∙ nth-last free id
+    still : AreFree (set slots id None) free
+    still = record {
+      within = λ k l. omega (arith, kept.free.within k l, length-set slots id None);
+      none = λ k l. get_or-set_other slots id (nth free k) None None (apart k l) ∙ kept.free.none k l;
+      once = kept.free.once;
+    }
 
 -- it has gone
 pub taken-gone : (slots : List Slot) (sorted : List ℕ) (pair : HeldFilter) (i id : ℕ) → IsOrdered slots sorted → IsHere slots sorted pair i → nth sorted i ≡ id → Contains (held (set slots id None)) pair → ⊥

@@ -1,7 +1,7 @@
 //! The places of a table: each is free or has a filter with the interface that holds it.
 use crate::entry::{Entry, copy_slot};
 use crate::goal::{FREE, Goals};
-use crate::slots::{goal, seek, vacate};
+use crate::slots::{goal, seek, set_free, vacate};
 use ev_memory::NoMemory;
 use ev_notice::Filter;
 use std::alloc::Global;
@@ -10,7 +10,7 @@ use std::marker::Model;
 /// The places of a table, with what counting needs to know of each.
 ///
 /// The places with a filter are found by a binary search, in the order of their interfaces and filters; a filter more
-/// or less moves the later ones by a word. Free places are kept on a stack, which has room for all places.
+/// or less moves the later ones by a word. Free places are listed from the highest to the lowest, with room for all places.
 #[derive(Drop)]
 pub(crate) struct Places {
     slots: Vec<Option<Entry>>,
@@ -125,7 +125,7 @@ impl Places {
         let id = self.sorted.remove(i);
         self.goals.set(id, FREE);
         self.slots[id as usize] = None;
-        self.free.push_reserved(id);
+        set_free(&mut self.free, id);
         Some(id)
     }
 

@@ -1,5 +1,6 @@
 //! The places of a table, in the order of their pairs.
 ghost use Rattle.std.specs.Prelude.{◌≡◌, ◌<◌, ◌≤◌, ◌+◌, ◌^◌, ℕ, IfOk, IfErr, OnOk, true, false, length, vec_len, vec_capacity, None};
+ghost use Rattle.std.specs.List.{insert};
 ghost use Rattle.ev_counting.specs.Slots.{slot_at, KeepsPlaces, AreAimed};
 ghost use Rattle.ev_counting.specs.Order.{slot_before, slot_behind, nth, IsOrdered, IsPairGap, IsHere, AreFree, IsNone};
 
@@ -99,6 +100,19 @@ pub(crate) fn vacate(
     goals.push_free()?;
     slots.push(None)?;
     Ok(id)
+}
+
+/// Lists a place as free, for which there is room. The free places fall, so that the lowest is taken first.
+pub(crate) fn set_free(free: &mut Vec<u32>, id: u32)
+    requires room { vec_len free.old < vec_capacity free.old }
+    ensures listed { (i : ℕ) × (i ≤ length free.old.items) × (free.new.items ≡ insert free.old.items i id) }
+    ensures len { vec_len free.new ≡ vec_len free.old + 1 }
+    ensures capacity { vec_capacity free.old ≤ vec_capacity free.new }
+{
+    let i = free.partition_point(|place| *place > id);
+    if free.insert(i, id).is_err() {
+        unreachable!();
+    }
 }
 
 /// The goal of a filter whose interface has this place.
