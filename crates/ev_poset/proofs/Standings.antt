@@ -61,6 +61,33 @@ own-counts {T} nodes skipped marks l passes s k n e = go n.holders refl
         any-and (has_mark marks k) skipped l n.holders
         ∙ ap (λ z. list_any (λ h. not (h == l) && not (h == l)) n.holders && z) (sym (s k n e (rw q (cons-held h hs))))
 
+-- a holder beyond this one and, of a marked node, the skipped one
+left-any : (m : Bool) (skipped l : ℕ) (holders : List ℕ) → list_any (λ h. not (h == l) && not (h == cond m skipped l)) holders
+    ≡ (list_any (λ h. not (h == l) && not (h == l)) holders && (not m || list_any (λ h. not (h == skipped) && not (h == l)) holders))
+left-any m skipped l [] = grind arith
+left-any true skipped l (h ∷ hs) = grind (arith, left-any true skipped l hs)
+left-any false skipped l (h ∷ hs) = grind (arith, left-any false skipped l hs)
+
+and-and : (a b c : Bool) → ((a && b) && c) ≡ (a && (b && c))
+and-and true b c = refl
+and-and false b c = refl
+
+pub left-counts : {T : Type 0} (nodes : List (Stand T)) (skipped : ℕ) (marks : List Bool) (l : ℕ) (passes rest : T → Bool) → SkipsMarked nodes skipped marks l passes
+    → (k : ℕ) (n : Stand T) → NodeAt nodes k n → (list_any (λ h. not (h == l) && not (h == cond (has_mark marks k) skipped l)) n.holders && rest n.item) ≡ counts l (λ x. passes x && rest x) n
+left-counts {T} nodes skipped marks l passes rest s k n e = go n.holders refl
+  where
+    beyond : Bool
+    beyond = list_any (λ h. not (h == l) && not (h == l)) n.holders
+
+    left : Bool
+    left = not (has_mark marks k) || list_any (λ h. not (h == skipped) && not (h == l)) n.holders
+
+    go : (hs : List ℕ) → n.holders ≡ hs → (list_any (λ h. not (h == l) && not (h == cond (has_mark marks k) skipped l)) n.holders && rest n.item) ≡ counts l (λ x. passes x && rest x) n
+    go [] q = rw q refl
+    go (h ∷ hs) q =
+        ap (λ z. z && rest n.item) (left-any (has_mark marks k) skipped l n.holders)
+        ∙ (and-and beyond left (rest n.item) ∙ ap (λ z. beyond && (z && rest n.item)) (sym (s k n e (rw q (cons-held h hs)))))
+
 -- an equation between tests gives both ways
 pub both-ways : (a b : Bool) → a ≡ b → (a ≡ true) ↔ (b ≡ true)
 both-ways a b e = ((λ p. sym e ∙ p), λ p. e ∙ p)
