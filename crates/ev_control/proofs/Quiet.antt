@@ -1,18 +1,19 @@
 -- Nothing is due to a link for which no root differs.
-use Rattle.std.proofs.Common.{◌≡◌, ◌⊎◌, ◌↔◌, inl, inr, ℕ, ◌+◌, ◌==◌, ◌&&◌, ◌||◌, not, Bool, true, false, List, [], ◌∷◌, map, filter, take, length, slice_get, Some, refl, sym, ap₂, subst, ◌∙◌, arith}
+use Rattle.std.proofs.Common.{◌≡◌, ◌⊎◌, ◌↔◌, inl, inr, ℕ, ◌+◌, ◌==◌, ◌&&◌, ◌||◌, not, Bool, true, false, List, [], ◌∷◌, map, filter, take, length, slice_get, Some, refl, sym, ap, ap₂, subst, ◌∙◌, arith}
 use Rattle.std.specs.List.{list_any}
 use Rattle.ev_sets.specs.Laws.{CoverLaws}
-use Rattle.ev_sets.specs.Sets.{Has, IsRising, roots, same}
+use Rattle.ev_sets.specs.Sets.{Has, IsRising, roots, same, set_of}
 use Rattle.ev_sets.proofs.Sets.{ext, rising-roots, rising-set_of}
 use Rattle.ev_pool.specs.Pool.{Pooled, IsAt, IsAbsent, HasDistinctItems}
 use Rattle.ev_poset.specs.Poset.{Held, Agrees, held_by_others}
 use Rattle.ev_poset.specs.Graph.{has_mark}
 use Rattle.ev_poset.specs.Standing.{AreOf, PassesMarked}
 use Rattle.ev_poset.proofs.Rows.{at-one}
-use Rattle.ev_control.specs.Stock.{AreMarked, stays}
+use Rattle.ev_control.specs.Stock.{AreMarked, stays, left_for}
 use Rattle.ev_control.proofs.Holdings.{any-of, any-has}
 use Rattle.ev_control.proofs.Stocks.{same-is, same-yes, beyond-key}
 use Rattle.ev_control.proofs.Taken.{has-next, take-all}
+use Rattle.ev_control.proofs.Telling.{filter-alike}
 
 -- two tests that say the same
 same-tests : (a b : Bool) → (a ≡ true → b ≡ true) → (b ≡ true → a ≡ true) → a ≡ b
@@ -74,6 +75,14 @@ module _ {T : Type 0} where
       among = same-tests (list_any (λ y. same before h.item y) items) (has_mark marks h.key)
           (λ e. let r = any-has (λ y. same before h.item y) items e in (told h.key h.item (agrees h m)).1 (subst (λ z. Has z items) (sym (same-is laws h.item r.0 r.2)) r.1))
           (λ e. any-of (λ y. same before h.item y) items h.item ((told h.key h.item (agrees h m)).0 e) (same-yes laws h.item h.item refl))
+
+  -- a test that says what stays, and another one, let pass what is left
+  pub left-same : (before : T → T → Bool) (interface link : ℕ) (out : List T) (passes rest : T → Bool) (pairs : List (Held T)) → ((x : T) → passes x ≡ stays before interface link out pairs x)
+      → held_by_others before link (λ x. passes x && rest x) pairs ≡ left_for before interface link out rest pairs
+  left-same before interface link out passes rest pairs says =
+      let alike = filter-alike {X = Held T} (λ h. not (h.holder == link) && (passes h.item && rest h.item)) (λ h. not (h.holder == link) && (stays before interface link out pairs h.item && rest h.item))
+      (λ h. ap (λ z. not (h.holder == link) && (z && rest h.item)) (says h.item)) pairs in
+      ap (λ z. set_of before (map {A = Held T} {B = T} (λ h. h.item) z)) alike
 
   -- roots that are shown alike are the same
   pub same-shown : {covers before : T → T → Bool} (laws : CoverLaws covers before) (pool : Pooled T) (pairs : List (Held T)) (l : ℕ) (p q : T → Bool) (first second : ℕ → Bool)

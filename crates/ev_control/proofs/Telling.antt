@@ -124,3 +124,11 @@ left-free interface link offered out pairs =
     let alike = filter-alike {X = Held real.Filter} (λ h. not (h.holder == link) && (stays real.before interface link out pairs h.item && is_wanted Subscription offered h.item)) (λ h. not (h.holder == link) && stays real.before interface link out pairs h.item)
     (λ h. ap (λ z. not (h.holder == link) && z) (and-true (stays real.before interface link out pairs h.item))) pairs in
     ap (λ z. roots real.covers real.before (set_of real.before (map {A = Held real.Filter} {B = real.Filter} (λ h. h.item) z))) alike
+
+-- a test that lets all pass leaves what stays
+pub adverts-free : (interface link : ℕ) (out : List (List ConstraintParts)) (pairs : List (Held (List ConstraintParts)))
+    → roots real.covers_advert real.before_advert (left_for real.before_advert interface link out (λ x. true) pairs) ≡ adverts_left interface link out pairs
+adverts-free interface link out pairs =
+    let alike = filter-alike {X = Held real.Advert} (λ h. not (h.holder == link) && (stays real.before_advert interface link out pairs h.item && true)) (λ h. not (h.holder == link) && stays real.before_advert interface link out pairs h.item)
+    (λ h. ap (λ z. not (h.holder == link) && z) (and-true (stays real.before_advert interface link out pairs h.item))) pairs in
+    ap (λ z. roots real.covers_advert real.before_advert (set_of real.before_advert (map {A = Held real.Advert} {B = real.Advert} (λ h. h.item) z))) alike

@@ -2,7 +2,7 @@
 ghost use Rattle.std.specs.Prelude.{◌≡◌, ◌&&◌, ◌==◌, cond, true, false, ℕ, ◌++◌, List, [], IfOk, OnOk, map};
 ghost use Rattle.std.specs.List.{flat_map, list_any};
 ghost use Rattle.std.specs.Option.{option_map};
-ghost use Rattle.ev_sets.specs.Sets.{Has, roots};
+ghost use Rattle.ev_sets.specs.Sets.{Has};
 ghost use Rattle.ev_constraint.specs.Constraint.{ConstraintParts};
 ghost use Rattle.ev_notice.specs.Before.{list_before};
 ghost use Rattle.ev_notice.specs.Cover.{filter_covers, advert_covers, overlaps};
@@ -13,7 +13,7 @@ ghost use Rattle.ev_wire.specs.declared.message.Message.{Message};
 ghost use Rattle.ev_wire.specs.declared.sent.Sent.{Sent};
 ghost use Rattle.ev_wire.specs.MessageText.{IsMessageText};
 ghost use Rattle.ev_routing.specs.Clients.{some_pass};
-ghost use Rattle.ev_control.specs.Stock.{named, AreLive, stays, held_without};
+ghost use Rattle.ev_control.specs.Stock.{named, AreLive, held_without};
 ghost use Rattle.ev_control.specs.Control.{is_wanted, filter_change, advert_change, sent_to, text_to, HaveTexts, filters_left};
 ghost use Rattle.ev_control.specs.Control.{adverts_left, filters_turn, adverts_turn, filter_messages, advert_messages, filters_to};
 ghost use Rattle.ev_control.specs.Control.{adverts_to};
@@ -64,25 +64,6 @@ fn some_wanted(semantics: Semantics, adverts: &Stock<Ad>, offered: &[Key], filte
     false
 }
 
-/// Whether a filter is needed on a link that offers the advertisements of these keys, once the
-/// interface holds those no more that are withdrawn.
-fn is_left(
-    semantics: Semantics,
-    filters: &Stock<Sub>,
-    adverts: &Stock<Ad>,
-    offered: &[Key],
-    interface: u32,
-    link: u32,
-    out: &[Sub],
-    filter: &Sub,
-) -> bool
-    requires { AreLive adverts.now.pool offered.now }
-    ensures { result ≡ stays list_before interface link out.now filters.now.pairs filter.now
-        && is_wanted semantics (named adverts.now.pool offered.now) filter.now }
-{
-    filters.stays(interface, link, out, filter) && is_wanted(semantics, adverts, offered, filter)
-}
-
 /// The keys of the filters to be sent on a link that offers the advertisements of these keys, once
 /// the interface holds those no more that are withdrawn.
 fn filter_row(
@@ -98,13 +79,11 @@ fn filter_row(
     ensures { IfOk result (λ row. Names filters.now.pool row.items
         (filters_left semantics interface link (named adverts.now.pool offered.now) out.now filters.now.pairs)) }
 {
-    filters.roots(
+    filters.roots_left(
+        interface,
         link,
-        &|filter: &Sub| {
-            is_left(
-                semantics, filters, adverts, offered, interface, link, out, filter,
-            )
-        },
+        out,
+        &|filter: &Sub| is_wanted(semantics, adverts, offered, filter),
     )
 }
 
@@ -118,10 +97,7 @@ fn advert_row(
 ) -> Result<Vec<Key>, NoMemory>
     ensures { IfOk result (λ row. Names adverts.now.pool row.items (adverts_left interface link out.now adverts.now.pairs)) }
 {
-    adverts.roots(
-        link,
-        &|advert: &Ad| adverts.stays(interface, link, out, advert),
-    )
+    adverts.roots_left(interface, link, out, &|_: &Ad| true)
 }
 
 /// The text, if one is due, of the message of a change of filters to a link.
@@ -314,7 +290,7 @@ fn advert_differences(
 /// The texts of the messages of a change of the filters that an interface holds.
 ///
 /// What is added is held already, and what is withdrawn is held still: each set is asked for with
-/// a test that leaves out what only this interface and the link hold of what is not to be in it.
+/// what is not to be in it, of which all is left out that only this interface and the link hold.
 pub(crate) fn filter_texts(
     alloc: Global,
     semantics: Semantics,

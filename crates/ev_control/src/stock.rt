@@ -1,5 +1,5 @@
 //! The items that interfaces hold: a pool of them, and the pairs of a key and an interface.
-ghost use Rattle.std.specs.Prelude.{◌≡◌, ◌≢◌, ◌<◌, ◌^◌, ◌⊎◌, ◌↔◌, ℕ, ◌==◌, not, ◌||◌, ◌&&◌, Bool, true, false, cond, length, List, []};
+ghost use Rattle.std.specs.Prelude.{◌≡◌, ◌≢◌, ◌<◌, ◌^◌, ◌⊎◌, ◌↔◌, ℕ, ◌==◌, not, ◌&&◌, Bool, true, false, cond, length, List, []};
 ghost use Rattle.std.specs.Prelude.{IfSome, IfNone, IfOk, OnOk, OnErr, MatchOption};
 ghost use Rattle.std.specs.Fn.{FnReturnsAt};
 ghost use Rattle.std.specs.List.{list_any};
@@ -10,7 +10,7 @@ ghost use Rattle.ev_pool.specs.Sorted.{IsRow};
 ghost use Rattle.ev_poset.specs.Poset.{held_by, held_by_others, items_where};
 ghost use Rattle.ev_poset.specs.Standing.{is_root_for, AreOf, differs};
 ghost use Rattle.ev_control.specs.Holdings.{held_at_all, held_from};
-ghost use Rattle.ev_control.specs.Stock.{IsHeld, AreLive, AreMarked, holdings_of, held_without, is_beyond, named, stays};
+ghost use Rattle.ev_control.specs.Stock.{IsHeld, AreLive, AreMarked, holdings_of, held_without, left_for, named, stays};
 
 use crate::item::Item;
 use crate::marks::mark;
@@ -176,16 +176,6 @@ impl<T: Item> Stock<T> {
         Ok(stock)
     }
 
-    /// The keys of the roots of what interfaces other than the link hold and the test lets pass.
-    pub(crate) fn roots<F: Fn(&T) -> bool>(&self, link: u32, test: &F) -> Result<Vec<Key>, NoMemory>
-        ghost passes: { T → Bool }
-        requires callable { F.IsAlwaysCallable test.now }
-        requires one { (x : T) (r : _) → FnReturnsAt F.Fn test.now x r → r ≡ passes x }
-        ensures { IfOk result (λ row. Names self.now.pool row.items (roots T.covering T.order (held_by_others T.order link passes self.now.pairs))) }
-    {
-        self.poset.roots_without(&self.pool, link, test)
-    }
-
     /// Marks at the keys of these items.
     fn marks(&self, items: &[T]) -> Result<Vec<bool>, NoMemory>
         ensures { IfOk result (λ marks. AreMarked self.now.pool items.now marks.items) }
@@ -198,6 +188,28 @@ impl<T: Item> Stock<T> {
             }
         }
         Ok(marks)
+    }
+
+    /// The keys of the roots of what interfaces other than the link hold and the test lets pass, once the interface
+    /// holds these items no more.
+    pub(crate) fn roots_left<F: Fn(&T) -> bool>(
+        &self,
+        interface: u32,
+        link: u32,
+        out: &[T],
+        test: &F,
+    ) -> Result<Vec<Key>, NoMemory>
+        ghost passes: { (T → Bool) × (T → Bool) }
+        requires stays { (x : T) → passes.0 x ≡ stays T.order interface link out.now self.now.pairs x }
+        requires callable { F.IsAlwaysCallable test.now }
+        requires one { (x : T) (r : _) → FnReturnsAt F.Fn test.now x r → r ≡ passes.1 x }
+        ensures { IfOk result (λ row. Names self.now.pool row.items
+            (roots T.covering T.order (left_for T.order interface link out.now passes.1 self.now.pairs))) }
+    {
+        self.pool.items_are_distinct();
+        let marks = self.marks(out)?;
+        self.poset
+            .roots_left(&self.pool, link, interface, &marks, test)
     }
 
     /// For all links at once, which keys have roots of what other interfaces hold, once this one holds these items no
@@ -231,24 +243,6 @@ impl<T: Item> Stock<T> {
         let old = self.standings(interface, first)?;
         let new = self.standings(interface, second)?;
         differences(self.alloc, &old, &new)
-    }
-
-    /// Whether an interface other than the two holds the item.
-    fn is_beyond(&self, a: u32, b: u32, item: &T) -> bool
-        ensures { result ≡ is_beyond T.order a b self.now.pairs item.now }
-    {
-        self.pool.items_are_distinct();
-        match self.pool.find(item) {
-            Some(key) => self.poset.held_beyond(key, a, b),
-            None => false,
-        }
-    }
-
-    /// Whether the item is needed on the link once the interface holds these no more.
-    pub(crate) fn stays(&self, interface: u32, link: u32, out: &[T], item: &T) -> bool
-        ensures { result ≡ stays T.order interface link out.now self.now.pairs item.now }
-    {
-        !is_among(out, item) || self.is_beyond(interface, link, item)
     }
 
     /// The keys of what the interface holds without these, in the canonical order.
