@@ -1,18 +1,19 @@
 -- Lines: where keys stand, and what is found on each side of a key.
-use Rattle.std.proofs.Common.{◌≡◌, ◌+◌, ◌-◌, ◌<◌, ◌≤◌, ◌∙◌, ℕ, Bool, true, false, cond, refl, ap, arith, List, [], ◌∷◌, ◌++◌, length, take, drop, get_or, zero, suc, inl, inr, ◌⊎◌, ◌==◌, ◌&&◌, add-one, append_assoc}
+use Rattle.std.proofs.Common.{◌≡◌, ◌+◌, ◌-◌, ◌<◌, ◌≤◌, ◌∙◌, ℕ, Bool, true, false, cond, refl, ap, arith, List, [], ◌∷◌, ◌++◌, length, take, drop, get_or, zero, suc, inl, inr, ◌⊎◌, ◌==◌, ◌&&◌, sym, subst, append_assoc}
 use Rattle.std.specs.declared.cmp.Ordering.{Ordering}
 use Rattle.std.specs.Cmp.{IsTotalOrder}
 use Rattle.std.specs.Ordering.{is_lt, is_gt}
 use Rattle.std.proofs.lemmas.Bool.{cases_eq}
-use Rattle.std.proofs.lemmas.List.{get_or-drop, length-drop, drop-drop}
-use Rattle.std.specs.List.{insert, remove}
+use Rattle.std.proofs.lemmas.List.{get_or_default, get_or-drop, length-drop, drop-drop}
+use Rattle.std.specs.List.{insert, remove, zip}
+use Rattle.std.proofs.lemmas.Slice.Zip.{length-zip, get_or-zip}
 use Rattle.std.proofs.lemmas.List.Edits.{length-insert, get_or-insert_below, get_or-insert_at, get_or-insert_above, length-remove, get_or-remove_below, get_or-remove_above}
 use Rattle.std.proofs.lemmas.Bool.Decides.{nat_tests}
 use Rattle.ev_values.specs.declared.value.Value.{Value}
 use Rattle.ev_index.specs.Pairs.{tally, Test, passes, ids_met, IsIn}
-use Rattle.ev_index.specs.Lines.{key_in, is_at, HaveSortedKeys, told, ids_in, ids_with, on_side}
+use Rattle.ev_index.specs.Lines.{key_in, is_at, AreSorted, HaveSortedKeys, told, ids_with, on_side}
 use Rattle.ev_index.specs.declared.sides.Sides.{Sides}
-use Rattle.ev_index.proofs.Tallies.{tally-map, tally-at, tally-remove}
+use Rattle.ev_index.proofs.Tallies.{tally-map, tally-at, tally-insert, tally-remove}
 use Rattle.ev_index.proofs.Orders.{less-is, greater-is, neither-is, itself, turned, same-self}
 
 trichotomy : (a b : ℕ) → (a < b) ⊎ ((a ≡ b) ⊎ (b < a))
@@ -77,61 +78,95 @@ module _ {K : Type 0} where
   in-told said x (y ∷ pairs) (inr m) = let r = in-told said x pairs m in record { key = r.key; tells = r.tells; there = inr r.there }
 
   -- where the first keys all pass, or none does
-  part : (q : K → Bool) (u : Bool) (d : K × ℕ) (i : ℕ) (pairs : List (K × ℕ)) → i ≤ length pairs → ((k : ℕ) → k < i → q (key_in pairs d k) ≡ u) → ids_with q pairs ≡ cond u (ids_in (take i pairs)) [] ++ ids_with q (drop i pairs)
-  part q true d zero pairs l h = refl
-  part q false d zero pairs l h = refl
-  part q u d (suc i) [] l h = absurd (omega (arith, l))
-  part q u d (suc i) (x ∷ pairs) l h = go u (h 0 (omega arith)) (part q u d i pairs (omega (arith, l)) (λ k m. h (suc k) (omega (arith, m))))
+  part : (q : K → Bool) (u : Bool) (d : K) (i : ℕ) (keys : List K) (ids : List ℕ) → length keys ≡ length ids → i ≤ length keys → ((k : ℕ) → k < i → q (get_or keys k d) ≡ u) → ids_with q (zip keys ids) ≡ cond u (take i ids) [] ++ ids_with q (zip (drop i keys) (drop i ids))
+  part q true d zero keys ids e l h = refl
+  part q false d zero keys ids e l h = refl
+  part q u d (suc i) [] ids e l h = absurd (omega (arith, l))
+  part q u d (suc i) (x ∷ keys) [] e l h = absurd (omega (arith, e))
+  part q u d (suc i) (x ∷ keys) (id ∷ ids) e l h = go u (h 0 (omega arith)) (part q u d i keys ids (omega (arith, e)) (omega (arith, l)) (λ k m. h (suc k) (omega (arith, m))))
     where
-      go : (u : Bool) → q x.0 ≡ u → ids_with q pairs ≡ cond u (ids_in (take i pairs)) [] ++ ids_with q (drop i pairs) → cond (q x.0) (x.1 ∷ ids_with q pairs) (ids_with q pairs) ≡ cond u (x.1 ∷ ids_in (take i pairs)) [] ++ ids_with q (drop i pairs)
-      go true e r = rw e (ap (λ xs. x.1 ∷ xs) r)
-      go false e r = rw e r
+      go : (u : Bool) → q x ≡ u → ids_with q (zip keys ids) ≡ cond u (take i ids) [] ++ ids_with q (zip (drop i keys) (drop i ids)) → cond (q x) (id ∷ ids_with q (zip keys ids)) (ids_with q (zip keys ids)) ≡ cond u (id ∷ take i ids) [] ++ ids_with q (zip (drop i keys) (drop i ids))
+      go true w r = rw w (ap (λ xs. id ∷ xs) r)
+      go false w r = rw w r
 
-  whole : (q : K → Bool) (u : Bool) (d : K × ℕ) (pairs : List (K × ℕ)) → ((k : ℕ) → k < length pairs → q (key_in pairs d k) ≡ u) → ids_with q pairs ≡ cond u (ids_in pairs) []
-  whole q true d [] h = refl
-  whole q false d [] h = refl
-  whole q u d (x ∷ pairs) h = go u (h 0 (omega arith)) (whole q u d pairs (λ k m. h (suc k) (omega (arith, m))))
+  whole : (q : K → Bool) (u : Bool) (d : K) (keys : List K) (ids : List ℕ) → length keys ≡ length ids → ((k : ℕ) → k < length keys → q (get_or keys k d) ≡ u) → ids_with q (zip keys ids) ≡ cond u ids []
+  whole q true d [] [] e h = refl
+  whole q false d [] [] e h = refl
+  whole q u d [] (id ∷ ids) e h = absurd (omega (arith, e))
+  whole q u d (x ∷ keys) [] e h = absurd (omega (arith, e))
+  whole q u d (x ∷ keys) (id ∷ ids) e h = go u (h 0 (omega arith)) (whole q u d keys ids (omega (arith, e)) (λ k m. h (suc k) (omega (arith, m))))
     where
-      go : (u : Bool) → q x.0 ≡ u → ids_with q pairs ≡ cond u (ids_in pairs) [] → cond (q x.0) (x.1 ∷ ids_with q pairs) (ids_with q pairs) ≡ cond u (x.1 ∷ ids_in pairs) []
-      go true e r = rw e (ap (λ xs. x.1 ∷ xs) r)
-      go false e r = rw e r
+      go : (u : Bool) → q x ≡ u → ids_with q (zip keys ids) ≡ cond u ids [] → cond (q x) (id ∷ ids_with q (zip keys ids)) (ids_with q (zip keys ids)) ≡ cond u (id ∷ ids) []
+      go true w r = rw w (ap (λ xs. id ∷ xs) r)
+      go false w r = rw w r
 
   -- what is found in three parts
-  pub three : (q : K → Bool) (u v w : Bool) (d : K × ℕ) (a b : ℕ) (pairs : List (K × ℕ)) → a ≤ b → b ≤ length pairs → ((k : ℕ) → k < a → q (key_in pairs d k) ≡ u) → ((k : ℕ) → a ≤ k → k < b → q (key_in pairs d k) ≡ v) → ((k : ℕ) → b ≤ k → k < length pairs → q (key_in pairs d k) ≡ w) → ids_with q pairs ≡ cond u (ids_in (take a pairs)) [] ++ (cond v (ids_in (take (b - a) (drop a pairs))) [] ++ cond w (ids_in (drop b pairs)) [])
-  three q u v w d a b pairs m l f g h =
-      let rest : drop (b - a) (drop a pairs) ≡ drop b pairs = drop-drop (b - a) a pairs ∙ ap {B = List (K × ℕ)} (λ n. drop n pairs) (omega (arith, m)) in
-      let first = part q u d a pairs (omega (arith, m, l)) f in
-      let second = part q v d (b - a) (drop a pairs) (omega (arith, m, l, length-drop a pairs)) (λ k n. ap {B = Bool} (λ (x : K × ℕ). q x.0) (get_or-drop a pairs k d) ∙ g (a + k) (omega arith) (omega (arith, n, m))) in
-      let third = whole q w d (drop b pairs) (λ k n. ap {B = Bool} (λ (x : K × ℕ). q x.0) (get_or-drop b pairs k d) ∙ h (b + k) (omega arith) (omega (arith, n, length-drop b pairs))) in
-      first ∙ ap (λ xs. cond u (ids_in (take a pairs)) [] ++ xs) (second ∙ ap (λ xs. cond v (ids_in (take (b - a) (drop a pairs))) [] ++ xs) (ap {B = List ℕ} (ids_with q) rest ∙ third))
+  pub three : (q : K → Bool) (u v w : Bool) (d : K) (a b : ℕ) (keys : List K) (ids : List ℕ) → length keys ≡ length ids → a ≤ b → b ≤ length keys → ((k : ℕ) → k < a → q (get_or keys k d) ≡ u) → ((k : ℕ) → a ≤ k → k < b → q (get_or keys k d) ≡ v) → ((k : ℕ) → b ≤ k → k < length keys → q (get_or keys k d) ≡ w) → ids_with q (zip keys ids) ≡ cond u (take a ids) [] ++ (cond v (take (b - a) (drop a ids)) [] ++ cond w (drop b ids) [])
+  three q u v w d a b keys ids e m l f g h =
+      let rest : drop (b - a) (drop a keys) ≡ drop b keys = drop-drop (b - a) a keys ∙ ap {B = List K} (λ n. drop n keys) (omega (arith, m)) in
+      let others : drop (b - a) (drop a ids) ≡ drop b ids = drop-drop (b - a) a ids ∙ ap {B = List ℕ} (λ n. drop n ids) (omega (arith, m)) in
+      let first = part q u d a keys ids e (omega (arith, m, l)) f in
+      let second = part q v d (b - a) (drop a keys) (drop a ids) (omega (arith, e, length-drop a keys, length-drop a ids)) (omega (arith, m, l, length-drop a keys)) (λ k n. ap {B = Bool} q (get_or-drop a keys k d) ∙ g (a + k) (omega arith) (omega (arith, n, m))) in
+      let third = whole q w d (drop b keys) (drop b ids) (omega (arith, e, length-drop b keys, length-drop b ids)) (λ k n. ap {B = Bool} q (get_or-drop b keys k d) ∙ h (b + k) (omega arith) (omega (arith, n, length-drop b keys))) in
+      let behind : ids_with q (zip (drop (b - a) (drop a keys)) (drop (b - a) (drop a ids))) ≡ cond w (drop b ids) [] = ap {B = List ℕ} (λ (ks : List K). ids_with q (zip ks (drop (b - a) (drop a ids)))) rest ∙ ap {B = List ℕ} (λ (vs : List ℕ). ids_with q (zip (drop b keys) vs)) others ∙ third in
+      first ∙ ap (λ xs. cond u (take a ids) [] ++ xs) (second ∙ ap (λ xs. cond v (take (b - a) (drop a ids)) [] ++ xs) behind)
 
-  -- the ids of one pair more
-  ids-suc : (pairs : List (K × ℕ)) (d : K × ℕ) (i : ℕ) → i < length pairs → ids_in (take (suc i) pairs) ≡ ids_in (take i pairs) ++ (get_or pairs i d).1 ∷ []
-  ids-suc [] d i l = absurd (omega arith)
-  ids-suc (x ∷ pairs) d zero l = refl
-  ids-suc (x ∷ pairs) d (suc i) l = ap (λ xs. x.1 ∷ xs) (ids-suc pairs d i (omega arith))
+  -- the pairs of keys and ids
+  key-zip : (keys : List K) (ids : List ℕ) (d : K × ℕ) (k : ℕ) → length keys ≡ length ids → k < length keys → key_in (zip keys ids) d k ≡ get_or keys k d.0
+  key-zip keys ids d k e l = ap {B = K} (λ (x : K × ℕ). x.0) (get_or-zip keys ids k d l (omega (arith, l, e)))
 
-  pub ids-more : (pairs : List (K × ℕ)) (d : K × ℕ) (i : ℕ) → i < length pairs → ids_in (take (i + 1) pairs) ≡ ids_in (take i pairs) ++ (get_or pairs i d).1 ∷ []
-  ids-more pairs d i l = ap {B = List ℕ} (λ n. ids_in (take n pairs)) (add-one i) ∙ ids-suc pairs d i l
+  pub zip-long : (keys : List K) (ids : List ℕ) → length keys ≡ length ids → length (zip keys ids) ≡ length keys
+  zip-long keys ids e = omega (arith, e, length-zip keys ids)
 
-  take-all : (m : ℕ) (pairs : List (K × ℕ)) → length pairs ≤ m → take m pairs ≡ pairs
-  take-all zero [] l = refl
-  take-all zero (x ∷ pairs) l = absurd (omega (arith, l))
-  take-all (suc m) [] l = refl
-  take-all (suc m) (x ∷ pairs) l = ap (λ xs. x ∷ xs) (take-all m pairs (omega (arith, l)))
+  -- what stands at a place
+  pub stands : (keys : List K) (ids : List ℕ) (i : ℕ) (key : K) → length keys ≡ length ids → i < length keys → key ≡ get_or keys i key → (d : K × ℕ) → get_or (zip keys ids) i d ≡ (key, get_or ids i 0)
+  stands keys ids i key e l h d = let m : i < length ids = omega (arith, l, e) in get_or-zip keys ids i d l m ∙ ap {B = K × ℕ} (λ (x : K). (x, get_or ids i d.1)) (get_or_default keys i d.0 key l ∙ sym h) ∙ ap {B = K × ℕ} (λ (n : ℕ). (key, n)) (get_or_default ids i d.1 0 m)
 
-  -- the pairs from a place on
-  pub rest-of : (pairs : List (K × ℕ)) (n : ℕ) → take (length pairs - n) (drop n pairs) ≡ drop n pairs
-  rest-of pairs n = take-all (length pairs - n) (drop n pairs) (omega (arith, length-drop n pairs))
+  pub stands-at : (keys : List K) (ids : List ℕ) (i : ℕ) (key x : K) (id : ℕ) → length keys ≡ length ids → i < length keys → key ≡ get_or keys i key → (key ≡ x) × (get_or ids i 0 ≡ id) → (d : K × ℕ) → get_or (zip keys ids) i d ≡ (x, id)
+  stands-at keys ids i key x id e l h t d = stands keys ids i key e l h d ∙ ap {B = K × ℕ} (λ (y : K). (y, get_or ids i 0)) t.0 ∙ ap {B = K × ℕ} (λ (n : ℕ). (x, n)) t.1
+
+  insert-zip : (keys : List K) (ids : List ℕ) (i : ℕ) (key : K) (id : ℕ) → length keys ≡ length ids → i ≤ length keys → insert (zip keys ids) i (key, id) ≡ zip (insert keys i key) (insert ids i id)
+  insert-zip [] [] zero key id e l = refl
+  insert-zip [] [] (suc i) key id e l = absurd (omega (arith, l))
+  insert-zip [] (x ∷ ids) i key id e l = absurd (omega (arith, e))
+  insert-zip (k ∷ keys) [] i key id e l = absurd (omega (arith, e))
+  insert-zip (k ∷ keys) (x ∷ ids) zero key id e l = refl
+  insert-zip (k ∷ keys) (x ∷ ids) (suc i) key id e l = ap {B = List (K × ℕ)} (λ xs. (k, x) ∷ xs) (insert-zip keys ids i key id (omega (arith, e)) (omega (arith, l)))
+
+  remove-zip : (keys : List K) (ids : List ℕ) (i : ℕ) → length keys ≡ length ids → i < length keys → remove (zip keys ids) i ≡ zip (remove keys i) (remove ids i)
+  remove-zip [] ids i e l = absurd (omega (arith, l))
+  remove-zip (k ∷ keys) [] i e l = absurd (omega (arith, e))
+  remove-zip (k ∷ keys) (x ∷ ids) zero e l = refl
+  remove-zip (k ∷ keys) (x ∷ ids) (suc i) e l = ap {B = List (K × ℕ)} (λ xs. (k, x) ∷ xs) (remove-zip keys ids i (omega (arith, e)) (omega (arith, l)))
+
+  pub insert-even : (keys : List K) (ids : List ℕ) (i : ℕ) (key : K) (id : ℕ) → length keys ≡ length ids → i ≤ length keys → length (insert keys i key) ≡ length (insert ids i id)
+  insert-even keys ids i key id e l = omega (arith, e, length-insert keys i key l, length-insert ids i id (omega (arith, e, l)))
+
+  pub remove-even : (keys : List K) (ids : List ℕ) (i : ℕ) → length keys ≡ length ids → i < length keys → length (remove keys i) ≡ length (remove ids i)
+  remove-even keys ids i e l = omega (arith, e, length-remove keys i l, length-remove ids i (omega (arith, e, l)))
+
+  -- a pair more
+  pub put-in : (p : K × ℕ → Bool) (keys : List K) (ids : List ℕ) (i : ℕ) (key : K) (id : ℕ) → length keys ≡ length ids → i ≤ length keys → tally p (zip (insert keys i key) (insert ids i id)) ≡ cond (p (key, id)) 1 0 + tally p (zip keys ids)
+  put-in p keys ids i key id e l = ap (tally p) (sym (insert-zip keys ids i key id e l)) ∙ tally-insert p (zip keys ids) i (key, id) (omega (arith, l, zip-long keys ids e))
 
   -- a pair that stands at a place
-  pub taken-out : (p : K × ℕ → Bool) (pairs : List (K × ℕ)) (i : ℕ) (x : K × ℕ) → i < length pairs → get_or pairs i x ≡ x → tally p pairs ≡ cond (p x) 1 0 + tally p (remove pairs i)
-  taken-out p pairs i x l e = tally-remove p pairs i x l ∙ ap {B = ℕ} (λ (y : K × ℕ). cond (p y) 1 0 + tally p (remove pairs i)) e
+  pub taken-out : (p : K × ℕ → Bool) (keys : List K) (ids : List ℕ) (i : ℕ) (x : K × ℕ) → length keys ≡ length ids → i < length keys → get_or (zip keys ids) i x ≡ x → tally p (zip keys ids) ≡ cond (p x) 1 0 + tally p (zip (remove keys i) (remove ids i))
+  taken-out p keys ids i x e l h = tally-remove p (zip keys ids) i x (omega (arith, l, zip-long keys ids e)) ∙ ap {B = ℕ} (λ (y : K × ℕ). cond (p y) 1 0 + tally p (remove (zip keys ids) i)) h ∙ ap {B = ℕ} (λ (xs : List (K × ℕ)). cond (p x) 1 0 + tally p xs) (remove-zip keys ids i e l)
+
+pub take-all : {X : Type 0} (m : ℕ) (xs : List X) → length xs ≤ m → take m xs ≡ xs
+take-all zero [] l = refl
+take-all zero (x ∷ xs) l = absurd (omega (arith, l))
+take-all (suc m) [] l = refl
+take-all (suc m) (x ∷ xs) l = ap (λ ys. x ∷ ys) (take-all m xs (omega (arith, l)))
+
+-- the ids from a place on
+pub rest-of : (ids : List ℕ) (n : ℕ) → take (length ids - n) (drop n ids) ≡ drop n ids
+rest-of ids n = take-all (length ids - n) (drop n ids) (omega (arith, length-drop n ids))
 
 -- the order of the keys
 module _ {K : Type 0} {R : K → K → Ordering} (o : IsTotalOrder R) where
-  pub found-in : (pairs : List (K × ℕ)) (i id : ℕ) (key : K) → i < length pairs → get_or pairs i (key, id) ≡ (key, id) → 1 ≤ tally (is_at R key id) pairs
-  found-in pairs i id key l e = tally-at (is_at R key id) pairs i (key, id) l (ap {B = Bool} (is_at R key id) e ∙ ap {B = Bool} (λ b. b && (id == id)) (same-self o key) ∙ here id)
+  pub found-in : (keys : List K) (ids : List ℕ) (i id : ℕ) (key : K) → length keys ≡ length ids → i < length keys → get_or (zip keys ids) i (key, id) ≡ (key, id) → 1 ≤ tally (is_at R key id) (zip keys ids)
+  found-in keys ids i id key e l h = tally-at (is_at R key id) (zip keys ids) i (key, id) (omega (arith, l, zip-long keys ids e)) (ap {B = Bool} (is_at R key id) h ∙ ap {B = Bool} (λ b. b && (id == id)) (same-self o key) ∙ here id)
 
   gt-at : (a b c e : K) → a ≡ b → c ≡ e → is_gt (R b e) ≡ false → is_gt (R a c) ≡ false
   gt-at a b c e f h k = rw (f, h) k
@@ -150,7 +185,7 @@ module _ {K : Type 0} {R : K → K → Ordering} (o : IsTotalOrder R) where
     new-above : (d : K × ℕ) (k : ℕ) → i < k → key_in new d k ≡ key_in pairs d (k - 1)
     new-above d k a = let e : k ≡ (k - 1) + 1 = omega (arith, a) in ap {B = K} (key_in new d) e ∙ ap {B = K} (λ (x : K × ℕ). x.0) (get_or-insert_above pairs i (key, id) d (k - 1) (omega (arith, a)) l)
 
-    pub insert-rising : ((d : K × ℕ) (k : ℕ) → k < i → is_gt (R (key_in pairs d k) key) ≡ false) → ((d : K × ℕ) (k : ℕ) → i ≤ k → k < length pairs → is_lt (R (key_in pairs d k) key) ≡ false) → HaveSortedKeys R (insert pairs i (key, id))
+    insert-rising : ((d : K × ℕ) (k : ℕ) → k < i → is_gt (R (key_in pairs d k) key) ≡ false) → ((d : K × ℕ) (k : ℕ) → i ≤ k → k < length pairs → is_lt (R (key_in pairs d k) key) ≡ false) → HaveSortedKeys R (insert pairs i (key, id))
     insert-rising f g d j k m n =
         let long = length-insert pairs i (key, id) l in
         elim (trichotomy k i) [
@@ -178,7 +213,7 @@ module _ {K : Type 0} {R : K → K → Ordering} (o : IsTotalOrder R) where
     old-above : (d : K × ℕ) (k : ℕ) → i ≤ k → key_in left d k ≡ key_in pairs d (k + 1)
     old-above d k a = ap {B = K} (λ (x : K × ℕ). x.0) (get_or-remove_above pairs i d k a l)
 
-    pub remove-rising : HaveSortedKeys R (remove pairs i)
+    remove-rising : HaveSortedKeys R (remove pairs i)
     remove-rising d j k m n =
         let long = length-remove pairs i l in
         elim (trichotomy k i) [
@@ -194,3 +229,19 @@ module _ {K : Type 0} {R : K → K → Ordering} (o : IsTotalOrder R) where
         go a (inl b) long = gt-at (key_in left d j) (key_in pairs d j) (key_in left d k) (key_in pairs d (k + 1)) (old-below d j b) (old-above d k a) (r d j (k + 1) (omega (arith, m)) (omega (arith, n, long)))
         go a (inr (inl b)) long = gt-at (key_in left d j) (key_in pairs d (j + 1)) (key_in left d k) (key_in pairs d (k + 1)) (old-above d j (omega (arith, b))) (old-above d k a) (r d (j + 1) (k + 1) (omega (arith, m)) (omega (arith, n, long)))
         go a (inr (inr b)) long = gt-at (key_in left d j) (key_in pairs d (j + 1)) (key_in left d k) (key_in pairs d (k + 1)) (old-above d j (omega (arith, b))) (old-above d k a) (r d (j + 1) (k + 1) (omega (arith, m)) (omega (arith, n, long)))
+
+  -- keys and ids of the same number
+  module _ (keys : List K) (ids : List ℕ) (e : length keys ≡ length ids) (r : HaveSortedKeys R (zip keys ids)) where
+    pub sorted-keys : AreSorted R keys
+    sorted-keys d j k l m = gt-at (get_or keys j d) (key_in (zip keys ids) (d, 0) j) (get_or keys k d) (key_in (zip keys ids) (d, 0) k) (sym (key-zip keys ids (d, 0) j e (omega (arith, l, m)))) (sym (key-zip keys ids (d, 0) k e m)) (r (d, 0) j k l (omega (arith, m, zip-long keys ids e)))
+
+    pub put-sorted : (i : ℕ) (key : K) (id : ℕ) → i ≤ length keys → ((d : K) (k : ℕ) → k < i → is_gt (R (get_or keys k d) key) ≡ false) → ((d : K) (k : ℕ) → i ≤ k → k < length keys → is_lt (R (get_or keys k d) key) ≡ false) → HaveSortedKeys R (zip (insert keys i key) (insert ids i id))
+    put-sorted i key id l f g =
+        let long = zip-long keys ids e in
+        let at = λ (d : K × ℕ) (k : ℕ) (m : k < length keys). key-zip keys ids d k e m in
+        subst (HaveSortedKeys R) (insert-zip keys ids i key id e l) (insert-rising (zip keys ids) i key id r (omega (arith, l, long))
+        (λ d k m. ap {B = Bool} (λ (x : K). is_gt (R x key)) (at d k (omega (arith, m, l))) ∙ f d.0 k m)
+        (λ d k m n. ap {B = Bool} (λ (x : K). is_lt (R x key)) (at d k (omega (arith, n, long))) ∙ g d.0 k m (omega (arith, n, long))))
+
+    pub taken-sorted : (i : ℕ) → i < length keys → HaveSortedKeys R (zip (remove keys i) (remove ids i))
+    taken-sorted i l = subst (HaveSortedKeys R) (remove-zip keys ids i e l) (remove-rising (zip keys ids) i r (omega (arith, l, zip-long keys ids e)))

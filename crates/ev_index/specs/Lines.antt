@@ -12,6 +12,10 @@ on_side sides Equal = sides.equal
 on_side sides Greater = sides.above
 
 module _ {K : Type 0} where
+  -- no key of a list of keys is greater than a later one
+  abbrev pub AreSorted : (K → K → Ordering) → List K → Type 0
+  AreSorted order keys = (d : K) (j k : ℕ) → j ≤ k → k < length keys → is_gt (order (slice_index_or keys j d) (slice_index_or keys k d)) ≡ false
+
   -- the key at a place of the list
   abbrev pub key_in : List (K × ℕ) → K × ℕ → ℕ → K
   key_in pairs d k = (slice_index_or pairs k d).0
@@ -27,11 +31,6 @@ module _ {K : Type 0} where
   -- each id with what its key says
   abbrev pub told : {N : Type 0} → (K → N) → List (K × ℕ) → List (N × ℕ)
   told said pairs = map (λ x. (said x.0, x.1)) pairs
-
-  -- the ids
-  abbrev pub ids_in : List (K × ℕ) → List ℕ
-  ids_in [] = []
-  ids_in (x ∷ pairs) = x.1 ∷ ids_in pairs
 
   -- the ids whose key passes
   abbrev pub ids_with : (K → Bool) → List (K × ℕ) → List ℕ

@@ -6,22 +6,23 @@ use ev_memory::NoMemory;
 use std::alloc::Global;
 use std::marker::Model;
 
-/// Ids, each with its key: the keys rise, and under one key the ids do. They lie side by side, so that a walk over those
-/// of many keys reads memory in its order, and appends with no look at a key; a pair more or less moves the later ones.
+/// Ids, each with its key: the keys rise, and under one key the ids do. The keys lie side by side, and so do the ids, so that
+/// a search reads keys alone, and the ids of many keys are appended by one copy; a pair more or less moves the later ones.
 #[derive(Drop)]
 pub struct Line<K: LineKey> {
-    pairs: Vec<(K, u32)>,
+    keys: Vec<K>,
+    ids: Vec<u32>,
 }
 
 impl<K: LineKey> Model for Line<K> {
-    ghost use Rattle.std.specs.Prelude.{List, ℕ};
+    ghost use Rattle.std.specs.Prelude.{◌≡◌, List, ℕ, length, zip};
     ghost use Rattle.ev_index.specs.Lines.{HaveSortedKeys};
 
     ghost Value = { List (K × ℕ) };
 
-    ghost view = { λ line. line.pairs.items };
+    ghost view = { λ line. zip line.keys.items line.ids.items };
 
-    ghost invariant = { λ line. HaveSortedKeys K.order line.pairs.items };
+    ghost invariant = { λ line. (length line.keys.items ≡ length line.ids.items) × HaveSortedKeys K.order (zip line.keys.items line.ids.items) };
 }
 
 impl<K: LineKey> Line<K> {
@@ -34,7 +35,8 @@ impl<K: LineKey> Line<K> {
         ensures { result ≡ [] }
     {
         Line {
-            pairs: Vec::new(alloc),
+            keys: Vec::new(alloc),
+            ids: Vec::new(alloc),
         }
     }
 
@@ -45,8 +47,12 @@ impl<K: LineKey> Line<K> {
         ensures added { OnOk result (Same self.new ((key, id) ∷ self.old)) }
         ensures err { OnErr result (self.new ≡ self.old) }
     {
-        let i = rank(&self.pairs, &key, id);
-        self.pairs.insert(i, (key, id))?;
+        let i = rank(&self.keys, &self.ids, &key, id);
+        self.keys.reserve(1)?;
+        self.ids.reserve(1)?;
+        if self.keys.insert(i, key).is_err() || self.ids.insert(i, id).is_err() {
+            unreachable!();
+        }
         Ok(())
     }
 
@@ -54,7 +60,7 @@ impl<K: LineKey> Line<K> {
     pub fn has<Q: Sought<K>>(&self, key: Q, id: u32) -> bool
         ensures { result ≡ nat_lt 0 (tally (is_at K.order (Q.meant key) id) self.now) }
     {
-        let Some(_) = place_of(&self.pairs, key, id) else {
+        let Some(_) = place_of(&self.keys, &self.ids, key, id) else {
             return false;
         };
         true
@@ -67,10 +73,11 @@ impl<K: LineKey> Line<K> {
         ensures there { result ≡ true → Same self.old ((Q.meant key, id) ∷ self.new) }
         ensures none { result ≡ false → (self.new ≡ self.old) × (tally (is_at K.order (Q.meant key) id) self.old ≡ 0) }
     {
-        let Some(i) = place_of(&self.pairs, key, id) else {
+        let Some(i) = place_of(&self.keys, &self.ids, key, id) else {
             return false;
         };
-        self.pairs.remove(i);
+        self.keys.remove(i);
+        self.ids.remove(i);
         true
     }
 
@@ -84,38 +91,24 @@ impl<K: LineKey> Line<K> {
         ensures ok { OnOk result (found.new.items ≡ found.old.items ++ ids_with (λ k. on_side sides (K.order k (Q.meant key))) self.now) }
         ensures begins { KeepsBeginning found.old.items found.new.items }
     {
-        let least = below(&self.pairs, key);
-        let most = upto(&self.pairs, least, key);
-        append_some(found, sides.below, &self.pairs[..least])?;
-        append_some(found, sides.equal, &self.pairs[least..most])?;
-        append_some(found, sides.above, &self.pairs[most..])
+        let least = below(&self.keys, key);
+        let most = upto(&self.keys, least, key);
+        append_some(found, sides.below, &self.ids[..least])?;
+        append_some(found, sides.equal, &self.ids[least..most])?;
+        append_some(found, sides.above, &self.ids[most..])
     }
 }
 
 ghost use Rattle.std.specs.Prelude.{◌≡◌, ◌++◌, [], cond, OnOk};
 ghost use Rattle.ev_index.specs.Pairs.{KeepsBeginning};
-ghost use Rattle.ev_index.specs.Lines.{ids_in};
 
-/// Appends the ids of some pairs, after room for all of them was made.
-fn append_from<K>(found: &mut Vec<u32>, pairs: &[(K, u32)]) -> Result<(), NoMemory>
-    ensures ok { OnOk result (found.new.items ≡ found.old.items ++ ids_in pairs.now) }
-    ensures begins { KeepsBeginning found.old.items found.new.items }
-{
-    found.reserve(pairs.len())?;
-    for pair in pairs {
-        found.push_reserved(pair.1);
-    }
-    Ok(())
-}
-
-/// The same, if they are asked for.
-fn append_some<K>(found: &mut Vec<u32>, asked: bool, pairs: &[(K, u32)]) -> Result<(), NoMemory>
-    ensures ok { OnOk result (found.new.items ≡ found.old.items ++ cond asked (ids_in pairs.now) []) }
+/// Appends ids by one copy, if they are asked for.
+fn append_some(found: &mut Vec<u32>, asked: bool, ids: &[u32]) -> Result<(), NoMemory>
+    ensures ok { OnOk result (found.new.items ≡ found.old.items ++ cond asked ids.now []) }
     ensures begins { KeepsBeginning found.old.items found.new.items }
 {
     if asked {
-        append_from(found, pairs)
-    } else {
-        Ok(())
+        found.extend_from_slice(ids)?;
     }
+    Ok(())
 }

@@ -1,46 +1,47 @@
 //! Where keys stand in a line.
-ghost use Rattle.std.specs.Prelude.{◌≡◌, ◌<◌, ◌≤◌, true, false, ℕ, IfSome, IfNone, length, slice_index_or};
+ghost use Rattle.std.specs.Prelude.{◌≡◌, ◌<◌, ◌≤◌, true, false, ℕ, IfSome, IfNone, length, slice_index_or, zip};
 ghost use Rattle.std.specs.Ordering.{is_lt, is_gt};
 ghost use Rattle.ev_index.specs.Pairs.{tally};
-ghost use Rattle.ev_index.specs.Lines.{key_in, is_at, HaveSortedKeys};
+ghost use Rattle.ev_index.specs.Lines.{is_at, AreSorted};
 
 use crate::key::{LineKey, Sought};
 use std::cmp::Ordering;
 
-/// Whether a pair comes before the one of a key and an id: by its key, and then by its id.
+/// Whether a key with its id comes before another key and id: by the key, and then by the id, which is read only then.
 #[inline]
-fn is_before<K: LineKey, Q: Sought<K>>(pair: &(K, u32), key: Q, id: u32) -> bool
-    ensures before { result ≡ true → is_gt (K.order pair.now.0 (Q.meant key)) ≡ false }
-    ensures behind { result ≡ false → is_lt (K.order pair.now.0 (Q.meant key)) ≡ false }
+fn is_before<K: LineKey, Q: Sought<K>>(first: &K, its: &u32, key: Q, id: u32) -> bool
+    ensures before { result ≡ true → is_gt (K.order first.now (Q.meant key)) ≡ false }
+    ensures behind { result ≡ false → is_lt (K.order first.now (Q.meant key)) ≡ false }
 {
-    match key.against(&pair.0) {
+    match key.against(first) {
         Ordering::Less => true,
-        Ordering::Equal => pair.1 < id,
+        Ordering::Equal => *its < id,
         Ordering::Greater => false,
     }
 }
 
-/// Whether a pair is the one of a key and an id.
+/// Whether a key with its id is the same as another key and id.
 #[inline]
-fn is_at<K: LineKey, Q: Sought<K>>(pair: &(K, u32), key: Q, id: u32) -> bool
-    ensures there { result ≡ true → pair.now ≡ (Q.meant key, id) }
-    ensures none { result ≡ false → is_at K.order (Q.meant key) id pair.now ≡ false }
+fn is_at<K: LineKey, Q: Sought<K>>(first: &K, its: u32, key: Q, id: u32) -> bool
+    ensures there { result ≡ true → (first.now ≡ Q.meant key) × (its ≡ id) }
+    ensures none { result ≡ false → is_at K.order (Q.meant key) id (first.now, its) ≡ false }
 {
-    pair.1 == id && key.against(&pair.0).is_eq()
+    its == id && key.against(first).is_eq()
 }
 
-/// How many pairs come before the one of a key and an id.
-pub(crate) fn rank<K: LineKey, Q: Sought<K>>(pairs: &[(K, u32)], key: Q, id: u32) -> usize
-    requires { HaveSortedKeys K.order pairs.now }
-    ensures within { result ≤ length pairs.now }
-    ensures before { (d : _) (k : ℕ) → k < result → is_gt (K.order (key_in pairs.now d k) (Q.meant key)) ≡ false }
-    ensures behind { (d : _) (k : ℕ) → result ≤ k → k < length pairs.now → is_lt (K.order (key_in pairs.now d k) (Q.meant key)) ≡ false }
+/// How many keys come, with their ids, before a key and an id.
+pub(crate) fn rank<K: LineKey, Q: Sought<K>>(keys: &[K], ids: &[u32], key: Q, id: u32) -> usize
+    requires sorted { AreSorted K.order keys.now }
+    requires paired { length keys.now ≡ length ids.now }
+    ensures within { result ≤ length keys.now }
+    ensures before { (d : _) (k : ℕ) → k < result → is_gt (K.order (slice_index_or keys.now k d) (Q.meant key)) ≡ false }
+    ensures behind { (d : _) (k : ℕ) → result ≤ k → k < length keys.now → is_lt (K.order (slice_index_or keys.now k d) (Q.meant key)) ≡ false }
 {
     let mut low = 0;
-    let mut high = pairs.len();
+    let mut high = keys.len();
     while low < high {
         let middle = low + (high - low) / 2;
-        if is_before(&pairs[middle], key, id) {
+        if is_before(&keys[middle], &ids[middle], key, id) {
             low = middle + 1;
         } else {
             high = middle;
@@ -49,18 +50,18 @@ pub(crate) fn rank<K: LineKey, Q: Sought<K>>(pairs: &[(K, u32)], key: Q, id: u32
     low
 }
 
-/// How many pairs have a key that is less.
-pub(crate) fn below<K: LineKey, Q: Sought<K>>(pairs: &[(K, u32)], key: Q) -> usize
-    requires { HaveSortedKeys K.order pairs.now }
-    ensures within { result ≤ length pairs.now }
-    ensures before { (d : _) (k : ℕ) → k < result → is_lt (K.order (key_in pairs.now d k) (Q.meant key)) ≡ true }
-    ensures behind { (d : _) (k : ℕ) → result ≤ k → k < length pairs.now → is_lt (K.order (key_in pairs.now d k) (Q.meant key)) ≡ false }
+/// How many keys are less.
+pub(crate) fn below<K: LineKey, Q: Sought<K>>(keys: &[K], key: Q) -> usize
+    requires { AreSorted K.order keys.now }
+    ensures within { result ≤ length keys.now }
+    ensures before { (d : _) (k : ℕ) → k < result → is_lt (K.order (slice_index_or keys.now k d) (Q.meant key)) ≡ true }
+    ensures behind { (d : _) (k : ℕ) → result ≤ k → k < length keys.now → is_lt (K.order (slice_index_or keys.now k d) (Q.meant key)) ≡ false }
 {
     let mut low = 0;
-    let mut high = pairs.len();
+    let mut high = keys.len();
     while low < high {
         let middle = low + (high - low) / 2;
-        if key.against(&pairs[middle].0).is_lt() {
+        if key.against(&keys[middle]).is_lt() {
             low = middle + 1;
         } else {
             high = middle;
@@ -69,27 +70,27 @@ pub(crate) fn below<K: LineKey, Q: Sought<K>>(pairs: &[(K, u32)], key: Q) -> usi
     low
 }
 
-/// How many pairs have a key that is not greater. The first ones are known to have such a key.
-pub(crate) fn upto<K: LineKey, Q: Sought<K>>(pairs: &[(K, u32)], first: usize, key: Q) -> usize
-    requires rising { HaveSortedKeys K.order pairs.now }
-    requires within { first ≤ length pairs.now }
-    requires known { (d : _) (k : ℕ) → k < first → is_gt (K.order (key_in pairs.now d k) (Q.meant key)) ≡ false }
-    ensures within { (first ≤ result) × (result ≤ length pairs.now) }
-    ensures before { (d : _) (k : ℕ) → k < result → is_gt (K.order (key_in pairs.now d k) (Q.meant key)) ≡ false }
-    ensures behind { (d : _) (k : ℕ) → result ≤ k → k < length pairs.now → is_gt (K.order (key_in pairs.now d k) (Q.meant key)) ≡ true }
+/// How many keys are not greater. The first ones are known to be so.
+pub(crate) fn upto<K: LineKey, Q: Sought<K>>(keys: &[K], first: usize, key: Q) -> usize
+    requires sorted { AreSorted K.order keys.now }
+    requires within { first ≤ length keys.now }
+    requires known { (d : _) (k : ℕ) → k < first → is_gt (K.order (slice_index_or keys.now k d) (Q.meant key)) ≡ false }
+    ensures within { (first ≤ result) × (result ≤ length keys.now) }
+    ensures before { (d : _) (k : ℕ) → k < result → is_gt (K.order (slice_index_or keys.now k d) (Q.meant key)) ≡ false }
+    ensures behind { (d : _) (k : ℕ) → result ≤ k → k < length keys.now → is_gt (K.order (slice_index_or keys.now k d) (Q.meant key)) ≡ true }
 {
     // Mostly no key is equal, and then the next one is greater.
-    if first == pairs.len() {
+    if first == keys.len() {
         return first;
     }
-    if key.against(&pairs[first].0).is_gt() {
+    if key.against(&keys[first]).is_gt() {
         return first;
     }
     let mut low = first;
-    let mut high = pairs.len();
+    let mut high = keys.len();
     while low < high {
         let middle = low + (high - low) / 2;
-        if key.against(&pairs[middle].0).is_gt() {
+        if key.against(&keys[middle]).is_gt() {
             high = middle;
         } else {
             low = middle + 1;
@@ -98,32 +99,35 @@ pub(crate) fn upto<K: LineKey, Q: Sought<K>>(pairs: &[(K, u32)], first: usize, k
     low
 }
 
-/// The place of a pair, by a look at each.
-fn scan<K: LineKey, Q: Sought<K>>(pairs: &[(K, u32)], key: Q, id: u32) -> Option<usize>
-    ensures some { IfSome result (λ i. (i < length pairs.now) × ((d : _) → slice_index_or pairs.now i d ≡ (Q.meant key, id))) }
-    ensures none { IfNone result (tally (is_at K.order (Q.meant key) id) pairs.now ≡ 0) }
+/// The place of a key and an id, by a look at each id.
+fn scan<K: LineKey, Q: Sought<K>>(keys: &[K], ids: &[u32], key: Q, id: u32) -> Option<usize>
+    requires { length keys.now ≡ length ids.now }
+    ensures some { IfSome result (λ i. (i < length keys.now) × ((d : _) → slice_index_or (zip keys.now ids.now) i d ≡ (Q.meant key, id))) }
+    ensures none { IfNone result (tally (is_at K.order (Q.meant key) id) (zip keys.now ids.now) ≡ 0) }
 {
-    for (i, pair) in pairs.iter().enumerate() {
-        if is_at(pair, key, id) {
+    for (i, its) in ids.iter().enumerate() {
+        if is_at(&keys[i], *its, key, id) {
             return Some(i);
         }
     }
     None
 }
 
-/// The place of a pair: where the pairs rise, by a binary search if it is there.
+/// The place of a key and an id: where the keys and the ids rise, by a binary search if it is there.
 pub(crate) fn place_of<K: LineKey, Q: Sought<K>>(
-    pairs: &[(K, u32)],
+    keys: &[K],
+    ids: &[u32],
     key: Q,
     id: u32,
 ) -> Option<usize>
-    requires { HaveSortedKeys K.order pairs.now }
-    ensures some { IfSome result (λ i. (i < length pairs.now) × ((d : _) → slice_index_or pairs.now i d ≡ (Q.meant key, id))) }
-    ensures none { IfNone result (tally (is_at K.order (Q.meant key) id) pairs.now ≡ 0) }
+    requires sorted { AreSorted K.order keys.now }
+    requires paired { length keys.now ≡ length ids.now }
+    ensures some { IfSome result (λ i. (i < length keys.now) × ((d : _) → slice_index_or (zip keys.now ids.now) i d ≡ (Q.meant key, id))) }
+    ensures none { IfNone result (tally (is_at K.order (Q.meant key) id) (zip keys.now ids.now) ≡ 0) }
 {
-    let i = rank(pairs, key, id);
-    if i < pairs.len() && is_at(&pairs[i], key, id) {
+    let i = rank(keys, ids, key, id);
+    if i < keys.len() && is_at(&keys[i], ids[i], key, id) {
         return Some(i);
     }
-    scan(pairs, key, id)
+    scan(keys, ids, key, id)
 }

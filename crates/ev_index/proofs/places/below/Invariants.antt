@@ -1,14 +1,13 @@
-use Rattle.std.proofs.Common.{◌≡◌, ◌<◌, ◌≤◌, ◌-◌, ℕ, length, true, false}
+use Rattle.std.proofs.Common.{◌≡◌, ◌<◌, ◌≤◌, ◌-◌, ℕ, length, get_or, true, false}
 use Rattle.std.specs.Ordering.{is_lt}
-use Rattle.ev_index.specs.Lines.{key_in}
 use Rattle.ev_index.proofs.places.below.Given as goal
 
 abbrev pub invariant-loop-low : goal.invariant-loop-low
 invariant-loop-low g l = record {
   ordered : l.low ≤ l.high;
-  within : l.high ≤ length l.pairs;
-  before : (d : _) (k : ℕ) → k < l.low → is_lt (g.K.LineKey.order (key_in l.pairs d k) (g.Q.Sought.meant l.key)) ≡ true;
-  behind : (d : _) (k : ℕ) → l.high ≤ k → k < length l.pairs → is_lt (g.K.LineKey.order (key_in l.pairs d k) (g.Q.Sought.meant l.key)) ≡ false;
+  within : l.high ≤ length l.keys;
+  before : (d : _) (k : ℕ) → k < l.low → is_lt (g.K.LineKey.order (get_or l.keys k d) (g.Q.Sought.meant l.key)) ≡ true;
+  behind : (d : _) (k : ℕ) → l.high ≤ k → k < length l.keys → is_lt (g.K.LineKey.order (get_or l.keys k d) (g.Q.Sought.meant l.key)) ≡ false;
 }
 
 abbrev pub decreases-loop-low : goal.decreases-loop-low
