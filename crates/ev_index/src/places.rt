@@ -50,24 +50,31 @@ pub(crate) fn rank<K: LineKey, Q: Sought<K>>(keys: &[K], ids: &[u32], key: Q, id
     low
 }
 
-/// How many keys are less.
+/// How many keys are less. What is left is halved in each step whichever way the key goes, so that the step is a choice of a
+/// number and no branch.
 pub(crate) fn below<K: LineKey, Q: Sought<K>>(keys: &[K], key: Q) -> usize
     requires { AreSorted K.order keys.now }
     ensures within { result ≤ length keys.now }
     ensures before { (d : _) (k : ℕ) → k < result → is_lt (K.order (slice_index_or keys.now k d) (Q.meant key)) ≡ true }
     ensures behind { (d : _) (k : ℕ) → result ≤ k → k < length keys.now → is_lt (K.order (slice_index_or keys.now k d) (Q.meant key)) ≡ false }
 {
-    let mut low = 0;
-    let mut high = keys.len();
-    while low < high {
-        let middle = low + (high - low) / 2;
-        if key.against(&keys[middle]).is_lt() {
-            low = middle + 1;
-        } else {
-            high = middle;
-        }
+    if keys.is_empty() {
+        return 0;
     }
-    low
+    let mut low = 0;
+    let mut left = keys.len();
+    while left > 1 {
+        let half = left / 2;
+        if key.against(&keys[low + half]).is_lt() {
+            low += half;
+        }
+        left -= half;
+    }
+    if key.against(&keys[low]).is_lt() {
+        low + 1
+    } else {
+        low
+    }
 }
 
 /// How many keys are not greater. The first ones are known to be so.
