@@ -22,13 +22,13 @@ loop-left-preserved g c =
     let told = λ (d : g.row.K.Denot). ap {B = Bool} (λ (y : g.row.K.Denot). is_lt (order y x)) (sym (at d)) ∙ ap is_lt (sym c.against.ensures) ∙ sym c.is_lt.ensures in
     let r : AreSorted order keys = c.requires in
     elim c.if-is_lt.branch [
-      then-is_lt w ↦ record {
+      | then-is_lt w ↦ record {
         some = omega (arith, some);
         within = omega (arith, w.low-is, some, within);
         before = λ d k l. up-less total (get_or keys k d) (get_or keys middle d) x (r d k middle (omega (arith, l, w.low-is)) m) (told d ∙ w.if-is_lt.true);
         behind = λ d k l n. c.loop-left.invariant.behind d k (omega (arith, l, w.low-is, some)) n;
       }
-    | else-is_lt w ↦ record {
+      | else-is_lt w ↦ record {
         some = omega (arith, some);
         within = omega (arith, w.low-is, some, within);
         before = λ d k l. c.loop-left.invariant.before d k (omega (arith, l, w.low-is));
