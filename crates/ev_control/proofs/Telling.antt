@@ -26,28 +26,28 @@ one-text : (bytes : List ℕ) (m : Message real) → IsMessageText bytes (wired 
 one-text bytes m text other (inl q) = subst (λ z. IsMessageText (message_text (wired z)) (wired z)) (sym q) (subst (λ z. IsMessageText z (wired m)) text.text text)
 one-text bytes m text other (inr r) = absurd r
 
-module _ {V : Type 0} (items : V → List ℕ) (link : ℕ) (old new : List (List ConstraintParts)) where
-  filters-told : (o : Option V) → MatchOption o (old ≡ new) (λ v. (old ≢ new) × IsMessageText (items v) (wires.Subs (minus real.before old new) (minus real.before new old)))
-      → (text_to link (option_map items o) ≡ map (sent_to link) (filter_change old new)) × HaveTexts (filter_change old new)
+module _ (link : ℕ) (old new : List (List ConstraintParts)) where
+  filters-told : (o : Option (List ℕ)) → MatchOption o (old ≡ new) (λ v. (old ≢ new) × IsMessageText v (wires.Subs (minus real.before old new) (minus real.before new old)))
+      → (text_to link (o) ≡ map (sent_to link) (filter_change old new)) × HaveTexts (filter_change old new)
   filters-told None e =
       let same : same_list real.before old new ≡ true = (same_list-iff sub_laws old new).1 e in
       (rw same, rw same no-texts)
   filters-told (Some v) (n, text) =
       let two : same_list real.before old new ≡ false = go (same_list real.before old new) refl in
-      (rw (two, text.text), rw two (one-text (items v) (Subs (minus real.before old new) (minus real.before new old)) text))
+      (rw (two, text.text), rw two (one-text v (Subs (minus real.before old new) (minus real.before new old)) text))
     where
       go : (b : Bool) → same_list real.before old new ≡ b → b ≡ false
       go true e = absurd (n ((same_list-iff sub_laws old new).0 e))
       go false e = refl
 
-  adverts-told : (o : Option V) → MatchOption o (old ≡ new) (λ v. (old ≢ new) × IsMessageText (items v) (wires.Advs (minus real.before_advert old new) (minus real.before_advert new old)))
-      → (text_to link (option_map items o) ≡ map (sent_to link) (advert_change old new)) × HaveTexts (advert_change old new)
+  adverts-told : (o : Option (List ℕ)) → MatchOption o (old ≡ new) (λ v. (old ≢ new) × IsMessageText v (wires.Advs (minus real.before_advert old new) (minus real.before_advert new old)))
+      → (text_to link (o) ≡ map (sent_to link) (advert_change old new)) × HaveTexts (advert_change old new)
   adverts-told None e =
       let same : same_list real.before_advert old new ≡ true = (same_list-iff ad_laws old new).1 e in
       (rw same, rw same no-texts)
   adverts-told (Some v) (n, text) =
       let two : same_list real.before_advert old new ≡ false = go (same_list real.before_advert old new) refl in
-      (rw (two, text.text), rw two (one-text (items v) (Advs (minus real.before_advert old new) (minus real.before_advert new old)) text))
+      (rw (two, text.text), rw two (one-text v (Advs (minus real.before_advert old new) (minus real.before_advert new old)) text))
     where
       go : (b : Bool) → same_list real.before_advert old new ≡ b → b ≡ false
       go true e = absurd (n ((same_list-iff ad_laws old new).0 e))
@@ -55,13 +55,13 @@ module _ {V : Type 0} (items : V → List ℕ) (link : ℕ) (old new : List (Lis
 
   -- of rows that name the two
   module _ (pool : Pooled (List ConstraintParts)) (from to : List ℕ) (olds : Names pool from old) (news : Names pool to new) where
-    pub filter-rows : (o : Option V) → MatchOption o (named pool from ≡ named pool to) (λ v. (named pool from ≢ named pool to) × IsMessageText (items v) (wires.Subs (minus real.before (named pool from) (named pool to)) (minus real.before (named pool to) (named pool from))))
-        → (text_to link (option_map items o) ≡ map (sent_to link) (filter_change old new)) × HaveTexts (filter_change old new)
-    filter-rows o m = filters-told o (subst (λ z. MatchOption o (old ≡ z) (λ v. (old ≢ z) × IsMessageText (items v) (wires.Subs (minus real.before old z) (minus real.before z old)))) (named-is pool to new news) (subst (λ z. MatchOption o (z ≡ named pool to) (λ v. (z ≢ named pool to) × IsMessageText (items v) (wires.Subs (minus real.before z (named pool to)) (minus real.before (named pool to) z)))) (named-is pool from old olds) m))
+    pub filter-rows : (o : Option (List ℕ)) → MatchOption o (named pool from ≡ named pool to) (λ v. (named pool from ≢ named pool to) × IsMessageText v (wires.Subs (minus real.before (named pool from) (named pool to)) (minus real.before (named pool to) (named pool from))))
+        → (text_to link (o) ≡ map (sent_to link) (filter_change old new)) × HaveTexts (filter_change old new)
+    filter-rows o m = filters-told o (subst (λ z. MatchOption o (old ≡ z) (λ v. (old ≢ z) × IsMessageText v (wires.Subs (minus real.before old z) (minus real.before z old)))) (named-is pool to new news) (subst (λ z. MatchOption o (z ≡ named pool to) (λ v. (z ≢ named pool to) × IsMessageText v (wires.Subs (minus real.before z (named pool to)) (minus real.before (named pool to) z)))) (named-is pool from old olds) m))
 
-    pub advert-rows : (o : Option V) → MatchOption o (named pool from ≡ named pool to) (λ v. (named pool from ≢ named pool to) × IsMessageText (items v) (wires.Advs (minus real.before_advert (named pool from) (named pool to)) (minus real.before_advert (named pool to) (named pool from))))
-        → (text_to link (option_map items o) ≡ map (sent_to link) (advert_change old new)) × HaveTexts (advert_change old new)
-    advert-rows o m = adverts-told o (subst (λ z. MatchOption o (old ≡ z) (λ v. (old ≢ z) × IsMessageText (items v) (wires.Advs (minus real.before_advert old z) (minus real.before_advert z old)))) (named-is pool to new news) (subst (λ z. MatchOption o (z ≡ named pool to) (λ v. (z ≢ named pool to) × IsMessageText (items v) (wires.Advs (minus real.before_advert z (named pool to)) (minus real.before_advert (named pool to) z)))) (named-is pool from old olds) m))
+    pub advert-rows : (o : Option (List ℕ)) → MatchOption o (named pool from ≡ named pool to) (λ v. (named pool from ≢ named pool to) × IsMessageText v (wires.Advs (minus real.before_advert (named pool from) (named pool to)) (minus real.before_advert (named pool to) (named pool from))))
+        → (text_to link (o) ≡ map (sent_to link) (advert_change old new)) × HaveTexts (advert_change old new)
+    advert-rows o m = adverts-told o (subst (λ z. MatchOption o (old ≡ z) (λ v. (old ≢ z) × IsMessageText v (wires.Advs (minus real.before_advert old z) (minus real.before_advert z old)))) (named-is pool to new news) (subst (λ z. MatchOption o (z ≡ named pool to) (λ v. (z ≢ named pool to) × IsMessageText v (wires.Advs (minus real.before_advert z (named pool to)) (minus real.before_advert (named pool to) z)))) (named-is pool from old olds) m))
 
 -- what is left is a set
 pub filters-rise : (semantics : Semantics) (interface link : ℕ) (offered out : List (List ConstraintParts)) (pairs : List (Held (List ConstraintParts))) → IsRising real.before (filters_left semantics interface link offered out pairs)

@@ -24,7 +24,7 @@ use ev_memory::NoMemory;
 use ev_overlap::overlaps;
 use ev_pool::Key;
 use ev_poset::{Difference, differ_for};
-use ev_wire::{Bytes, Semantics, Sent};
+use ev_wire::{Semantics, Sent, SentText};
 use std::alloc::Global;
 
 /// Whether a filter is wanted on a link that offers the advertisements of these keys.
@@ -109,7 +109,7 @@ fn filter_text(
     link: u32,
     out: &[Sub],
     add: &[Sub],
-) -> Result<Option<Bytes>, NoMemory>
+) -> Result<Option<SentText>, NoMemory>
     ensures change { IfOk result (λ text. text_to link text
         ≡ map (sent_to link) (filters_turn semantics interface link (held_without list_before link [] adverts.now.pairs)
         (held_without list_before link [] adverts.now.pairs) out.now add.now filters.now.pairs)) }
@@ -120,7 +120,7 @@ fn filter_text(
     let before = filter_row(semantics, filters, adverts, &offered, interface, link, add)?;
     let after = filter_row(semantics, filters, adverts, &offered, interface, link, out)?;
     let text = filters.text(&before, &after)?;
-    Ok(bytes(text))
+    Ok(text)
 }
 
 /// Whether no filter of a change is wanted on a link.
@@ -156,7 +156,7 @@ fn due_text(
     link: u32,
     out: &[Sub],
     add: &[Sub],
-) -> Result<Option<Bytes>, NoMemory>
+) -> Result<Option<SentText>, NoMemory>
     ensures change { IfOk result (λ text. text_to link text
         ≡ map (sent_to link) (filters_turn semantics interface link (held_without list_before link [] adverts.now.pairs)
         (held_without list_before link [] adverts.now.pairs) out.now add.now filters.now.pairs)) }
@@ -179,7 +179,7 @@ fn offer_text(
     link: u32,
     out: &[Ad],
     add: &[Ad],
-) -> Result<Option<Bytes>, NoMemory>
+) -> Result<Option<SentText>, NoMemory>
     ensures change { IfOk result (λ text. text_to link text
         ≡ map (sent_to link) (filters_turn semantics link link (held_without list_before link add.now adverts.now.pairs)
         (held_without list_before link out.now adverts.now.pairs) [] [] filters.now.pairs)) }
@@ -191,7 +191,7 @@ fn offer_text(
     let offered = adverts.kept(link, out)?;
     let after = filter_row(semantics, filters, adverts, &offered, link, link, &[])?;
     let text = filters.text(&before, &after)?;
-    Ok(bytes(text))
+    Ok(text)
 }
 
 /// The text, if one is due, of the message of a change of advertisements to a link.
@@ -201,28 +201,18 @@ fn advert_text(
     link: u32,
     out: &[Ad],
     add: &[Ad],
-) -> Result<Option<Bytes>, NoMemory>
+) -> Result<Option<SentText>, NoMemory>
     ensures change { IfOk result (λ text. text_to link text ≡ map (sent_to link) (adverts_turn interface link out.now add.now adverts.now.pairs)) }
     ensures text { OnOk result (HaveTexts (adverts_turn interface link out.now add.now adverts.now.pairs)) }
 {
     let before = advert_row(adverts, interface, link, add)?;
     let after = advert_row(adverts, interface, link, out)?;
     let text = adverts.text(&before, &after)?;
-    Ok(bytes(text))
-}
-
-/// The bytes, if there are any.
-fn bytes(text: Option<Vec<u8>>) -> Option<Bytes>
-    ensures { result ≡ option_map (λ v. v.items) text }
-{
-    match text {
-        Some(bytes) => Some(Bytes::of(bytes)),
-        None => None,
-    }
+    Ok(text)
 }
 
 /// Puts the text, if there is one, at the end.
-fn push_text(sent: &mut Vec<Sent>, link: u32, text: Option<Bytes>) -> Result<(), NoMemory>
+fn push_text(sent: &mut Vec<Sent>, link: u32, text: Option<SentText>) -> Result<(), NoMemory>
     ensures { OnOk result (sent.new.items ≡ sent.old.items ++ text_to link text) }
 {
     if let Some(bytes) = text {
@@ -359,7 +349,7 @@ fn one_advert_text(
     link: u32,
     out: &[Ad],
     add: &[Ad],
-) -> Result<Option<Bytes>, NoMemory>
+) -> Result<Option<SentText>, NoMemory>
     ensures change { IfOk result (λ text. text_to link text ≡ adverts_to semantics interface out.now add.now filters.now.pairs adverts.now.pairs link) }
     ensures text { OnOk result (HaveTexts (advert_messages semantics interface out.now add.now filters.now.pairs adverts.now.pairs link)) }
 {

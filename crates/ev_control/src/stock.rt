@@ -18,6 +18,7 @@ use ev_memory::NoMemory;
 use ev_pool::{Cover, Key, Pool};
 use ev_poset::{Difference, Poset, Standing, differences};
 use ev_routing::LAST_LINK;
+use ev_wire::SentText;
 use std::alloc::Global;
 use std::marker::Model;
 
@@ -300,14 +301,14 @@ impl<T: Item> Stock<T> {
     }
 
     /// The text of the message that turns the first row into the second, where they differ.
-    pub(crate) fn text(&self, from: &[Key], to: &[Key]) -> Result<Option<Vec<u8>>, NoMemory>
+    pub(crate) fn text(&self, from: &[Key], to: &[Key]) -> Result<Option<SentText>, NoMemory>
         requires from { AreLive self.now.pool from.now }
         requires to { AreLive self.now.pool to.now }
         requires from_rises { IsRising T.order (named self.now.pool from.now) }
         requires to_rises { IsRising T.order (named self.now.pool to.now) }
         ensures { IfOk result (λ text. MatchOption text (named self.now.pool from.now ≡ named self.now.pool to.now)
             (λ text. (named self.now.pool from.now ≢ named self.now.pool to.now)
-            × IsMessageText text.items (T.change (minus T.order (named self.now.pool from.now) (named self.now.pool to.now))
+            × IsMessageText text (T.change (minus T.order (named self.now.pool from.now) (named self.now.pool to.now))
             (minus T.order (named self.now.pool to.now) (named self.now.pool from.now))))) }
     {
         let out = self.lost(from, to)?;

@@ -5,17 +5,17 @@ ghost use Rattle.ev_wire.specs.MessageText.{IsMessageText};
 ghost use Rattle.ev_frame.specs.Frame.{HasMessage};
 
 use ev_memory::NoMemory;
-use ev_wire::{Message, WireFault, read_message};
+use ev_wire::{Message, SentText, WireFault};
 use std::alloc::Global;
 use std::marker::Model;
 
 /// A message on its way from one server to another: its text, under the stamp of the step that sent it.
 ///
-/// The bytes are always the text of a message, and the stamp is below 2^62.
+/// The text is always one of a message, and the stamp is below 2^62.
 #[derive(Drop)]
 pub struct Frame {
     stamp: u64,
-    bytes: Vec<u8>,
+    text: SentText,
 }
 
 impl Model for Frame {
@@ -24,20 +24,20 @@ impl Model for Frame {
 
     ghost Value = { FrameParts };
 
-    ghost view = { λ frame. frame_parts frame.stamp frame.bytes.items };
+    ghost view = { λ frame. frame_parts frame.stamp frame.text };
 
-    ghost invariant = { λ frame. (frame.stamp < 2 ^ 62) × ∥ HasMessage frame.bytes.items ∥₁ };
+    ghost invariant = { λ frame. (frame.stamp < 2 ^ 62) × ∥ HasMessage frame.text ∥₁ };
 }
 
 impl Frame {
-    /// These bytes under this stamp. The caller has the text of a message, and a stamp below 2^62. It takes no memory.
-    pub fn make(stamp: u64, bytes: Vec<u8>) -> Frame
+    /// This text under this stamp. The caller has the text of a message, and a stamp below 2^62. It takes no memory.
+    pub fn make(stamp: u64, text: SentText) -> Frame
         requires below { stamp < 2 ^ 62 }
-        requires text { HasMessage bytes.items }
+        requires text { HasMessage text }
         ensures stamp { result.stamp ≡ stamp }
-        ensures bytes { result.bytes ≡ bytes.items }
+        ensures bytes { result.bytes ≡ text }
     {
-        Frame { stamp, bytes }
+        Frame { stamp, text }
     }
 
     /// The stamp of the step that sent it, below 2^62.
@@ -49,10 +49,10 @@ impl Frame {
     }
 
     /// The text of the message.
-    pub fn bytes(&self) -> &[u8]
+    pub fn text(&self) -> &SentText
         ensures { result.now ≡ self.now.bytes }
     {
-        &self.bytes
+        &self.text
     }
 
     /// The message whose text was put in.
@@ -60,7 +60,7 @@ impl Frame {
         ensures text { IfOk result (λ m. IsMessageText self.now.bytes m) }
         ensures same { (sent : Message) → IsMessageText self.now.bytes sent → IfOk result (λ m. m ≡ sent) }
     {
-        match read_message(alloc, &self.bytes) {
+        match self.text.message(alloc) {
             Ok(message) => Ok(message),
             Err(WireFault::NoMemory) => Err(NoMemory),
             Err(WireFault::Outside) => unreachable!(),

@@ -8,7 +8,7 @@ ghost use Rattle.ev_net.specs.Links.{link_place, frames_at, has_room, AreSame};
 use crate::queue::Queue;
 use crate::waiting::Waiting;
 use ev_memory::NoMemory;
-use ev_wire::{Bytes, Sent};
+use ev_wire::{Sent, SentText};
 use std::alloc::Global;
 use std::marker::Model;
 
@@ -89,13 +89,10 @@ impl Links {
             → IfOk result (λ sent. sent ≡ record { to = to; bytes = frame.bytes }) }
     {
         let bytes = match self.last(from, to) {
-            Some(frame) => frame.bytes(alloc)?,
-            None => Vec::new(alloc),
+            Some(frame) => frame.sent_text(alloc)?,
+            None => SentText::written(Vec::new(alloc)),
         };
-        Ok(Sent {
-            to,
-            bytes: Bytes::of(bytes),
-        })
+        Ok(Sent { to, bytes })
     }
 
     /// Makes room for one more message on a link.

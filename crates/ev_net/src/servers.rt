@@ -58,7 +58,7 @@ fn put_texts(links: &mut Links, server: u32, stamp: u64, texts: Vec<Sent>, outs:
 {
     for sent in texts {
         outs.push(sent.to).unwrap();
-        let frame = Frame::make(stamp, sent.bytes.into_vec());
+        let frame = Frame::make(stamp, sent.bytes);
         links.put(server, sent.to, Waiting::text(frame));
     }
 }

@@ -6,14 +6,14 @@ ghost use Rattle.ev_net.specs.Waiting.{frame_in};
 
 use ev_frame::Frame;
 use ev_memory::NoMemory;
-use ev_wire::SharedNotice;
+use ev_wire::{SentText, SharedNotice};
 use std::alloc::Global;
 use std::marker::Model;
 
 /// A message on a link, under the stamp of the step that sent it.
 #[derive(Drop)]
 pub(crate) enum Load {
-    /// The text of a change.
+    /// A change.
     Text(Frame),
     /// A publication, which is not written out.
     Notice { stamp: u64, notice: SharedNotice },
@@ -61,12 +61,12 @@ impl Waiting {
     }
 
     /// Its text.
-    pub(crate) fn bytes(&self, alloc: Global) -> Result<Vec<u8>, NoMemory>
-        ensures { IfOk result (λ bytes. bytes.items ≡ self.now.bytes) }
+    pub(crate) fn sent_text(&self, alloc: Global) -> Result<SentText, NoMemory>
+        ensures { IfOk result (λ text. text ≡ self.now.bytes) }
     {
         match &self.load {
-            Load::Text(frame) => Ok(frame.bytes().to_vec(alloc)?),
-            Load::Notice { notice, .. } => notice.message_text(alloc),
+            Load::Text(frame) => frame.text().copy(alloc),
+            Load::Notice { notice, .. } => Ok(SentText::of_publication(notice.share(alloc)?)),
         }
     }
 }

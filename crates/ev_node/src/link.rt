@@ -50,7 +50,7 @@ impl Link {
             return;
         }
         let Sent { to: _, bytes } = sent.remove(0);
-        self.enter.put(Frame::make(stamp, bytes.into_vec()));
+        self.enter.put(Frame::make(stamp, bytes));
     }
 
     /// Puts the first of the texts, if it is for this neighbour, and flushes.

@@ -52,7 +52,7 @@ fn push_message(out: &mut Vec<u8>, sent: &Sent) -> Result<(), NoMemory>
     out.extend_from_slice(b"out ")?;
     push_number(out, u64::from(sent.to))?;
     out.extend_from_slice(b" ")?;
-    out.extend_from_slice(sent.bytes.as_slice())?;
+    sent.bytes.push(out)?;
     out.extend_from_slice(b"\n")?;
     Ok(())
 }

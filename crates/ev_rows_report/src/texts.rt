@@ -5,7 +5,7 @@ use crate::nets::{net, publish, subscribe};
 use ev_model::{Act, Delivery, Entry, Id, Net, Semantics, Sent};
 use ev_outside::{MemorySink, Pending};
 use ev_report::{check_text, deliveries_text, ordered, put_deliveries, trace_text};
-use ev_wire::{Bytes, Lists, SharedText};
+use ev_wire::{Lists, SentText, SharedText};
 use std::alloc::Global;
 use std::rt::HostRuntime;
 use std::test::Fail;
@@ -118,7 +118,7 @@ fn trace(rt: HostRuntime) -> Result<(), Fail> {
     })?;
     let sent = Sent {
         to: 2,
-        bytes: Bytes::of(Vec::from_slice(alloc, b"subs +{x int any}")?),
+        bytes: SentText::written(Vec::from_slice(alloc, b"subs +{x int any}")?),
     };
     let mut outs = Vec::new(alloc);
     outs.push(Lists::of(vec![in alloc; sent]?))?;

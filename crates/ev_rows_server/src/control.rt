@@ -13,7 +13,7 @@ fn texts(alloc: Global, sent: &[Sent]) -> Result<Vec<u8>, RowFault> {
     for one in sent {
         let to = one.to;
         put(&mut answer, format!(in alloc; "{to} ")?.as_bytes())?;
-        answer.extend_from_slice(one.bytes.as_slice())?;
+        one.bytes.push(&mut answer)?;
     }
     Ok(answer)
 }

@@ -11,7 +11,7 @@ pub fn step(alloc: Global, entry: &Entry, sent: &[Sent]) -> Result<Vec<u8>, RowF
     for one in sent {
         let to = one.to;
         put(&mut answer, format!(in alloc; "{to} ")?.as_bytes())?;
-        answer.extend_from_slice(one.bytes.as_slice())?;
+        one.bytes.push(&mut answer)?;
     }
     Ok(answer)
 }

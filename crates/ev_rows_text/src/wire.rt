@@ -2,7 +2,7 @@
 use crate::long::{marks, members};
 use ev_rows::{RowFault, first_word, number, spelled, truth};
 use ev_wire::{
-    Bytes, Command, Delivery, Id, Sent, SharedText, WireFault, read_advert, read_filter,
+    Command, Delivery, Id, Sent, SentText, SharedText, WireFault, read_advert, read_filter,
     read_message, read_notice, write_advert, write_filter, write_message, write_notice,
 };
 use std::alloc::Global;
@@ -93,7 +93,7 @@ pub fn many(alloc: Global, rest: &str) -> Result<Vec<u8>, RowFault> {
 }
 
 /// A delivery, what is sent of it, and a command of it, each by its copy.
-fn carried(alloc: Global, bytes: Vec<u8>) -> Result<Bytes, RowFault> {
+fn carried(alloc: Global, bytes: Vec<u8>) -> Result<Vec<u8>, RowFault> {
     let id = Id {
         publisher: 7,
         ordinal: 12,
@@ -102,9 +102,11 @@ fn carried(alloc: Global, bytes: Vec<u8>) -> Result<Bytes, RowFault> {
     let delivery = Delivery { id, bytes }.copy(alloc)?;
     let sent = Sent {
         to: delivery.id.publisher,
-        bytes: Bytes::of(delivery.bytes.as_slice().to_vec(alloc)?),
+        bytes: SentText::written(delivery.bytes.as_slice().to_vec(alloc)?),
     };
-    Ok(sent.copy(alloc)?.bytes)
+    let mut bytes = Vec::new(alloc);
+    sent.copy(alloc)?.bytes.push(&mut bytes)?;
+    Ok(bytes)
 }
 
 /// The text of a notice that was copied as a delivery, as what is sent, and as a command.

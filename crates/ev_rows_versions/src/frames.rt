@@ -1,6 +1,6 @@
 //! A message goes into a frame and comes out.
 use ev_frame::Frame;
-use ev_wire::{read_message, write_message};
+use ev_wire::{SentText, read_message, write_message};
 use std::alloc::Global;
 use std::rt::HostRuntime;
 use std::test::Fail;
@@ -8,7 +8,7 @@ use std::test::Fail;
 // The text of a message under the stamp 4.
 fn frame(alloc: Global, text: &[u8]) -> Result<Frame, Fail> {
     let _message = read_message(alloc, text)?;
-    Ok(Frame::make(4, text.to_vec(alloc)?))
+    Ok(Frame::make(4, SentText::written(text.to_vec(alloc)?)))
 }
 
 #[test]
@@ -17,6 +17,8 @@ fn a_message_comes_back(rt: HostRuntime) -> Result<(), Fail> {
     let frame = frame(rt.alloc(), text)?;
     let message = frame.message(rt.alloc())?;
     let again = write_message(rt.alloc(), &message)?;
-    assert!(rt; frame.stamp() == 4 && frame.bytes() == text && again.as_slice() == text);
+    let mut put = Vec::new(rt.alloc());
+    frame.text().push(&mut put)?;
+    assert!(rt; frame.stamp() == 4 && put.as_slice() == text && again.as_slice() == text);
     Ok(())
 }

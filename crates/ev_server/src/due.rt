@@ -5,7 +5,7 @@ ghost use Rattle.ev_server.specs.Acting.{sent_on};
 
 use crate::outgoing::{Messages, Outgoing, Passed};
 use ev_memory::NoMemory;
-use ev_wire::{Bytes, Lists, Sent, SharedNotice};
+use ev_wire::{Lists, Sent, SentText, SharedNotice};
 use std::alloc::Global;
 
 /// A form of what a step sends: all as texts, or publications as they are. The contracts speak of the texts.
@@ -57,7 +57,7 @@ fn written(alloc: Global, notice: &SharedNotice, to: &[u32]) -> Result<Vec<Sent>
 {
     let mut sent = Vec::with_capacity(alloc, to.len())?;
     for link in to {
-        let bytes = Bytes::of(notice.message_text(alloc)?);
+        let bytes = SentText::of_publication(notice.share(alloc)?);
         sent.push(Sent { to: *link, bytes })?;
     }
     Ok(sent)

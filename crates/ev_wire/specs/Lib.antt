@@ -11,4 +11,5 @@ pub mod Notices
 pub mod Filters
 pub mod Changes
 pub mod Messages
+pub mod SentText
 pub mod Shared

@@ -173,3 +173,12 @@ pub fn push_constraints(out: &mut Vec<u8>, constraints: &[Constraint]) -> Result
     push_constraint(out, first)?;
     push_later(out, rest)
 }
+
+/// Does nothing; its contract tells that the names in constraints of the program are names.
+pub fn settle_names(constraints: &[Constraint])
+    ensures { AreNamed constraints.now }
+{
+    for constraint in constraints {
+        let _bytes = constraint.name().bytes();
+    }
+}

@@ -5,7 +5,7 @@ ghost use Rattle.ev_wire.specs.Reading.{Reads};
 ghost use Rattle.ev_wire.specs.FilterText.{constraints_text, IsWhole};
 ghost use Rattle.ev_wire.specs.Filters.{list_at};
 
-use crate::constraint::push_constraints;
+use crate::constraint::{push_constraints, settle_names};
 use crate::fault::WireFault;
 use crate::reader::Reader;
 use ev_memory::NoMemory;
@@ -43,6 +43,10 @@ pub trait Listed: Drop {
     /// An equal list.
     fn copied(&self, alloc: Global) -> Result<Self, NoMemory>
         ensures { IfOk result (λ x. x ≡ self.now) };
+
+    /// Does nothing; its contract tells that the list is well formed.
+    fn settle(&self)
+        ensures { IsSound self.now };
 }
 
 impl Listed for Filter {
@@ -75,6 +79,10 @@ impl Listed for Filter {
     fn copied(&self, alloc: Global) -> Result<Filter, NoMemory> {
         self.copy(alloc)
     }
+
+    fn settle(&self) {
+        settle_names(self.constraints());
+    }
 }
 
 impl Listed for Advert {
@@ -106,5 +114,9 @@ impl Listed for Advert {
 
     fn copied(&self, alloc: Global) -> Result<Advert, NoMemory> {
         self.copy(alloc)
+    }
+
+    fn settle(&self) {
+        settle_names(self.constraints());
     }
 }

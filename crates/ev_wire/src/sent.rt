@@ -1,7 +1,7 @@
 //! Texts of messages with their receivers.
 ghost use Rattle.std.specs.Prelude.{◌≡◌, IfOk};
 
-use crate::bytes::Bytes;
+use crate::sent_text::SentText;
 use ev_memory::NoMemory;
 use std::alloc::Global;
 
@@ -11,7 +11,7 @@ pub struct Sent {
     /// The server, a neighbour of the sender.
     pub to: u32,
     /// The text of the message.
-    pub bytes: Bytes,
+    pub bytes: SentText,
 }
 
 impl Sent {

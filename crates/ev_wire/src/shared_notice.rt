@@ -1,14 +1,15 @@
 //! Publications with many owners.
-ghost use Rattle.std.specs.Prelude.{◌≡◌, IfOk};
+ghost use Rattle.std.specs.Prelude.{◌≡◌, ◌++◌, IfOk, OnOk};
 ghost use Rattle.ev_wire.specs.declared.message.Message.TheVariants as messages;
 ghost use Rattle.ev_wire.specs.NoticeText.{IsNoticeText, notice_text};
 ghost use Rattle.ev_wire.specs.MessageText.{IsId, IsMessageText, message_text};
 ghost use Rattle.ev_wire.specs.Shared.{shared_publication, publication_text};
 
 use crate::id::Id;
+use crate::message::Message;
 use crate::notice::write_notice;
 use crate::shared_text::SharedText;
-use crate::wire::write_notice_message;
+use crate::wire::push_notice_message;
 use ev_memory::NoMemory;
 use ev_notice::Notice;
 use std::alloc::Global;
@@ -83,11 +84,23 @@ impl SharedNotice {
         })
     }
 
-    /// The text of the message of the publication.
-    pub fn message_text(&self, alloc: Global) -> Result<Vec<u8>, NoMemory>
-        ensures { IfOk result (λ bytes. IsMessageText bytes.items (messages.Notice self.now.id self.now.notice)) }
+    /// Puts the text of the message of the publication at the end.
+    pub fn push_message(&self, out: &mut Vec<u8>) -> Result<(), NoMemory>
+        ensures { OnOk result (out.new.items ≡ out.old.items ++ publication_text self.now) }
     {
-        write_notice_message(alloc, self.id, self.text.as_slice())
+        push_notice_message(out, self.id, self.text.as_slice())
+    }
+
+    /// The message of the publication.
+    pub fn message(&self, alloc: Global) -> Result<Message, NoMemory>
+        ensures same { IfOk result (λ m. m ≡ messages.Notice self.now.id self.now.notice) }
+        ensures text { IfOk result (λ m. IsMessageText (publication_text self.now) m) }
+    {
+        let notice = self.notice.copy(alloc)?;
+        Ok(Message::Notice {
+            id: self.id,
+            notice,
+        })
     }
 
     /// Its message has a text.

@@ -102,9 +102,6 @@ pub fn read_message(alloc: Global, bytes: &[u8]) -> Result<Message, WireFault>
     Reader::new(bytes).message(alloc)
 }
 
-/// Room for what stands before the text of a notice: the word, the id and the spaces.
-const ID_ROOM: usize = 24;
-
 #[tactic(auto, unfolding(crate::specs::MessageText::id_text))]
 fn push_id(out: &mut Vec<u8>, id: Id) -> Result<(), NoMemory>
     ensures { OnOk result (out.new.items ≡ out.old.items ++ id_text id) }
@@ -114,8 +111,9 @@ fn push_id(out: &mut Vec<u8>, id: Id) -> Result<(), NoMemory>
     push_number(out, u64::from(id.ordinal))
 }
 
+/// Puts the text of a message at the end.
 #[tactic(auto, unfolding(crate::specs::MessageText::message_text, crate::specs::MessageText::changes_text))]
-fn push_message(text: &mut Vec<u8>, message: &Message) -> Result<(), NoMemory>
+pub(crate) fn push_message(text: &mut Vec<u8>, message: &Message) -> Result<(), NoMemory>
     ensures text { OnOk result (text.new.items ≡ text.old.items ++ message_text message.now) }
     ensures sound { OnOk result (IsSoundMessage message.now) }
 {
@@ -137,21 +135,16 @@ fn push_message(text: &mut Vec<u8>, message: &Message) -> Result<(), NoMemory>
     }
 }
 
-/// The text of the message of a notice, by the notice's text.
+/// Puts the text of the message of a notice at the end, by the notice's text.
 #[tactic(auto, unfolding(crate::specs::MessageText::message_text))]
-pub(crate) fn write_notice_message(
-    alloc: Global,
-    id: Id,
-    notice: &[u8],
-) -> Result<Vec<u8>, NoMemory>
-    ensures { (n : List Attribute) → IsId id → IsNoticeText notice.now n → IfOk result (λ v. IsMessageText v.items (messages.Notice id n)) }
+pub(crate) fn push_notice_message(text: &mut Vec<u8>, id: Id, notice: &[u8]) -> Result<(), NoMemory>
+    ensures { (n : List Attribute) → IsNoticeText notice.now n → OnOk result (text.new.items ≡ text.old.items ++ message_text (messages.Notice id n)) }
 {
-    let mut text = Vec::with_capacity(alloc, notice.len().saturating_add(ID_ROOM))?;
     text.extend_from_slice(b"notice ")?;
-    push_id(&mut text, id)?;
+    push_id(text, id)?;
     text.push(b' ')?;
     text.extend_from_slice(notice)?;
-    Ok(text)
+    Ok(())
 }
 
 /// The text of a message. The caller has the id in range: the publisher from 1 to 1,024, the ordinal from 1 to 100,000;

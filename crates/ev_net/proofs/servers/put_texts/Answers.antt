@@ -13,7 +13,6 @@ pub make-frame-requires-clause-text : goal.make-frame-requires-clause-text
 make-frame-requires-clause-text c =
     let gives = c.into_iter-sent-iterator.ensures.into_iter_gives in
     let t = YieldsList-turn (YieldsList-from_vec {s = c.into_iter-sent-iterator.result} c.args.texts.items gives.0 (gives.1 ∙ c.args.texts.ok.0)) c.loop-sent.yielded c.loop-sent.sent-iterator c.loop-sent.yielded_by c.next.result c.next.new.self c.in-Some.sent c.in-Some.is c.next.ensures.steps in
-    subst HasMessage (sym c.into_vec.ensures)
     (c.requires.texts c.in-Some.sent (got-has c.args.texts.items (length c.loop-sent.yielded) c.in-Some.sent (got c.args.texts.items (length c.loop-sent.yielded) c.in-Some.sent t.0 t.1)))
 
 pub put-requires-clause-small : goal.put-requires-clause-small

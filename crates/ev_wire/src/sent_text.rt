@@ -1,0 +1,143 @@
+//! Texts of messages, written only where they are asked for.
+ghost use Rattle.std.specs.Prelude.{◌≡◌, ◌++◌, List, ℕ, IfOk, OnOk, IsErrOf};
+ghost use Rattle.ev_wire.specs.declared.message.Message.{Message};
+ghost use Rattle.ev_wire.specs.MessageText.{Each, IsMessageText, IsSendable, IsSoundMessage};
+ghost use Rattle.ev_wire.specs.Shared.{publication_text};
+ghost use Rattle.ev_wire.specs.SentText.{text_in};
+
+use crate::bytes::Bytes;
+use crate::fault::WireFault;
+use crate::listed::Listed;
+use crate::message::Message;
+use crate::shared_notice::SharedNotice;
+use crate::wire::{push_message, read_message};
+use ev_memory::NoMemory;
+use std::alloc::Global;
+use std::marker::Model;
+
+/// What a text is kept as.
+#[derive(Drop)]
+pub(crate) enum Source {
+    /// Its bytes.
+    Written(Bytes),
+    /// The message that it tells.
+    Told(Message),
+    /// The publication that it tells, which has other owners.
+    Published(SharedNotice),
+}
+
+/// The text of a message on its way. It need not be written: where the message itself is at hand, who takes it reads
+/// nothing, and copies share filters and notices. Contracts see the bytes, as if they were written.
+#[derive(Drop)]
+pub struct SentText {
+    source: Source,
+}
+
+impl Model for SentText {
+    ghost use Rattle.std.specs.Prelude.{List, ℕ};
+    ghost use Rattle.ev_wire.specs.SentText.{text_in, IsSource};
+
+    ghost Value = { List ℕ };
+
+    ghost view = { λ text. text_in text.source };
+
+    ghost invariant = { λ text. IsSource text.source };
+}
+
+// Lists of the program are well formed.
+fn settle_lists<L: Listed>(lists: &[L])
+    ensures { Each L.IsSound lists.now }
+{
+    for list in lists {
+        list.settle();
+    }
+}
+
+// So is a message.
+fn settle_message(message: &Message)
+    ensures { IsSoundMessage message.now }
+{
+    match message {
+        Message::Notice { notice, .. } => {
+            let _attributes = notice.attributes();
+        }
+        Message::Subs { out, add } => {
+            settle_lists(out.as_slice());
+            settle_lists(add.as_slice());
+        }
+        Message::Advs { out, add } => {
+            settle_lists(out.as_slice());
+            settle_lists(add.as_slice());
+        }
+    }
+}
+
+impl SentText {
+    /// The text that these bytes are. It takes no memory.
+    pub fn written(bytes: Vec<u8>) -> SentText
+        ensures { result ≡ bytes.items }
+    {
+        SentText {
+            source: Source::Written(Bytes::of(bytes)),
+        }
+    }
+
+    /// The text of a message. The caller has it so that it has one: the id in range, or the two lists strictly rising in
+    /// the canonical order, without a common member and not both empty. It takes no memory.
+    pub fn of_message(message: Message) -> SentText
+        requires { IsSendable message }
+        ensures { IsMessageText result message }
+    {
+        settle_message(&message);
+        SentText {
+            source: Source::Told(message),
+        }
+    }
+
+    /// The text of the message of a publication. It takes no memory.
+    pub fn of_publication(publication: SharedNotice) -> SentText
+        ensures { result ≡ publication_text publication }
+    {
+        SentText {
+            source: Source::Published(publication),
+        }
+    }
+
+    /// Puts the bytes at the end.
+    pub fn push(&self, out: &mut Vec<u8>) -> Result<(), NoMemory>
+        ensures { OnOk result (out.new.items ≡ out.old.items ++ self.now) }
+    {
+        match &self.source {
+            Source::Written(bytes) => {
+                out.extend_from_slice(bytes.as_slice())?;
+                Ok(())
+            }
+            Source::Told(message) => push_message(out, message),
+            Source::Published(publication) => publication.push_message(out),
+        }
+    }
+
+    /// The message whose text it is; `Outside` where it is the text of no message. Only of bytes it is read.
+    pub fn message(&self, alloc: Global) -> Result<Message, WireFault>
+        ensures found { IfOk result (λ m. IsMessageText self.now m) }
+        ensures outside { IsErrOf result WireFault.Outside → (m : Message) → IsMessageText self.now m → ⊥ }
+    {
+        match &self.source {
+            Source::Written(bytes) => read_message(alloc, bytes.as_slice()),
+            Source::Told(message) => Ok(message.copy(alloc)?),
+            Source::Published(publication) => Ok(publication.message(alloc)?),
+        }
+    }
+
+    /// An equal text, which shares the filters and the notice of a message at hand.
+    pub fn copy(&self, alloc: Global) -> Result<SentText, NoMemory>
+        ensures { IfOk result (λ text. text ≡ self.now) }
+    {
+        let source = match &self.source {
+            Source::Written(bytes) => Source::Written(bytes.copy(alloc)?),
+            Source::Told(message) => Source::Told(message.copy(alloc)?),
+            Source::Published(publication) => Source::Published(publication.share(alloc)?),
+        };
+        Ok(SentText { source })
+    }
+}
