@@ -1,8 +1,9 @@
 -- A cell may go to another thread, with all its parts, and so a worker may.
 use denote.RattleType.{RattleType}
 use denote.Ref.{NamedLft}
+use denote.Enum.Declared as enums
 use denote.Struct.Declared.{shape}
-use denote.Param.Send.{IsSend, IsSync, sendable, struct_send, struct_sync}
+use denote.Param.Send.{IsSend, IsSync, sendable, enum_send, struct_send, struct_sync}
 use Rattle.std.proofs.Crossing.{crosses}
 use Rattle.std.proofs.MapsCrossing as maps
 use Rattle.std_heap.specs.contracts.Global as Heap
@@ -43,6 +44,13 @@ use Rattle.ev_counting.specs.contracts.table.Table as Table
 use Rattle.slab.specs.contracts.Slab as Slab
 use Rattle.ev_wire.specs.contracts.command.Command as Command
 use Rattle.ev_wire.specs.contracts.delivery.Delivery as Delivery
+use Rattle.ev_wire.specs.contracts.bytes.Bytes as Bytes
+use Rattle.ev_wire.specs.contracts.id.Id as Id
+use Rattle.ev_wire.specs.contracts.lists.Lists as Lists
+use Rattle.ev_wire.specs.contracts.message.Message as Message
+use Rattle.ev_wire.specs.contracts.sent_text.SentText as SentText
+use Rattle.ev_wire.specs.contracts.sent_text.Source as Source
+use Rattle.ev_wire.specs.contracts.shared_notice.SharedNotice as SharedNotice
 use Rattle.ev_session.specs.contracts.own.Own as Own
 use Rattle.ev_session.specs.contracts.session.Session as Session
 use Rattle.ev_server.specs.contracts.clients.Clients as Clients
@@ -317,8 +325,41 @@ net_sync = let a = tree_sync in let b = client_sync in search (sendable, crosses
 pub entry_send : IsSend Entry.the_field.row
 entry_send = search (sendable, crosses) depth 20
 
+pub lists_send : (T : RattleType) → IsSend T → IsSend (Lists.the_field T).row
+lists_send T a = search (sendable, crosses) depth 20
+
+pub filter_row_send : IsSend Filter.the_row
+filter_row_send = let a = filter_send in search (sendable, crosses) depth 20
+
+pub advert_row_send : IsSend Advert.the_row
+advert_row_send = let a = advert_send in search (sendable, crosses) depth 20
+
+pub id_send : IsSend Id.the_field.row
+id_send = search (sendable, crosses) depth 20
+
+pub filters_send : IsSend (Lists.the_field Filter.the_row).row
+filters_send = lists_send Filter.the_row filter_row_send
+
+pub adverts_send : IsSend (Lists.the_field Advert.the_row).row
+adverts_send = lists_send Advert.the_row advert_row_send
+
+pub message_send : IsSend Message.the_field.row
+message_send = enum_send (enums.shape Message.the_type) ((id_send, (notice_send, tt)), ((filters_send, (filters_send, tt)), ((adverts_send, (adverts_send, tt)), tt)))
+
+pub publication_send : IsSend SharedNotice.the_field.row
+publication_send = let a = notice_send in search (sendable, crosses) depth 20
+
+pub bytes_send : IsSend Bytes.the_field.row
+bytes_send = search (sendable, crosses) depth 20
+
+pub source_send : IsSend Source.the_field.row
+source_send = enum_send (enums.shape Source.the_type) ((bytes_send, tt), ((message_send, tt), ((publication_send, tt), tt)))
+
+pub text_send : IsSend SentText.the_field.row
+text_send = let a = source_send in search (sendable, crosses) depth 20
+
 pub frame_send : IsSend Frame.the_row
-frame_send = search (sendable, crosses) depth 20
+frame_send = let a = text_send in search (sendable, crosses) depth 20
 
 pub in_send : (F : RattleType) → IsSend F → IsSend (LaneIn.the_field F).row
 in_send F f = struct_send (shape (LaneIn.the_type F)) (search ours depth 20, (search ours depth 20, (search ours depth 20, (search ours depth 20, (search ours depth 20, tt)))))
