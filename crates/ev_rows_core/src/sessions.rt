@@ -178,5 +178,7 @@ fn deliveries_stand_in_order(rt: HostRuntime) -> Result<(), Fail> {
         received[1].bytes.as_slice(),
         b"a bool true; x int 2".as_slice()
     );
+    assert_eq!(rt; session.take_inbox().len(), 2);
+    assert!(rt; session.received().is_empty());
     Ok(())
 }

@@ -1,5 +1,5 @@
 -- What is planned is the difference of a client's lists, and doing it gives the next ones.
-use Rattle.std.proofs.Common.{◌≡◌, ℕ, suc, ◌≤◌, ◌+◌, Bool, true, false, cond, not, List, [], ◌∷◌, ◌++◌, length, filter, map, take, slice_get, Some, refl, sym, ap, subst, ◌∙◌, inl, inr, arith, append-nil, zero-add}
+use Rattle.std.proofs.Common.{◌≡◌, ℕ, suc, ◌≤◌, Bool, true, false, cond, not, List, [], ◌∷◌, ◌++◌, length, filter, map, slice_get, Some, refl, sym, ap, subst, ◌∙◌, inl, inr, arith, append-nil, zero-add}
 use Rattle.ev_constraint.specs.Constraint.{ConstraintParts}
 use Rattle.ev_notice.specs.Before.{list_before}
 use Rattle.ev_notice.specs.Cover.{filter_covers, advert_covers}
@@ -10,17 +10,16 @@ use Rattle.ev_sets.proofs.Sets.{has-member}
 use Rattle.ev_wire.specs.declared.command.Command.{Command}
 use Rattle.ev_wire.specs.declared.command.Command.TheVariants as commands
 use Rattle.ev_wire.specs.declared.semantics.Semantics.{Semantics}
-use Rattle.ev_routing.specs.Clients.{is_publish, ordinal, accepts, add_refused, refused_from, adverts_after}
+use Rattle.ev_routing.specs.Clients.{is_publish, accepts, add_refused, adverts_after}
 use Rattle.ev_theory.specs.Real.{real}
 use Rattle.ev_model.specs.Meaning.{command_of, phased_command}
-use Rattle.ev_model.specs.Adding.{own_filters, own_adverts, own_filters_step, own_adverts_step}
-use Rattle.ev_session.specs.declared.planned.Planned.{Planned}
+use Rattle.ev_model.specs.Adding.{own_filters_step, own_adverts_step}
 use Rattle.ev_session.specs.declared.planned.Planned.TheVariants as plans
 use Rattle.ev_wire.specs.Messages.{Lists}
 use Rattle.ev_session.specs.Session.{SessionParts, first_commands, filters_at, adverts_at, publishes_at, refused_at, net_under}
 use Rattle.ev_session.specs.Plan.{filters_plan, adverts_plan, publish_plan, plan_by, next_plan}
 use Rattle.ev_session.specs.Own.{own_plan, filters_by, adverts_by, refusals_by, publishes_by, AddsFew}
-use Rattle.ev_session.proofs.Settling.{filter-same, filter-all, out, add, settled, absent}
+use Rattle.ev_session.proofs.Settling.{filter-same, filter-all, out, add, settled}
 use Rattle.ev_session.proofs.Listing.{get-map, filters-next, adverts-next, ordinal-next, refused-next}
 
 opposite : (b : Bool) → not (not b) ≡ b

@@ -1,5 +1,5 @@
 -- Filters are the same where neither stands before the other.
-use Rattle.std.proofs.Common.{◌≡◌, Bool, not, ◌&&◌, refl, List, Ordering}
+use Rattle.std.proofs.Common.{◌≡◌, not, ◌&&◌, refl, List, Ordering}
 use Rattle.std.specs.declared.cmp.Ordering.TheVariants.{Less, Equal, Greater}
 use Rattle.std.specs.Ordering.{is_lt, is_eq, eq_by_cmp, ordering_reverse}
 use Rattle.ev_constraint.specs.Constraint.{ConstraintParts}

@@ -1,5 +1,5 @@
 -- What a session keeps is kept by its calls.
-use Rattle.std.proofs.Common.{◌≡◌, ℕ, zero, suc, ◌≤◌, ◌<◌, Bool, true, false, cond, List, [], ◌∷◌, ◌++◌, length, map, take, slice_get, get_or, Option, Some, None, refl, sym, ap, ap₂, subst, ◌∙◌, arith}
+use Rattle.std.proofs.Common.{◌≡◌, ℕ, zero, suc, ◌≤◌, ◌<◌, Bool, true, false, cond, List, [], ◌∷◌, ◌++◌, length, map, take, slice_get, get_or, Option, Some, None, refl, sym, ap, subst, ◌∙◌, arith}
 use Rattle.std.specs.Int.{IsInRange}
 use Rattle.std.proofs.lemmas.Option.{same_Some}
 use Rattle.ev_wire.specs.declared.command.Command.{Command}
@@ -70,6 +70,18 @@ module _ (s : SessionParts) (fs xs : Lists) (rs : List ℕ) (p : ℕ) (kept : Is
     few = kept.few;
     within = kept.within;
     texts = more-deliveries s.inbox d kept.texts one;
+  }
+
+  -- nor does it where they are handed on
+  pub handed-on : (room : ℕ) → IsSession (session_parts s.client s.semantics s.script s.taken [] room s.planned) fs xs rs p
+  handed-on room = record {
+    own_filters = kept.own_filters;
+    own_adverts = kept.own_adverts;
+    all_refused = kept.all_refused;
+    counted = kept.counted;
+    few = kept.few;
+    within = kept.within;
+    texts = tt;
   }
 
   -- of the next command

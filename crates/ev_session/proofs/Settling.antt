@@ -1,5 +1,5 @@
 -- A list that some members leave and others join at the end: what the difference of the two lists is, and that it leads from one to the other.
-use Rattle.std.proofs.Common.{◌≡◌, ℕ, Bool, true, false, cond, not, List, [], ◌∷◌, ◌++◌, ◌⊎◌, inl, inr, filter, refl, sym, ap, subst, ◌∙◌}
+use Rattle.std.proofs.Common.{◌≡◌, Bool, true, false, cond, not, List, [], ◌∷◌, ◌++◌, inl, inr, filter, refl, sym, ap, ◌∙◌}
 use Rattle.ev_sets.specs.Laws.{CoverLaws}
 use Rattle.ev_sets.specs.Sets.{Has, member, minus, IsRising, union, set_of}
 use Rattle.ev_sets.proofs.Roots.{Has-filter, filter-Has}

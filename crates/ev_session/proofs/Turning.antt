@@ -4,11 +4,10 @@ use Rattle.std.proofs.lemmas.Option.{same_Some}
 use Rattle.ev_constraint.specs.Constraint.{ConstraintParts}
 use Rattle.ev_notice.specs.Before.{list_before}
 use Rattle.ev_cover.specs.Laws.{sub_laws, ad_laws}
-use Rattle.ev_sets.specs.Sets.{Has, union, minus, set_of}
+use Rattle.ev_sets.specs.Sets.{Has, union, minus}
 use Rattle.ev_sets.proofs.Sets.{minus-iff}
 use Rattle.ev_wire.specs.declared.command.Command.{Command}
 use Rattle.ev_wire.specs.declared.command.Command.TheVariants as commands
-use Rattle.ev_wire.specs.declared.semantics.Semantics.{Semantics}
 use Rattle.ev_routing.specs.Theory.{Theory}
 use Rattle.ev_routing.specs.Net.{Net, PhasedCommand, Command as RunCommand, Subscribe, Unsubscribe, Advertise, Unadvertise, Publish}
 use Rattle.ev_routing.specs.Clients.{some_pass, accepts, add_refused, refused_from, adverts_step, is_publish, filters_after, adverts_after}
@@ -18,7 +17,7 @@ use Rattle.ev_session.specs.declared.planned.Planned.{Planned}
 use Rattle.ev_session.specs.declared.planned.Planned.TheVariants as plans
 use Rattle.ev_wire.specs.Messages.{Lists}
 use Rattle.ev_session.specs.Session.{SessionParts, first_commands, filters_at, adverts_at, publishes_at, net_under}
-use Rattle.ev_session.specs.Plan.{filters_plan, adverts_plan, publish_plan, plan_by, plan_in, next_plan}
+use Rattle.ev_session.specs.Plan.{plan_by, plan_in, next_plan}
 use Rattle.ev_session.proofs.Settling.{sets-settled}
 
 -- the parts of a plan of filters, and of one of advertisements

@@ -1,7 +1,6 @@
 -- What an inbox holds.
 use Rattle.std.specs.Prelude.{List, [], ◌∷◌}
 use Rattle.ev_notice.specs.Notice.{Attribute}
-use Rattle.ev_wire.specs.declared.id.Id.{Id}
 use Rattle.ev_wire.specs.declared.delivery.Delivery.{Delivery}
 use Rattle.ev_wire.specs.NoticeText.{IsNoticeText}
 

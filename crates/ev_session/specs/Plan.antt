@@ -1,5 +1,5 @@
 -- What a client's next command does: the difference from its lists to the next ones, or its publication.
-use Rattle.std.specs.Prelude.{ℕ, suc, Bool, cond, List, slice_get, Option, Some, None}
+use Rattle.std.specs.Prelude.{ℕ, suc, cond, List, slice_get, Option, Some, None}
 use Rattle.std.specs.Int.{IsInRange}
 use Rattle.ev_constraint.specs.Constraint.{ConstraintParts}
 use Rattle.ev_notice.specs.Before.{list_before}

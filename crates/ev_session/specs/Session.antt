@@ -1,5 +1,5 @@
 -- What contracts see of a session, and what its client's lists are after so many commands.
-use Rattle.std.specs.Prelude.{◌≡◌, ℕ, zero, suc, ◌≤◌, Bool, true, List, [], length, map, take}
+use Rattle.std.specs.Prelude.{◌≡◌, ℕ, zero, ◌≤◌, Bool, List, [], length, map, take}
 use Rattle.ev_constraint.specs.Constraint.{ConstraintParts}
 use Rattle.ev_wire.specs.declared.command.Command.{Command}
 use Rattle.ev_wire.specs.declared.semantics.Semantics.{Semantics}

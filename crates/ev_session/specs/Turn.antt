@@ -1,5 +1,5 @@
 -- What a planned change is to a server, which holds the sets of a client's members.
-use Rattle.std.specs.Prelude.{◌≡◌, ℕ, suc, List, []}
+use Rattle.std.specs.Prelude.{◌≡◌, ℕ, List, []}
 use Rattle.ev_constraint.specs.Constraint.{ConstraintParts}
 use Rattle.ev_notice.specs.Before.{list_before}
 use Rattle.ev_sets.specs.Sets.{Has, union, minus}

@@ -12,6 +12,7 @@ use ev_notice::{Advert, Filter};
 use ev_wire::{Command, Delivery, Semantics};
 use std::alloc::Global;
 use std::marker::Model;
+use std::mem::replace;
 
 /// A client's session: its script with the commands that were taken, and its inbox.
 ///
@@ -155,6 +156,15 @@ impl Session {
         ensures texts { AreDeliveries result.now }
     {
         &self.inbox
+    }
+
+    /// Hands on what was delivered, in order; the inbox is empty then. It takes no memory.
+    pub fn take_inbox(&mut self) -> Vec<Delivery>
+        ensures inbox { result.items ≡ self.old.inbox }
+        ensures emptied { self.new ≡ record self.old { inbox = []; room = 0 } }
+    {
+        self.room = 0;
+        replace(&mut self.inbox, Vec::new(self.alloc))
     }
 
     /// The ordinals of the refused publishes among the commands taken, rising.

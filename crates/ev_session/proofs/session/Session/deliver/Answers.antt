@@ -1,4 +1,4 @@
-use Rattle.std.proofs.Common.{◌≡◌, ◌+◌, ◌-◌, ◌<◌, [], ◌∷◌, ◌++◌, ap, arith, vec_len}
+use Rattle.std.proofs.Common.{◌≡◌, ◌+◌, ◌-◌, [], ◌∷◌, ◌++◌, ap, arith, vec_len}
 use Rattle.ev_session.specs.Session.{SessionParts}
 use Rattle.ev_session.proofs.Sessions.{delivered}
 use Rattle.ev_session.proofs.session.Session.deliver.Goals as goal
