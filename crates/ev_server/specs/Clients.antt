@@ -24,6 +24,10 @@ handed delivery s = session_parts s.client s.semantics s.script s.taken (s.inbox
 abbrev pub stepped : SessionParts → SessionParts
 stepped s = session_parts s.client s.semantics s.script (suc s.taken) s.inbox s.room false
 
+-- its inbox handed on
+abbrev pub emptied : SessionParts → SessionParts
+emptied s = session_parts s.client s.semantics s.script s.taken [] 0 s.planned
+
 -- each of these clients has room for one more delivery
 abbrev pub HaveRoom : List ℕ → List SessionParts → Type 0
 HaveRoom clients sessions = (s : SessionParts) → Has s sessions → Has s.client clients → 1 ≤ s.room

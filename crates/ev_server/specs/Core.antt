@@ -11,7 +11,7 @@ use Rattle.ev_control.specs.Control.{Controlled}
 use Rattle.ev_control.specs.Routing.{StandsFor}
 use Rattle.ev_model.specs.Meaning.{phased_command, deliveries_of}
 use Rattle.ev_session.specs.Session.{SessionParts}
-use Rattle.ev_server.specs.Clients.{client_numbers}
+use Rattle.ev_server.specs.Clients.{client_numbers, at_client, emptied}
 use Rattle.ev_server.specs.Staged.{is_some_there}
 use Rattle.ev_server.specs.Ledger.{LedgerParts}
 
@@ -34,6 +34,10 @@ core_parts server ledger clients clock = record {
   clients = clients;
   clock = clock;
 }
+
+-- a core that handed on what one of its clients received
+abbrev pub without_inbox : ℕ → CoreParts → CoreParts
+without_inbox client core = record core { clients = at_client client emptied core.clients }
 
 -- the filters of an interface as they were last published
 abbrev pub published_from : CoreParts → ℕ → List (List ConstraintParts)

@@ -1,5 +1,5 @@
 -- What the code keeps of a core.
-use Rattle.std.specs.Prelude.{◌≡◌, ℕ, true, ◌+◌, ◌<◌, ◌≤◌, ◌^◌, nat_lt}
+use Rattle.std.specs.Prelude.{◌≡◌, ℕ, true, ◌<◌, ◌≤◌, ◌^◌, nat_lt}
 use Rattle.std.specs.Int.{IsInRange}
 use Rattle.ev_sets.specs.Sets.{Has, IsRising}
 use Rattle.ev_routing.specs.Server.{client_interface}

@@ -152,7 +152,7 @@ fn make_ready(
     ensures planned { StayPlanned clients.old clients.new }
     ensures bare { map bare clients.new ≡ map bare clients.old }
 {
-    let mut ready = Vec::new(alloc);
+    let mut ready = Vec::with_capacity(alloc, route.len())?;
     for interface in route {
         if *interface <= LAST_LINK {
             continue;

@@ -5,7 +5,7 @@ ghost use Rattle.ev_sets.specs.Sets.{Has};
 ghost use Rattle.ev_session.specs.Inbox.{IsDelivery};
 ghost use Rattle.ev_session.specs.Plan.{next_plan, IsCounted};
 ghost use Rattle.ev_session.specs.Session.{SessionParts};
-ghost use Rattle.ev_server.specs.Clients.{bare, client_numbers, at_client, handed, stepped, HaveMoreRoom};
+ghost use Rattle.ev_server.specs.Clients.{bare, client_numbers, at_client, handed, stepped, emptied, HaveMoreRoom};
 
 use ev_memory::NoMemory;
 use ev_session::{Planned, Session};
@@ -108,5 +108,15 @@ impl Clients {
             return;
         };
         self.sessions[place].deliver(delivery);
+    }
+
+    /// Hands on what was delivered to a client that lives here, whose inbox is empty then. It takes no memory.
+    pub(crate) fn take_inbox(&mut self, client: u32) -> Vec<Delivery>
+        requires { Has client (client_numbers self.old) }
+        ensures inbox { (s : SessionParts) → Has s self.old → s.client ≡ client → result.items ≡ s.inbox }
+        ensures emptied { self.new ≡ at_client client emptied self.old }
+    {
+        let place = self.place(client).unwrap();
+        self.sessions[place].take_inbox()
     }
 }

@@ -16,7 +16,7 @@ ghost use Rattle.ev_routing.specs.Clients.{accepts, some_pass};
 ghost use Rattle.ev_wire.specs.declared.command.Command.TheVariants as commands;
 ghost use Rattle.ev_theory.specs.Real.{real};
 ghost use Rattle.ev_server.specs.Clients.{bare, client_numbers};
-ghost use Rattle.ev_server.specs.Core.{CoreParts, core_parts, published_from};
+ghost use Rattle.ev_server.specs.Core.{CoreParts, core_parts, published_from, without_inbox};
 ghost use Rattle.ev_server.specs.Kept.{IsCore};
 ghost use Rattle.ev_server.specs.Step.{MakesStep, last_stamp};
 ghost use Rattle.ev_server.specs.Staged.{IsStaged};
@@ -36,7 +36,7 @@ use ev_memory::NoMemory;
 use ev_notice::{Advert, Notice, allows};
 use ev_routing::LAST_LINK;
 use ev_session::Session;
-use ev_wire::{Adverts, Command, Filters, Lists, Message, Semantics, Sent, SharedNotice};
+use ev_wire::{Adverts, Command, Delivery, Filters, Lists, Message, Semantics, Sent, SharedNotice};
 use std::alloc::Global;
 use std::marker::Model;
 
@@ -280,6 +280,15 @@ impl Core {
             unreachable!()
         };
         session
+    }
+
+    /// Hands on what was delivered to a client that lives here, whose inbox is empty then. It takes no memory.
+    pub fn take_inbox(&mut self, client: u32) -> Vec<Delivery>
+        requires { Has client (client_numbers self.old.clients) }
+        ensures inbox { (s : SessionParts) → Has s self.old.clients → s.client ≡ client → result.items ≡ s.inbox }
+        ensures emptied { self.new ≡ without_inbox client self.old }
+    {
+        self.clients.take_inbox(client)
     }
 
     /// The notice of the next command of a client that lives here; `None` where that is no publish that will be
