@@ -38,3 +38,4 @@ pub mod Last
 pub mod Told
 pub mod Again
 pub mod Passing
+pub mod HandedOn

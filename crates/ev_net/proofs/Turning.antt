@@ -18,19 +18,19 @@ pub record AreGoing (n : ℕ) (standings : List Standing) (old : List CoreParts)
   pub each : (place : ℕ) (standing : Standing) (core : CoreParts) → slice_get standings place ≡ Some standing → slice_get old place ≡ Some core
       → (left : Standing) × (after : CoreParts) × (slice_get back place ≡ Some left) × (slice_get new place ≡ Some after) × IsGoing n place standing core left after
 
-set-same : {X : Type 0} (xs : List X) (i : ℕ) (x : X) → i < length xs → slice_get (set xs i x) i ≡ Some x
+pub set-same : {X : Type 0} (xs : List X) (i : ℕ) (x : X) → i < length xs → slice_get (set xs i x) i ≡ Some x
 set-same [] i x l = absurd (omega (arith, l))
 set-same (y ∷ ys) zero x l = refl
 set-same (y ∷ ys) (suc i) x l = set-same ys i x (omega (arith, l))
 
-set-other : {X : Type 0} (xs : List X) (i k : ℕ) (x : X) → (k ≡ i → ⊥) → slice_get (set xs i x) k ≡ slice_get xs k
+pub set-other : {X : Type 0} (xs : List X) (i k : ℕ) (x : X) → (k ≡ i → ⊥) → slice_get (set xs i x) k ≡ slice_get xs k
 set-other [] i k x other = refl
 set-other (y ∷ ys) zero zero x other = absurd (other refl)
 set-other (y ∷ ys) zero (suc k) x other = refl
 set-other (y ∷ ys) (suc i) zero x other = refl
 set-other (y ∷ ys) (suc i) (suc k) x other = set-other ys i k x (λ e. other (ap suc e))
 
-set-long : {X : Type 0} (xs : List X) (i : ℕ) (x : X) → length (set xs i x) ≡ length xs
+pub set-long : {X : Type 0} (xs : List X) (i : ℕ) (x : X) → length (set xs i x) ≡ length xs
 set-long [] i x = refl
 set-long (y ∷ ys) zero x = refl
 set-long (y ∷ ys) (suc i) x = ap suc (set-long ys i x)

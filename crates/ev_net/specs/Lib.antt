@@ -14,3 +14,4 @@ pub mod Trying
 pub mod Told
 pub mod Retold
 pub mod Last
+pub mod Inboxes

@@ -1,5 +1,5 @@
 -- What the clients of a server have, as its core keeps it, and the homes and tables that are made of it.
-use Rattle.std.specs.Prelude.{◌≡◌, ◌↔◌, ℕ, ◌+◌, ◌<◌, true, false, List, [], map}
+use Rattle.std.specs.Prelude.{◌≡◌, ◌↔◌, ℕ, ◌<◌, true, false, List, [], map}
 use Rattle.std.specs.List.{Contains}
 use Rattle.ev_sets.specs.Sets.{Has}
 use Rattle.ev_routing.specs.Server.{client_interface}

@@ -3,6 +3,7 @@
 #![tactic(auto)]
 
 mod begin;
+mod inboxes;
 mod links;
 mod making;
 mod network;

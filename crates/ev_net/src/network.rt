@@ -5,12 +5,13 @@ ghost use Rattle.ev_phases.specs.Moments.{opening_moment, found_of};
 ghost use Rattle.ev_theory.specs.Real.{real};
 ghost use Rattle.ev_model.specs.Meaning.{journal_of};
 ghost use Rattle.ev_model.specs.Parts.{EntryParts};
-ghost use Rattle.ev_model.specs.Nets.{phased_net, first_tree, servers_in, clients_of};
+ghost use Rattle.ev_model.specs.Nets.{phased_net, first_tree, servers_in, clients_of, of_clients};
 ghost use Rattle.ev_model.specs.Sound.{IsSound};
 ghost use Rattle.ev_net.specs.Kept.{AreServers};
 ghost use Rattle.ev_net.specs.Seen.{AreClients};
 ghost use Rattle.ev_net.specs.Told.{told_of};
 
+use crate::inboxes::take_inboxes;
 use crate::links::Links;
 use crate::making::{command, home, next_phase, received, refused, take, version};
 use crate::place::Place;
@@ -130,12 +131,18 @@ impl<'a> Network<'a> {
         &self.servers.journal
     }
 
-    /// What was done, where nothing else is wanted any more: the journal is handed on and not copied.
-    pub fn into_journal(self) -> Vec<Entry>
-        ensures { result.items ≡ self.entry.journal }
+    /// What was done, and what each client received, where nothing else is wanted any more: both are handed on and not copied.
+    pub fn into_parts(self) -> Result<(Vec<Entry>, Vec<Lists<Delivery>>), NoMemory>
+        ensures journal { IfOk result (λ parts. parts.0.items ≡ self.entry.journal) }
+        ensures received { IfOk result (λ parts. parts.1.items ≡ of_clients self.entry.net (received_by self.entry.net self.entry.journal)) }
     {
-        let servers = self.servers;
-        servers.journal
+        let Network {
+            net,
+            mut servers,
+            ..
+        } = self;
+        let received = take_inboxes(net, &mut servers)?;
+        Ok((servers.journal, received))
     }
 
     /// The net.

@@ -18,7 +18,7 @@ ghost use Rattle.ev_model.specs.Nets.{phased_net, servers_in};
 ghost use Rattle.ev_model.specs.Sound.{IsSound};
 ghost use Rattle.ev_session.specs.Session.{SessionParts};
 ghost use Rattle.ev_server.specs.Clients.{client_numbers};
-ghost use Rattle.ev_server.specs.Core.{IsServerState};
+ghost use Rattle.ev_server.specs.Core.{IsServerState, without_inbox};
 ghost use Rattle.ev_server.specs.Step.{MakesStep, last_stamp};
 ghost use Rattle.ev_net.specs.Kept.{IsSomeServer};
 
@@ -26,7 +26,7 @@ use crate::waiting::{Load, Waiting};
 use ev_counting::{Route, Scratch, Table};
 use ev_frame::Frame;
 use ev_memory::NoMemory;
-use ev_model::{Message, Net};
+use ev_model::{Delivery, Message, Net};
 use ev_notice::Notice;
 use ev_server::{Core, Messages, Outgoing, Posted, StepFault, Stepped};
 use ev_wire::{Lists, SharedNotice};
@@ -99,6 +99,15 @@ impl Place {
         ensures { self.new ≡ record self.old { clock = clock } }
     {
         self.core.raise(clock);
+    }
+
+    /// Hands on what was delivered to a client that lives here, whose inbox is empty then.
+    pub(crate) fn take_inbox(&mut self, client: u32) -> Vec<Delivery>
+        requires { Has client (client_numbers self.old.clients) }
+        ensures inbox { (s : SessionParts) → Has s self.old.clients → s.client ≡ client → result.items ≡ s.inbox }
+        ensures emptied { self.new ≡ without_inbox client self.old }
+    {
+        self.core.take_inbox(client)
     }
 }
 

@@ -88,9 +88,21 @@ fn put_notices(
     }
 }
 
+/// The same list, which keeps no room where nothing is in it.
+fn without_room(alloc: Global, list: Vec<u32>) -> Vec<u32>
+    ensures { result.items ≡ list.items }
+{
+    if list.is_empty() {
+        Vec::new(alloc)
+    } else {
+        list
+    }
+}
+
 /// What a step sends goes on the links of its server, and the step joins the journal. There is room for both, so it takes
 /// no memory.
 fn put(
+    alloc: Global,
     links: &mut Links,
     journal: &mut Vec<Entry>,
     server: u32,
@@ -122,7 +134,7 @@ fn put(
             stamp,
             server,
             act,
-            outs,
+            outs: without_room(alloc, outs),
         })
         .unwrap();
 }
@@ -161,6 +173,7 @@ impl Servers {
         let place = &mut self.places[server as usize - 1];
         let stepped = place.command(self.alloc, client, &mut self.scratch)?;
         put(
+            self.alloc,
             &mut self.links,
             &mut self.journal,
             server,
@@ -200,6 +213,7 @@ impl Servers {
         let stepped = place.take(self.alloc, from, frame, &mut self.scratch)?;
         self.links.drop_first(from, server);
         put(
+            self.alloc,
             &mut self.links,
             &mut self.journal,
             server,

@@ -1,10 +1,9 @@
-use Rattle.std.proofs.Common.{◌≡◌, length, [], ◌∷◌, ◌++◌, refl, sym, ap, subst, ◌∙◌, rules}
+use Rattle.std.proofs.Common.{◌≡◌, length, [], ◌∷◌, ◌++◌, refl, sym, ap, ◌∙◌, rules}
 use Rattle.std.proofs.lemmas.Iterator.Adapters.{YieldsList-from_vec}
 use Rattle.std.proofs.lemmas.Iterator.Consumers.{YieldsList-turn}
 use Rattle.ev_server.proofs.Sessions.{got, got-has}
 use Rattle.ev_server.proofs.Going.{prefix-more}
 use Rattle.ev_wire.specs.declared.sent.Sent.{Sent}
-use Rattle.ev_frame.specs.Frame.{HasMessage}
 use Rattle.ev_net.proofs.Sending.{map-append, length-append}
 use Rattle.ev_net.proofs.Putting.{put_none, put_more}
 use Rattle.ev_net.proofs.servers.put_texts.Goals as goal
