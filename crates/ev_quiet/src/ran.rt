@@ -1,7 +1,7 @@
 //! Runs of a network, and what they leave.
 ghost use Rattle.std.specs.Prelude.{◌≡◌, ◌≤◌, ℕ, true, [], length, IfOk, IsErrOf};
 ghost use Rattle.ev_model.specs.Sound.{IsSound};
-ghost use Rattle.ev_net.specs.Network.{IsLegal, refused_by, received_by};
+ghost use Rattle.ev_net.specs.Network.{IsLegal, refused_by};
 ghost use Rattle.ev_quiet.specs.Runs.{turns_first};
 ghost use Rattle.ev_quiet.specs.Ran.{IsRan, IsRunThrough};
 ghost use Rattle.ev_quiet.specs.Words.{is_quiet};
@@ -54,17 +54,6 @@ fn through<'a>(alloc: Global, net: &'a Net, schedule: Schedule) -> Result<Networ
     Ok(network)
 }
 
-// Equal deliveries.
-fn copied_deliveries(alloc: Global, deliveries: &[Delivery]) -> Result<Vec<Delivery>, NoMemory>
-    ensures { IfOk result (λ copy. copy.items ≡ deliveries.now) }
-{
-    let mut copy = Vec::with_capacity(alloc, deliveries.len())?;
-    for delivery in deliveries {
-        copy.push(delivery.copy(alloc)?)?;
-    }
-    Ok(copy)
-}
-
 // Of each client the ordinals of its refused publishes.
 fn refused(alloc: Global, network: &Network<'_>, clients: u32) -> Result<Vec<Lists<u32>>, NoMemory>
     requires { length network.now.net.clients ≡ clients }
@@ -74,23 +63,6 @@ fn refused(alloc: Global, network: &Network<'_>, clients: u32) -> Result<Vec<Lis
     for place in 0..clients {
         let ordinals = network.refused(place + 1).to_vec(alloc)?;
         lists.push(Lists::of(ordinals))?;
-    }
-    Ok(lists)
-}
-
-// What was delivered to each client.
-fn received(
-    alloc: Global,
-    network: &Network<'_>,
-    clients: u32,
-) -> Result<Vec<Lists<Delivery>>, NoMemory>
-    requires { length network.now.net.clients ≡ clients }
-    ensures { IfOk result (λ lists. lists.items ≡ of_clients network.now.net (received_by network.now.net network.now.journal)) }
-{
-    let mut lists = Vec::new(alloc);
-    for place in 0..clients {
-        let deliveries = copied_deliveries(alloc, network.received(place + 1))?;
-        lists.push(Lists::of(deliveries))?;
     }
     Ok(lists)
 }
@@ -113,11 +85,10 @@ pub fn make_run(alloc: Global, net: &Net, schedule: Schedule) -> Result<Ran, Ref
     ensures unread { IsErrOf result Refusal.ReadFault → ⊥ }
 {
     let network = through(alloc, net, schedule)?;
-    let count = clients(net);
-    let refused = refused(alloc, &network, count)?;
-    let received = received(alloc, &network, count)?;
+    let refused = refused(alloc, &network, clients(net))?;
+    let (journal, received) = network.into_parts()?;
     Ok(Ran {
-        journal: network.into_journal(),
+        journal,
         refused,
         received,
     })
