@@ -13,8 +13,8 @@ use ev_model::{Client, Net};
 use ev_wire::{Bytes, Lists};
 use std::alloc::Global;
 
-// The word of a row.
-fn row_word(must: bool) -> &'static [u8]
+/// The word of a row.
+pub(crate) fn row_word(must: bool) -> &'static [u8]
     ensures { result.now ≡ row_word must }
 {
     if must { b"deliver " } else { b"may " }

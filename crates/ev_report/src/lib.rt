@@ -3,6 +3,7 @@
 
 mod deliveries;
 mod flood;
+mod flooded;
 pub mod law;
 mod lines;
 mod ordering;
@@ -14,6 +15,7 @@ mod writing;
 
 pub use deliveries::deliveries_text;
 pub use flood::flood_text;
+pub use flooded::Flooded;
 pub use ordering::ordered;
 pub use summary::{check_text, summary_text};
 pub use trace::trace_text;

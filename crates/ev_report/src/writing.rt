@@ -3,14 +3,14 @@ ghost use Rattle.std.specs.Prelude.{◌≡◌, false, length};
 ghost use Rattle.std.specs.List.{flat_map};
 ghost use Rattle.std.specs.Fmt.{decimal};
 ghost use Rattle.ev_outside.specs.Pending.{outlet, Went};
-ghost use Rattle.ev_report.specs.Lines.{client_line, refused_line};
+ghost use Rattle.ev_report.specs.Lines.{client_line, refused_line, publication_line};
 ghost use Rattle.ev_report.specs.Deliveries.{delivery_line, delivery_section, deliveries_text};
 
 use crate::lines::name_of;
 use ev_model::{Client, Net};
 use ev_outside::{Pending, Sink};
 use ev_values::Name;
-use ev_wire::{Delivery, Lists};
+use ev_wire::{Delivery, Id, Lists};
 use itoa::Buffer;
 
 // A number in decimal.
@@ -21,8 +21,8 @@ fn put_number<K: Sink>(out: &mut Pending, sink: &mut K, number: u64)
     out.put(sink, buffer.format(number).as_bytes())
 }
 
-// The line before what a client receives.
-fn put_client<K: Sink>(out: &mut Pending, sink: &mut K, name: &Name)
+/// The line before what a client receives.
+pub(crate) fn put_client<K: Sink>(out: &mut Pending, sink: &mut K, name: &Name)
     ensures { Went (outlet (K.written sink.old) (K.faults sink.old) out.old) (outlet (K.written sink.new) (K.faults sink.new) out.new) (client_line name.now) }
 {
     out.put(sink, b"client ");
@@ -39,8 +39,8 @@ fn put_refusal<K: Sink>(out: &mut Pending, sink: &mut K, ordinal: u32)
     out.put(sink, b" unadvertised\n")
 }
 
-// A line for each refused publish.
-fn put_refused<K: Sink>(out: &mut Pending, sink: &mut K, ordinals: &[u32])
+/// A line for each refused publish.
+pub(crate) fn put_refused<K: Sink>(out: &mut Pending, sink: &mut K, ordinals: &[u32])
     ensures { Went (outlet (K.written sink.old) (K.faults sink.old) out.old) (outlet (K.written sink.new) (K.faults sink.new) out.new)
         (flat_map refused_line ordinals.now) }
 {
@@ -49,18 +49,41 @@ fn put_refused<K: Sink>(out: &mut Pending, sink: &mut K, ordinals: &[u32])
     }
 }
 
+/// A line of a publication: a word, its publisher's name, its ordinal and the text of its notice.
+pub(crate) fn put_publication<K: Sink>(
+    out: &mut Pending,
+    sink: &mut K,
+    word: &[u8],
+    clients: &[Client],
+    id: Id,
+    text: &[u8],
+)
+    ensures { Went (outlet (K.written sink.old) (K.faults sink.old) out.old) (outlet (K.written sink.new) (K.faults sink.new) out.new)
+        (publication_line word.now clients.now id text.now) }
+{
+    out.put(sink, word);
+    out.put(sink, name_of(clients, id.publisher));
+    out.put(sink, b" ");
+    put_number(out, sink, u64::from(id.ordinal));
+    out.put(sink, b" ");
+    out.put(sink, text);
+    out.put(sink, b"\n")
+}
+
 // The line of a delivery.
+#[tactic(auto, unfolding(crate::specs::Deliveries::delivery_line))]
 fn put_delivery<K: Sink>(out: &mut Pending, sink: &mut K, clients: &[Client], delivery: &Delivery)
     ensures { Went (outlet (K.written sink.old) (K.faults sink.old) out.old) (outlet (K.written sink.new) (K.faults sink.new) out.new)
         (delivery_line clients.now delivery.now) }
 {
-    out.put(sink, b"deliver ");
-    out.put(sink, name_of(clients, delivery.id.publisher));
-    out.put(sink, b" ");
-    put_number(out, sink, u64::from(delivery.id.ordinal));
-    out.put(sink, b" ");
-    out.put(sink, delivery.bytes.as_slice());
-    out.put(sink, b"\n")
+    put_publication(
+        out,
+        sink,
+        b"deliver ",
+        clients,
+        delivery.id,
+        delivery.bytes.as_slice(),
+    )
 }
 
 // The lines of deliveries, in their order.

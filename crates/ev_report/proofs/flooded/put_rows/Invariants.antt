@@ -1,0 +1,10 @@
+use Rattle.std.proofs.Common.{take}
+use Rattle.std.specs.List.{flat_map}
+use Rattle.ev_outside.specs.Pending.{outlet, Went}
+use Rattle.ev_report.specs.Flood.{row_line}
+use Rattle.ev_report.proofs.flooded.put_rows.Given as goal
+
+-- the lines so far went
+abbrev pub invariant-loop-row : goal.invariant-loop-row
+invariant-loop-row g l = Went (outlet (g.K.Sink.written l.initial.sink) (g.K.Sink.faults l.initial.sink) l.initial.out)
+    (outlet (g.K.Sink.written l.sink) (g.K.Sink.faults l.sink) l.out) (flat_map (row_line l.clients l.texts) (take l.row-index l.rows))

@@ -1,0 +1,11 @@
+use Rattle.std.proofs.Common.{◌≡◌, ℕ, List, ◌++◌, drop}
+use Rattle.ev_outside.specs.Pending.{outlet, Went}
+use Rattle.ev_report.specs.Flood.{flood_sections}
+use Rattle.ev_report.proofs.flooded.put_sections.Given as goal
+
+-- what went, and then the text of the clients that are left
+abbrev pub invariant-loop-i : goal.invariant-loop-i
+invariant-loop-i g l = (done : List ℕ)
+    × Went (outlet (g.K.Sink.written l.initial.sink) (g.K.Sink.faults l.initial.sink) l.initial.out) (outlet (g.K.Sink.written l.sink) (g.K.Sink.faults l.sink) l.out) done
+    × (done ++ flood_sections l.clients l.texts (drop l.i l.clients) (drop l.i l.refused) (drop l.i l.rows)
+    ≡ flood_sections l.clients l.texts l.clients l.refused l.rows)
