@@ -1,16 +1,19 @@
 -- What waits to be written, as contracts see it; no promise to a caller speaks of it.
-use Rattle.std.specs.Prelude.{ℕ, List, [], ◌++◌, Option, Some, None}
+use Rattle.std.specs.Prelude.{ℕ, List, [], ◌++◌}
 use Rattle.ev_model.specs.Parts.{EntryParts}
+use Rattle.ev_quiet.specs.declared.body.Body.{Body}
+use Rattle.ev_quiet.specs.declared.body.Body.TheVariants.{Nothing, Received, Flooded}
 
 -- the text and the journal
 pub record PrintedParts : Type 0 where
   pub text : List ℕ
   pub journal : List EntryParts
 
--- the text of what clients received, where there is a run
-abbrev pub given_text : Option (List ℕ) → List ℕ
-given_text None = []
-given_text (Some text) = text
+-- the text of what clients received, or of what flooding brings
+abbrev pub body_text : Body → List ℕ
+body_text Nothing = []
+body_text (Received text) = text
+body_text (Flooded text) = text
 
-abbrev pub printed_parts : Option (List ℕ) → List ℕ → List EntryParts → PrintedParts
-printed_parts given rest journal = record { text = given_text given ++ rest; journal = journal }
+abbrev pub printed_parts : Body → List ℕ → List EntryParts → PrintedParts
+printed_parts body rest journal = record { text = body_text body ++ rest; journal = journal }

@@ -3,6 +3,7 @@ ghost use Rattle.std.specs.Prelude.{IfOk};
 ghost use Rattle.ev_quiet.specs.Printed.{IsSummaryOf};
 ghost use Rattle.ev_quiet.specs.Answers.{IsGenerated};
 
+use crate::body::Body;
 use crate::printed::Printed;
 use crate::ran::make_run;
 use crate::reading::net;
@@ -24,7 +25,7 @@ fn summary(alloc: Global, bytes: &[u8]) -> Result<Printed, NoMemory>
         return Err(NoMemory);
     };
     let text = run_summary(alloc, &net, &ran)?;
-    Printed::make(alloc, None, text, ran.journal)
+    Printed::make(alloc, Body::Nothing, text, ran.journal)
 }
 
 /// The document that a seed makes, or the summary of its walk.

@@ -2,6 +2,7 @@
 #![tactic(auto)]
 
 mod answer;
+mod body;
 mod generated;
 mod given;
 mod law;

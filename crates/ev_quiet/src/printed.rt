@@ -3,17 +3,15 @@ ghost use Rattle.std.specs.Prelude.{◌≡◌, ◌⊎◌, ℕ, true, [], IfOk, I
 ghost use Rattle.std.specs.Io.KnownBytes.{Appends};
 ghost use Rattle.ev_outside.specs.Cause.{Rose};
 ghost use Rattle.ev_outside.specs.Whole.{AppendsPart};
-ghost use Rattle.ev_outside.specs.Pending.{outlet, Went};
 ghost use Rattle.ev_model.specs.Sound.{IsSound};
 ghost use Rattle.ev_input.specs.declared.fault.Fault.TheVariants.{BadTurn};
 ghost use Rattle.ev_quiet.specs.Runs.{turns_first};
 ghost use Rattle.ev_quiet.specs.Words.{is_quiet, IsQuietQuery};
 ghost use Rattle.ev_quiet.specs.Ran.{IsShown};
-ghost use Rattle.ev_quiet.specs.Showing.{given_text};
 ghost use Rattle.ev_quiet.specs.Faults.{ArePermitted, StopsAtLine, IsAtFault, MustBeRefused, CanBeDone};
 ghost use Rattle.ev_quiet.specs.Answers.{IsPrintedOf};
 
-use crate::given::Given;
+use crate::body::Body;
 use crate::law::promise;
 use crate::ran::make_run;
 use crate::reading::net;
@@ -25,7 +23,7 @@ use ev_input::Fault;
 use ev_memory::NoMemory;
 use ev_model::{Entry, Net};
 use ev_outside::{Failed, Pending, Sink};
-use ev_report::{check_text, flood_text};
+use ev_report::{Flooded, check_text};
 use std::alloc::Global;
 use std::marker::Model;
 
@@ -34,7 +32,7 @@ use std::marker::Model;
 /// Contracts see the text and the journal.
 #[derive(Drop)]
 pub struct Printed {
-    given: Option<Given>,
+    body: Body,
     rest: Vec<u8>,
     journal: Vec<Entry>,
     pending: Pending,
@@ -47,37 +45,26 @@ impl Model for Printed {
 
     ghost Value = { PrintedParts };
 
-    ghost view = { λ p. printed_parts p.given p.rest.items p.journal.items };
+    ghost view = { λ p. printed_parts p.body p.rest.items p.journal.items };
 
     ghost invariant = { λ p. p.pending ≡ drained false };
 }
 
-// Puts the text of what clients received behind what waits, where there is a run.
-fn put_given<K: Sink>(given: &Option<Given>, out: &mut Pending, sink: &mut K)
-    ensures { Went (outlet (K.written sink.old) (K.faults sink.old) out.old) (outlet (K.written sink.new) (K.faults sink.new) out.new)
-        (given_text given.now) }
-{
-    match given {
-        Some(given) => given.put(out, sink),
-        None => {}
-    }
-}
-
 impl Printed {
-    ghost use Rattle.std.specs.Prelude.{◌≡◌, [], None, IfOk, OnOk, OnErr};
+    ghost use Rattle.std.specs.Prelude.{◌≡◌, [], IfOk, OnOk, OnErr};
     ghost use Rattle.ev_quiet.specs.Showing.{printed_parts};
 
-    /// What clients received, where that is printed, and then a text.
+    /// What clients received or flooding brings, where that is printed, and then a text.
     pub fn make(
         alloc: Global,
-        given: Option<Given>,
+        body: Body,
         rest: Vec<u8>,
         journal: Vec<Entry>,
     ) -> Result<Printed, NoMemory>
-        ensures { IfOk result (λ p. p ≡ printed_parts given rest.items journal.items) }
+        ensures { IfOk result (λ p. p ≡ printed_parts body rest.items journal.items) }
     {
         Ok(Printed {
-            given,
+            body,
             rest,
             journal,
             pending: Pending::new(alloc)?,
@@ -86,9 +73,9 @@ impl Printed {
 
     /// A text without a run.
     pub fn alone(alloc: Global, text: Vec<u8>) -> Result<Printed, NoMemory>
-        ensures { IfOk result (λ p. p ≡ printed_parts None text.items []) }
+        ensures { IfOk result (λ p. p ≡ printed_parts Body.Nothing text.items []) }
     {
-        Printed::make(alloc, None, text, Vec::new(alloc))
+        Printed::make(alloc, Body::Nothing, text, Vec::new(alloc))
     }
 
     /// Writes the text, and hands on the journal. It takes no memory.
@@ -100,12 +87,12 @@ impl Printed {
         ensures rose { OnErr result (Rose (K.faults sink.old) (K.faults sink.new)) }
     {
         let Printed {
-            given,
+            body,
             rest,
             journal,
             mut pending,
         } = self;
-        put_given(&given, &mut pending, sink);
+        body.put(&mut pending, sink);
         pending.put(sink, &rest);
         match pending.finish(sink) {
             Ok(()) => Ok(journal),
@@ -154,8 +141,13 @@ fn flood(alloc: Global, bytes: &[u8]) -> Result<Printed, Refusal>
 {
     let net = net(alloc, bytes)?;
     let owed = must_may(alloc, &net)?;
-    let text = flood_text(alloc, &net, &owed)?;
-    Ok(Printed::alone(alloc, text)?)
+    let flooded = Flooded::make(alloc, net, owed)?;
+    Ok(Printed::make(
+        alloc,
+        Body::Flooded(flooded),
+        Vec::new(alloc),
+        Vec::new(alloc),
+    )?)
 }
 
 // How much a document has.

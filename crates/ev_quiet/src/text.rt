@@ -7,6 +7,7 @@ ghost use Rattle.ev_report.specs.Trace.{trace_text};
 ghost use Rattle.ev_quiet.specs.Printed.{trace_of, run_text};
 ghost use Rattle.ev_quiet.specs.Ran.{IsCollected};
 
+use crate::body::Body;
 use crate::given::Given;
 use crate::printed::Printed;
 use crate::ran::Ran;
@@ -60,5 +61,5 @@ pub fn printed_run(alloc: Global, net: Net, ran: Ran, shown: Shown) -> Result<Pr
         received,
     } = ran;
     let given = Given::make(alloc, net, refused, received, shown.sorted)?;
-    Printed::make(alloc, Some(given), trace, journal)
+    Printed::make(alloc, Body::Received(given), trace, journal)
 }

@@ -4,7 +4,8 @@ ghost use Rattle.ev_model.specs.Sound.{IsSound};
 use crate::nets::{advertise, net, publish, subscribe, unsubscribe};
 use ev_flood::must_may;
 use ev_model::{Net, Semantics};
-use ev_report::flood_text;
+use ev_outside::{MemorySink, Pending};
+use ev_report::{Flooded, flood_text};
 use std::alloc::Global;
 use std::rt::HostRuntime;
 use std::test::Fail;
@@ -14,6 +15,19 @@ fn flooded(alloc: Global, net: &Net) -> Result<Vec<u8>, Fail>
 {
     let owed = must_may(alloc, net)?;
     Ok(flood_text(alloc, net, &owed)?)
+}
+
+// What a sink gets of it.
+fn written(alloc: Global, net: Net) -> Result<Vec<u8>, Fail>
+    requires { IsSound net }
+{
+    let owed = must_may(alloc, &net)?;
+    let flooded = Flooded::make(alloc, net, owed)?;
+    let mut sink = MemorySink::make(alloc, 7, Vec::new(alloc), 1000)?;
+    let mut out = Pending::new(alloc)?;
+    flooded.put(&mut out, &mut sink);
+    let _ = out.finish(&mut sink);
+    Ok(sink.bytes().to_vec(alloc)?)
 }
 
 // A filter that comes within the phase of the publication is not owed anything there.
@@ -97,5 +111,6 @@ fn advertised(rt: HostRuntime) -> Result<(), Fail> {
     let want =
         b"client a\ndeliver p 1 price int 4250; symbol str \"ACME\"\nclient b\nclient p\nrefused 2 unadvertised\n";
     assert_eq!(rt; text.as_slice(), want.as_slice());
+    assert_eq!(rt; written(alloc, net)?.as_slice(), want.as_slice());
     Ok(())
 }

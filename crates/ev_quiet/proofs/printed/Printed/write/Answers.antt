@@ -2,7 +2,7 @@ use Rattle.std.proofs.Common.{true, false, [], ◌++◌, append-nil, subst}
 use Rattle.ev_outside.specs.Whole.{AppendsPart}
 use Rattle.ev_outside.specs.Pending.{outlet, drained, Went}
 use Rattle.ev_outside.proofs.Outlets.{went-then, cut-short}
-use Rattle.ev_quiet.specs.Showing.{given_text}
+use Rattle.ev_quiet.specs.Showing.{body_text}
 use Rattle.ev_quiet.proofs.printed.Printed.write.Goals as goal
 
 pub returns-clause-err : goal.returns-clause-err
@@ -10,14 +10,14 @@ returns-clause-err g c =
     let written = g.K.Sink.written in
     let faults = g.K.Sink.faults in
     let p = c.self.inside in
-    let front = given_text p.given in
+    let front = body_text p.body in
     let text = front ++ p.rest.items in
     let old = outlet (written c.args.sink.now) (faults c.args.sink.now) p.pending in
-    let given = outlet (written c.put_given.new.sink) (faults c.put_given.new.sink) c.put_given.new.out in
-    let put = outlet (written c.put.new.sink) (faults c.put.new.sink) c.put.new.self in
+    let first = outlet (written c.put.new.sink) (faults c.put.new.sink) c.put.new.out in
+    let put = outlet (written c.put-2.new.sink) (faults c.put-2.new.sink) c.put-2.new.self in
     let new = outlet (written c.finish.new.sink) (faults c.finish.new.sink) (drained true) in
-    let rest : Went given put p.rest.items = rw c.deref.ensures.value at c.put.ensures in
-    let both : Went old put text = went-then old given put front p.rest.items c.put_given.ensures rest in
+    let rest : Went first put p.rest.items = rw c.deref.ensures.value at c.put-2.ensures in
+    let both : Went old put text = went-then old first put front p.rest.items c.put.ensures rest in
     let all : Went old new text = subst (Went old new) (append-nil text) (went-then old put new text [] both c.in-Err.ensures.err) in
     let went : Went (outlet (written c.args.sink.now) (faults c.args.sink.now) (drained false)) new text = rw c.self.invariant at all in
     subst (λ z. AppendsPart (written c.args.sink.now) (written c.finish.new.sink) z.text) c.self.view_is

@@ -1,0 +1,32 @@
+//! What is printed before a trace, kept until it is written.
+ghost use Rattle.ev_outside.specs.Pending.{outlet, Went};
+ghost use Rattle.ev_quiet.specs.Showing.{body_text};
+
+use crate::given::Given;
+use ev_outside::{Pending, Sink};
+use ev_report::Flooded;
+
+/// What is printed before the rest of a text.
+#[derive(Drop)]
+pub enum Body {
+    /// Nothing.
+    Nothing,
+    /// What clients received.
+    Received(Given),
+    /// What flooding brings.
+    Flooded(Flooded),
+}
+
+impl Body {
+    /// Puts the text behind what waits. It takes no memory.
+    pub fn put<K: Sink>(&self, out: &mut Pending, sink: &mut K)
+        ensures { Went (outlet (K.written sink.old) (K.faults sink.old) out.old) (outlet (K.written sink.new) (K.faults sink.new) out.new)
+            (body_text self.now) }
+    {
+        match self {
+            Body::Nothing => {}
+            Body::Received(given) => given.put(out, sink),
+            Body::Flooded(flooded) => flooded.put(out, sink),
+        }
+    }
+}
