@@ -65,12 +65,12 @@ pub numbered_next : (filters adverts : Lists) (new rest final later : List Publi
     (n : NumberedCommand) (done : List (ℕ × NumberedCommand)) → new ++ rest ≡ final
     → ((after : List PublicationParts) → Means (catalogue_of filters adverts (new ++ after)) client count step.0 n step.1)
     → ((ns : List (ℕ × NumberedCommand)) → AreNumbered (catalogue_of filters adverts (final ++ later)) client count ns (step ∷ steps)
-        → AreNumbered (catalogue_of filters adverts (final ++ later)) client 0 (done ++ ns) script)
+    → AreNumbered (catalogue_of filters adverts (final ++ later)) client 0 (done ++ ns) script)
     → (ns : List (ℕ × NumberedCommand)) → AreNumbered (catalogue_of filters adverts (final ++ later)) client (publishes_after count step.1) ns steps
     → AreNumbered (catalogue_of filters adverts (final ++ later)) client 0 ((done ++ (step.0, n) ∷ []) ++ ns) script
 numbered_next filters adverts new rest final later client count step steps script n done e means before ns h =
     let here : Means (catalogue_of filters adverts (final ++ later)) client count step.0 n step.1 =
-        subst (λ ps. Means (catalogue_of filters adverts ps) client count step.0 n step.1) (sym (append_assoc new rest later) ∙ ap (λ ps. ps ++ later) e) (means (rest ++ later)) in
+    subst (λ ps. Means (catalogue_of filters adverts ps) client count step.0 n step.1) (sym (append_assoc new rest later) ∙ ap (λ ps. ps ++ later) e) (means (rest ++ later)) in
     subst (λ z. AreNumbered (catalogue_of filters adverts (final ++ later)) client 0 z script) (sym (append_assoc done ((step.0, n) ∷ []) ns))
     (before ((step.0, n) ∷ ns) (refl, here, h))
 
@@ -79,35 +79,35 @@ pub all_next : (filters adverts : Lists) (new rest final : List PublicationParts
     (numbered : List (ℕ × NumberedCommand)) (done : List (List (ℕ × NumberedCommand))) → new ++ rest ≡ final
     → ((later : List PublicationParts) → AreNumbered (catalogue_of filters adverts (new ++ later)) number 0 numbered client.script)
     → ((ns : List (List (ℕ × NumberedCommand))) → AllNumbered (catalogue_of filters adverts final) number ns (client ∷ clients)
-        → AllNumbered (catalogue_of filters adverts final) 1 (done ++ ns) all)
+    → AllNumbered (catalogue_of filters adverts final) 1 (done ++ ns) all)
     → (ns : List (List (ℕ × NumberedCommand))) → AllNumbered (catalogue_of filters adverts final) (suc number) ns clients
     → AllNumbered (catalogue_of filters adverts final) 1 ((done ++ numbered ∷ []) ++ ns) all
 all_next filters adverts new rest final number client clients all numbered done e means before ns h =
     let here : AreNumbered (catalogue_of filters adverts final) number 0 numbered client.script =
-        subst (λ ps. AreNumbered (catalogue_of filters adverts ps) number 0 numbered client.script) e (means rest) in
+    subst (λ ps. AreNumbered (catalogue_of filters adverts ps) number 0 numbered client.script) e (means rest) in
     subst (λ z. AllNumbered (catalogue_of filters adverts final) 1 z all) (sym (append_assoc done (numbered ∷ []) ns)) (before (numbered ∷ ns) (here, h))
 
 -- nothing is left
 pub script_end : (filters adverts : Lists) (publications final later : List PublicationParts) (client count : ℕ) (script : List (ℕ × Command)) (done steps : List (ℕ × NumberedCommand)) (i : ℕ)
     → length script ≤ i → steps ≡ done → publications ++ script_publications client count (drop i script) ≡ final
     → ((ns : List (ℕ × NumberedCommand)) → AreNumbered (catalogue_of filters adverts (final ++ later)) client count ns (drop i script)
-        → AreNumbered (catalogue_of filters adverts (final ++ later)) client 0 (done ++ ns) script)
+    → AreNumbered (catalogue_of filters adverts (final ++ later)) client 0 (done ++ ns) script)
     → AreNumbered (catalogue_of filters adverts (publications ++ later)) client 0 steps script
 script_end filters adverts publications final later client count script done steps i l s e before =
     let none : drop i script ≡ [] = drop_all i script l in
     let all : publications ≡ final = sym (append-nil publications) ∙ sym (ap (λ z. publications ++ script_publications client count z) none) ∙ e in
     let given : AreNumbered (catalogue_of filters adverts (final ++ later)) client 0 (done ++ []) script =
-        before [] (subst (λ z. AreNumbered (catalogue_of filters adverts (final ++ later)) client count [] z) (sym none) tt) in
+    before [] (subst (λ z. AreNumbered (catalogue_of filters adverts (final ++ later)) client count [] z) (sym none) tt) in
     rw (all, s, ← append-nil done) given
 
 pub all_end : (filters adverts : Lists) (publications final : List PublicationParts) (number : ℕ) (clients : List ClientParts) (done : List (List (ℕ × NumberedCommand))) (i : ℕ)
     → length clients ≤ i → publications ++ known_publications number (drop i clients) ≡ final
     → ((ns : List (List (ℕ × NumberedCommand))) → AllNumbered (catalogue_of filters adverts final) number ns (drop i clients)
-        → AllNumbered (catalogue_of filters adverts final) 1 (done ++ ns) clients)
+    → AllNumbered (catalogue_of filters adverts final) 1 (done ++ ns) clients)
     → AllNumbered (catalogue_of filters adverts publications) 1 done clients
 all_end filters adverts publications final number clients done i l e before =
     let none : drop i clients ≡ [] = drop_all i clients l in
     let all : publications ≡ final = sym (append-nil publications) ∙ sym (ap (λ z. publications ++ known_publications number z) none) ∙ e in
     let given : AllNumbered (catalogue_of filters adverts final) 1 (done ++ []) clients =
-        before [] (subst (λ z. AllNumbered (catalogue_of filters adverts final) number [] z) (sym none) tt) in
+    before [] (subst (λ z. AllNumbered (catalogue_of filters adverts final) number [] z) (sym none) tt) in
     rw all (subst (λ z. AllNumbered (catalogue_of filters adverts final) 1 z clients) (append-nil done) given)

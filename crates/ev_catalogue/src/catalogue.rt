@@ -1,11 +1,15 @@
 //! The catalogue of a net.
 ghost use Rattle.std.specs.Prelude.{◌≡◌, IfOk};
+ghost use Rattle.ev_model.specs.Sound.{IsSound};
+ghost use Rattle.ev_catalogue.specs.Known.{known_filters};
 
 use crate::named;
 use crate::numbered::NumberedCommand;
 use crate::publication::Publication;
 use crate::scripts::number_all;
+use ev_bits::Row;
 use ev_cover::{Ad, Sub};
+use ev_matcher::{Matcher, Scratch};
 use ev_memory::NoMemory;
 use ev_model::Net;
 use ev_notice::{Advert, Filter};
@@ -23,10 +27,12 @@ pub struct Catalogue<'a> {
     adverts: Vec<Ad>,
     publications: Vec<Publication>,
     scripts: Vec<Lists<(u32, NumberedCommand)>>,
+    matcher: Matcher,
 }
 
 impl<'a> Model for Catalogue<'a> {
     ghost use Rattle.ev_model.specs.Parts.{NetParts};
+    ghost use Rattle.std.specs.Prelude.{◌≡◌};
     ghost use Rattle.ev_catalogue.specs.Numbered.{IsCatalogue};
     ghost use Rattle.ev_catalogue.specs.Numbering.{catalogue_of};
 
@@ -34,7 +40,8 @@ impl<'a> Model for Catalogue<'a> {
 
     ghost view = { λ c. c.net.now };
 
-    ghost invariant = { λ c. IsCatalogue c.net.now (catalogue_of c.filters.items c.adverts.items c.publications.items) c.scripts.items };
+    ghost invariant = { λ c. IsCatalogue c.net.now (catalogue_of c.filters.items c.adverts.items c.publications.items) c.scripts.items
+        × (c.matcher ≡ c.filters.items) };
 }
 
 // Filters as items that cover one another.
@@ -59,12 +66,23 @@ fn ads(alloc: Global, adverts: Vec<Advert>) -> Result<Vec<Ad>, NoMemory>
     Ok(ads)
 }
 
+// A matcher of the filters of a sound net.
+fn matcher_of(alloc: Global, net: &Net, filters: &[Filter]) -> Result<Matcher, NoMemory>
+    requires sound { IsSound net.now }
+    requires filters { filters.now ≡ known_filters net.now.clients }
+    ensures { IfOk result (λ matcher. matcher ≡ filters.now) }
+{
+    let _ = net;
+    Matcher::of(alloc, filters)
+}
+
 impl<'a> Catalogue<'a> {
-    ghost use Rattle.std.specs.Prelude.{◌≡◌, ◌≤◌, length, IfOk};
+    ghost use Rattle.std.specs.Prelude.{◌≡◌, ◌<◌, ◌≤◌, length, slice_get, Some, IfOk, OnOk, OnErr};
     ghost use Rattle.ev_sets.specs.Sets.{IsRising};
     ghost use Rattle.ev_notice.specs.Before.{list_before};
     ghost use Rattle.ev_model.specs.Sound.{IsSound};
-    ghost use Rattle.ev_catalogue.specs.Known.{known_filters, known_adverts, known_publications};
+    ghost use Rattle.ev_catalogue.specs.Known.{PublicationParts, known_filters, known_adverts, known_publications};
+    ghost use Rattle.ev_matcher.specs.Matching.{matched};
     ghost use Rattle.ev_catalogue.specs.Numbered.{AllNumbered, catalogued};
 
     /// The catalogue of a net.
@@ -72,7 +90,9 @@ impl<'a> Catalogue<'a> {
         requires { IsSound net.now }
         ensures { IfOk result (λ catalogue. catalogue ≡ net.now) }
     {
-        let filters = subs(alloc, named::filters(alloc, &net.clients)?)?;
+        let filters = named::filters(alloc, &net.clients)?;
+        let matcher = matcher_of(alloc, net, &filters)?;
+        let filters = subs(alloc, filters)?;
         let adverts = ads(alloc, named::adverts(alloc, &net.clients)?)?;
         let mut publications = Vec::new(alloc);
         let scripts = number_all(alloc, &filters, &adverts, &mut publications, &net.clients)?;
@@ -82,6 +102,7 @@ impl<'a> Catalogue<'a> {
             adverts,
             publications,
             scripts,
+            matcher,
         })
     }
 
@@ -130,5 +151,31 @@ impl<'a> Catalogue<'a> {
         ensures { AllNumbered (catalogued self.now.clients) 1 result.now self.now.clients }
     {
         &self.scripts
+    }
+
+    /// What tells which filters a notice matches, by their numbers.
+    pub fn matcher(&self) -> &Matcher
+        ensures { result.now ≡ known_filters self.now.clients }
+    {
+        &self.matcher
+    }
+
+    /// Sets a row to the numbers of the filters that the publication with a number matches. Memory is taken only where the
+    /// scratch was never so large; after want of it the row is as before.
+    pub fn matched(
+        &self,
+        publication: u32,
+        scratch: &mut Scratch,
+        row: &mut Row,
+    ) -> Result<(), NoMemory>
+        requires there { publication < length (known_publications 1 self.now.clients) }
+        requires width { row.old.width ≡ length (known_filters self.now.clients) }
+        ensures width { row.new.width ≡ row.old.width }
+        ensures members { (p : PublicationParts) → slice_get (known_publications 1 self.now.clients) publication ≡ Some p
+            → OnOk result (row.new.members ≡ matched p.notice (known_filters self.now.clients)) }
+        ensures err { OnErr result (row.new ≡ row.old) }
+    {
+        let notice = &self.publications[publication as usize].notice;
+        self.matcher.matched(notice, scratch, row)
     }
 }

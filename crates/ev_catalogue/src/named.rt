@@ -10,11 +10,7 @@ use ev_notice::{Advert, Filter};
 use std::alloc::Global;
 
 // Puts the filter of a command at the end, where it has one.
-fn push_filter(
-    alloc: Global,
-    filters: &mut Vec<Filter>,
-    command: &Command,
-) -> Result<(), NoMemory>
+fn push_filter(alloc: Global, filters: &mut Vec<Filter>, command: &Command) -> Result<(), NoMemory>
     ensures { OnOk result (filters.new.items ≡ filters.old.items ++ filters_in command.now) }
 {
     match command {
@@ -59,11 +55,7 @@ pub(crate) fn filters(alloc: Global, clients: &[Client]) -> Result<Vec<Filter>, 
 }
 
 // Puts the advertisement of a command at the end, where it has one.
-fn push_advert(
-    alloc: Global,
-    adverts: &mut Vec<Advert>,
-    command: &Command,
-) -> Result<(), NoMemory>
+fn push_advert(alloc: Global, adverts: &mut Vec<Advert>, command: &Command) -> Result<(), NoMemory>
     ensures { OnOk result (adverts.new.items ≡ adverts.old.items ++ adverts_in command.now) }
 {
     match command {

@@ -86,7 +86,13 @@ fn number(
         Command::Unsubscribe(f) => NumberedCommand::Unsubscribe(filter_number(alloc, filters, f)?),
         Command::Advertise(a) => NumberedCommand::Advertise(advert_number(alloc, adverts, a)?),
         Command::Unadvertise(a) => NumberedCommand::Unadvertise(advert_number(alloc, adverts, a)?),
-        Command::Publish(n) => NumberedCommand::Publish(publish(alloc, publications, id, phase, n)?),
+        Command::Publish(n) => NumberedCommand::Publish(publish(
+            alloc,
+            publications,
+            id,
+            phase,
+            n,
+        )?),
     })
 }
 
@@ -153,7 +159,14 @@ pub(crate) fn number_all(
     let mut scripts = Vec::with_capacity(alloc, clients.len())?;
     for (i, client) in clients.iter().enumerate() {
         let publisher = i as u32 + 1;
-        let script = number_script(alloc, filters, adverts, publications, publisher, &client.script)?;
+        let script = number_script(
+            alloc,
+            filters,
+            adverts,
+            publications,
+            publisher,
+            &client.script,
+        )?;
         scripts.push(script)?;
     }
     Ok(scripts)

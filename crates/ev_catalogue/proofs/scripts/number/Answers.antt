@@ -16,7 +16,10 @@ pub advert_number-requires-in-Unadvertise-clause-there : goal.advert_number-requ
 advert_number-requires-in-Unadvertise-clause-there c = c.requires.named.advert c.in-Unadvertise.a (rw c.in-Unadvertise.is (inl refl))
 
 pub returns-in_ok-publish-in-Publish-clause-means : goal.returns-in_ok-publish-in-Publish-clause-means
-returns-in_ok-publish-in-Publish-clause-means c = λ count later e.
-    (c.in-Publish.n, rw (← e) (published_last c.args.publications.now.items c.publish.new.publications.items later
-        (publication c.args.id.publisher c.args.id.ordinal c.args.phase c.in-Publish.n) c.in_ok-publish-in-Publish.field-0
-        c.in_ok-publish-in-Publish.ensures.publications c.in_ok-publish-in-Publish.ensures.number), c.in-Publish.is)
+returns-in_ok-publish-in-Publish-clause-means c = λ count later e. (
+  c.in-Publish.n,
+  rw (← e) (published_last c.args.publications.now.items c.publish.new.publications.items later
+      (publication c.args.id.publisher c.args.id.ordinal c.args.phase c.in-Publish.n) c.in_ok-publish-in-Publish.field-0
+      c.in_ok-publish-in-Publish.ensures.publications c.in_ok-publish-in-Publish.ensures.number),
+  c.in-Publish.is,
+)

@@ -14,8 +14,8 @@ number_script-requires-clause-named c =
     let at : drop i c.args.clients.now ≡ client ∷ rest = next_left c.args.clients.now i client c.loop-i-test.true c.index-clients-i.is in
     let script : c.deref.result.now ≡ client.script = c.deref.ensures.value ∙ ap (λ z. z.script) c.client.view_is in
     rw script (named_first c.args.filters.now c.args.adverts.now (script_filters client.script) (flat_map (λ z. script_filters z.script) rest)
-        (script_adverts client.script) (flat_map (λ z. script_adverts z.script) rest)
-        (subst (λ zs. HaveNamed c.args.filters.now c.args.adverts.now (flat_map (λ z. script_filters z.script) zs) (flat_map (λ z. script_adverts z.script) zs)) at c.loop-i.invariant.named))
+    (script_adverts client.script) (flat_map (λ z. script_adverts z.script) rest)
+    (subst (λ zs. HaveNamed c.args.filters.now c.args.adverts.now (flat_map (λ z. script_filters z.script) zs) (flat_map (λ z. script_adverts z.script) zs)) at c.loop-i.invariant.named))
 
 pub loop-i-preserved : goal.loop-i-preserved
 loop-i-preserved c =
@@ -32,8 +32,8 @@ loop-i-preserved c =
     let script : c.deref.result.now ≡ client.script = c.deref.ensures.value ∙ ap (λ z. z.script) c.client.view_is in
     let put : new ≡ old ++ script_publications (i + 1) 0 client.script = subst (λ z. new ≡ old ++ script_publications (i + 1) 0 z) script c.in_ok-script.ensures.publications in
     let now : new ++ known_publications (suc (i + 1)) rest ≡ final =
-        publications_next old new (script_publications (i + 1) 0 client.script) (known_publications (suc (i + 1)) rest) final put
-        (subst (λ z. old ++ known_publications (i + 1) z ≡ final) at c.loop-i.invariant.publications) in
+    publications_next old new (script_publications (i + 1) 0 client.script) (known_publications (suc (i + 1)) rest) final put
+    (subst (λ z. old ++ known_publications (i + 1) z ≡ final) at c.loop-i.invariant.publications) in
     let more : suc (i + 1) ≡ i + 1 + 1 = omega arith in
     record {
       publications = subst (λ k. new ++ known_publications k rest ≡ final) more now;

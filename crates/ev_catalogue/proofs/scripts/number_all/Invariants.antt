@@ -12,5 +12,5 @@ invariant-loop-i l = record {
   named : HaveNamed l.filters l.adverts (flat_map (λ client. script_filters client.script) (drop l.i l.clients)) (flat_map (λ client. script_adverts client.script) (drop l.i l.clients));
   means : (ns : List (List (ℕ × NumberedCommand)))
       → AllNumbered (catalogue_of l.filters l.adverts (known_publications 1 l.clients)) (l.i + 1) ns (drop l.i l.clients)
-      → AllNumbered (catalogue_of l.filters l.adverts (known_publications 1 l.clients)) 1 (l.scripts.items ++ ns) l.clients
+      → AllNumbered (catalogue_of l.filters l.adverts (known_publications 1 l.clients)) 1 (l.scripts.items ++ ns) l.clients;
 }

@@ -30,11 +30,11 @@ loop-phase-preserved c =
     let at : drop i script ≡ step ∷ rest = next_left script i step c.loop-phase-test.true c.loop-phase-item.is in
     let put : new ≡ old ++ published_by publisher count step.0 step.1 = c.in_ok-numbered.ensures.publications count (omega arith) in
     let now : new ++ script_publications publisher (publishes_after count step.1) rest ≡ final =
-        publications_next old new (published_by publisher count step.0 step.1) (script_publications publisher (publishes_after count step.1) rest) final put
-        (subst (λ z. old ++ script_publications publisher count z ≡ final) at c.loop-phase.invariant.publications) in
+    publications_next old new (published_by publisher count step.0 step.1) (script_publications publisher (publishes_after count step.1) rest) final put
+    (subst (λ z. old ++ script_publications publisher count z ≡ final) at c.loop-phase.invariant.publications) in
     let named : HaveNamed filters adverts (script_filters rest) (script_adverts rest) =
-        named_rest filters adverts (filters_in step.1) (script_filters rest) (adverts_in step.1) (script_adverts rest)
-        (subst (λ z. HaveNamed filters adverts (script_filters z) (script_adverts z)) at c.loop-phase.invariant.named) in
+    named_rest filters adverts (filters_in step.1) (script_filters rest) (adverts_in step.1) (script_adverts rest)
+    (subst (λ z. HaveNamed filters adverts (script_filters z) (script_adverts z)) at c.loop-phase.invariant.named) in
     record {
       publications = rw c.publishes_after-count.ensures now;
       counted = rw c.publishes_after-count.ensures (counted_next old new publisher count step.0 step.1 c.loop-phase.invariant.counted put);
@@ -44,7 +44,7 @@ loop-phase-preserved c =
           c.in_ok-numbered.numbered c.loop-phase.steps.items now
           (λ after. c.in_ok-numbered.ensures.means count after (omega arith))
           (λ ms. subst (λ z. AreNumbered (catalogue_of filters adverts (final ++ later)) publisher count ms z
-              → AreNumbered (catalogue_of filters adverts (final ++ later)) publisher 0 (c.loop-phase.steps.items ++ ms) script) at (c.loop-phase.invariant.means later ms))
+          → AreNumbered (catalogue_of filters adverts (final ++ later)) publisher 0 (c.loop-phase.steps.items ++ ms) script) at (c.loop-phase.invariant.means later ms))
           ns (subst (λ k. AreNumbered (catalogue_of filters adverts (final ++ later)) publisher k ns rest) c.publishes_after-count.ensures h));
     }
 

@@ -12,5 +12,5 @@ invariant-loop-phase l = record {
   named : HaveNamed l.filters l.adverts (script_filters (drop l.phase-index l.script)) (script_adverts (drop l.phase-index l.script));
   means : (later : List PublicationParts) (ns : List (ℕ × NumberedCommand))
       → AreNumbered (catalogue_of l.filters l.adverts ((l.initial.publications.items ++ script_publications l.publisher 0 l.script) ++ later)) l.publisher l.count ns (drop l.phase-index l.script)
-      → AreNumbered (catalogue_of l.filters l.adverts ((l.initial.publications.items ++ script_publications l.publisher 0 l.script) ++ later)) l.publisher 0 (l.steps.items ++ ns) l.script
+      → AreNumbered (catalogue_of l.filters l.adverts ((l.initial.publications.items ++ script_publications l.publisher 0 l.script) ++ later)) l.publisher 0 (l.steps.items ++ ns) l.script;
 }
