@@ -7,4 +7,4 @@ pub returns-in-Bool : goal.returns-in-Bool
 returns-in-Bool c = on_ok_weaker c.add.result (more-numbers c.self.inside.numbers c.self.inside.texts c.args.self.now c.self.view_is (test_of c.args.constraint.now, c.args.id) c.add.new.self) c.add.ensures.added
 
 pub returns-in-Str : goal.returns-in-Str
-returns-in-Str c = on_ok_weaker c.add-in-Str.result (more-texts c.self.inside.numbers c.self.inside.texts c.args.self.now c.self.view_is (test_of c.args.constraint.now, c.args.id) c.add-in-Str.new.self) c.add-in-Str.ensures.added
+returns-in-Str c = on_ok_weaker c.add-in-Str.result (more-texts c.self.inside.numbers c.self.inside.texts c.args.self.now c.self.view_is (test_of c.args.constraint.now, c.args.id) c.add-in-Str.new.self) c.add-in-Str.ensures

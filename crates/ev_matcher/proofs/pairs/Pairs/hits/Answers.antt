@@ -15,4 +15,4 @@ returns c =
     let a = ids_met v c.self.inside.numbers in
     let b = ids_met v c.self.inside.texts in
     let e = sym (met-append v c.self.inside.numbers c.self.inside.texts) ∙ ap (ids_met v) c.self.view_is in
-    on_ok_weaker c.hits-2.result (λ h. appends-same old new (a ++ b) (ids_met v c.args.self.now) (Appends-append old between new a b (appends-of old between a c.in_ok-hits.ensures.ok) h) (same-of (a ++ b) (ids_met v c.args.self.now) e)) c.hits-2.ensures.ok
+    on_ok_weaker c.hits-2.result (λ h. appends-same old new (a ++ b) (ids_met v c.args.self.now) (Appends-append old between new a b (appends-of old between a c.in_ok-hits.ensures.ok) h) (same-of (a ++ b) (ids_met v c.args.self.now) e)) c.hits-2.ensures
