@@ -49,5 +49,5 @@ pub returns-clause-stable : goal.returns-clause-stable
 returns-clause-stable c = λ input net journal of whole text flood owed.
     flood-printed input net journal text of whole flood
     (λ flooding.
-    c.flood_as_delivered.ensures net whole.sound flood.rows flood.refused flooding owed
+    c.flood_as_delivered.ensures.whole net whole.sound flood.rows flood.refused flooding owed
     (run_of net (c.sound_net.ensures.laws net whole.sound) journal whole.legal) refl whole.drained)

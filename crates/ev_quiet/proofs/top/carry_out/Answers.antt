@@ -8,12 +8,9 @@ use Rattle.ev_quiet.proofs.top.carry_out.Goals as goal
 pub returns-in-Ok-clause-printed : goal.returns-in-Ok-clause-printed
 returns-in-Ok-clause-printed g c = λ d. (
   c.in-Ok.printed.text,
-  subst (λ j. IsPrintedBy c.args.wanted (g.S.Source.left c.args.source.now) c.in-Ok.printed.text j) (sym (c.written.ensures.journal d)) c.in-Ok.ensures.printed,
+  subst (λ j. IsPrintedBy c.args.wanted (g.S.Source.given c.args.source.now) (g.S.Source.given c.answer.new.source) (g.S.Source.ended c.answer.new.source) c.in-Ok.printed.text j) (sym (c.written.ensures.journal d)) c.in-Ok.ensures.printed,
   c.written.ensures.done d,
 )
-
-pub returns-in-Ok-clause-read : goal.returns-in-Ok-clause-read
-returns-in-Ok-clause-read g c = λ d e. c.in-Ok.ensures.end e
 
 pub returns-in-Ok-clause-unwritten : goal.returns-in-Ok-clause-unwritten
 returns-in-Ok-clause-unwritten g c = λ n m. absurd (elim c.written.ensures.ends [ inl d ↦ n d | inr w ↦ m w ])
@@ -32,16 +29,13 @@ pub returns-in-Ok-clause-part : goal.returns-in-Ok-clause-part
 returns-in-Ok-clause-part g c = λ w. (c.in-Ok.printed.text, c.in-Ok.printed.journal, c.in-Ok.ensures.printed, c.written.ensures.part w)
 
 pub returns-in-Ok-clause-refused : goal.returns-in-Ok-clause-refused
-returns-in-Ok-clause-refused g c = λ line kind t n. absurd (no-refusal c.in-Ok.printed line kind (c.in-Ok.ensures.refused line kind t n))
+returns-in-Ok-clause-refused g c = λ line kind t. absurd (no-refusal c.in-Ok.printed line kind (c.in-Ok.ensures.refused line kind t))
 
 pub returns-in-Ok-clause-complete : goal.returns-in-Ok-clause-complete
-returns-in-Ok-clause-complete g c = λ a n m. elim c.written.ensures.ends [ inl d ↦ inl d | inr w ↦ absurd (m (c.written.ensures.write_fault w)) ]
+returns-in-Ok-clause-complete g c = λ a m. elim c.written.ensures.ends [ inl d ↦ inl d | inr w ↦ absurd (m (c.written.ensures.write_fault w)) ]
 
 pub returns-in-Err-clause-printed : goal.returns-in-Err-clause-printed
 returns-in-Err-clause-printed g c = λ d. absurd (not-done c.in-Err.refusal (sym (c.ended.ensures.status ∙ c.status.ensures) ∙ d))
-
-pub returns-in-Err-clause-read : goal.returns-in-Err-clause-read
-returns-in-Err-clause-read g c = λ d. absurd (not-done c.in-Err.refusal (sym (c.ended.ensures.status ∙ c.status.ensures) ∙ d))
 
 pub returns-in-Err-clause-usage : goal.returns-in-Err-clause-usage
 returns-in-Err-clause-usage g c = λ d. not-usage c.in-Err.refusal (sym (c.ended.ensures.status ∙ c.status.ensures) ∙ d)
@@ -60,11 +54,11 @@ pub returns-in-Err-clause-part : goal.returns-in-Err-clause-part
 returns-in-Err-clause-part g c = λ d. absurd (not-unwritten c.in-Err.refusal (sym (c.ended.ensures.status ∙ c.status.ensures) ∙ d))
 
 pub returns-in-Err-clause-refused : goal.returns-in-Err-clause-refused
-returns-in-Err-clause-refused g c = λ line kind t n.
-    refused-status c.in-Err.refusal c.ended.result.status line kind (c.ended.ensures.status ∙ c.status.ensures) (c.in-Err.ensures.refused line kind t n)
+returns-in-Err-clause-refused g c = λ line kind t.
+    refused-status c.in-Err.refusal c.ended.result.status line kind (c.ended.ensures.status ∙ c.status.ensures) (c.in-Err.ensures.refused line kind t)
 
 pub returns-in-Err-clause-complete : goal.returns-in-Err-clause-complete
-returns-in-Err-clause-complete g c = λ a n m. ended-status c.in-Err.refusal c.ended.result.status (c.ended.ensures.status ∙ c.status.ensures) (c.in-Err.ensures.done a n)
+returns-in-Err-clause-complete g c = λ a m. ended-status c.in-Err.refusal c.ended.result.status (c.ended.ensures.status ∙ c.status.ensures) (c.in-Err.ensures.done a)
 
 pub returns-in-Ok-clause-sure : goal.returns-in-Ok-clause-sure
 returns-in-Ok-clause-sure g c = λ d. (c.in-Ok.ensures.sure, c.written.ensures.sure d)
