@@ -1,21 +1,19 @@
 -- A sound net names few filters and advertisements, and publishes no more than it may.
-use Rattle.std.proofs.Common.{◌≡◌, ℕ, zero, suc, ◌+◌, ◌<◌, ◌≤◌, ◌^◌, ◌⊎◌, inl, inr, Bool, true, false, cond, not, List, [], ◌∷◌, ◌++◌, length, refl, sym, ap, subst, ◌∙◌, length-append, arith}
+use Rattle.std.proofs.Common.{◌≡◌, ℕ, suc, ◌+◌, ◌≤◌, inl, Bool, true, false, cond, not, List, [], ◌∷◌, length, refl, ◌∙◌, length-append, arith}
 use Rattle.std.specs.List.{flat_map}
-use Rattle.ev_sets.specs.Sets.{Has, IsRising, put_in, union, set_of}
+use Rattle.ev_sets.specs.Sets.{IsRising, put_in, set_of}
 use Rattle.ev_sets.specs.Numbers.{sum_over, count}
 use Rattle.ev_sets.proofs.Sets.{rising-union, has-union}
-use Rattle.ev_constraint.specs.Constraint.{ConstraintParts}
 use Rattle.ev_notice.specs.Before.{list_before}
 use Rattle.ev_cover.specs.Laws.{sub_laws}
 use Rattle.ev_routing.specs.Clients.{is_publish}
 use Rattle.ev_theory.specs.Real.{real}
 use Rattle.ev_wire.specs.declared.command.Command.{Command}
 use Rattle.ev_wire.specs.declared.command.Command.TheVariants as commands
-use Rattle.ev_wire.specs.Messages.{Lists}
 use Rattle.ev_model.specs.Meaning.{command_of}
-use Rattle.ev_model.specs.Parts.{ClientParts, NetParts}
-use Rattle.ev_model.specs.Sound.{IsSound, publishes, controls}
-use Rattle.ev_catalogue.specs.Known.{PublicationParts, publishes_after, published_by, script_publications, known_publications, filters_in, adverts_in, script_filters, script_adverts, known_filters, known_adverts}
+use Rattle.ev_model.specs.Parts.{ClientParts}
+use Rattle.ev_model.specs.Sound.{publishes, controls}
+use Rattle.ev_catalogue.specs.Known.{publishes_after, published_by, script_publications, known_publications, filters_in, adverts_in, script_filters, script_adverts, known_filters, known_adverts}
 use Rattle.ev_catalogue.specs.Numbering.{IsList, HaveNamed}
 
 module _ {T : Type 0} (before : T → T → Bool) where

@@ -1,15 +1,13 @@
 -- Numbering goes on step by step.
-use Rattle.std.proofs.Common.{◌≡◌, ℕ, zero, suc, ◌+◌, ◌<◌, ◌≤◌, ◌⊎◌, inl, inr, List, [], ◌∷◌, ◌++◌, length, drop, get_or, slice_get, Some, refl, sym, ap, subst, ◌∙◌, append_assoc, length-append, arith}
-use Rattle.std.specs.List.{flat_map}
+use Rattle.std.proofs.Common.{◌≡◌, ℕ, suc, ◌+◌, ◌<◌, ◌≤◌, inl, inr, List, [], ◌∷◌, ◌++◌, length, drop, get_or, slice_get, Some, refl, sym, ap, subst, ◌∙◌, append_assoc, length-append, arith}
 use Rattle.std.proofs.lemmas.List.{drop_more, drop_all, append-nil}
 use Rattle.ev_sets.specs.Sets.{Has}
-use Rattle.ev_constraint.specs.Constraint.{ConstraintParts}
 use Rattle.ev_wire.specs.declared.command.Command.{Command}
 use Rattle.ev_wire.specs.declared.command.Command.TheVariants as commands
 use Rattle.ev_wire.specs.Messages.{Lists}
 use Rattle.ev_model.specs.Parts.{ClientParts}
 use Rattle.ev_catalogue.specs.declared.numbered.NumberedCommand.{NumberedCommand}
-use Rattle.ev_catalogue.specs.Known.{PublicationParts, publication, publishes_after, published_by, script_publications, known_publications, filters_in, adverts_in, script_filters, script_adverts}
+use Rattle.ev_catalogue.specs.Known.{PublicationParts, publication, publishes_after, published_by, script_publications, known_publications}
 use Rattle.ev_catalogue.specs.Numbered.{Means, AreNumbered, AllNumbered}
 use Rattle.ev_catalogue.specs.Numbering.{HaveNamed, catalogue_of}
 

@@ -2,14 +2,13 @@
 use Rattle.std.specs.Prelude.{ℕ, suc, List, [], ◌∷◌, ◌++◌}
 use Rattle.std.specs.List.{flat_map}
 use Rattle.ev_sets.specs.Sets.{set_of}
-use Rattle.ev_constraint.specs.Constraint.{ConstraintParts}
 use Rattle.ev_notice.specs.Before.{list_before}
 use Rattle.ev_notice.specs.Notice.{Attribute}
 use Rattle.ev_wire.specs.declared.command.Command.{Command}
 use Rattle.ev_wire.specs.declared.command.Command.TheVariants as commands
 use Rattle.ev_wire.specs.declared.id.Id.{Id}
 use Rattle.ev_wire.specs.Messages.{Lists}
-use Rattle.ev_model.specs.Parts.{ClientParts, NetParts}
+use Rattle.ev_model.specs.Parts.{ClientParts}
 
 -- the filter of a command: one that it adds or withdraws by
 abbrev pub filters_in : Command → Lists

@@ -1,11 +1,10 @@
 -- How the code numbers scripts; no promise to a caller speaks of it.
-use Rattle.std.specs.Prelude.{ℕ, ◌^◌, ◌<◌, List, length}
+use Rattle.std.specs.Prelude.{◌^◌, ◌<◌, List, length}
 use Rattle.ev_sets.specs.Sets.{Has, IsRising}
 use Rattle.ev_constraint.specs.Constraint.{ConstraintParts}
 use Rattle.ev_notice.specs.Before.{list_before}
-use Rattle.ev_wire.specs.declared.command.Command.{Command}
 use Rattle.ev_wire.specs.Messages.{Lists}
-use Rattle.ev_catalogue.specs.Known.{PublicationParts, script_filters, script_adverts}
+use Rattle.ev_catalogue.specs.Known.{PublicationParts}
 use Rattle.ev_catalogue.specs.Numbered.{Catalogued}
 
 -- lists that rise, not too many to be numbered

@@ -10,6 +10,7 @@ mod distinct;
 mod named;
 mod numbered;
 mod publication;
+mod related;
 mod scripts;
 
 pub use catalogue::Catalogue;

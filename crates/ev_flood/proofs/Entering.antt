@@ -1,15 +1,14 @@
 -- A client goes on to a phase, and so do the tables.
-use Rattle.std.proofs.Common.{◌≡◌, ℕ, zero, suc, ◌+◌, ◌-◌, ◌<◌, ◌≤◌, ◌⊎◌, inl, inr, List, [], ◌∷◌, ◌++◌, length, take, drop, slice_get, slice_set, Option, Some, refl, sym, ap, subst, ◌∙◌, arith}
+use Rattle.std.proofs.Common.{◌≡◌, ℕ, zero, suc, ◌+◌, ◌-◌, ◌<◌, ◌≤◌, inl, inr, List, [], ◌∷◌, ◌++◌, length, take, drop, slice_get, slice_set, Some, refl, sym, ap, subst, ◌∙◌, arith}
 use Rattle.std.proofs.lemmas.Bool.{cases_order}
 use Rattle.std.proofs.lemmas.Option.{same_Some}
 use Rattle.ev_sets.specs.Sets.{Has}
 use Rattle.ev_forwarding.specs.Published.{Pair, IsOfSame}
 use Rattle.ev_wire.specs.Messages.{Lists}
-use Rattle.ev_catalogue.specs.declared.numbered.NumberedCommand.{NumberedCommand}
 use Rattle.ev_flood.specs.declared.filters.ClientFilters.{ClientFilters}
 use Rattle.ev_flood.specs.declared.tables.Tables.{Tables}
 use Rattle.ev_flood.specs.Numbers.{Steps, AreNumbers, IsAt, IsSized, number_step, numbers_held}
-use Rattle.ev_flood.specs.Tables.{ShowsRow, IsBrought, AreShown, AreGoing, IsReady, IsOfPhase, AllUpTo, AreAll, AreTables}
+use Rattle.ev_flood.specs.Tables.{ShowsRow, IsBrought, AreGoing, IsReady, IsOfPhase, AllUpTo, AreAll, AreTables}
 use Rattle.ev_flood.proofs.Finding.{set_same, set_other, same_or, length_set}
 
 -- members of a slice

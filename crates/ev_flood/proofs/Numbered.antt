@@ -1,5 +1,5 @@
 -- A client's filters by their numbers are those of its script.
-use Rattle.std.proofs.Common.{◌≡◌, ℕ, zero, suc, ◌+◌, ◌-◌, ◌<◌, ◌≤◌, Bool, true, false, cond, not, ◌&&◌, ◌||◌, nat_lt, ◌⊎◌, inl, inr, List, [], ◌∷◌, ◌++◌, filter, length, take, drop, slice_get, Some, refl, sym, ap, subst, ◌∙◌, arith}
+use Rattle.std.proofs.Common.{◌≡◌, ℕ, zero, suc, ◌+◌, ◌-◌, ◌<◌, Bool, true, false, cond, not, ◌||◌, nat_lt, inl, inr, List, [], ◌∷◌, ◌++◌, filter, length, take, drop, slice_get, Some, refl, sym, ap, subst, ◌∙◌, arith}
 use Rattle.std.proofs.lemmas.Option.{same_Some}
 use Rattle.ev_sets.specs.Sets.{Has, put_in}
 use Rattle.ev_sets.proofs.Roots.{Has-filter, filter-Has}
@@ -8,18 +8,16 @@ use Rattle.ev_bits.proofs.Passing.{nat_laws}
 use Rattle.ev_constraint.specs.Constraint.{ConstraintParts}
 use Rattle.ev_notice.specs.Notice.{Attribute}
 use Rattle.ev_notice.specs.Cover.{filter_covers}
-use Rattle.ev_routing.specs.Clients.{some_pass}
 use Rattle.ev_routing.proofs.Listing.{pass-by, by-pass, has-left, has-right, has-either}
 use Rattle.ev_theory.specs.Real.{real}
 use Rattle.ev_order.specs.Order.{covers_at}
 use Rattle.ev_wire.specs.declared.command.Command.{Command}
-use Rattle.ev_wire.specs.declared.command.Command.TheVariants as commands
 use Rattle.ev_wire.specs.Messages.{Lists}
 use Rattle.ev_model.specs.Parts.{ClientParts}
 use Rattle.ev_catalogue.specs.declared.numbered.NumberedCommand.{NumberedCommand}
 use Rattle.ev_catalogue.specs.declared.numbered.NumberedCommand.TheVariants as numbers
-use Rattle.ev_catalogue.specs.Known.{publishes_after, known_filters}
-use Rattle.ev_catalogue.specs.Numbered.{Catalogued, Means, AreNumbered, AllNumbered, catalogued}
+use Rattle.ev_catalogue.specs.Known.{publishes_after}
+use Rattle.ev_catalogue.specs.Numbered.{Catalogued, Means, AreNumbered, AllNumbered}
 use Rattle.ev_flood.specs.Held.{Script, filter_step, filters_held, with_filter, subscribed, withdraws, withdrawn, below, before, within, every_filters, some_filters}
 use Rattle.ev_flood.specs.Numbers.{Steps, Shows, IsNumber, AreNumbers, uncovered, number_step, numbers_held, lasting_step, numbers_lasting, adding_step, numbers_added, every_number, ever_number}
 use Rattle.ev_flood.specs.Publications.{is_met}

@@ -1,5 +1,5 @@
 -- The places of clients, and tables before any phase.
-use Rattle.std.proofs.Common.{◌≡◌, ℕ, zero, suc, ◌+◌, ◌<◌, ◌≤◌, true, nat_lt, ◌⊎◌, inl, inr, List, [], ◌∷◌, ◌++◌, map, take, length, get_or, slice_get, Option, Some, None, refl, sym, ap, subst, ◌∙◌, arith}
+use Rattle.std.proofs.Common.{◌≡◌, ℕ, zero, suc, ◌+◌, ◌<◌, ◌≤◌, nat_lt, inl, inr, List, [], ◌∷◌, ◌++◌, map, take, length, slice_get, Some, None, refl, sym, ap, subst, ◌∙◌, arith}
 use Rattle.std.specs.List.{range_with_len}
 use Rattle.std.proofs.lemmas.Bool.Decides.{nat_tests}
 use Rattle.std.proofs.lemmas.List.FromFn.{length-range_with_len, get_or-range_with_len, map-range_with_len_more}
@@ -10,7 +10,7 @@ use Rattle.ev_wire.specs.Messages.{Lists}
 use Rattle.ev_flood.specs.declared.filters.ClientFilters.{ClientFilters}
 use Rattle.ev_flood.specs.declared.tables.Tables.{Tables}
 use Rattle.ev_flood.specs.Numbers.{Steps, numbers_held}
-use Rattle.ev_flood.specs.Tables.{IsNone, AreNoTables, IsReady, AreTables}
+use Rattle.ev_flood.specs.Tables.{IsNone, AreNoTables, AreTables}
 
 unchanged : (xs : List ℕ) → map (λ x. x) xs ≡ xs
 unchanged [] = refl

@@ -1,9 +1,9 @@
 -- Rows and pairs while what they have goes from old numbers to new ones.
-use Rattle.std.proofs.Common.{◌≡◌, ℕ, zero, suc, ◌+◌, ◌<◌, ◌≤◌, Bool, true, false, cond, not, ◌&&◌, nat_lt, ◌⊎◌, ◌↔◌, inl, inr, List, [], ◌∷◌, filter, length, slice_get, Some, refl, sym, ap, subst, ◌∙◌, arith}
+use Rattle.std.proofs.Common.{◌≡◌, ℕ, ◌+◌, ◌<◌, ◌≤◌, Bool, true, false, cond, not, ◌&&◌, nat_lt, ◌⊎◌, ◌↔◌, inl, inr, List, [], ◌∷◌, filter, refl, sym, ap, subst, ◌∙◌, arith}
 use Rattle.std.proofs.lemmas.Bool.{cases_order}
 use Rattle.std.proofs.lemmas.Bool.Decides.{nat_tests}
 use Rattle.ev_sets.specs.Sets.{Has, IsRising, member, put_in, minus}
-use Rattle.ev_sets.proofs.Roots.{filter-iff, Has-filter, filter-Has}
+use Rattle.ev_sets.proofs.Roots.{Has-filter, filter-Has}
 use Rattle.ev_sets.proofs.Sets.{ext, rising-filter, has-put_in, has-minus, minus-has, has-member, member-has}
 use Rattle.ev_bits.proofs.Passing.{nat_laws}
 use Rattle.ev_forwarding.specs.Published.{Pair, pair_before}

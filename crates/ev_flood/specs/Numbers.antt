@@ -1,7 +1,6 @@
 -- How the code follows a client's filters by their numbers; no promise to a caller speaks of it.
-use Rattle.std.specs.Prelude.{◌≡◌, ℕ, ◌<◌, ◌≤◌, Bool, not, nat_lt, List, [], ◌∷◌, length, filter, take, slice_get, Some}
+use Rattle.std.specs.Prelude.{◌≡◌, ℕ, ◌<◌, ◌≤◌, not, nat_lt, List, [], ◌∷◌, length, filter, take, slice_get, Some}
 use Rattle.ev_sets.specs.Sets.{Has, put_in}
-use Rattle.ev_bits.specs.Rows.{Numbers}
 use Rattle.ev_constraint.specs.Constraint.{ConstraintParts}
 use Rattle.ev_notice.specs.Cover.{filter_covers}
 use Rattle.ev_order.specs.Order.{covers_at}

@@ -1,4 +1,4 @@
-use Rattle.std.proofs.Common.{inl, refl, ◌∙◌}
+use Rattle.std.proofs.Common.{inl, refl}
 use Rattle.ev_catalogue.specs.Known.{publication}
 use Rattle.ev_catalogue.proofs.Stepping.{published_last}
 use Rattle.ev_catalogue.proofs.scripts.number.Goals as goal

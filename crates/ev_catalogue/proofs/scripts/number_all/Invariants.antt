@@ -1,4 +1,4 @@
-use Rattle.std.proofs.Common.{◌≡◌, ℕ, ◌+◌, ◌≤◌, List, ◌++◌, drop, length}
+use Rattle.std.proofs.Common.{◌≡◌, ℕ, ◌+◌, List, ◌++◌, drop}
 use Rattle.std.specs.List.{flat_map}
 use Rattle.ev_catalogue.specs.declared.numbered.NumberedCommand.{NumberedCommand}
 use Rattle.ev_catalogue.specs.Known.{known_publications, script_filters, script_adverts}

@@ -1,5 +1,4 @@
-use Rattle.std.proofs.Common.{◌≡◌, ◌<◌, ◌≤◌, ◌+◌, ◌++◌, [], ◌∷◌, drop, length, suc, refl, sym, ap, subst, ◌∙◌, arith}
-use Rattle.std.proofs.lemmas.List.{append-nil}
+use Rattle.std.proofs.Common.{◌≡◌, ◌+◌, ◌++◌, ◌∷◌, drop, subst, arith}
 use Rattle.ev_catalogue.specs.Known.{script_publications, publishes_after, published_by, script_filters, script_adverts, filters_in, adverts_in}
 use Rattle.ev_catalogue.specs.Numbered.{AreNumbered}
 use Rattle.ev_catalogue.specs.Numbering.{HaveNamed, catalogue_of}

@@ -1,4 +1,4 @@
-use Rattle.std.proofs.Common.{◌≤◌, length, sym, ◌∙◌, arith}
+use Rattle.std.proofs.Common.{◌∙◌, arith}
 use Rattle.ev_notice.specs.Cover.{filter_covers}
 use Rattle.ev_order.specs.Order.{covers_at}
 use Rattle.ev_flood.proofs.Showing.{left_first, left_next, left_all, left_within}

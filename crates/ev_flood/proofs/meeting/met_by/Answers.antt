@@ -1,4 +1,4 @@
-use Rattle.std.proofs.Common.{◌≡◌, List, ℕ, subst, sym, ap, ◌∙◌}
+use Rattle.std.proofs.Common.{List, ℕ, subst}
 use Rattle.ev_forwarding.specs.Routes.{IsRouteBy}
 use Rattle.ev_flood.proofs.Finding.{apart_by, meets}
 use Rattle.ev_flood.proofs.meeting.met_by.Goals as goal

@@ -1,4 +1,4 @@
-use Rattle.std.proofs.Common.{◌≡◌, List, ℕ, nat_lt, ap, ap₂, sym, ◌∙◌}
+use Rattle.std.proofs.Common.{nat_lt, ap, ◌∙◌}
 use Rattle.ev_sets.specs.Sets.{minus}
 use Rattle.ev_flood.proofs.Showing.{brought_by}
 use Rattle.ev_flood.proofs.tables.bring.Goals as goal

@@ -1,9 +1,9 @@
-use Rattle.std.proofs.Common.{◌≡◌, ◌<◌, ℕ, List, length, slice_get, slice_set, Some, refl, sym, ap, subst, ◌∙◌, arith}
+use Rattle.std.proofs.Common.{◌≡◌, ◌<◌, length, slice_get, slice_set, Some, refl, sym, subst, ◌∙◌, arith}
 use Rattle.std.proofs.lemmas.Option.{slice_get_read, same_Some}
 use Rattle.ev_sets.specs.Sets.{Has}
 use Rattle.ev_routing.proofs.Listing.{get-has}
 use Rattle.ev_flood.specs.declared.filters.ClientFilters.{ClientFilters}
-use Rattle.ev_flood.specs.Numbers.{Steps, AreNumbers, IsAt}
+use Rattle.ev_flood.specs.Numbers.{IsAt}
 use Rattle.ev_flood.specs.Tables.{ShowsRow, IsBrought, IsOfPhase}
 use Rattle.ev_flood.proofs.Finding.{set_same, set_other, length_set}
 use Rattle.ev_flood.proofs.Places.{place_there}

@@ -1,4 +1,4 @@
-use Rattle.std.proofs.Common.{◌≡◌, arith}
+use Rattle.std.proofs.Common.{arith}
 use Rattle.ev_flood.proofs.Entering.{upto_next, all_of}
 use Rattle.ev_flood.proofs.tables.enter_all.Goals as goal
 

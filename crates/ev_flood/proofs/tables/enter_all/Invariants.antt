@@ -1,4 +1,4 @@
-use Rattle.std.proofs.Common.{◌≡◌, length}
+use Rattle.std.proofs.Common.{length}
 use Rattle.ev_flood.specs.Tables.{IsRoom, IsReady, AllUpTo}
 use Rattle.ev_flood.proofs.tables.enter_all.Given as goal
 

@@ -1,4 +1,4 @@
-use Rattle.std.proofs.Common.{length, sym, ◌∙◌}
+use Rattle.std.proofs.Common.{length}
 use Rattle.std.proofs.lemmas.Result.{IfOk-weaker}
 use Rattle.ev_flood.specs.Tables.{AreNoTables, AreTables}
 use Rattle.ev_flood.proofs.Places.{tables_first}

@@ -1,4 +1,4 @@
-use Rattle.std.proofs.Common.{◌≡◌, ◌<◌, ◌≤◌, refl, subst, sym, ◌∙◌, arith}
+use Rattle.std.proofs.Common.{refl, subst, sym, arith}
 use Rattle.ev_sets.specs.Sets.{Has}
 use Rattle.ev_forwarding.proofs.Changing.{same-too}
 use Rattle.ev_flood.proofs.Showing.{come_first, come_next, come_all}

@@ -1,7 +1,6 @@
-use Rattle.std.proofs.Common.{◌≡◌, ◌<◌, ◌∙◌, ℕ, List, length, Result, Ok, Err, IfOk, sym, subst, arith}
+use Rattle.std.proofs.Common.{ℕ, List, Result, Ok, Err, IfOk, subst, arith}
 use Rattle.ev_memory.specs.declared.NoMemory.{NoMemory}
 use Rattle.ev_counting.specs.Table.{IsRouteOf}
-use Rattle.ev_matcher.specs.Matching.{matched}
 use Rattle.ev_forwarding.specs.Routes.{IsRouteBy, held_by, AreNumbers}
 use Rattle.ev_forwarding.proofs.Routes.{route-of-notice}
 use Rattle.ev_forwarding.proofs.law.route.Goals as goal

@@ -1,4 +1,4 @@
-use Rattle.std.proofs.Common.{◌≡◌, ◌≤◌, length, subst, arith, sym}
+use Rattle.std.proofs.Common.{subst, arith}
 use Rattle.ev_model.specs.Sound.{IsSound}
 use Rattle.ev_catalogue.proofs.Counting.{known_filters_few, known_adverts_few, known_filters_rise, known_adverts_rise, publications_count}
 use Rattle.ev_catalogue.proofs.catalogue.Catalogue.is_known.Goals as goal

@@ -1,7 +1,6 @@
-use Rattle.std.proofs.Common.{◌≡◌, ◌≤◌, length, ap, sym, subst, ◌∙◌, arith}
-use Rattle.std.specs.List.{flat_map}
-use Rattle.ev_catalogue.specs.Known.{known_filters, known_adverts, known_publications, script_filters, script_adverts}
-use Rattle.ev_catalogue.specs.Numbering.{IsList, HaveNamed}
+use Rattle.std.proofs.Common.{◌≡◌, ap, sym, subst, ◌∙◌, arith}
+use Rattle.ev_catalogue.specs.Known.{known_filters, known_adverts}
+use Rattle.ev_catalogue.specs.Numbering.{IsList}
 use Rattle.ev_catalogue.proofs.Counting.{filters_listed, adverts_listed, all_named, publications_count}
 use Rattle.ev_catalogue.proofs.catalogue.Catalogue.of.Goals as goal
 

@@ -1,5 +1,4 @@
-use Rattle.std.proofs.Common.{◌-◌, length, sym, subst}
-use Rattle.ev_flood.specs.Held.{below}
+use Rattle.std.proofs.Common.{length, sym, subst}
 use Rattle.ev_flood.specs.Numbers.{AreNumbers}
 use Rattle.ev_flood.proofs.Entering.{slice_numbers}
 use Rattle.ev_flood.proofs.filters.ClientFilters.enter.Goals as goal

@@ -1,4 +1,4 @@
-use Rattle.std.proofs.Common.{◌-◌, ap, ◌∙◌, arith}
+use Rattle.std.proofs.Common.{◌-◌}
 use Rattle.ev_flood.proofs.Entering.{slice_numbers, gone_on}
 use Rattle.ev_flood.proofs.filters.ClientFilters.go_on.Goals as goal
 

@@ -1,9 +1,7 @@
-use Rattle.std.proofs.Common.{◌≡◌, ◌↔◌, ◌<◌, ◌∙◌, ℕ, List, nat_lt, get_or, sym, ap, subst, arith}
-use Rattle.ev_sets.specs.Sets.{Has, IsRising}
-use Rattle.ev_bits.specs.Rows.{Numbers}
+use Rattle.std.proofs.Common.{◌<◌, ℕ, sym, ap, subst, arith}
+use Rattle.ev_sets.specs.Sets.{Has}
 use Rattle.ev_forwarding.specs.Published.{Published}
 use Rattle.ev_forwarding.specs.Routes.{IsRouteBy}
-use Rattle.ev_forwarding.specs.Columns.{IsJoined}
 use Rattle.ev_forwarding.proofs.Joined.{joined-route}
 use Rattle.ev_forwarding.proofs.forwarding.Forwarding.route.Goals as goal
 

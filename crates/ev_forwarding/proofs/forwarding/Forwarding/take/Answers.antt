@@ -1,8 +1,7 @@
-use Rattle.std.proofs.Common.{◌≡◌, ◌<◌, ◌∷◌, [], ◌∙◌, ℕ, List, not, length, get_or, sym, ap, subst, arith}
+use Rattle.std.proofs.Common.{◌≡◌, ◌<◌, ◌∷◌, [], ◌∙◌, length, get_or, ap, subst, arith}
 use Rattle.std.proofs.lemmas.List.{get_or_default}
-use Rattle.ev_sets.specs.Sets.{member, put_in, minus}
-use Rattle.ev_bits.specs.Rows.{is_in}
-use Rattle.ev_forwarding.specs.Published.{Pair, Published, pair_before}
+use Rattle.ev_sets.specs.Sets.{member, minus}
+use Rattle.ev_forwarding.specs.Published.{Published, pair_before}
 use Rattle.ev_forwarding.proofs.Pairs.{nothing}
 use Rattle.ev_forwarding.proofs.ByPlace.{IsSpot, column-set, spot-member, take-columns, take-published}
 use Rattle.ev_forwarding.proofs.forwarding.Forwarding.take.Goals as goal
