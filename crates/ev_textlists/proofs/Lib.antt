@@ -1,2 +1,4 @@
-pub mod Marking
 pub mod Grouping
+pub mod Marking
+pub mod Ordering
+pub mod Packed

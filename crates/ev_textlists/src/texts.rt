@@ -5,10 +5,10 @@ ghost use Rattle.ev_constraint.specs.declared.op.Op.{Op};
 ghost use Rattle.ev_textindex.specs.Heads.{is_pattern_op};
 ghost use Rattle.ev_textindex.specs.Keys.{key_of};
 
+use crate::orders::Orders;
 use crate::patterns::Patterns;
 use ev_constraint::{Constraint, Op};
 use ev_memory::NoMemory;
-use ev_textindex::TextIndex;
 use ev_values::Value;
 use std::alloc::Global;
 use std::marker::Model;
@@ -17,7 +17,7 @@ use std::marker::Model;
 #[derive(Drop)]
 pub struct Texts {
     alloc: Global,
-    orders: TextIndex,
+    orders: Orders,
     patterns: Patterns,
 }
 
@@ -62,7 +62,7 @@ impl Texts {
     {
         Texts {
             alloc,
-            orders: TextIndex::new(alloc),
+            orders: Orders::new(alloc),
             patterns: Patterns::new(alloc),
         }
     }
@@ -77,7 +77,7 @@ impl Texts {
         if is_pattern(op) {
             self.patterns.put(self.alloc, op, key, id)
         } else {
-            self.orders.add(constraint, id)
+            self.orders.put(self.alloc, op, key, id)
         }
     }
 
@@ -85,10 +85,13 @@ impl Texts {
     pub fn hits(&self, value: &Value, found: &mut Vec<u32>) -> Result<(), NoMemory>
         ensures { OnOk result (Appends found.old.items found.new.items (ids_met value.now self.now)) }
     {
-        self.orders.hits(value, found)?;
+        self.orders.are_of_texts();
         self.patterns.are_of_texts();
         match value {
-            Value::Str(text) => self.patterns.meet(text.bytes(), found),
+            Value::Str(text) => {
+                self.orders.meet(text.bytes(), found)?;
+                self.patterns.meet(text.bytes(), found)
+            }
             _ => Ok(()),
         }
     }

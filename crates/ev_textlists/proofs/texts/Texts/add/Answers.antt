@@ -13,4 +13,7 @@ returns-then-is_pattern c =
     on_ok_weaker c.put.result (λ h. more-patterns c.self.inside.orders c.self.inside.patterns c.args.self.now c.self.view_is (test_of c.args.constraint.now, c.args.id) c.put.new.self (subst (λ (x : Test). Same c.put.new.self ((x, c.args.id) ∷ c.self.inside.patterns)) t h)) c.put.ensures
 
 pub returns-else-is_pattern : goal.returns-else-is_pattern
-returns-else-is_pattern c = on_ok_weaker c.add.result (more-others c.self.inside.orders c.self.inside.patterns c.args.self.now c.self.view_is (test_of c.args.constraint.now, c.args.id) c.add.new.self) c.add.ensures.added
+returns-else-is_pattern c =
+    let k = c.key_of-key.ensures ∙ ap key_of c.operand.ensures in
+    let t : test_at c.op-op.result c.key_of-key.result.now ≡ test_of c.args.constraint.now = the-test c.args.constraint.now c.op-op.result c.key_of-key.result.now c.requires c.op-op.ensures.whole c.op-op.ensures.op k in
+    on_ok_weaker c.put-else-is_pattern.result (λ h. more-others c.self.inside.orders c.self.inside.patterns c.args.self.now c.self.view_is (test_of c.args.constraint.now, c.args.id) c.put-else-is_pattern.new.self (subst (λ (x : Test). Same c.put-else-is_pattern.new.self ((x, c.args.id) ∷ c.self.inside.orders)) t h)) c.put-else-is_pattern.ensures
