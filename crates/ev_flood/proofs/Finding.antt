@@ -1,12 +1,12 @@
 -- What is found by tables of clients' filters.
-use Rattle.std.proofs.Common.{◌≡◌, ℕ, zero, suc, ◌+◌, ◌<◌, ◌≤◌, Bool, true, false, not, ◌&&◌, ◌||◌, nat_eq, ◌⊎◌, inl, inr, List, [], ◌∷◌, ◌++◌, filter, length, take, slice_get, slice_set, get_or, Some, Result, Ok, Err, is_ok, MatchResult, refl, sym, ap, subst, ◌∙◌, arith}
+use Rattle.std.proofs.Common.{◌≡◌, ℕ, zero, suc, ◌+◌, ◌<◌, ◌≤◌, Bool, true, false, not, ◌&&◌, ◌||◌, nat_eq, ◌⊎◌, inl, inr, List, [], ◌∷◌, ◌++◌, filter, length, take, drop, slice_get, slice_set, get_or, Some, Result, Ok, Err, is_ok, MatchResult, refl, sym, ap, subst, ◌∙◌, arith}
 use Rattle.std.specs.List.{Contains, list_any}
 use Rattle.std.specs.List.Sorted.{IsStrictlyIncreasing, IsBinarySearchResult, IsPermutation}
 use Rattle.std.proofs.lemmas.List.Sorted.{searched, Contains-permutation, IsPermutation-sym}
 use Rattle.std.specs.Ordering.{nat_cmp}
 use Rattle.std.proofs.lemmas.Bool.{cases_order}
 use Rattle.std.proofs.lemmas.List.{get_or_default}
-use Rattle.std.proofs.lemmas.Option.{slice_get-get_or, same_Some}
+use Rattle.std.proofs.lemmas.Option.{slice_get-get_or, get_or_from_slice_get, same_Some}
 use Rattle.std.proofs.lemmas.Bool.Decides.{nat_tests}
 use Rattle.std.proofs.lemmas.Map.Views.{any-filter_same}
 use Rattle.std.proofs.lemmas.List.Kept.{AllPairs-from_increasing, IsStrictlyIncreasing-filter}
@@ -18,17 +18,39 @@ use Rattle.ev_routing.specs.Clients.{some_pass}
 use Rattle.ev_routing.proofs.Listing.{pass-by, by-pass, get-has, take-one, has-either}
 use Rattle.ev_theory.specs.Real.{real}
 use Rattle.ev_theory.proofs.Meaning.{matches_plain}
-use Rattle.ev_counting.specs.Table.{HeldFilter, IsRouteOf}
+use Rattle.ev_matcher.specs.Matching.{matched}
+use Rattle.ev_matcher.proofs.Members.{matched-iff}
+use Rattle.ev_forwarding.specs.Published.{Pair}
+use Rattle.ev_forwarding.specs.Routes.{IsRouteBy}
+use Rattle.ev_catalogue.specs.Known.{known_filters}
+use Rattle.ev_catalogue.specs.Numbered.{AreNumbered, AllNumbered, catalogued}
 use Rattle.ev_model.specs.Parts.{ClientParts}
-use Rattle.ev_flood.specs.declared.phase.PhaseFilters.{PhaseFilters}
+use Rattle.ev_flood.specs.declared.filters.ClientFilters.{ClientFilters}
 use Rattle.ev_flood.specs.declared.publication.Publication.{Publication}
 use Rattle.ev_flood.specs.declared.tables.Tables.{Tables}
-use Rattle.ev_flood.specs.declared.tables.Met.{Met}
+use Rattle.ev_flood.specs.declared.meeting.Met.{Met}
 use Rattle.ev_wire.specs.Messages.{Lists}
 use Rattle.ev_flood.specs.Publications.{is_met}
-use Rattle.ev_flood.specs.Shown.{ShowsFilters, IsBrought}
-use Rattle.ev_flood.specs.Tables.{AreShown, AreFiltersOf, AreAll, AllUpTo, AreTables, is_found, Meets, MeetsAt, AllMeet, ordered_from}
+use Rattle.ev_flood.specs.Held.{every_filters, some_filters}
+use Rattle.ev_flood.specs.Numbers.{Steps, Shows, every_number, ever_number}
+use Rattle.ev_flood.specs.Tables.{ShowsRow, AreTables, is_found, Meets, MeetsAt, AllMeet, ordered_from}
+use Rattle.ev_flood.proofs.Numbered.{numbered_at, every_shown, ever_shown}
 use Rattle.ev_flood.proofs.Passing.{same_test}
+
+pub clash : (b : Bool) → b ≡ true → b ≡ false → ⊥
+clash true p q = absurd cc
+clash false p q = absurd cc
+
+drop_suc : {X : Type 0} (xs : List X) (k : ℕ) (x : X) → slice_get xs k ≡ Some x → drop k xs ≡ x ∷ drop (suc k) xs
+drop_suc [] k x e = absurd cc
+drop_suc (y ∷ ys) zero x e = ap (λ z. z ∷ ys) (same_Some _ _ e)
+drop_suc (y ∷ ys) (suc k) x e = drop_suc ys k x e
+
+pub drop_get : {X : Type 0} (xs : List X) (k : ℕ) (x : X) → slice_get xs k ≡ Some x → drop k xs ≡ x ∷ drop (k + 1) xs
+drop_get xs k x e = drop_suc xs k x e ∙ ap (λ z. x ∷ drop z xs) (next k)
+  where
+    next : (k : ℕ) → suc k ≡ k + 1
+    next k = omega arith
 
 -- members and places
 first : {X : Type 0} (x : X) (xs : List X) → Contains (x ∷ xs) x
@@ -83,79 +105,10 @@ length_set [] k v = refl
 length_set (x ∷ xs) zero v = refl
 length_set (x ∷ xs) (suc k) v = ap suc (length_set xs k v)
 
--- tables of nothing
-nothing : {X : Type 0} (x : X) → Contains [] x → ⊥
-nothing x h = omega (arith, h.1)
-
-pub shows_none : (place : ℕ) (filters : Lists) → filters ≡ [] → ShowsFilters [] place filters
-shows_none place filters e = record {
-  sound = λ f h. absurd (nothing (place, f) h);
-  whole = λ f h. absurd (subst (λ (z : Lists). Has f z) e h);
-}
-
-pub shown_none : AreShown [] [] []
-shown_none = record { at_every = λ place list e. absurd cc; at_some = λ place list e. absurd cc }
-
-last : {X : Type 0} (xs : List X) (x : X) (k : ℕ) (m : X) → slice_get (xs ++ x ∷ []) k ≡ Some m → (slice_get xs k ≡ Some m) ⊎ (m ≡ x)
-last [] x zero m b = inr (sym (same_Some _ _ b))
-last [] x (suc k) m b = absurd cc
-last (y ∷ ys) x zero m b = inl b
-last (y ∷ ys) x (suc k) m b = last ys x k m b
-
-pub shown_more : (lists more : List PhaseFilters) (list : PhaseFilters) → list.every.items ≡ [] → list.passing.items ≡ [] → more ≡ lists ++ list ∷ []
-    → AreShown [] [] lists → AreShown [] [] more
-shown_more lists more list e p push s = subst (λ (z : List PhaseFilters). AreShown [] [] z) (sym push) (record {
-  at_every = λ place l at. elim (last lists list place l at) [
-    | inl a ↦ s.at_every place l a
-    | inr q ↦ shows_none place l.every.items (ap (λ (z : PhaseFilters). z.every.items) q ∙ e)
-  ];
-  at_some = λ place l at. elim (last lists list place l at) [
-    | inl a ↦ s.at_some place l a
-    | inr q ↦ shows_none place l.passing.items (ap (λ (z : PhaseFilters). z.passing.items) q ∙ p)
-  ];
-})
-
--- a client's lists are others
-elsewhere : (place q : ℕ) (filters : Lists) (t u : List HeldFilter) (list : Lists) → (q ≡ place → ⊥) → IsBrought place filters t u → ShowsFilters t q list → ShowsFilters u q list
-elsewhere place q filters t u list n b s = record {
-  sound = λ f h. s.sound f ((b.others (q, f) n).0 h);
-  whole = λ f h. (b.others (q, f) n).1 (s.whole f h);
-}
-
-brought_at : (lists : List PhaseFilters) (place : ℕ) (list : PhaseFilters) (of : PhaseFilters → Lists) (t u : List HeldFilter) → IsBrought place (of list) t u
-    → ((q : ℕ) (l : PhaseFilters) → slice_get lists q ≡ Some l → ShowsFilters t q (of l))
-    → (q : ℕ) (l : PhaseFilters) → slice_get (slice_set lists place list) q ≡ Some l → ShowsFilters u q (of l)
-brought_at lists place list of t u b s q l at = elim (same_or q place) [
-  | inl e ↦ subst (λ z. ShowsFilters u z (of l)) (sym e)
-      (subst (λ (z : PhaseFilters). ShowsFilters u place (of z)) (sym (set_same lists place list l (subst (λ z. slice_get (slice_set lists place list) z ≡ Some l) e at))) b.shows)
-  | inr n ↦ elsewhere place q (of list) t u (of l) n b (s q l (sym (set_other lists q place list n) ∙ at))
-]
-
-pub shown_set : (lists : List PhaseFilters) (place : ℕ) (list : PhaseFilters) (t u v w : List HeldFilter) → IsBrought place list.every.items t u → IsBrought place list.passing.items v w
-    → AreShown t v lists → AreShown u w (slice_set lists place list)
-shown_set lists place list t u v w a b s = record {
-  at_every = brought_at lists place list (λ l. l.every.items) t u a s.at_every;
-  at_some = brought_at lists place list (λ l. l.passing.items) v w b s.at_some;
-}
-
--- one more client has the lists of the phase
-pub upto_next : (place phase : ℕ) (clients : List ClientParts) (lists : List PhaseFilters) (client : ClientParts) (list : PhaseFilters) → slice_get clients place ≡ Some client
-    → AreFiltersOf phase client.script list → AllUpTo place phase clients lists → AllUpTo (place + 1) phase clients (slice_set lists place list)
-upto_next place phase clients lists client list at of s q c l below has set = elim (same_or q place) [
-  | inl e ↦
-      let mine : slice_get clients place ≡ Some c = subst (λ z. slice_get clients z ≡ Some c) e has in
-      let it : l ≡ list = set_same lists place list l (subst (λ z. slice_get (slice_set lists place list) z ≡ Some l) e set) in
-      subst (λ (z : PhaseFilters). AreFiltersOf phase c.script z) (sym it) (subst (λ (z : ClientParts). AreFiltersOf phase z.script list) (same_Some _ _ (sym at ∙ mine)) of)
-  | inr n ↦ s q c l (strict q place (omega (arith, below)) n) has (sym (set_other lists q place list n) ∙ set)
-]
-
 within : {X : Type 0} (xs : List X) (k : ℕ) (x : X) → slice_get xs k ≡ Some x → k < length xs
 within [] k x e = absurd cc
 within (y ∷ ys) zero x e = omega arith
 within (y ∷ ys) (suc k) x e = let i = within ys k x e in omega (arith, i)
-
-pub upto_all : (phase : ℕ) (clients : List ClientParts) (lists : List PhaseFilters) → AllUpTo (length clients) phase clients lists → AreAll phase clients lists
-upto_all phase clients lists s place client list at of = s place client list (within clients place client at) at of
 
 -- tests of places
 any_passes : {X : Type 0} (test : X → Bool) (xs : List X) → list_any test xs ≡ some_pass test xs
@@ -211,19 +164,26 @@ plain : (n : List Attribute) (f : List ConstraintParts) → AreValues n → real
 plain n f v = ap (λ m. m f) (matches_plain n v)
 
 -- a place is on a route exactly where one of its filters matches
-found_at : (n : List Attribute) (table : List HeldFilter) (route : List ℕ) (place : ℕ) (list : Lists) → AreValues n → ShowsFilters table place list → IsRouteOf n table route
-    → is_found place route ≡ is_met list n
-found_at n table route place list v s r = same_test (is_found place route) (is_met list n) to back
+pub found_at : (n : List Attribute) (known : Lists) (pairs : List Pair) (route : List ℕ) (place : ℕ) (members : List ℕ) (list : Lists) → AreValues n → ShowsRow pairs place members
+    → Shows known members list → IsRouteBy (matched n known) pairs route → is_found place route ≡ is_met list n
+found_at n known pairs route place members list v row shows r = same_test (is_found place route) (is_met list n) to back
   where
+    at : (i : ℕ) (f : List ConstraintParts) → slice_get known i ≡ Some f → get_or known i [] ≡ f
+    at i f e = get_or_from_slice_get known i f [] e
+
     to : is_found place route ≡ true → is_met list n ≡ true
     to h =
         let m = (r.exact place).0 (has-contains place route (found_has place route h)) in
-        pass-by (λ f. real.matches n f) m.0 list (s.sound m.0 m.1) (plain n m.0 v ∙ m.2)
+        let s = shows.sound m.0 ((row m.0).0 m.2) in
+        let k = (matched-iff n known m.0).0 m.1 in
+        pass-by (λ f. real.matches n f) s.0 list s.2 (plain n s.0 v ∙ subst (λ z. matches n z ≡ true) (at m.0 s.0 s.1) k.1)
 
     back : is_met list n ≡ true → is_found place route ≡ true
     back h =
         let w = by-pass (λ f. real.matches n f) list h in
-        has_found place route (contains-has place route ((r.exact place).1 (w.0, s.whole w.0 w.1, sym (plain n w.0 v) ∙ w.2)))
+        let s = shows.whole w.0 w.1 in
+        let k : Has s.0 (matched n known) = (matched-iff n known s.0).1 (within known s.0 w.0 s.1, subst (λ z. matches n z ≡ true) (sym (at s.0 w.0 s.1)) (sym (plain n w.0 v) ∙ w.2)) in
+        has_found place route (contains-has place route ((r.exact place).1 (s.0, k, (row s.0).1 s.2)))
 
 apart : (i : ℕ) (every passing : List ℕ) → is_found i (filter (λ x. not (is_found x every)) passing) ≡ not (is_found i every) && is_found i passing
 apart i every passing =
@@ -237,27 +197,36 @@ list_at [] k l = absurd (omega (arith, l))
 list_at (x ∷ xs) zero l = (x, refl)
 list_at (x ∷ xs) (suc k) l = list_at xs k (omega (arith, l))
 
-pub meets : (clients : List ClientParts) (tables : Tables) (p : Publication) (passing : List ℕ) (met : Met) → AreValues p.notice → AreTables clients tables
-    → tables.phase ≡ Some p.phase → IsRouteOf p.notice tables.every met.every → IsRouteOf p.notice tables.passing passing
-    → met.others.items ≡ filter (λ x. not (is_found x met.every)) passing → Meets clients p met
-meets clients tables p passing met v t same a b e = record {
+-- the clients that a publication meets, by the numbers of each
+pub meets : (known : Lists) (clients : List ClientParts) (scripts : List Steps) (tables : Tables) (p : Publication) (ever : List ℕ) (met : Met) → AreValues p.notice
+    → known ≡ known_filters clients → AllNumbered (catalogued clients) 1 scripts clients → AreTables known scripts tables
+    → tables.phase ≡ Some p.phase → IsRouteBy (matched p.notice known) tables.every.pairs met.every → IsRouteBy (matched p.notice known) tables.ever.pairs ever
+    → met.others.items ≡ filter (λ x. not (is_found x met.every)) ever → Meets clients p met
+meets known clients scripts tables p ever met v is numbered t same a b e = record {
   rising = record {
     every = a.rising;
-    others = subst IsStrictlyIncreasing (sym e) (IsStrictlyIncreasing-filter (λ x. not (is_found x met.every)) passing b.rising);
+    others = subst IsStrictlyIncreasing (sym e) (IsStrictlyIncreasing-filter (λ x. not (is_found x met.every)) ever b.rising);
   };
   every = λ place client at. let l = mine place client at in
-      found_at p.notice tables.every met.every place l.0.every.items v (t.shown.at_every place l.0 l.1) a
-      ∙ (t.current p.phase same place client l.0 at l.1).every p.notice;
+      found_at p.notice known tables.every.pairs met.every place l.1.0.every.members (every_filters p.phase client.script) v
+      (t.ready.shown.at_every place l.1.0 l.1.1) (subst (λ z. Shows known z (every_filters p.phase client.script)) (sym (t.current p.phase same place l.0.0 l.1.0 l.0.1 l.1.1).every) l.0.2.0) a;
   others = λ place client at. let l = mine place client at in
       ap (is_found place) e
-      ∙ apart place met.every passing
+      ∙ apart place met.every ever
       ∙ ap (λ z. not (is_found place met.every) && z)
-      (found_at p.notice tables.passing passing place l.0.passing.items v (t.shown.at_some place l.0 l.1) b
-      ∙ (t.current p.phase same place client l.0 at l.1).passing p.notice);
+      (found_at p.notice known tables.ever.pairs ever place l.1.0.ever.members (some_filters p.phase client.script) v
+      (t.ready.shown.at_some place l.1.0 l.1.1) (subst (λ z. Shows known z (some_filters p.phase client.script)) (sym (t.current p.phase same place l.0.0 l.1.0 l.0.1 l.1.1).ever) l.0.2.1) b);
 }
   where
-    mine : (place : ℕ) (client : ClientParts) → slice_get clients place ≡ Some client → (l : PhaseFilters) × (slice_get tables.lists.items place ≡ Some l)
-    mine place client at = list_at tables.lists.items place (subst (λ z. place < z) (sym t.count) (within clients place client at))
+    mine : (place : ℕ) (client : ClientParts) → slice_get clients place ≡ Some client
+        → ((steps : Steps) × (slice_get scripts place ≡ Some steps) × (Shows known (every_number known p.phase steps) (every_filters p.phase client.script) × Shows known (ever_number known p.phase steps) (some_filters p.phase client.script)))
+        × ((l : ClientFilters) × (slice_get tables.clients.items place ≡ Some l))
+    mine place client at =
+        let s = numbered_at (catalogued clients) 1 scripts clients place client numbered at in
+        let q : AreNumbered (catalogued clients) (1 + place) 0 s.0 client.script = s.2 in (
+          (s.0, s.1, (every_shown known (catalogued clients) (1 + place) 0 p.phase s.0 client.script (sym is) q, ever_shown known (catalogued clients) (1 + place) 0 p.phase s.0 client.script (sym is) q)),
+          list_at tables.clients.items place (subst (λ z. place < z) (sym t.ready.count) (within scripts place s.0 s.1)),
+        )
 
 -- publications by phase
 pub ordered_has : (m : ℕ) (ps : List Publication) (k : ℕ) (p : Publication) → slice_get ps k ≡ Some p → Has (p.phase, m + k) (ordered_from m ps)

@@ -10,14 +10,14 @@ use Rattle.ev_routing.proofs.Listing.{take-one, append-none}
 use Rattle.ev_model.specs.Parts.{ClientParts}
 use Rattle.ev_flood.specs.declared.owed.OwedRow.{OwedRow}
 use Rattle.ev_flood.specs.declared.publication.Publication.{Publication}
-use Rattle.ev_flood.specs.declared.tables.Met.{Met}
-use Rattle.ev_flood.specs.Held.{Script, some_filters, every_filters, passing_filters}
+use Rattle.ev_flood.specs.declared.meeting.Met.{Met}
+use Rattle.ev_flood.specs.Held.{Script, some_filters, every_filters}
 use Rattle.ev_flood.specs.Publications.{is_met, with_row, rows_of, all_rows_of}
 use Rattle.ev_flood.specs.Tables.{is_found, Meets}
 use Rattle.ev_flood.specs.Rows.{rows_at, once, rows_by, HaveRows}
-use Rattle.ev_flood.proofs.Pruning.{some_either}
+use Rattle.ev_flood.proofs.Numbered.{every_some}
 use Rattle.ev_flood.proofs.Finding.{found_has}
-use Rattle.ev_flood.proofs.Showing.{clash, drop_get}
+use Rattle.ev_flood.proofs.Finding.{clash, drop_get}
 
 -- the rows at one place change
 set_mine : (all : List (Vec OwedRow Global)) (place : ℕ) (rows : Vec OwedRow Global) → place < length all → rows_at (slice_set all place rows) place ≡ rows.items
@@ -123,19 +123,19 @@ rows_is : (i : ℕ) (clients : List ClientParts) (client : ClientParts) (p : Pub
     → rows_by i p met ≡ with_row client.script p []
 rows_is i clients client p met at m =
     ap (λ z. once (is_found i met.every) (record { id = p.id; must = p.advertised }) ++ once z (record { id = p.id; must = false })) (m.others i client at)
-    ∙ go (is_found i met.every) (is_met (every_filters p.phase client.script) p.notice) (is_met (passing_filters p.phase client.script) p.notice) p.advertised (m.every i client at)
-    ∙ ap (λ z. cond z (record { id = p.id; must = p.advertised && is_met (every_filters p.phase client.script) p.notice } ∷ []) [])
-    (sym (some_either p.phase client.script p.notice))
+    ∙ go (is_found i met.every) (is_met (every_filters p.phase client.script) p.notice) (is_met (some_filters p.phase client.script) p.notice) p.advertised
+    (m.every i client at) (every_some p.phase client.script p.notice)
   where
-    go : (f e s a : Bool) → f ≡ e → once f (record { id = p.id; must = a }) ++ once (not f && s) (record { id = p.id; must = false })
-        ≡ cond (e || s) (record { id = p.id; must = a && e } ∷ []) []
-    go true true s true q = refl
-    go true true s false q = refl
-    go true false s a q = absurd cc
-    go false true s a q = absurd cc
-    go false false true true q = refl
-    go false false true false q = refl
-    go false false false a q = refl
+    go : (f e s a : Bool) → f ≡ e → (e ≡ true → s ≡ true) → once f (record { id = p.id; must = a }) ++ once (not f && s) (record { id = p.id; must = false })
+        ≡ cond s (record { id = p.id; must = a && e } ∷ []) []
+    go true true true true q w = refl
+    go true true true false q w = refl
+    go true true false a q w = let z = w refl in absurd cc
+    go true false s a q w = absurd cc
+    go false true s a q w = absurd cc
+    go false false true true q w = refl
+    go false false true false q w = refl
+    go false false false a q w = refl
 
 split_row : (script : Script) (ps : List Publication) (p : Publication) → rows_of script (ps ++ p ∷ []) ≡ rows_of script ps ++ with_row script p []
 split_row script [] p = refl

@@ -7,8 +7,10 @@ pub mod PhaseOfAdverts
 pub mod Passing
 pub mod Publishing
 pub mod RowsOf
-pub mod Pruning
+pub mod Numbered
 pub mod Showing
 pub mod Finding
 pub mod Gathering
 pub mod Flooded
+pub mod Places
+pub mod Entering

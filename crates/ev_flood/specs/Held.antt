@@ -71,15 +71,15 @@ unadvertised a [] = false
 unadvertised a (step ∷ steps) = unadvertises step.1 a || unadvertised a steps
 
 -- how many commands are of phases below one
-abbrev pub below : ℕ → Script → ℕ
+abbrev pub below : {A : Type 0} → ℕ → List (ℕ × A) → ℕ
 below phase [] = 0
 below phase (step ∷ steps) = cond (nat_lt step.0 phase) (suc (below phase steps)) (below phase steps)
 
 -- the commands before a phase, and those of the phase
-abbrev pub before : ℕ → Script → Script
+abbrev pub before : {A : Type 0} → ℕ → List (ℕ × A) → List (ℕ × A)
 before phase script = take (below phase script) script
 
-abbrev pub within : ℕ → Script → Script
+abbrev pub within : {A : Type 0} → ℕ → List (ℕ × A) → List (ℕ × A)
 within phase script = take (below (phase + 1) script - below phase script) (drop (below phase script) script)
 
 -- a client's filters at some moment of a phase, and at each
@@ -88,10 +88,6 @@ some_filters phase script = filters_held [] (before phase script) ++ subscribed 
 
 unfoldable pub every_filters : ℕ → Script → Lists
 every_filters phase script = filter (λ f. not (withdrawn f (within phase script))) (filters_held [] (before phase script))
-
--- those that come or go within it
-unfoldable pub passing_filters : ℕ → Script → Lists
-passing_filters phase script = filter (λ f. withdrawn f (within phase script)) (filters_held [] (before phase script)) ++ subscribed (within phase script)
 
 -- its advertisements at each moment of a phase
 unfoldable pub every_adverts : ℕ → Script → Lists

@@ -1,8 +1,7 @@
 pub mod Flooding
 pub mod Held
+pub mod Numbers
 pub mod Lasting
 pub mod Publications
-pub mod Pruned
 pub mod Rows
-pub mod Shown
 pub mod Tables

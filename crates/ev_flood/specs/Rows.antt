@@ -3,7 +3,7 @@ use Rattle.std.specs.Prelude.{◌≡◌, ℕ, zero, suc, Bool, false, cond, List
 use Rattle.std.specs.declared.alloc.Global.{Global}
 use Rattle.ev_flood.specs.declared.owed.OwedRow.{OwedRow}
 use Rattle.ev_flood.specs.declared.publication.Publication.{Publication}
-use Rattle.ev_flood.specs.declared.tables.Met.{Met}
+use Rattle.ev_flood.specs.declared.meeting.Met.{Met}
 use Rattle.ev_model.specs.Parts.{ClientParts}
 use Rattle.ev_flood.specs.Publications.{rows_of}
 use Rattle.ev_flood.specs.Tables.{is_found}

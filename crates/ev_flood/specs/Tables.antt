@@ -1,45 +1,101 @@
--- Tables that hold each client's filters under its place; no promise to a caller speaks of it.
-use Rattle.std.specs.Prelude.{◌≡◌, ◌<◌, ℕ, ◌+◌, Bool, ◌&&◌, not, nat_eq, List, [], ◌∷◌, Some, length, slice_get}
-use Rattle.std.specs.List.{list_any}
+-- Tables that have each client's filters at its place; no promise to a caller speaks of it.
+use Rattle.std.specs.Prelude.{◌≡◌, ◌<◌, ◌↔◌, ℕ, ◌+◌, Bool, ◌&&◌, not, nat_eq, List, [], ◌∷◌, Some, None, length, slice_get}
+use Rattle.std.specs.List.{list_any, range_with_len}
 use Rattle.std.specs.List.Sorted.{IsStrictlyIncreasing}
+use Rattle.ev_sets.specs.Sets.{Has}
 use Rattle.ev_notice.specs.Notice.{Attribute}
-use Rattle.ev_counting.specs.Table.{HeldFilter}
+use Rattle.ev_forwarding.specs.Published.{Pair}
 use Rattle.ev_model.specs.Parts.{ClientParts}
 use Rattle.ev_wire.specs.Messages.{Lists}
-use Rattle.ev_flood.specs.Held.{Script, every_filters, passing_filters}
+use Rattle.ev_flood.specs.Held.{Script, every_filters, some_filters}
+use Rattle.ev_flood.specs.Numbers.{Steps, AreNumbers, IsAt, IsSized, every_number, ever_number}
 use Rattle.ev_flood.specs.Publications.{is_met}
-use Rattle.ev_flood.specs.Shown.{ShowsFilters}
-use Rattle.ev_flood.specs.declared.phase.PhaseFilters.{PhaseFilters}
+use Rattle.ev_flood.specs.declared.filters.ClientFilters.{ClientFilters}
 use Rattle.ev_flood.specs.declared.publication.Publication.{Publication}
 use Rattle.ev_flood.specs.declared.tables.Tables.{Tables}
-use Rattle.ev_flood.specs.declared.tables.Met.{Met}
+use Rattle.ev_flood.specs.declared.tables.Room.{Room}
+use Rattle.ev_flood.specs.declared.meeting.Met.{Met}
 
--- the tables have each client's lists
-pub record AreShown (every passing : List HeldFilter) (lists : List PhaseFilters) : Type 0 where
-  pub at_every : (place : ℕ) (list : PhaseFilters) → slice_get lists place ≡ Some list → ShowsFilters every place list.every.items
-  pub at_some : (place : ℕ) (list : PhaseFilters) → slice_get lists place ≡ Some list → ShowsFilters passing place list.passing.items
+-- the pairs have exactly these numbers at the place
+abbrev pub ShowsRow : List Pair → ℕ → List ℕ → Type 0
+ShowsRow pairs place members = (i : ℕ) → Has (place, i) pairs ↔ Has i members
 
--- the lists are as good as a client's filters of the phase
-pub record AreFiltersOf (phase : ℕ) (script : Script) (list : PhaseFilters) : Type 0 where
-  pub every : (n : List Attribute) → is_met list.every.items n ≡ is_met (every_filters phase script) n
-  pub passing : (n : List Attribute) → is_met list.passing.items n ≡ is_met (passing_filters phase script) n
+-- they have these now, and the same as before at other places
+pub record IsBrought (place : ℕ) (members : List ℕ) (old new : List Pair) : Type 0 where
+  pub shows : ShowsRow new place members
+  pub others : (x : Pair) → (x.0 ≡ place → ⊥) → Has x new ↔ Has x old
 
--- of every client
-abbrev pub AreAll : ℕ → List ClientParts → List PhaseFilters → Type 0
-AreAll phase clients lists =
-    (place : ℕ) (client : ClientParts) (list : PhaseFilters) → slice_get clients place ≡ Some client → slice_get lists place ≡ Some list
-    → AreFiltersOf phase client.script list
+-- room for so many filters
+pub record IsRoom (count : ℕ) (room : Room) : Type 0 where
+  pub every : room.every.width ≡ count
+  pub ever : room.ever.width ≡ count
+  pub change : room.change.width ≡ count
+  pub matched : room.matched.width ≡ count
 
--- of those before a place
-abbrev pub AllUpTo : ℕ → ℕ → List ClientParts → List PhaseFilters → Type 0
-AllUpTo count phase clients lists = (place : ℕ) (client : ClientParts) (list : PhaseFilters)
-    → place < count → slice_get clients place ≡ Some client → slice_get lists place ≡ Some list → AreFiltersOf phase client.script list
+-- a client with no filters
+pub record IsNone (count : ℕ) (client : ClientFilters) : Type 0 where
+  pub sized : IsSized count client
+  pub done : client.done ≡ 0
+  pub now : client.now.members ≡ []
+  pub every : client.every.members ≡ []
+  pub ever : client.ever.members ≡ []
 
--- the tables have lists of all clients, and once there is a phase those of the phase
-pub record AreTables (clients : List ClientParts) (tables : Tables) : Type 0 where
-  pub count : length tables.lists.items ≡ length clients
-  pub shown : AreShown tables.every tables.passing tables.lists.items
-  pub current : (phase : ℕ) → tables.phase ≡ Some phase → AreAll phase clients tables.lists.items
+-- the numbers of all scripts are those of filters
+abbrev pub AreAllNumbers : ℕ → List Steps → Type 0
+AreAllNumbers count scripts = (steps : Steps) → Has steps scripts → AreNumbers count steps
+
+-- the tables have each client's numbers
+pub record AreShown (every ever : List Pair) (clients : List ClientFilters) : Type 0 where
+  pub at_every : (place : ℕ) (client : ClientFilters) → slice_get clients place ≡ Some client → ShowsRow every place client.every.members
+  pub at_some : (place : ℕ) (client : ClientFilters) → slice_get clients place ≡ Some client → ShowsRow ever place client.ever.members
+
+-- each client's rows are as wide as there are filters, and it is somewhere in its script
+pub record AreGoing (known : Lists) (scripts : List Steps) (clients : List ClientFilters) : Type 0 where
+  pub sized : (place : ℕ) (client : ClientFilters) → slice_get clients place ≡ Some client → IsSized (length known) client
+  pub at : (place : ℕ) (client : ClientFilters) (steps : Steps) → slice_get clients place ≡ Some client → slice_get scripts place ≡ Some steps → IsAt known steps client
+
+-- what the tables keep
+pub record IsReady (known : Lists) (scripts : List Steps) (tables : Tables) : Type 0 where
+  pub count : length tables.clients.items ≡ length scripts
+  pub going : AreGoing known scripts tables.clients.items
+  pub shown : AreShown tables.every.pairs tables.ever.pairs tables.clients.items
+  pub every_width : tables.every.width ≡ length known
+  pub ever_width : tables.ever.width ≡ length known
+  pub every_places : tables.every.interfaces ≡ range_with_len 0 (length scripts)
+  pub ever_places : tables.ever.interfaces ≡ range_with_len 0 (length scripts)
+
+-- tables of so many clients without filters, before any phase
+pub record AreNoTables (clients wide : ℕ) (tables : Tables) : Type 0 where
+  pub phase : tables.phase ≡ None
+  pub count : length tables.clients.items ≡ clients
+  pub none : (client : ClientFilters) → Has client tables.clients.items → IsNone wide client
+  pub every_width : tables.every.width ≡ wide
+  pub ever_width : tables.ever.width ≡ wide
+  pub every_places : tables.every.interfaces ≡ range_with_len 0 clients
+  pub ever_places : tables.ever.interfaces ≡ range_with_len 0 clients
+  pub every : tables.every.pairs ≡ []
+  pub ever : tables.ever.pairs ≡ []
+
+-- a client has its numbers of a phase
+pub record IsOfPhase (known : Lists) (phase : ℕ) (steps : Steps) (client : ClientFilters) : Type 0 where
+  pub every : client.every.members ≡ every_number known phase steps
+  pub ever : client.ever.members ≡ ever_number known phase steps
+
+-- so do those before a place
+abbrev pub AllUpTo : Lists → ℕ → ℕ → List Steps → List ClientFilters → Type 0
+AllUpTo known count phase scripts clients = (place : ℕ) (steps : Steps) (client : ClientFilters)
+    → place < count → slice_get scripts place ≡ Some steps → slice_get clients place ≡ Some client → IsOfPhase known phase steps client
+
+-- and all clients
+abbrev pub AreAll : Lists → ℕ → List Steps → List ClientFilters → Type 0
+AreAll known phase scripts clients =
+    (place : ℕ) (steps : Steps) (client : ClientFilters) → slice_get scripts place ≡ Some steps → slice_get clients place ≡ Some client
+    → IsOfPhase known phase steps client
+
+-- the tables have numbers of all clients, and once there is a phase those of the phase
+pub record AreTables (known : Lists) (scripts : List Steps) (tables : Tables) : Type 0 where
+  pub ready : IsReady known scripts tables
+  pub current : (phase : ℕ) → tables.phase ≡ Some phase → AreAll known phase scripts tables.clients.items
 
 -- the place is among these
 abbrev pub is_found : ℕ → List ℕ → Bool
@@ -60,7 +116,7 @@ pub record Meets (clients : List ClientParts) (p : Publication) (met : Met) : Ty
   pub rising : ArePlacesRising met
   pub every : FindsClients (every_filters p.phase) clients p.notice met.every
   pub others : (place : ℕ) (client : ClientParts) → slice_get clients place ≡ Some client
-      → is_found place met.others.items ≡ not (is_found place met.every) && is_met (passing_filters p.phase client.script) p.notice
+      → is_found place met.others.items ≡ not (is_found place met.every) && is_met (some_filters p.phase client.script) p.notice
 
 -- those that the publication at a place meets
 abbrev pub MeetsAt : List ClientParts → List Publication → List Met → ℕ → Type 0

@@ -6,6 +6,7 @@ ghost use Rattle.ev_flood.specs.Publications.{accepted_of, all_rows_of, all_refu
 
 use crate::owed::Owed;
 use crate::rows::{accepted, all_refusals, all_rows};
+use ev_catalogue::Catalogue;
 use ev_memory::NoMemory;
 use ev_model::Net;
 use std::alloc::Global;
@@ -17,7 +18,8 @@ fn listed(alloc: Global, net: &Net) -> Result<Owed, NoMemory>
     ensures refused { IfOk result (λ owed. owed.refused.items ≡ all_refusals_of net.now.semantics net.now.clients) }
 {
     let publications = accepted(alloc, net.semantics, &net.clients)?;
-    let rows = all_rows(alloc, &net.clients, &publications)?;
+    let catalogue = Catalogue::of(alloc, net)?;
+    let rows = all_rows(alloc, &catalogue, &publications)?;
     let refused = all_refusals(alloc, net.semantics, &net.clients)?;
     Ok(Owed { rows, refused })
 }

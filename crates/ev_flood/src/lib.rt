@@ -2,14 +2,13 @@
 #![tactic(auto)]
 
 mod adverts;
+mod filters;
 mod flood;
-mod held;
+mod meeting;
 mod owed;
 mod phase;
-mod pruned;
 mod publication;
 mod rows;
-mod shown;
 mod tables;
 
 pub use flood::must_may;

@@ -1,25 +1,13 @@
-//! A client's lists within a phase.
-ghost use Rattle.std.specs.Prelude.{◌≡◌, ◌≤◌, List, length, IfOk};
-ghost use Rattle.ev_notice.specs.Notice.{Attribute};
-ghost use Rattle.ev_flood.specs.Held.{below, before, within, every_filters, passing_filters, every_adverts};
+//! A client's script by phases, and its advertisements within one.
+ghost use Rattle.std.specs.Prelude.{◌≡◌, ◌≤◌, length, IfOk};
+ghost use Rattle.ev_flood.specs.Held.{below, before, within, every_adverts};
 ghost use Rattle.ev_flood.specs.Lasting.{AreClientAdverts};
-ghost use Rattle.ev_flood.specs.Publications.{is_met};
 
-use crate::pruned::pruned;
-use crate::{adverts, held};
+use crate::adverts;
 use ev_memory::NoMemory;
-use ev_notice::{Advert, Filter};
+use ev_notice::Advert;
 use ev_wire::Command;
 use std::alloc::Global;
-
-/// A client's filters within a phase, without those that are not needed beside the others to tell whether one matches.
-#[derive(Drop)]
-pub(crate) struct PhaseFilters {
-    /// Those that are there at every moment of it.
-    pub every: Vec<Filter>,
-    /// Those that come or go within it.
-    pub passing: Vec<Filter>,
-}
 
 /// A client's advertisements at every moment of a phase.
 #[derive(Drop)]
@@ -28,8 +16,8 @@ pub(crate) struct PhaseAdverts {
     pub every: Vec<Advert>,
 }
 
-// How many commands are of phases below one.
-fn below(script: &[(u32, Command)], phase: u64) -> usize
+/// How many commands are of phases below one.
+pub(crate) fn below<C>(script: &[(u32, C)], phase: u64) -> usize
     ensures count { result ≡ below phase script.now }
     ensures within { result ≤ length script.now }
 {
@@ -43,41 +31,20 @@ fn below(script: &[(u32, Command)], phase: u64) -> usize
 }
 
 // The commands before a phase.
-fn before(script: &[(u32, Command)], phase: u32) -> &[(u32, Command)]
+fn before<C>(script: &[(u32, C)], phase: u32) -> &[(u32, C)]
     ensures { result.now ≡ before phase script.now }
 {
     &script[..below(script, u64::from(phase))]
 }
 
-// The commands of a phase.
+/// The commands of a phase.
 #[tactic(auto, using(crate::proofs::Below::below_rises))]
-fn within(script: &[(u32, Command)], phase: u32) -> &[(u32, Command)]
+pub(crate) fn within<C>(script: &[(u32, C)], phase: u32) -> &[(u32, C)]
     ensures { result.now ≡ within phase script.now }
 {
     let from = below(script, u64::from(phase));
     let upto = below(script, u64::from(phase) + 1);
     &script[from..upto]
-}
-
-/// The filters of a client within a phase.
-#[tactic(auto, unfolding(crate::specs::Held::every_filters, crate::specs::Held::passing_filters))]
-pub(crate) fn filters(
-    alloc: Global,
-    script: &[(u32, Command)],
-    phase: u32,
-) -> Result<PhaseFilters, NoMemory>
-    ensures every { IfOk result (λ lists. (n : List Attribute) → is_met lists.every.items n ≡ is_met (every_filters phase script.now) n) }
-    ensures passing { IfOk result (λ lists. (n : List Attribute) → is_met lists.passing.items n ≡ is_met (passing_filters phase script.now) n) }
-{
-    let within = within(script, phase);
-    let held = held::held(alloc, before(script, phase))?;
-    let every = held::lasting(alloc, &held, within)?;
-    let mut passing = held::leaving(alloc, &held, within)?;
-    held::push_subscribed(alloc, &mut passing, within)?;
-    Ok(PhaseFilters {
-        every: pruned(alloc, &every)?,
-        passing: pruned(alloc, &passing)?,
-    })
 }
 
 /// The advertisements of a client at every moment of a phase.

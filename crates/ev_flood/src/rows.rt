@@ -7,9 +7,10 @@ ghost use Rattle.ev_flood.specs.Publications.{accepted_of, all_rows_of, all_refu
 ghost use Rattle.ev_flood.specs.Tables.{is_found, ArePlacesRising, AllMeet};
 ghost use Rattle.ev_flood.specs.Rows.{rows_at, once, rows_by};
 
+use crate::meeting::{Met, all_met};
 use crate::owed::OwedRow;
 use crate::publication::{Publication, push_accepted, refusals};
-use crate::tables::{Met, all_met};
+use ev_catalogue::Catalogue;
 use ev_memory::NoMemory;
 use ev_model::{Client, Command, Semantics};
 use ev_wire::Lists;
@@ -55,7 +56,7 @@ fn push_rows(
         id: publication.id,
         must: publication.advertised,
     };
-    push_row(all, met.every.ifaces(), owed)?;
+    push_row(all, met.every.interfaces(), owed)?;
     let allowed = OwedRow {
         id: publication.id,
         must: false,
@@ -129,14 +130,13 @@ fn lists_of(alloc: Global, all: Vec<Vec<OwedRow>>) -> Result<Vec<Lists<OwedRow>>
 /// The rows of all clients.
 pub(crate) fn all_rows(
     alloc: Global,
-    clients: &[Client],
+    catalogue: &Catalogue,
     publications: &[Publication],
 ) -> Result<Vec<Lists<OwedRow>>, NoMemory>
-    requires { length clients.now ≤ 1024 }
-    ensures { IfOk result (λ rows. rows.items ≡ all_rows_of clients.now publications.now) }
+    ensures { IfOk result (λ rows. rows.items ≡ all_rows_of catalogue.now.clients publications.now) }
 {
-    let mets = all_met(alloc, clients, publications)?;
-    let all = rows_of_each(alloc, clients, publications, &mets)?;
+    let mets = all_met(alloc, catalogue, publications)?;
+    let all = rows_of_each(alloc, &catalogue.net().clients, publications, &mets)?;
     lists_of(alloc, all)
 }
 

@@ -1,228 +1,241 @@
-//! Counting tables of clients' filters within a phase, by which it is found whom a publication meets.
-ghost use Rattle.std.specs.Prelude.{◌≡◌, ◌≤◌, ◌<◌, [], List, Some, not, filter, length, slice_get, slice_set, IfOk, OnOk, IsPermutation};
-ghost use Rattle.std.specs.List.Sorted.{IsStrictlyIncreasing};
-ghost use Rattle.ev_model.specs.Parts.{ClientParts};
-ghost use Rattle.ev_flood.specs.Tables.{AreShown, AreTables, AreAll, is_found, Meets, AllMeet, ordered_from};
+//! Which clients have which filters within a phase, and whom a publication meets.
+ghost use Rattle.std.specs.Prelude.{◌≡◌, ◌<◌, ◌≤◌, ◌↔◌, ◌⊎◌, ℕ, List, Some, [], length, slice_get, IfOk};
+ghost use Rattle.std.specs.List.{range_with_len};
+ghost use Rattle.ev_sets.specs.Sets.{Has};
+ghost use Rattle.ev_forwarding.specs.Published.{IsOfSame};
+ghost use Rattle.ev_flood.specs.Tables.{ShowsRow, IsBrought, IsRoom, IsNone, AreAllNumbers, AreNoTables, IsReady, IsOfPhase, AreAll, AreTables};
+ghost use Rattle.ev_flood.specs.Numbers.{Steps};
+ghost use Rattle.ev_flood.specs.declared.filters.ClientFilters.{ClientFilters};
 
-use crate::phase::{self, PhaseFilters};
-use crate::publication::Publication;
-use crate::shown::bring;
-use ev_counting::{Route, Scratch, Table};
+use crate::filters::ClientFilters;
+use ev_bits::Row;
+use ev_catalogue::NumberedCommand;
+use ev_cover::Sub;
+use ev_forwarding::Forwarding;
+use ev_matcher::Scratch;
 use ev_memory::NoMemory;
-use ev_model::Client;
+use ev_wire::Lists;
 use std::alloc::Global;
 
-/// The filters of all clients within a phase, each under the place of its client.
+/// The filters of all clients within a phase.
 #[derive(Drop)]
 pub(crate) struct Tables {
     /// The phase, once there is one.
     pub phase: Option<u32>,
-    /// Those that are there at every moment of it.
-    pub every: Table,
-    /// Those that come or go within it.
-    pub passing: Table,
+    /// The numbers of those that a client has at every moment of it, each at the client's place.
+    pub every: Forwarding,
+    /// The same of those that it has at some moment of it.
+    pub ever: Forwarding,
     /// The same for each client, as the tables have them.
-    pub lists: Vec<PhaseFilters>,
+    pub clients: Vec<ClientFilters>,
 }
 
-/// The places of the clients that a publication meets, rising.
+/// Rows to work in, each as wide as there are filters.
 #[derive(Drop)]
-pub(crate) struct Met {
-    /// Those that have a matching filter at every moment of its phase.
-    pub every: Route,
-    /// The others that have one at some moment of it.
-    pub others: Vec<u32>,
+pub(crate) struct Room {
+    /// What a client had at every moment, and at some moment.
+    pub every: Row,
+    pub ever: Row,
+    /// What goes or comes.
+    pub change: Row,
+    /// What a publication matches.
+    pub matched: Row,
+    /// Where that is counted.
+    pub counting: Scratch,
 }
 
-// Lists of no filters for so many clients.
-fn no_lists(alloc: Global, count: usize) -> Result<Vec<PhaseFilters>, NoMemory>
-    ensures count { IfOk result (λ lists. length lists.items ≡ count) }
-    ensures none { IfOk result (λ lists. AreShown [] [] lists.items) }
+/// Room for so many filters.
+pub(crate) fn make_room(alloc: Global, count: u32) -> Result<Room, NoMemory>
+    ensures { IfOk result (IsRoom count) }
 {
-    let mut lists = Vec::with_capacity(alloc, count)?;
-    for _ in 0..count {
-        lists.push(PhaseFilters {
-            every: Vec::new(alloc),
-            passing: Vec::new(alloc),
-        })?;
-    }
-    Ok(lists)
-}
-
-// Tables of so many clients before any phase.
-fn no_tables(alloc: Global, clients: &[Client]) -> Result<Tables, NoMemory>
-    ensures { IfOk result (AreTables clients.now) }
-{
-    Ok(Tables {
-        phase: None,
-        every: Table::new(alloc),
-        passing: Table::new(alloc),
-        lists: no_lists(alloc, clients.len())?,
+    Ok(Room {
+        every: Row::new(alloc, count)?,
+        ever: Row::new(alloc, count)?,
+        change: Row::new(alloc, count)?,
+        matched: Row::new(alloc, count)?,
+        counting: Scratch::new(alloc),
     })
 }
 
-// The tables with other lists of a client.
-fn with_lists(
-    alloc: Global,
-    mut tables: Tables,
-    place: usize,
-    lists: PhaseFilters,
-) -> Result<Tables, NoMemory>
-    requires within { place < length tables.lists.items }
-    requires few { length tables.lists.items ≤ 1024 }
-    requires shown { AreShown tables.every tables.passing tables.lists.items }
-    ensures lists { IfOk result (λ new. new.lists.items ≡ slice_set tables.lists.items place lists) }
-    ensures shown { IfOk result (λ new. AreShown new.every new.passing new.lists.items) }
+// The places of so many clients.
+fn places(alloc: Global, count: u32) -> Result<Vec<u32>, NoMemory>
+    ensures { IfOk result (λ places. places.items ≡ range_with_len 0 count) }
 {
-    let old = &tables.lists[place];
-    bring(
-        alloc,
-        &mut tables.every,
-        place as u32,
-        &old.every,
-        &lists.every,
-    )?;
-    bring(
-        alloc,
-        &mut tables.passing,
-        place as u32,
-        &old.passing,
-        &lists.passing,
-    )?;
-    tables.lists[place] = lists;
-    Ok(tables)
-}
-
-// The tables with the lists of a phase.
-fn brought(
-    alloc: Global,
-    tables: Tables,
-    clients: &[Client],
-    phase: u32,
-) -> Result<Tables, NoMemory>
-    requires few { length clients.now ≤ 1024 }
-    requires tables { AreTables clients.now tables }
-    ensures phase { IfOk result (λ new. new.phase ≡ Some phase) }
-    ensures tables { IfOk result (AreTables clients.now) }
-{
-    let mut tables = tables;
-    for (place, client) in clients.iter().enumerate() {
-        let lists = phase::filters(alloc, &client.script, phase)?;
-        tables = with_lists(alloc, tables, place, lists)?;
+    let mut places = Vec::with_capacity(alloc, count as usize)?;
+    for place in 0..count {
+        places.push(place)?;
     }
-    tables.phase = Some(phase);
-    Ok(tables)
+    Ok(places)
 }
 
-// The tables of a phase, where those of some phase are at hand.
-fn renewed(
+// So many clients with no filters.
+fn no_clients(alloc: Global, clients: u32, count: u32) -> Result<Vec<ClientFilters>, NoMemory>
+    ensures count { IfOk result (λ list. length list.items ≡ clients) }
+    ensures none { IfOk result (λ list. (client : ClientFilters) → Has client list.items → IsNone count client) }
+{
+    let mut list = Vec::with_capacity(alloc, clients as usize)?;
+    for _ in 0..clients {
+        list.push(ClientFilters::none(alloc, count)?)?;
+    }
+    Ok(list)
+}
+
+// Takes what is in a row out at a place.
+fn take_all(table: &mut Forwarding, place: u32, row: &Row)
+    requires width { row.now.width ≡ table.old.width }
+    requires place { Has place table.old.interfaces }
+    ensures same { IsOfSame table.new table.old }
+    ensures pairs { (x : ℕ × ℕ) → Has x table.new.pairs ↔ (Has x table.old.pairs × (x.0 ≡ place → Has x.1 row.now.members → ⊥)) }
+{
+    row.is_a_set();
+    let mut at = 0;
+    while let Some(i) = row.first_from(at) {
+        table.take(i, place);
+        at = i + 1;
+    }
+}
+
+// Puts what is in a row in at a place.
+fn put_all(table: &mut Forwarding, place: u32, row: &Row)
+    requires width { row.now.width ≡ table.old.width }
+    requires place { Has place table.old.interfaces }
+    ensures same { IsOfSame table.new table.old }
+    ensures pairs { (x : ℕ × ℕ) → Has x table.new.pairs ↔ (Has x table.old.pairs ⊎ ((x.0 ≡ place) × Has x.1 row.now.members)) }
+{
+    row.is_a_set();
+    let mut at = 0;
+    while let Some(i) = row.first_from(at) {
+        table.put(i, place);
+        at = i + 1;
+    }
+}
+
+// Brings what a table has at a place from old numbers to new ones.
+fn bring(table: &mut Forwarding, place: u32, old: &Row, new: &Row, change: &mut Row)
+    requires old { old.now.width ≡ table.old.width }
+    requires new { new.now.width ≡ table.old.width }
+    requires change { change.old.width ≡ table.old.width }
+    requires place { Has place table.old.interfaces }
+    requires shown { ShowsRow table.old.pairs place old.now.members }
+    ensures same { IsOfSame table.new table.old }
+    ensures change { change.new.width ≡ change.old.width }
+    ensures brought { IsBrought place new.now.members table.old.pairs table.new.pairs }
+{
+    change.copy_from(old);
+    change.remove_all(new);
+    take_all(table, place, change);
+    change.copy_from(new);
+    change.remove_all(old);
+    put_all(table, place, change);
+}
+
+// Tables of so many clients before any phase.
+fn no_tables(alloc: Global, clients: u32, count: u32) -> Result<Tables, NoMemory>
+    ensures { IfOk result (AreNoTables clients count) }
+{
+    let places = places(alloc, clients)?;
+    Ok(Tables {
+        phase: None,
+        every: Forwarding::new(alloc, count, &places)?,
+        ever: Forwarding::new(alloc, count, &places)?,
+        clients: no_clients(alloc, clients, count)?,
+    })
+}
+
+/// Tables before any phase.
+pub(crate) fn first_tables(
     alloc: Global,
-    tables: Tables,
-    clients: &[Client],
-    phase: u32,
+    filters: &[Sub],
+    scripts: &[Lists<(u32, NumberedCommand)>],
 ) -> Result<Tables, NoMemory>
-    requires few { length clients.now ≤ 1024 }
-    requires tables { AreTables clients.now tables }
-    ensures phase { IfOk result (λ new. new.phase ≡ Some phase) }
-    ensures tables { IfOk result (AreTables clients.now) }
+    requires few { length filters.now ≤ 4096 }
+    requires few_scripts { length scripts.now ≤ 1024 }
+    ensures { IfOk result (AreTables filters.now scripts.now) }
+{
+    no_tables(alloc, scripts.len() as u32, filters.len() as u32)
+}
+
+// A client enters a phase.
+fn enter(
+    tables: &mut Tables,
+    filters: &[Sub],
+    scripts: &[Lists<(u32, NumberedCommand)>],
+    place: usize,
+    phase: u32,
+    room: &mut Room,
+)
+    requires few_scripts { length scripts.now ≤ 1024 }
+    requires numbers { AreAllNumbers (length filters.now) scripts.now }
+    requires ready { IsReady filters.now scripts.now tables.old }
+    requires place { place < length scripts.now }
+    requires room { IsRoom (length filters.now) room.old }
+    ensures room { IsRoom (length filters.now) room.new }
+    ensures ready { IsReady filters.now scripts.now tables.new }
+    ensures others { (q : ℕ) → (q ≡ place → ⊥) → slice_get tables.new.clients.items q ≡ slice_get tables.old.clients.items q }
+    ensures mine { (client : ClientFilters) (steps : Steps) → slice_get tables.new.clients.items place ≡ Some client
+        → slice_get scripts.now place ≡ Some steps → IsOfPhase filters.now phase steps client }
+{
+    room.every.copy_from(&tables.clients[place].every);
+    room.ever.copy_from(&tables.clients[place].ever);
+    tables.clients[place].enter(filters, scripts[place].as_slice(), phase);
+    let client = &tables.clients[place];
+    let at = place as u32;
+    bring(
+        &mut tables.every,
+        at,
+        &room.every,
+        &client.every,
+        &mut room.change,
+    );
+    bring(
+        &mut tables.ever,
+        at,
+        &room.ever,
+        &client.ever,
+        &mut room.change,
+    );
+}
+
+// All clients enter a phase.
+fn enter_all(
+    tables: &mut Tables,
+    filters: &[Sub],
+    scripts: &[Lists<(u32, NumberedCommand)>],
+    phase: u32,
+    room: &mut Room,
+)
+    requires few_scripts { length scripts.now ≤ 1024 }
+    requires numbers { AreAllNumbers (length filters.now) scripts.now }
+    requires ready { IsReady filters.now scripts.now tables.old }
+    requires room { IsRoom (length filters.now) room.old }
+    ensures room { IsRoom (length filters.now) room.new }
+    ensures ready { IsReady filters.now scripts.now tables.new }
+    ensures all { AreAll filters.now phase scripts.now tables.new.clients.items }
+{
+    for place in 0..scripts.len() {
+        enter(tables, filters, scripts, place, phase, room);
+    }
+}
+
+/// Makes the tables those of a phase.
+pub(crate) fn enter_phase(
+    tables: &mut Tables,
+    filters: &[Sub],
+    scripts: &[Lists<(u32, NumberedCommand)>],
+    phase: u32,
+    room: &mut Room,
+)
+    requires few_scripts { length scripts.now ≤ 1024 }
+    requires numbers { AreAllNumbers (length filters.now) scripts.now }
+    requires tables { AreTables filters.now scripts.now tables.old }
+    requires room { IsRoom (length filters.now) room.old }
+    ensures room { IsRoom (length filters.now) room.new }
+    ensures phase { tables.new.phase ≡ Some phase }
+    ensures tables { AreTables filters.now scripts.now tables.new }
 {
     if tables.phase == Some(phase) {
-        return Ok(tables);
+        return;
     }
-    brought(alloc, tables, clients, phase)
-}
-
-// Whether the place is among these.
-fn is_found(place: u32, places: &[u32]) -> bool
-    requires { IsStrictlyIncreasing places.now }
-    ensures { result ≡ is_found place places.now }
-{
-    places.binary_search(&place).is_ok()
-}
-
-// The places that are not among the others.
-fn without(alloc: Global, places: &[u32], others: &[u32]) -> Result<Vec<u32>, NoMemory>
-    requires { IsStrictlyIncreasing others.now }
-    ensures { IfOk result (λ left. left.items ≡ filter (λ x. not (is_found x others.now)) places.now) }
-{
-    let mut left = Vec::new(alloc);
-    for place in places {
-        if !is_found(*place, others) {
-            left.push(*place)?;
-        }
-    }
-    Ok(left)
-}
-
-// Whom a publication of the tables' phase meets.
-fn met_by(
-    alloc: Global,
-    tables: &Tables,
-    scratch: &mut Scratch,
-    publication: &Publication,
-) -> Result<Met, NoMemory>
-    ensures { (clients : List ClientParts) → AreTables clients tables.now → tables.now.phase ≡ Some publication.now.phase
-        → IfOk result (Meets clients publication.now) }
-{
-    let _ = publication.notice.attributes();
-    let every = tables.every.route(&publication.notice, scratch)?;
-    let passing = tables.passing.route(&publication.notice, scratch)?;
-    let others = without(alloc, passing.ifaces(), every.ifaces())?;
-    Ok(Met { every, others })
-}
-
-// The places of publications with their phases, by phase.
-fn by_phase(alloc: Global, publications: &[Publication]) -> Result<Vec<(u32, usize)>, NoMemory>
-    ensures { IfOk result (λ order. IsPermutation (ordered_from 0 publications.now) order.items) }
-{
-    let mut order = Vec::with_capacity(alloc, publications.len())?;
-    for (place, publication) in publications.iter().enumerate() {
-        order.push((publication.phase, place))?;
-    }
-    order.sort()?;
-    Ok(order)
-}
-
-// So many that meet nobody.
-fn nobody(alloc: Global, count: usize) -> Result<Vec<Met>, NoMemory>
-    ensures { IfOk result (λ mets. length mets.items ≡ count) }
-{
-    let mut mets = Vec::with_capacity(alloc, count)?;
-    for _ in 0..count {
-        mets.push(Met {
-            every: Route::nowhere(alloc),
-            others: Vec::new(alloc),
-        })?;
-    }
-    Ok(mets)
-}
-
-// The publication at a place.
-fn publication_at(publications: &[Publication], place: usize) -> &Publication
-    requires { place < length publications.now }
-    ensures { slice_get publications.now place ≡ Some result.now }
-{
-    &publications[place]
-}
-
-/// Whom each publication meets. They are gone through by phase, and from phase to phase the tables change only where a
-/// client's filters do.
-pub(crate) fn all_met(
-    alloc: Global,
-    clients: &[Client],
-    publications: &[Publication],
-) -> Result<Vec<Met>, NoMemory>
-    requires { length clients.now ≤ 1024 }
-    ensures { IfOk result (λ mets. AllMeet clients.now publications.now mets.items) }
-{
-    let order = by_phase(alloc, publications)?;
-    let mut mets = nobody(alloc, publications.len())?;
-    let mut scratch = Scratch::new(alloc);
-    let mut tables = no_tables(alloc, clients)?;
-    for (_, place) in &order {
-        let publication = publication_at(publications, *place);
-        tables = renewed(alloc, tables, clients, publication.phase)?;
-        mets[*place] = met_by(alloc, &tables, &mut scratch, publication)?;
-    }
-    Ok(mets)
+    enter_all(tables, filters, scripts, phase, room);
+    tables.phase = Some(phase);
 }

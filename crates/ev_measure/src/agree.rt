@@ -1,11 +1,8 @@
 //! The comparing of the table with the scan over small made tables.
 ghost use Rattle.std.specs.Prelude.{◌<◌};
 
-use crate::fault::Fault;
-use crate::made::Maker;
-use crate::plan::{Plan, Subject};
-use crate::random::Random;
 use ev_counting::{Change, Scratch, Table};
+use ev_made::{Fault, Maker, Plan, Random, Subject};
 use ev_notice::{Filter, Notice};
 use std::alloc::Global;
 

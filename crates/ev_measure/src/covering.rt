@@ -1,13 +1,10 @@
 //! The measuring of the covering graph beside the plain body.
-use crate::fault::Fault;
 use crate::histories::put;
 use crate::kept::Kept;
-use crate::made::Maker;
 use crate::plain::Plain;
-use crate::plan::{Plan, Subject};
-use crate::random::Random;
 use ev_constraint::{Constraint, Op};
 use ev_cover::Sub;
+use ev_made::{Fault, Maker, Plan, Random, Subject};
 use ev_notice::Filter;
 use ev_values::{Kind, Name, Value};
 use std::alloc::Global;

@@ -1,11 +1,8 @@
 //! The comparing of the covering graph with the plain body over made histories.
-use crate::fault::Fault;
 use crate::kept::Kept;
-use crate::made::Maker;
 use crate::plain::Plain;
-use crate::plan::{Plan, Subject};
-use crate::random::Random;
 use ev_cover::Sub;
+use ev_made::{Fault, Maker, Plan, Random, Subject};
 use ev_pool::Cover;
 use std::alloc::Global;
 

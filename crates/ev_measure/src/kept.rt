@@ -2,8 +2,8 @@
 ghost use Rattle.std.specs.Prelude.{IfOk};
 ghost use Rattle.ev_pool.specs.Pool.{IsLive, KeepsItems};
 
-use crate::fault::Fault;
 use ev_cover::Sub;
+use ev_made::Fault;
 use ev_pool::{Cover, Key, Pool};
 use ev_poset::Poset;
 use std::alloc::Global;

@@ -4,19 +4,13 @@
 mod agree;
 mod counts;
 mod covering;
-mod fault;
 mod figures;
 mod histories;
 mod kept;
-mod made;
 mod measure;
 mod plain;
-mod plan;
-mod random;
-mod words;
-mod workload;
 
-use fault::Fault;
+use ev_made::Fault;
 use std::alloc::Global;
 use std::rt::Env;
 

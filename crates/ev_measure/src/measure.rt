@@ -1,10 +1,8 @@
 //! The measuring of the table.
 use crate::counts::Counts;
-use crate::fault::Fault;
 use crate::figures::{Figures, HEAD, print_figures};
-use crate::made::Maker;
-use crate::workload::{WORKLOADS, Workload};
 use ev_counting::{Change, Scratch, Table};
+use ev_made::{Fault, Maker, WORKLOADS, Workload};
 use ev_notice::{Filter, Notice};
 use std::alloc::Global;
 use std::rt::Clock;

@@ -1,6 +1,6 @@
 //! The plain body of the covering sets: a list of pairs, of which each item is compared with each.
-use crate::fault::Fault;
 use ev_cover::Sub;
+use ev_made::Fault;
 use ev_pool::Cover;
 use std::alloc::Global;
 

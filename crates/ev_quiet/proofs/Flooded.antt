@@ -1,5 +1,5 @@
 -- Two nets of one document have the same clients, so its flood text is that of each.
-use Rattle.std.proofs.Common.{◌≡◌, ℕ, zero, suc, ◌+◌, ◌≤◌, true, List, [], ◌∷◌, ◌++◌, map, length, slice_get, Some, Result, Ok, refl, sym, ap, ◌∙◌, subst, arith}
+use Rattle.std.proofs.Common.{◌≡◌, ℕ, zero, suc, ◌+◌, ◌≤◌, true, List, [], ◌∷◌, map, length, slice_get, Some, Result, Ok, refl, sym, ap, ◌∙◌, subst, arith}
 use Rattle.std.specs.List.{range_with_len}
 use Rattle.ev_wire.specs.declared.delivery.Delivery.{Delivery}
 use Rattle.ev_model.specs.Parts.{ClientParts, NetParts, EntryParts}
@@ -16,8 +16,9 @@ use Rattle.ev_report.specs.Drained.{inboxes}
 use Rattle.ev_report.specs.Flood.{flood_sections, flood_text}
 use Rattle.ev_report.specs.Published.{texts_in}
 use Rattle.ev_quiet.specs.Runs.{refused_in, received_in}
-use Rattle.ev_quiet.specs.Printed.{IsFloodOf, run_text}
-use Rattle.ev_quiet.specs.Promise.{sorted, IsWholeRun}
+use Rattle.ev_quiet.specs.Printed.{IsFloodOf}
+use Rattle.ev_quiet.specs.Promise.{lists_text}
+use Rattle.ev_quiet.specs.Network.{lists_by, IsWholeRun}
 use Rattle.ev_quiet.proofs.Inboxes.{client-lives, listed}
 use Rattle.ev_quiet.proofs.SameNets.{same-flooding}
 
@@ -62,20 +63,19 @@ all-refused net journal rows refused drained flooding =
         ∙ ap (refused_ordinals net (suc i)) (sym (drained.taken (home_of net (suc i)) (suc i) (client-lives net (suc i) (omega arith, below))))
         ∙ ap (refused_by net journal) (one-more i)
 
-append-none : (xs : List ℕ) → xs ++ [] ≡ xs
-append-none [] = refl
-append-none (x ∷ xs) = ap (λ l. x ∷ l) (append-none xs)
+-- what flooding owes by a document it owes in each of its nets
+pub flooding-in : (input : List ℕ) (net : NetParts) (text : List ℕ) → IsNetOf input net → (flood : IsFloodOf input text) → IsFlooding net flood.rows flood.refused
+flooding-in input net text of flood =
+    same-flooding flood.net net flood.rows flood.refused (same-semantics input flood.net net flood.well_formed of) (same-clients input flood.net net flood.well_formed of) flood.flooding
 
 pub flood-printed : (input : List ℕ) (net : NetParts) (journal : List EntryParts) (text : List ℕ) → IsNetOf input net → IsWholeRun net journal → (flood : IsFloodOf input text)
     → (IsFlooding net flood.rows flood.refused
     → flood_text net flood.refused flood.rows ≡ deliveries_text net flood.refused (inboxes (received_by net journal) 1 net.clients) true)
-    → run_text sorted net journal ≡ text
+    → lists_text net (lists_by net journal) true ≡ text
 flood-printed input net journal text of whole flood printed =
-    let clients = same-clients input flood.net net flood.well_formed of in
-    let flooding = same-flooding flood.net net flood.rows flood.refused (same-semantics input flood.net net flood.well_formed of) clients flood.flooding in
-    append-none (deliveries_text net (refused_in net journal) (received_in net journal) true)
-    ∙ ap (λ l. deliveries_text net l (received_in net journal) true) (sym (all-refused net journal flood.rows flood.refused whole.drained flooding))
+    let flooding = flooding-in input net text of flood in
+    ap (λ l. deliveries_text net l (received_in net journal) true) (sym (all-refused net journal flood.rows flood.refused whole.drained flooding))
     ∙ ap (λ l. deliveries_text net flood.refused l true) (sym (numbered-inboxes (received_by net journal) 1 net.clients))
     ∙ sym (printed flooding)
-    ∙ sym (ap (λ l. sections l flood.refused flood.rows) clients)
+    ∙ sym (ap (λ l. sections l flood.refused flood.rows) (same-clients input flood.net net flood.well_formed of))
     ∙ sym flood.printed

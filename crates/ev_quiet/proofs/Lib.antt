@@ -1,6 +1,8 @@
 pub mod Inboxes
 pub mod SameNets
 pub mod Flooded
+pub mod Settled
+pub mod Headlines
 pub mod Schedules
 pub mod Told
 pub mod Ended

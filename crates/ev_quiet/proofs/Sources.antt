@@ -1,9 +1,8 @@
--- What is known of a document that a source told, by what it gave.
-use Rattle.std.proofs.Common.{◌≡◌, inl, inr, ℕ, ◌<◌, nat_lt, Bool, true, false, List, [], ◌∷◌, ◌++◌, if◌then◌else◌, length, Option, Some, None, Result, Ok, Err, refl, sym, ap, ◌∙◌, subst, arith, length-append}
-use Rattle.std.specs.Option.{IfSome}
-use Rattle.std.specs.Io.KnownBytes.{Consumes, IsAtEnd}
+-- What is known of a document that a source gave.
+use Rattle.std.proofs.Common.{◌≡◌, inl, inr, ℕ, ◌<◌, ◌≤◌, nat_lt, Bool, true, false, List, ◌++◌, if◌then◌else◌, length, Result, Ok, Err, refl, sym, ap, ◌∙◌, subst, arith}
 use Rattle.std.proofs.lemmas.Bool.Decides.{nat_tests}
-use Rattle.ev_outside.specs.Whole.{Gave, GaveAll}
+use Rattle.std.proofs.lemmas.List.{append_cancel_left}
+use Rattle.ev_outside.specs.Whole.{Gave}
 use Rattle.ev_input.specs.declared.fault.Fault.{Fault}
 use Rattle.ev_input.specs.declared.fault.Fault.TheVariants.{TooLong}
 use Rattle.ev_input.specs.declared.state.State.{State}
@@ -14,8 +13,10 @@ use Rattle.ev_quiet.specs.declared.refusal.Refusal.{Refusal}
 use Rattle.ev_quiet.specs.declared.refusal.Refusal.TheVariants as refusals
 use Rattle.ev_quiet.specs.declared.words.Query.{Query}
 use Rattle.ev_quiet.specs.declared.words.Query.TheVariants.{Run, Flood, Check}
+use Rattle.ev_quiet.specs.declared.words.Wanted.TheVariants.{Document}
 use Rattle.ev_quiet.specs.Faults.{HasNet, IsAtFault, MustBeRefused, CanBeDone}
-use Rattle.ev_quiet.proofs.Ended.{Refused, Ended}
+use Rattle.ev_quiet.specs.Answers.{HasFaultFor}
+use Rattle.ev_quiet.proofs.Ended.{Refused}
 
 -- a document that is too long
 too-long : (input : List ℕ) → 4194304 < length input → IsBadAt input 0 TooLong
@@ -31,32 +32,18 @@ by-bytes (Run schedule shown) input line kind b = inl b
 by-bytes Flood input line kind b = b
 by-bytes Check input line kind b = b
 
--- where more was given than a document may have, what the source told was too long
-pub gave-long : (old new : Option (List ℕ)) (given : List ℕ) → Consumes old new given → length given ≡ 4194305 → IfSome old (λ input. IsBadAt input 0 TooLong)
-gave-long None new given c l = tt
-gave-long (Some input) None given c l = absurd c
-gave-long (Some input) (Some rest) given c l =
-    too-long input (subst (λ (z : List ℕ). 4194304 < length z) (sym c) (omega (arith, length-append given rest, l)))
+-- a call gave one list of bytes
+pub same-given : (a b x y : List ℕ) → b ≡ a ++ x → b ≡ a ++ y → x ≡ y
+same-given a b x y p q = append_cancel_left a x y (sym p ∙ q)
 
-pub long-fault : (query : Query) (old new : Option (List ℕ)) (line : ℕ) (kind : Fault) → (line ≡ 0) × (kind ≡ TooLong) × Gave old new (λ given. length given ≡ 4194305)
-    → IfSome old (λ input. IsAtFault query input line kind)
-long-fault query old new line kind t = lift old (gave-long old new t.2.0 t.2.1 t.2.2)
-  where
-    lift : (o : Option (List ℕ)) → IfSome o (λ input. IsBadAt input 0 TooLong) → IfSome o (λ input. IsAtFault query input line kind)
-    lift None b = tt
-    lift (Some input) b = subst (λ l. IsAtFault query input l kind) (sym t.0) (subst (λ k. IsAtFault query input 0 k) (sym t.1) (by-bytes query input 0 TooLong b))
-
--- all that a source gave is what it told
-pub given-input : (old new : Option (List ℕ)) (bytes input : List ℕ) → GaveAll old new bytes → old ≡ Some input → bytes ≡ input
-given-input old new bytes input g e = go new (subst (λ o. Consumes o new bytes) e g.0) g.1
-  where
-    go : (n : Option (List ℕ)) → Consumes (Some input) n bytes → IsAtEnd n → bytes ≡ input
-    go None c end = absurd c
-    go (Some rest) c end = sym (c ∙ ap (λ z. bytes ++ z) end ∙ none bytes)
-      where
-        none : (xs : List ℕ) → xs ++ [] ≡ xs
-        none [] = refl
-        none (x ∷ xs) = ap (λ z. x ∷ z) (none xs)
+-- where more was given than a document may have, that is its fault
+pub long-fault : (query : Query) (a b : List ℕ) (ended : Bool) (line : ℕ) (kind : Fault) → (line ≡ 0) × (kind ≡ TooLong) × Gave a b (λ given. length given ≡ 4194305)
+    → HasFaultFor (Document query) a b ended line kind
+long-fault query a b ended line kind t =
+    let input = t.2.0 in
+    let big : 4194304 < length input = omega (arith, t.2.2) in
+    let fault : IsAtFault query input 0 TooLong = by-bytes query input 0 TooLong (too-long input big) in
+    (input, (t.2.1, inr big), subst (λ l. IsAtFault query input l kind) (sym t.0) (subst (λ k. IsAtFault query input 0 k) (sym t.1) fault))
 
 one-fault : (input : List ℕ) (line : ℕ) (kind : Fault) → IsBadAt input 0 TooLong → IsBadAt input line kind → (0 ≡ line) × (TooLong ≡ kind)
 one-fault input line kind a b = go (sym a ∙ b)
@@ -85,25 +72,21 @@ never-done (Run schedule shown) input a d = no-net input a d.0
 never-done Flood input a d = no-net input a d
 never-done Check input a d = no-net input a d
 
-told : (old : Option (List ℕ)) (input : List ℕ) (P : List ℕ → Type 0) → IfSome old P → old ≡ Some input → P input
-told old input P h e = subst (λ o. IfSome o P) e h
-
--- where reading ended with a refusal, that is the answer
-pub unread-refused : {T : Type 0} (query : Query) (old new : Option (List ℕ)) (input : List ℕ) (e : Refusal) (r : Result T Refusal) (line : ℕ) (kind : Fault) → r ≡ Err e
-    → ((l : ℕ) (k : Fault) → e ≡ refusals.BadInput l k → (l ≡ 0) × (k ≡ TooLong) × Gave old new (λ given. length given ≡ 4194305))
-    → (e ≡ refusals.ReadFault → ⊥) → old ≡ Some input → MustBeRefused query input line kind → Refused r line kind
-unread-refused query old new input (refusals.BadInput l k) r line kind s long unread is m =
+-- where too much was given, that is the answer
+pub unread-refused : {T : Type 0} (query : Query) (a b input : List ℕ) (e : Refusal) (r : Result T Refusal) (line : ℕ) (kind : Fault) → r ≡ Err e
+    → ((l : ℕ) (k : Fault) → e ≡ refusals.BadInput l k → (l ≡ 0) × (k ≡ TooLong) × Gave a b (λ given. length given ≡ 4194305))
+    → (e ≡ refusals.ReadFault → Gave a b (λ given. length given ≤ 4194304))
+    → b ≡ a ++ input → 4194304 < length input → MustBeRefused query input line kind → Refused r line kind
+unread-refused query a b input (refusals.BadInput l k) r line kind s long within is big m =
     let t = long l k refl in
-    let w = must-be-long query input line kind (told old input (λ z. IsBadAt z 0 TooLong) (gave-long old new t.2.0 t.2.1 t.2.2) is) m in
+    let w = must-be-long query input line kind (too-long input big) m in
     inl (s ∙ ap (λ z. Err (refusals.BadInput z k)) (t.0 ∙ w.0) ∙ ap (λ z. Err (refusals.BadInput line z)) (t.1 ∙ w.1))
-unread-refused query old new input refusals.ReadFault r line kind s long unread is m = absurd (unread refl)
-unread-refused query old new input refusals.NoMemory r line kind s long unread is m = inr s
+unread-refused query a b input refusals.ReadFault r line kind s long within is big m =
+    let t = within refl in
+    let same : input ≡ t.0 = same-given a b input t.0 is t.1 in
+    absurd (omega (arith, big, subst (λ (z : List ℕ). length z ≤ 4194304) (sym same) t.2))
+unread-refused query a b input refusals.NoMemory r line kind s long within is big m = inr s
 
-pub unread-done : {T : Type 0} (query : Query) (old new : Option (List ℕ)) (input : List ℕ) (e : Refusal) (r : Result T Refusal) → r ≡ Err e
-    → ((l : ℕ) (k : Fault) → e ≡ refusals.BadInput l k → (l ≡ 0) × (k ≡ TooLong) × Gave old new (λ given. length given ≡ 4194305))
-    → (e ≡ refusals.ReadFault → ⊥) → old ≡ Some input → CanBeDone query input → Ended r
-unread-done query old new input (refusals.BadInput l k) r s long unread is d =
-    let t = long l k refl in
-    absurd (never-done query input (told old input (λ z. IsBadAt z 0 TooLong) (gave-long old new t.2.0 t.2.1 t.2.2) is) d)
-unread-done query old new input refusals.ReadFault r s long unread is d = absurd (unread refl)
-unread-done query old new input refusals.NoMemory r s long unread is d = inr s
+-- and nothing can be done of it
+pub unread-done : (query : Query) (input : List ℕ) → 4194304 < length input → CanBeDone query input → ⊥
+unread-done query input big d = never-done query input (too-long input big) d

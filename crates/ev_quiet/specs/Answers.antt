@@ -1,7 +1,6 @@
--- What is answered to words over a source: what is printed, with the outcome's journal, and the faults.
-use Rattle.std.specs.Prelude.{◌≡◌, ℕ, Bool, true, false, List, [], Option, Some, None, IfSome}
-use Rattle.std.specs.Io.KnownBytes.{Appends}
-use Rattle.ev_outside.specs.Whole.{AppendsPart}
+-- What is answered to words, by what the source gave in the call and what the sink took: what is printed, with the outcome's journal, and the faults.
+use Rattle.std.specs.Prelude.{◌≡◌, ℕ, ◌<◌, ◌⊎◌, Bool, true, false, List, [], ◌++◌, length, Option, Some, None}
+use Rattle.ev_outside.specs.Whole.{TookPart}
 use Rattle.ev_model.specs.Parts.{EntryParts}
 use Rattle.ev_input.specs.declared.fault.Fault.{Fault}
 use Rattle.ev_generate.specs.Document.{generated}
@@ -24,23 +23,29 @@ abbrev pub IsGenerated : ℕ → Bool → List ℕ → List EntryParts → Type 
 IsGenerated seed false text journal = (text ≡ generated seed) × (journal ≡ [])
 IsGenerated seed true text journal = IsSummaryOf (generated seed) text journal
 
--- those that are wanted of a source with these bytes left, where it tells them
-abbrev pub IsPrintedBy : Wanted → Option (List ℕ) → List ℕ → List EntryParts → Type 0
-IsPrintedBy (Document query) left text journal = IfSome left (λ input. IsPrintedOf query input text journal)
-IsPrintedBy (Generate seed summary) left text journal = IsGenerated seed summary text journal
+-- THE SOURCE GAVE A DOCUMENT in the call: these are all its bytes up to its end, or they are more than a document may have
+abbrev pub GaveDocument : List ℕ → List ℕ → Bool → List ℕ → Type 0
+GaveDocument given now ended input = (now ≡ given ++ input) × ((ended ≡ true) ⊎ (4194304 < length input))
 
--- those that words ask for
-abbrev pub IsPrinted : Option Wanted → Option (List ℕ) → List ℕ → List EntryParts → Type 0
-IsPrinted None left text journal = ⊥
-IsPrinted (Some wanted) left text journal = IsPrintedBy wanted left text journal
+-- what is wanted of the document that the source gave, at whose end it stands; or what a seed gives
+abbrev pub IsPrintedBy : Wanted → List ℕ → List ℕ → Bool → List ℕ → List EntryParts → Type 0
+IsPrintedBy (Document query) given now ended text journal =
+    (input : List ℕ) × (now ≡ given ++ input) × (ended ≡ true) × IsPrintedOf query input text journal
+IsPrintedBy (Generate seed summary) given now ended text journal = IsGenerated seed summary text journal
 
--- a sink grew by the text that words ask for, which gives this journal
-abbrev pub Prints : Option Wanted → Option (List ℕ) → List EntryParts → Option (List ℕ) → Option (List ℕ) → Type 0
-Prints wanted left journal old new = (text : List ℕ) × IsPrinted wanted left text journal × Appends old new text
+-- what words ask for
+abbrev pub IsPrinted : Option Wanted → List ℕ → List ℕ → Bool → List ℕ → List EntryParts → Type 0
+IsPrinted None given now ended text journal = ⊥
+IsPrinted (Some wanted) given now ended text journal = IsPrintedBy wanted given now ended text journal
 
--- it grew by a front of such a text that is not all of it
-abbrev pub PrintsPart : Option Wanted → Option (List ℕ) → Option (List ℕ) → Option (List ℕ) → Type 0
-PrintsPart wanted left old new = (text : List ℕ) × (journal : List EntryParts) × IsPrinted wanted left text journal × AppendsPart old new text
+-- a sink took the text that words ask for, which gives this journal
+abbrev pub Prints : Option Wanted → List ℕ → List ℕ → Bool → List EntryParts → List ℕ → List ℕ → Type 0
+Prints wanted given now ended journal old new = (text : List ℕ) × IsPrinted wanted given now ended text journal × (new ≡ old ++ text)
+
+-- it took a front of such a text that is not all of it
+abbrev pub PrintsPart : Option Wanted → List ℕ → List ℕ → Bool → List ℕ → List ℕ → Type 0
+PrintsPart wanted given now ended old new =
+    (text : List ℕ) × (journal : List EntryParts) × IsPrinted wanted given now ended text journal × TookPart old new text
 
 -- whether a document is wanted of the source
 abbrev pub reads_document : Wanted → Bool
@@ -51,29 +56,29 @@ abbrev pub reads : Option Wanted → Bool
 reads None = false
 reads (Some wanted) = reads_document wanted
 
--- the document of the source, where it tells it, is at fault
-abbrev pub HasFaultFor : Wanted → Option (List ℕ) → ℕ → Fault → Type 0
-HasFaultFor (Document query) left line kind = IfSome left (λ input. IsAtFault query input line kind)
-HasFaultFor (Generate seed summary) left line kind = ⊥
+-- the document that the source gave is at fault
+abbrev pub HasFaultFor : Wanted → List ℕ → List ℕ → Bool → ℕ → Fault → Type 0
+HasFaultFor (Document query) given now ended line kind = (input : List ℕ) × GaveDocument given now ended input × IsAtFault query input line kind
+HasFaultFor (Generate seed summary) given now ended line kind = ⊥
 
-abbrev pub HasFault : Option Wanted → Option (List ℕ) → ℕ → Fault → Type 0
-HasFault None left line kind = ⊥
-HasFault (Some wanted) left line kind = HasFaultFor wanted left line kind
+abbrev pub HasFault : Option Wanted → List ℕ → List ℕ → Bool → ℕ → Fault → Type 0
+HasFault None given now ended line kind = ⊥
+HasFault (Some wanted) given now ended line kind = HasFaultFor wanted given now ended line kind
 
--- the source tells a document that must be refused
-abbrev pub TellsRefusedFor : Wanted → Option (List ℕ) → ℕ → Fault → Type 0
-TellsRefusedFor (Document query) left line kind = (input : List ℕ) × (left ≡ Some input) × MustBeRefused query input line kind
-TellsRefusedFor (Generate seed summary) left line kind = ⊥
+-- the source gave a document that must be refused
+abbrev pub GaveRefusedFor : Wanted → List ℕ → List ℕ → Bool → ℕ → Fault → Type 0
+GaveRefusedFor (Document query) given now ended line kind = (input : List ℕ) × GaveDocument given now ended input × MustBeRefused query input line kind
+GaveRefusedFor (Generate seed summary) given now ended line kind = ⊥
 
-abbrev pub TellsRefused : Option Wanted → Option (List ℕ) → ℕ → Fault → Type 0
-TellsRefused None left line kind = ⊥
-TellsRefused (Some wanted) left line kind = TellsRefusedFor wanted left line kind
+abbrev pub GaveRefused : Option Wanted → List ℕ → List ℕ → Bool → ℕ → Fault → Type 0
+GaveRefused None given now ended line kind = ⊥
+GaveRefused (Some wanted) given now ended line kind = GaveRefusedFor wanted given now ended line kind
 
--- words ask for something, and the source tells a document of which that can be done
-abbrev pub CanAnswerFor : Wanted → Option (List ℕ) → Type 0
-CanAnswerFor (Document query) left = (input : List ℕ) × (left ≡ Some input) × CanBeDone query input
-CanAnswerFor (Generate seed summary) left = Unit {0}
+-- words ask for something, and the source gave a document of which that can be done
+abbrev pub CanAnswerFor : Wanted → List ℕ → List ℕ → Bool → Type 0
+CanAnswerFor (Document query) given now ended = (input : List ℕ) × GaveDocument given now ended input × CanBeDone query input
+CanAnswerFor (Generate seed summary) given now ended = Unit {0}
 
-abbrev pub CanAnswer : Option Wanted → Option (List ℕ) → Type 0
-CanAnswer None left = ⊥
-CanAnswer (Some wanted) left = CanAnswerFor wanted left
+abbrev pub CanAnswer : Option Wanted → List ℕ → List ℕ → Bool → Type 0
+CanAnswer None given now ended = ⊥
+CanAnswer (Some wanted) given now ended = CanAnswerFor wanted given now ended

@@ -3,6 +3,7 @@ pub mod Status
 pub mod Runs
 pub mod Printed
 pub mod Promise
+pub mod Network
 pub mod Headline
 pub mod Faults
 pub mod Ran

@@ -1,39 +1,37 @@
--- What a run that took all commands promises to the clients.
-use Rattle.std.specs.Prelude.{◌≡◌, ℕ, suc, ◌≤◌, ◌==◌, ◌&&◌, Bool, true, false, cond, List, [], ◌∷◌}
+-- What the clients are promised: by the net of a document and the printed text alone.
+use Rattle.std.specs.Prelude.{◌≡◌, ℕ, suc, ◌≤◌, ◌==◌, ◌&&◌, Bool, true, cond, List, [], ◌∷◌, ◌++◌, slice_get, Some}
+use Rattle.std.specs.List.{flat_map}
 use Rattle.ev_sets.specs.Sets.{Has}
 use Rattle.ev_notice.specs.Notice.{IsNotice}
 use Rattle.ev_routing.specs.Server.{Publication}
 use Rattle.ev_routing.specs.Order.{IsStrictlyRising}
-use Rattle.ev_phases.specs.Trees.{PhasedNetLaws}
-use Rattle.ev_phases.specs.Runs.{PhasedRun}
 use Rattle.ev_phases.specs.Owing.{IsOwedByScripts, IsAllowedByScripts}
-use Rattle.ev_phases.specs.Routes.{Routed, IsSentTo, IsWanted}
 use Rattle.ev_theory.specs.Real.{real}
 use Rattle.ev_wire.specs.NoticeText.{IsNoticeText}
 use Rattle.ev_wire.specs.declared.command.Command.{Command}
 use Rattle.ev_wire.specs.declared.command.Command.TheVariants as commands
 use Rattle.ev_wire.specs.declared.delivery.Delivery.{Delivery}
 use Rattle.ev_wire.specs.declared.id.Id.{Id}
-use Rattle.ev_model.specs.Parts.{ClientParts, NetParts, EntryParts}
-use Rattle.ev_model.specs.Meaning.{journal_of}
-use Rattle.ev_model.specs.Nets.{phased_net}
-use Rattle.ev_model.specs.Sound.{IsSound}
-use Rattle.ev_net.specs.Network.{moment_by, IsLegal, IsDrainedBy, received_by}
-use Rattle.ev_report.specs.Drained.{AllOwed}
+use Rattle.ev_model.specs.Parts.{ClientParts, NetParts}
+use Rattle.ev_model.specs.Nets.{phased_net, of_clients}
+use Rattle.ev_flood.specs.declared.owed.OwedRow.{OwedRow}
+use Rattle.ev_flood.specs.Flooding.{all_refused}
+use Rattle.ev_report.specs.Published.{texts_in}
+use Rattle.ev_report.specs.Flood.{row_line}
+use Rattle.ev_report.specs.Deliveries.{by_id, delivery_line, deliveries_text}
+use Rattle.ev_report.specs.Drained.{AreOwed, AllOwed}
 use Rattle.ev_quiet.specs.declared.words.Shown.{Shown}
 use Rattle.ev_quiet.specs.Runs.{IsClient}
-use Rattle.ev_quiet.specs.Printed.{run_text, IsFloodOf}
+use Rattle.ev_quiet.specs.Printed.{IsFloodOf}
 
--- a legal run of a net whose laws hold, as one of the run laws
-abbrev pub run_of : (net : NetParts) → PhasedNetLaws real (phased_net net) → (journal : List EntryParts) → IsLegal net journal → PhasedRun real
-run_of net laws journal legal = record {
-  net = phased_net net;
-  laws = laws;
-  journal = journal_of journal;
-  end = (moment_by net journal).state;
-  last = (moment_by net journal).phase;
-  legal = legal;
-}
+-- of each client, by its number, the ordinals of its refused publishes, and what was delivered to it, in order
+pub record ClientLists : Type 0 where
+  pub refused : ℕ → List ℕ
+  pub received : ℕ → List Delivery
+
+-- their text
+abbrev pub lists_text : NetParts → ClientLists → Bool → List ℕ
+lists_text net lists sorted = deliveries_text net (of_clients net lists.refused) (of_clients net lists.received) sorted
 
 -- the id of a publication
 abbrev pub id_of : Publication real → Id
@@ -61,33 +59,35 @@ pub record IsAllowedDelivery (net : NetParts) (client : ℕ) (d : Delivery) : Ty
   pub text : IsNoticeText d.bytes publication.notice
 
 -- each publication that flooding owes to a client was delivered to it exactly once
-abbrev pub GivesOwedOnce : NetParts → List EntryParts → Type 0
-GivesOwedOnce net journal = (client : ℕ) (publication : Publication real) → IsOwedByScripts real (phased_net net) publication client
-    → times (id_of publication) (received_by net journal client) ≡ 1
+abbrev pub GivesOwedOnce : NetParts → ClientLists → Type 0
+GivesOwedOnce net lists = (client : ℕ) (publication : Publication real) → IsOwedByScripts real (phased_net net) publication client
+    → times (id_of publication) (lists.received client) ≡ 1
 
 -- nothing was delivered that flooding does not allow, and each text is that of the notice published
-abbrev pub GivesAllowed : NetParts → List EntryParts → Type 0
-GivesAllowed net journal = (client : ℕ) (d : Delivery) → IsClient net client → Has d (received_by net journal client) → IsAllowedDelivery net client d
+abbrev pub GivesAllowed : NetParts → ClientLists → Type 0
+GivesAllowed net lists = (client : ℕ) (d : Delivery) → IsClient net client → Has d (lists.received client) → IsAllowedDelivery net client d
 
 -- nothing was delivered twice
-abbrev pub GivesOnce : NetParts → List EntryParts → Type 0
-GivesOnce net journal = (client : ℕ) (id : Id) → times id (received_by net journal client) ≤ 1
+abbrev pub GivesOnce : ClientLists → Type 0
+GivesOnce lists = (client : ℕ) (id : Id) → times id (lists.received client) ≤ 1
 
 -- the deliveries of one publisher stand in the order of its ordinals
-abbrev pub GivesInOrder : NetParts → List EntryParts → Type 0
-GivesInOrder net journal = (client publisher : ℕ) → IsStrictlyRising (ordinals_in publisher (received_by net journal client))
+abbrev pub GivesInOrder : ClientLists → Type 0
+GivesInOrder lists = (client publisher : ℕ) → IsStrictlyRising (ordinals_in publisher (lists.received client))
 
--- a link carries a notice only where a client beyond it had a filter that matches, at the moment that the sender knew of by its last version
-abbrev pub CarriesWanted : PhasedRun real → Type 0
-CarriesWanted run = (routed : Routed real run) (neighbour : ℕ) → IsSentTo real run routed neighbour → IsWanted real run routed neighbour
+-- the publishes that were refused are those that the client's advertisements do not allow
+abbrev pub RefusesByScripts : NetParts → ClientLists → Type 0
+RefusesByScripts net lists = (client : ℕ) → IsClient net client → lists.refused client ≡ all_refused net client
 
--- sorted deliveries without a trace
-abbrev pub sorted : Shown
-sorted = record { sorted = true; trace = false }
+-- where all that flooding allows to a client it owes too, the lines of its sorted deliveries are those that `flood` prints of the document
+abbrev pub GivesFlooded : List ℕ → NetParts → ClientLists → Type 0
+GivesFlooded input net lists = (text : List ℕ) (flood : IsFloodOf input text) (place : ℕ) (rows : List OwedRow)
+    → slice_get flood.rows place ≡ Some rows → AreOwed rows
+    → flat_map (row_line net.clients (texts_in net.clients)) rows ≡ flat_map (delivery_line net.clients) (by_id (lists.received (suc place)))
 
--- where all that flooding allows it owes too, the sorted deliveries are what `flood` prints of the document
-abbrev pub PrintsFlood : List ℕ → NetParts → List EntryParts → Type 0
-PrintsFlood input net journal = (text : List ℕ) (flood : IsFloodOf input text) → AllOwed flood.rows → run_text sorted net journal ≡ text
+-- where that is so of all clients, the whole sorted text is what `flood` prints
+abbrev pub PrintsFlood : List ℕ → NetParts → ClientLists → Type 0
+PrintsFlood input net lists = (text : List ℕ) (flood : IsFloodOf input text) → AllOwed flood.rows → lists_text net lists true ≡ text
 
 -- a command publishes no other than a notice in its one form
 abbrev pub IsOfNotice : Command → Type 0
@@ -105,9 +105,17 @@ abbrev pub AreOfNotices : List ClientParts → Type 0
 AreOfNotices [] = Unit {0}
 AreOfNotices (client ∷ clients) = IsScriptOfNotices client.script × AreOfNotices clients
 
--- a journal is a whole run: legal, of a sound net that publishes notices, and all is drained at its end
-pub record IsWholeRun (net : NetParts) (journal : List EntryParts) : Type 0 where
-  pub sound : IsSound net
+-- WHAT THE CLIENTS ARE PROMISED: the text is that of lists of refused publishes and of deliveries, with the trace behind; what is published is a notice
+-- of well-formed values; the refused publishes are those of the scripts; each publication that flooding owes was delivered exactly once, nothing that it
+-- does not allow, nothing twice, each text being that of the notice published, in the order of each publisher; and each client of stable inputs has
+-- flooding's deliveries
+pub record ClientPromise (shown : Shown) (input text : List ℕ) (net : NetParts) (lists : ClientLists) (trace : List ℕ) : Type 0 where
+  pub printed : text ≡ lists_text net lists shown.sorted ++ trace
   pub notices : AreOfNotices net.clients
-  pub legal : IsLegal net journal
-  pub drained : IsDrainedBy net journal
+  pub refusals : RefusesByScripts net lists
+  pub owed_once : GivesOwedOnce net lists
+  pub allowed : GivesAllowed net lists
+  pub never_twice : GivesOnce lists
+  pub in_order : GivesInOrder lists
+  pub stable : GivesFlooded input net lists
+  pub all_stable : PrintsFlood input net lists

@@ -1,8 +1,7 @@
 //! What is printed of a document.
-ghost use Rattle.std.specs.Prelude.{◌≡◌, ◌⊎◌, ℕ, true, [], IfOk, IsOk, IsErrOf};
-ghost use Rattle.std.specs.Io.KnownBytes.{Appends};
+ghost use Rattle.std.specs.Prelude.{◌≡◌, ◌⊎◌, ◌++◌, ℕ, true, [], IfOk, IsOk, IsErrOf};
 ghost use Rattle.ev_outside.specs.Cause.{Rose};
-ghost use Rattle.ev_outside.specs.Whole.{AppendsPart};
+ghost use Rattle.ev_outside.specs.Whole.{TookPart};
 ghost use Rattle.ev_model.specs.Sound.{IsSound};
 ghost use Rattle.ev_input.specs.declared.fault.Fault.TheVariants.{BadTurn};
 ghost use Rattle.ev_quiet.specs.Runs.{turns_first};
@@ -51,7 +50,7 @@ impl Model for Printed {
 }
 
 impl Printed {
-    ghost use Rattle.std.specs.Prelude.{◌≡◌, [], IfOk, OnOk, OnErr};
+    ghost use Rattle.std.specs.Prelude.{◌≡◌, ◌++◌, [], IfOk, OnOk, OnErr};
     ghost use Rattle.ev_quiet.specs.Showing.{printed_parts};
 
     /// What clients received or flooding brings, where that is printed, and then a text.
@@ -81,9 +80,9 @@ impl Printed {
     /// Writes the text, and hands on the journal. It takes no memory.
     pub fn write<K: Sink>(self, sink: &mut K) -> Result<Vec<Entry>, Failed>
         ensures journal { IfOk result (λ journal. journal.items ≡ self.journal) }
-        ensures ok { OnOk result (Appends (K.written sink.old) (K.written sink.new) self.text) }
+        ensures ok { OnOk result (K.taken sink.new ≡ K.taken sink.old ++ self.text) }
         ensures sure { OnOk result (K.faults sink.new ≡ K.faults sink.old) }
-        ensures err { OnErr result (AppendsPart (K.written sink.old) (K.written sink.new) self.text) }
+        ensures err { OnErr result (TookPart (K.taken sink.old) (K.taken sink.new) self.text) }
         ensures rose { OnErr result (Rose (K.faults sink.old) (K.faults sink.new)) }
     {
         let Printed {

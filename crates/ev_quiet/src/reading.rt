@@ -1,7 +1,8 @@
 //! Documents from sources.
-ghost use Rattle.std.specs.Prelude.{◌≡◌, ◌≤◌, ◌⊎◌, ℕ, length, IfOk, OnOk, IsOk, IsErrOf};
+ghost use Rattle.std.specs.Prelude.{◌≡◌, ◌≤◌, ◌⊎◌, ◌++◌, ◌↔◌, ℕ, List, true, length, IfOk, OnOk, IsOk, IsErrOf};
+ghost use Rattle.std.specs.Io.KnownBytes.{Consumes, IsAtEnd};
 ghost use Rattle.ev_outside.specs.Cause.{Rose};
-ghost use Rattle.ev_outside.specs.Whole.{Gave, GaveAll};
+ghost use Rattle.ev_outside.specs.Whole.{Gave};
 ghost use Rattle.ev_model.specs.Parts.{NetParts};
 ghost use Rattle.ev_model.specs.Sound.{IsSound};
 ghost use Rattle.ev_input.specs.Net.{IsNetOf, IsBadAt};
@@ -19,12 +20,16 @@ const MOST_BYTES: usize = 4_194_304;
 
 /// All bytes of a source, of which there are at most 4,194,304.
 pub fn document<S: Source>(alloc: Global, source: &mut S) -> Result<Vec<u8>, Refusal>
-    ensures all { IfOk result (λ bytes. GaveAll (S.left source.old) (S.left source.new) bytes.items) }
+    ensures all { IfOk result (λ bytes. S.given source.new ≡ S.given source.old ++ bytes.items) }
+    ensures ended { IsOk result ↔ (S.ended source.new ≡ true) }
     ensures sure { OnOk result (S.faults source.new ≡ S.faults source.old) }
     ensures long { (line : ℕ) (kind : Fault) → IsErrOf result (Refusal.BadInput line kind)
-        → (line ≡ 0) × (kind ≡ Fault.TooLong) × Gave (S.left source.old) (S.left source.new) (λ given. length given ≡ 4194305) }
+        → (line ≡ 0) × (kind ≡ Fault.TooLong) × Gave (S.given source.old) (S.given source.new) (λ given. length given ≡ 4194305) }
     ensures failed { IsErrOf result Refusal.ReadFault → Rose (S.faults source.old) (S.faults source.new) }
-    ensures at_most { Gave (S.left source.old) (S.left source.new) (λ given. length given ≤ 4194305) }
+    ensures failed_within { IsErrOf result Refusal.ReadFault → Gave (S.given source.old) (S.given source.new) (λ given. length given ≤ 4194304) }
+    ensures at_most { Gave (S.given source.old) (S.given source.new) (λ given. length given ≤ 4194305) }
+    ensures told { (given : List ℕ) → S.given source.new ≡ S.given source.old ++ given → Consumes (S.left source.old) (S.left source.new) given }
+    ensures end { S.ended source.new ≡ true → IsAtEnd (S.left source.new) }
 {
     match read_all(alloc, source, MOST_BYTES) {
         Ok(bytes) => Ok(bytes),

@@ -1,10 +1,10 @@
 //! The top call.
-ghost use Rattle.std.specs.Prelude.{◌≡◌, ◌≢◌, ◌≤◌, ◌⊎◌, ◌↔◌, ℕ, [], true, false, None, Some, length};
-ghost use Rattle.std.specs.Io.KnownBytes.{IsAtEnd, Appends};
+ghost use Rattle.std.specs.Prelude.{◌≡◌, ◌≢◌, ◌≤◌, ◌⊎◌, ◌++◌, ◌↔◌, ℕ, List, [], true, false, None, Some, length};
+ghost use Rattle.std.specs.Io.KnownBytes.{Consumes, IsAtEnd};
 ghost use Rattle.ev_outside.specs.Cause.{Rose};
-ghost use Rattle.ev_outside.specs.Whole.{Gave, AppendsPart};
+ghost use Rattle.ev_outside.specs.Whole.{Gave, TookPart};
 ghost use Rattle.ev_quiet.specs.Words.{wanted_by, AreNoneOfRun, IsQuietWish};
-ghost use Rattle.ev_quiet.specs.Answers.{Prints, PrintsPart, reads, HasFault, TellsRefused, CanAnswer};
+ghost use Rattle.ev_quiet.specs.Answers.{Prints, PrintsPart, reads, HasFault, GaveRefused, CanAnswer};
 
 use crate::answer::answer;
 use crate::printed::Printed;
@@ -26,10 +26,9 @@ pub struct Outcome {
 }
 
 impl Outcome {
-    ghost use Rattle.std.specs.Prelude.{◌≡◌, ◌≢◌, ◌⊎◌, []};
-    ghost use Rattle.std.specs.Io.KnownBytes.{Appends};
+    ghost use Rattle.std.specs.Prelude.{◌≡◌, ◌≢◌, ◌⊎◌, ◌++◌, []};
     ghost use Rattle.ev_outside.specs.Cause.{Rose};
-    ghost use Rattle.ev_outside.specs.Whole.{AppendsPart};
+    ghost use Rattle.ev_outside.specs.Whole.{TookPart};
 
     /// The outcome of what is not done.
     pub fn ended(alloc: Global, status: Status) -> Outcome
@@ -44,10 +43,10 @@ impl Outcome {
 
     /// Writes what is printed, and gives the journal where all of it is written.
     pub fn written<K: Sink>(alloc: Global, printed: Printed, sink: &mut K) -> Outcome
-        ensures done { result.status ≡ Status.Done → Appends (K.written sink.old) (K.written sink.new) printed.text }
+        ensures done { result.status ≡ Status.Done → K.taken sink.new ≡ K.taken sink.old ++ printed.text }
         ensures sure { result.status ≡ Status.Done → K.faults sink.new ≡ K.faults sink.old }
         ensures journal { result.status ≡ Status.Done → result.journal.items ≡ printed.journal }
-        ensures part { result.status ≡ Status.WriteFault → AppendsPart (K.written sink.old) (K.written sink.new) printed.text }
+        ensures part { result.status ≡ Status.WriteFault → TookPart (K.taken sink.old) (K.taken sink.new) printed.text }
         ensures write_fault { result.status ≡ Status.WriteFault → Rose (K.faults sink.old) (K.faults sink.new) }
         ensures empty { result.status ≢ Status.Done → result.journal.items ≡ [] }
         ensures ends { (result.status ≡ Status.Done) ⊎ (result.status ≡ Status.WriteFault) }
@@ -71,25 +70,26 @@ fn carry_out<S: Source, K: Sink>(
 ) -> Outcome
     requires { IsQuietWish wanted }
     ensures printed { result.status ≡ Status.Done
-        → Prints (Some wanted) (S.left source.old) result.journal.items (K.written sink.old) (K.written sink.new) }
-    ensures read { result.status ≡ Status.Done → reads (Some wanted) ≡ true → IsAtEnd (S.left source.new) }
+        → Prints (Some wanted) (S.given source.old) (S.given source.new) (S.ended source.new) result.journal.items (K.taken sink.old) (K.taken sink.new) }
     ensures sure { result.status ≡ Status.Done → (S.faults source.new ≡ S.faults source.old) × (K.faults sink.new ≡ K.faults sink.old) }
     ensures unread { reads (Some wanted) ≡ false → source.new ≡ source.old }
-    ensures at_most { reads (Some wanted) ≡ true → Gave (S.left source.old) (S.left source.new) (λ given. length given ≤ 4194305) }
+    ensures at_most { reads (Some wanted) ≡ true → Gave (S.given source.old) (S.given source.new) (λ given. length given ≤ 4194305) }
+    ensures told { reads (Some wanted) ≡ true → (given : List ℕ) → S.given source.new ≡ S.given source.old ++ given
+        → Consumes (S.left source.old) (S.left source.new) given }
+    ensures end { reads (Some wanted) ≡ true → S.ended source.new ≡ true → IsAtEnd (S.left source.new) }
     ensures unwritten { result.status ≢ Status.Done → result.status ≢ Status.WriteFault → sink.new ≡ sink.old }
     ensures journal { result.status ≢ Status.Done → result.journal.items ≡ [] }
     ensures usage { result.status ≢ Status.Usage }
     ensures bad_input { (line : ℕ) (kind : Fault) → result.status ≡ Status.BadInput line kind
-        → HasFault (Some wanted) (S.left source.old) line kind }
+        → HasFault (Some wanted) (S.given source.old) (S.given source.new) (S.ended source.new) line kind }
     ensures read_fault { result.status ≡ Status.ReadFault → Rose (S.faults source.old) (S.faults source.new) }
     ensures write_fault { result.status ≡ Status.WriteFault → Rose (K.faults sink.old) (K.faults sink.new) }
     ensures part { result.status ≡ Status.WriteFault
-        → PrintsPart (Some wanted) (S.left source.old) (K.written sink.old) (K.written sink.new) }
-    ensures refused { (line : ℕ) (kind : Fault) → TellsRefused (Some wanted) (S.left source.old) line kind
-        → (Rose (S.faults source.old) (S.faults source.new) → ⊥)
+        → PrintsPart (Some wanted) (S.given source.old) (S.given source.new) (S.ended source.new) (K.taken sink.old) (K.taken sink.new) }
+    ensures refused { (line : ℕ) (kind : Fault) → GaveRefused (Some wanted) (S.given source.old) (S.given source.new) (S.ended source.new) line kind
         → (result.status ≡ Status.BadInput line kind) ⊎ (result.status ≡ Status.NoMemory) }
-    ensures complete { CanAnswer (Some wanted) (S.left source.old)
-        → (Rose (S.faults source.old) (S.faults source.new) → ⊥) → (Rose (K.faults sink.old) (K.faults sink.new) → ⊥)
+    ensures complete { CanAnswer (Some wanted) (S.given source.old) (S.given source.new) (S.ended source.new)
+        → (Rose (K.faults sink.old) (K.faults sink.new) → ⊥)
         → (result.status ≡ Status.Done) ⊎ (result.status ≡ Status.NoMemory) }
 {
     match answer(alloc, wanted, source) {
@@ -112,25 +112,27 @@ pub fn quiet<S: Source, K: Sink>(
 ) -> Outcome
     requires { AreNoneOfRun (wanted_by words.now) }
     ensures printed { result.status ≡ Status.Done
-        → Prints (wanted_by words.now) (S.left source.old) result.journal.items (K.written sink.old) (K.written sink.new) }
-    ensures read { result.status ≡ Status.Done → reads (wanted_by words.now) ≡ true → IsAtEnd (S.left source.new) }
+        → Prints (wanted_by words.now) (S.given source.old) (S.given source.new) (S.ended source.new)
+        result.journal.items (K.taken sink.old) (K.taken sink.new) }
     ensures sure { result.status ≡ Status.Done → (S.faults source.new ≡ S.faults source.old) × (K.faults sink.new ≡ K.faults sink.old) }
     ensures unread { reads (wanted_by words.now) ≡ false → source.new ≡ source.old }
-    ensures at_most { reads (wanted_by words.now) ≡ true → Gave (S.left source.old) (S.left source.new) (λ given. length given ≤ 4194305) }
+    ensures at_most { reads (wanted_by words.now) ≡ true → Gave (S.given source.old) (S.given source.new) (λ given. length given ≤ 4194305) }
+    ensures told { reads (wanted_by words.now) ≡ true → (given : List ℕ) → S.given source.new ≡ S.given source.old ++ given
+        → Consumes (S.left source.old) (S.left source.new) given }
+    ensures end { reads (wanted_by words.now) ≡ true → S.ended source.new ≡ true → IsAtEnd (S.left source.new) }
     ensures unwritten { result.status ≢ Status.Done → result.status ≢ Status.WriteFault → sink.new ≡ sink.old }
     ensures journal { result.status ≢ Status.Done → result.journal.items ≡ [] }
     ensures usage { result.status ≡ Status.Usage ↔ (wanted_by words.now ≡ None) }
     ensures bad_input { (line : ℕ) (kind : Fault) → result.status ≡ Status.BadInput line kind
-        → HasFault (wanted_by words.now) (S.left source.old) line kind }
+        → HasFault (wanted_by words.now) (S.given source.old) (S.given source.new) (S.ended source.new) line kind }
     ensures read_fault { result.status ≡ Status.ReadFault → Rose (S.faults source.old) (S.faults source.new) }
     ensures write_fault { result.status ≡ Status.WriteFault → Rose (K.faults sink.old) (K.faults sink.new) }
     ensures part { result.status ≡ Status.WriteFault
-        → PrintsPart (wanted_by words.now) (S.left source.old) (K.written sink.old) (K.written sink.new) }
-    ensures refused { (line : ℕ) (kind : Fault) → TellsRefused (wanted_by words.now) (S.left source.old) line kind
-        → (Rose (S.faults source.old) (S.faults source.new) → ⊥)
+        → PrintsPart (wanted_by words.now) (S.given source.old) (S.given source.new) (S.ended source.new) (K.taken sink.old) (K.taken sink.new) }
+    ensures refused { (line : ℕ) (kind : Fault) → GaveRefused (wanted_by words.now) (S.given source.old) (S.given source.new) (S.ended source.new) line kind
         → (result.status ≡ Status.BadInput line kind) ⊎ (result.status ≡ Status.NoMemory) }
-    ensures complete { CanAnswer (wanted_by words.now) (S.left source.old)
-        → (Rose (S.faults source.old) (S.faults source.new) → ⊥) → (Rose (K.faults sink.old) (K.faults sink.new) → ⊥)
+    ensures complete { CanAnswer (wanted_by words.now) (S.given source.old) (S.given source.new) (S.ended source.new)
+        → (Rose (K.faults sink.old) (K.faults sink.new) → ⊥)
         → (result.status ≡ Status.Done) ⊎ (result.status ≡ Status.NoMemory) }
 {
     match read_words(words) {

@@ -21,7 +21,7 @@ use Rattle.ev_report.specs.Lines.{client_line, refused_line}
 use Rattle.ev_report.specs.Published.{texts_in}
 use Rattle.ev_report.specs.Flood.{row_line, flood_section, flood_sections, flood_text}
 use Rattle.ev_report.specs.Deliveries.{by_id, delivery_line, delivery_section, delivery_sections, deliveries_text}
-use Rattle.ev_report.specs.Drained.{inboxes, AllOwed}
+use Rattle.ev_report.specs.Drained.{inboxes, AreOwed, AllOwed}
 use Rattle.ev_report.proofs.Given.{given_same, once_apart, lines_same, lives_there, publisher_is}
 
 next : (m i : ℕ) → suc m + i ≡ m + suc i
@@ -83,6 +83,23 @@ one_more : (i : ℕ) → suc i ≡ 1 + i
 one_more i = omega arith
 
 -- what is used of a drained run: the inboxes of its clients
+pub client_delivered : (net : NetParts) (rows : List (List OwedRow)) (refused : List (List ℕ)) → IsFlooding net rows refused
+    → (box : ℕ → List (Publication real))
+    → ((client : ℕ) → Has client (clients_of net (home_of net client))
+    → ((p : Publication real) → IsAllowedByScripts real (phased_net net) p client → IsOwedByScripts real (phased_net net) p client)
+    → (p : Publication real) → Has p (box client) ↔ IsAllowedByScripts real (phased_net net) p client)
+    → (on : Net real) → ((client p o : ℕ) → times_delivered real on p o (box client) ≤ 1)
+    → (place : ℕ) (list : List OwedRow) → slice_get rows place ≡ Some list → AreOwed list
+    → flat_map (row_line net.clients (texts_in net.clients)) list ≡ flat_map (delivery_line net.clients) (by_id (deliveries_of (box (suc place))))
+client_delivered net rows refused flooding box stable on once place list e must =
+    let c = get_place rows net.clients place list flooding.all_rows e in
+    let are = flooding.of_client place list e in
+    lines_same net.clients (texts_in net.clients) list must
+    ∙ ap (flat_map (delivery_line net.clients))
+    (given_same net place c.0 list (box (suc place)) are
+    (stable (suc place) (lives_there net place c.0 c.1) (all_owed net place c.0 list c.1 are must))
+    (once_apart on (box (suc place)) (once (suc place))))
+
 pub as_delivered : (net : NetParts) (rows : List (List OwedRow)) (refused : List (List ℕ)) → IsFlooding net rows refused → AllOwed rows
     → (box : ℕ → List (Publication real))
     → ((client : ℕ) → Has client (clients_of net (home_of net client))
@@ -92,12 +109,5 @@ pub as_delivered : (net : NetParts) (rows : List (List OwedRow)) (refused : List
     → flood_text net refused rows ≡ deliveries_text net refused (inboxes (λ client. deliveries_of (box client)) 1 net.clients) true
 as_delivered net rows refused flooding owed box stable on once =
     sections_same net.clients (texts_in net.clients) (λ client. deliveries_of (box client)) net.clients refused rows 1 flooding.all_rows (λ i list e.
-    (let c = get_place rows net.clients i list flooding.all_rows e in
-    let are = flooding.of_client i list e in
-    let must = owed list (get-has rows i list e) in
     subst (λ z. flat_map (row_line net.clients (texts_in net.clients)) list ≡ flat_map (delivery_line net.clients) (by_id (deliveries_of (box z)))) (one_more i)
-    (lines_same net.clients (texts_in net.clients) list must
-    ∙ ap (flat_map (delivery_line net.clients))
-    (given_same net i c.0 list (box (suc i)) are
-    (stable (suc i) (lives_there net i c.0 c.1) (all_owed net i c.0 list c.1 are must))
-    (once_apart on (box (suc i)) (once (suc i)))))))
+    (client_delivered net rows refused flooding box stable on once i list e (owed list (get-has rows i list e))))

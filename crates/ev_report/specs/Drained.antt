@@ -18,6 +18,10 @@ inboxes inbox number (client ∷ clients) = inbox number ∷ inboxes inbox (suc 
 abbrev pub received_at_end : PhasedRun real → List ClientParts → List (List Delivery)
 received_at_end run clients = inboxes (λ client. deliveries_of (inbox_of real run client)) 1 clients
 
+-- all of a client's rows are owed
+abbrev pub AreOwed : List OwedRow → Type 0
+AreOwed rows = (row : OwedRow) → Has row rows → row.must ≡ true
+
 -- all that is allowed is owed
 abbrev pub AllOwed : List (List OwedRow) → Type 0
-AllOwed rows = (list : List OwedRow) → Has list rows → (row : OwedRow) → Has row list → row.must ≡ true
+AllOwed lists = (rows : List OwedRow) → Has rows lists → AreOwed rows

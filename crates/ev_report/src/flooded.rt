@@ -45,7 +45,7 @@ fn put_row<K: Sink>(
     texts: &[Lists<Bytes>],
     row: &OwedRow,
 )
-    ensures { Went (outlet (K.written sink.old) (K.faults sink.old) out.old) (outlet (K.written sink.new) (K.faults sink.new) out.new)
+    ensures { Went (outlet (K.taken sink.old) (K.faults sink.old) out.old) (outlet (K.taken sink.new) (K.faults sink.new) out.new)
         (row_line clients.now texts.now row.now) }
 {
     put_publication(
@@ -66,7 +66,7 @@ fn put_rows<K: Sink>(
     texts: &[Lists<Bytes>],
     rows: &[OwedRow],
 )
-    ensures { Went (outlet (K.written sink.old) (K.faults sink.old) out.old) (outlet (K.written sink.new) (K.faults sink.new) out.new)
+    ensures { Went (outlet (K.taken sink.old) (K.faults sink.old) out.old) (outlet (K.taken sink.new) (K.faults sink.new) out.new)
         (flat_map (row_line clients.now texts.now) rows.now) }
 {
     for row in rows {
@@ -84,7 +84,7 @@ fn put_section<K: Sink>(
     refused: &[u32],
     rows: &[OwedRow],
 )
-    ensures { Went (outlet (K.written sink.old) (K.faults sink.old) out.old) (outlet (K.written sink.new) (K.faults sink.new) out.new)
+    ensures { Went (outlet (K.taken sink.old) (K.faults sink.old) out.old) (outlet (K.taken sink.new) (K.faults sink.new) out.new)
         (flood_section clients.now texts.now client.now refused.now rows.now) }
 {
     put_client(out, sink, &client.name);
@@ -103,7 +103,7 @@ fn put_sections<K: Sink>(
 )
     requires refused { length refused.now ≡ length clients.now }
     requires rows { length rows.now ≡ length clients.now }
-    ensures { Went (outlet (K.written sink.old) (K.faults sink.old) out.old) (outlet (K.written sink.new) (K.faults sink.new) out.new)
+    ensures { Went (outlet (K.taken sink.old) (K.faults sink.old) out.old) (outlet (K.taken sink.new) (K.faults sink.new) out.new)
         (flood_sections clients.now texts.now clients.now refused.now rows.now) }
 {
     for (i, client) in clients.iter().enumerate() {
@@ -137,7 +137,7 @@ impl Flooded {
     /// each publication that is owed to it and `may` for each that is allowed and not owed, by publisher and ordinal. It
     /// takes no memory.
     pub fn put<K: Sink>(&self, out: &mut Pending, sink: &mut K)
-        ensures { Went (outlet (K.written sink.old) (K.faults sink.old) out.old) (outlet (K.written sink.new) (K.faults sink.new) out.new) self.now }
+        ensures { Went (outlet (K.taken sink.old) (K.faults sink.old) out.old) (outlet (K.taken sink.new) (K.faults sink.new) out.new) self.now }
     {
         put_sections(
             out,

@@ -1,23 +1,31 @@
 //! What the texts have in common.
-ghost use Rattle.std.specs.Prelude.{◌≡◌, true, ℕ, List};
-ghost use Rattle.ev_phases.specs.AtMoments.{EndsDrained};
+ghost use Rattle.std.specs.Prelude.{◌≡◌, true, ℕ, suc, List, slice_get, Some};
+ghost use Rattle.std.specs.List.{flat_map};
+ghost use Rattle.ev_phases.specs.AtMoments.{EndsDrained, inbox_of};
 ghost use Rattle.ev_phases.specs.Runs.{PhasedRun};
 ghost use Rattle.ev_theory.specs.Real.{real};
+ghost use Rattle.ev_model.specs.Meaning.{deliveries_of};
 ghost use Rattle.ev_model.specs.Nets.{phased_net};
 ghost use Rattle.ev_model.specs.Parts.{NetParts};
 ghost use Rattle.ev_model.specs.Sound.{IsSound};
 ghost use Rattle.ev_flood.specs.declared.owed.OwedRow.{OwedRow};
 ghost use Rattle.ev_flood.specs.Flooding.{IsFlooding};
-ghost use Rattle.ev_report.specs.Deliveries.{deliveries_text};
-ghost use Rattle.ev_report.specs.Drained.{AllOwed, received_at_end};
-ghost use Rattle.ev_report.specs.Flood.{flood_text};
+ghost use Rattle.ev_report.specs.Published.{texts_in};
+ghost use Rattle.ev_report.specs.Deliveries.{by_id, delivery_line, deliveries_text};
+ghost use Rattle.ev_report.specs.Drained.{AreOwed, AllOwed, received_at_end};
+ghost use Rattle.ev_report.specs.Flood.{row_line, flood_text};
 
 use ev_theory::Real;
 
-/// Where all that is allowed to the clients of a net is owed to them, the text of what flooding brings is the sorted text of
-/// the deliveries of any drained run of it.
+/// Where all that is allowed to a client of a net is owed to it, the lines of what flooding brings it are those of its sorted
+/// deliveries in any drained run of the net; and where that is so of all clients, the whole texts are one.
 pub fn flood_as_delivered()
-    ensures { (net : NetParts) → IsSound net → (rows : List (List OwedRow)) (refused : List (List ℕ)) → IsFlooding net rows refused → AllOwed rows
+    ensures client { (net : NetParts) → IsSound net → (rows : List (List OwedRow)) (refused : List (List ℕ)) → IsFlooding net rows refused
+        → (run : PhasedRun real) → run.net ≡ phased_net net → EndsDrained real run
+        → (place : ℕ) (list : List OwedRow) → slice_get rows place ≡ Some list → AreOwed list
+        → flat_map (row_line net.clients (texts_in net.clients)) list
+        ≡ flat_map (delivery_line net.clients) (by_id (deliveries_of (inbox_of real run (suc place)))) }
+    ensures whole { (net : NetParts) → IsSound net → (rows : List (List OwedRow)) (refused : List (List ℕ)) → IsFlooding net rows refused → AllOwed rows
         → (run : PhasedRun real) → run.net ≡ phased_net net → EndsDrained real run
         → flood_text net refused rows ≡ deliveries_text net refused (received_at_end run net.clients) true }
 {

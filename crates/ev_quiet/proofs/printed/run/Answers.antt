@@ -3,8 +3,8 @@ use Rattle.std.proofs.lemmas.Grind.{common_steps}
 use Rattle.ev_quiet.specs.declared.words.Query.TheVariants.{Run}
 use Rattle.ev_quiet.specs.Answers.{IsPrintedOf}
 use Rattle.ev_quiet.specs.Ran.{IsShown}
-use Rattle.ev_quiet.specs.Promise.{IsWholeRun}
 use Rattle.ev_quiet.proofs.Ended.{if-ok, no-refusal, without-net, done-without-net, run-refused, run-done}
+use Rattle.ev_quiet.proofs.Headlines.{headline}
 use Rattle.ev_quiet.proofs.printed.run.Goals as goal
 
 pub returns-in_err-net-clause-bad : goal.returns-in_err-net-clause-bad
@@ -27,22 +27,9 @@ returns-clause-printed c =
     (λ p. IsPrintedOf (Run c.args.schedule c.args.options) c.args.bytes.now p.text p.journal)
     (λ p s.
     let net = c.in_ok-net.net in
-    let journal = p.journal in
-    let whole : IsWholeRun net journal = record { sound = c.in_ok-net.ensures.sound; notices = c.in_ok-net.ensures.notices; legal = s.legal; drained = s.drained } in record {
-      net = net;
-      well_formed = c.in_ok-net.ensures.net;
-      laws = c.promise.ensures.laws net c.in_ok-net.ensures.sound;
-      legal = s.legal;
-      drained = s.drained;
-      goes_by = s.goes_by;
-      printed = s.printed;
-      owed_once = c.promise.ensures.owed_once net journal whole;
-      allowed = c.promise.ensures.allowed net journal whole;
-      never_twice = c.promise.ensures.never_twice net journal whole;
-      in_order = c.promise.ensures.in_order net journal whole;
-      carries_wanted = c.promise.ensures.carries_wanted net (c.promise.ensures.laws net c.in_ok-net.ensures.sound) journal s.legal;
-      stable = c.promise.ensures.stable c.args.bytes.now net journal c.in_ok-net.ensures.net whole;
-    }) c.shown.ensures.shown
+    headline c.args.schedule c.args.options c.args.bytes.now p.text net p.journal c.in_ok-net.ensures.net c.in_ok-net.ensures.sound c.in_ok-net.ensures.notices s
+    (c.promise.ensures.clients c.args.options c.args.bytes.now net p.journal c.in_ok-net.ensures.net)
+    (λ whole. c.promise.ensures.network c.args.schedule c.args.options net p.journal whole s.goes_by)) c.shown.ensures.shown
 
 pub returns-clause-bad : goal.returns-clause-bad
 returns-clause-bad c = λ line kind e. (let b = c.shown.ensures.bad line kind e in inr (b.0, (c.in_ok-net.net, c.in_ok-net.ensures.net, b.1)))

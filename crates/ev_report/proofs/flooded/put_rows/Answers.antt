@@ -7,7 +7,7 @@ use Rattle.ev_report.proofs.flooded.put_rows.Goals as goal
 
 pub loop-row-preserved : goal.loop-row-preserved
 loop-row-preserved g c =
-    subst (Went (outlet (g.K.Sink.written c.args.sink.now) (g.K.Sink.faults c.args.sink.now) c.args.out.now)
-    (outlet (g.K.Sink.written c.put_row.new.sink) (g.K.Sink.faults c.put_row.new.sink) c.put_row.new.out))
+    subst (Went (outlet (g.K.Sink.taken c.args.sink.now) (g.K.Sink.faults c.args.sink.now) c.args.out.now)
+    (outlet (g.K.Sink.taken c.put_row.new.sink) (g.K.Sink.faults c.put_row.new.sink) c.put_row.new.out))
     (sym (flat-next (row_line c.args.clients.now c.args.texts.now) c.args.rows.now c.loop-row.row-index _ c.loop-row-test.true))
     (went-then _ _ _ _ _ c.loop-row.invariant c.put_row.ensures)

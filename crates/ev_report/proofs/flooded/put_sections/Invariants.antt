@@ -6,6 +6,6 @@ use Rattle.ev_report.proofs.flooded.put_sections.Given as goal
 -- what went, and then the text of the clients that are left
 abbrev pub invariant-loop-i : goal.invariant-loop-i
 invariant-loop-i g l = (done : List ℕ)
-    × Went (outlet (g.K.Sink.written l.initial.sink) (g.K.Sink.faults l.initial.sink) l.initial.out) (outlet (g.K.Sink.written l.sink) (g.K.Sink.faults l.sink) l.out) done
+    × Went (outlet (g.K.Sink.taken l.initial.sink) (g.K.Sink.faults l.initial.sink) l.initial.out) (outlet (g.K.Sink.taken l.sink) (g.K.Sink.faults l.sink) l.out) done
     × (done ++ flood_sections l.clients l.texts (drop l.i l.clients) (drop l.i l.refused) (drop l.i l.rows)
     ≡ flood_sections l.clients l.texts l.clients l.refused l.rows)

@@ -1,5 +1,5 @@
 use Rattle.std.proofs.Common.{true, false, [], ◌++◌, append-nil, subst}
-use Rattle.ev_outside.specs.Whole.{AppendsPart}
+use Rattle.ev_outside.specs.Whole.{TookPart}
 use Rattle.ev_outside.specs.Pending.{outlet, drained, Went}
 use Rattle.ev_outside.proofs.Outlets.{went-then, cut-short}
 use Rattle.ev_quiet.specs.Showing.{body_text}
@@ -7,18 +7,18 @@ use Rattle.ev_quiet.proofs.printed.Printed.write.Goals as goal
 
 pub returns-clause-err : goal.returns-clause-err
 returns-clause-err g c =
-    let written = g.K.Sink.written in
+    let taken = g.K.Sink.taken in
     let faults = g.K.Sink.faults in
     let p = c.self.inside in
     let front = body_text p.body in
     let text = front ++ p.rest.items in
-    let old = outlet (written c.args.sink.now) (faults c.args.sink.now) p.pending in
-    let first = outlet (written c.put.new.sink) (faults c.put.new.sink) c.put.new.out in
-    let put = outlet (written c.put-2.new.sink) (faults c.put-2.new.sink) c.put-2.new.self in
-    let new = outlet (written c.finish.new.sink) (faults c.finish.new.sink) (drained true) in
+    let old = outlet (taken c.args.sink.now) (faults c.args.sink.now) p.pending in
+    let first = outlet (taken c.put.new.sink) (faults c.put.new.sink) c.put.new.out in
+    let put = outlet (taken c.put-2.new.sink) (faults c.put-2.new.sink) c.put-2.new.self in
+    let new = outlet (taken c.finish.new.sink) (faults c.finish.new.sink) (drained true) in
     let rest : Went first put p.rest.items = rw c.deref.ensures.value at c.put-2.ensures in
     let both : Went old put text = went-then old first put front p.rest.items c.put.ensures rest in
     let all : Went old new text = subst (Went old new) (append-nil text) (went-then old put new text [] both c.in-Err.ensures.err) in
-    let went : Went (outlet (written c.args.sink.now) (faults c.args.sink.now) (drained false)) new text = rw c.self.invariant at all in
-    subst (λ z. AppendsPart (written c.args.sink.now) (written c.finish.new.sink) z.text) c.self.view_is
-    (cut-short (written c.args.sink.now) (written c.finish.new.sink) (faults c.args.sink.now) (faults c.finish.new.sink) text went).0
+    let went : Went (outlet (taken c.args.sink.now) (faults c.args.sink.now) (drained false)) new text = rw c.self.invariant at all in
+    subst (λ z. TookPart (taken c.args.sink.now) (taken c.finish.new.sink) z.text) c.self.view_is
+    (cut-short (taken c.args.sink.now) (taken c.finish.new.sink) (faults c.args.sink.now) (faults c.finish.new.sink) text went).0

@@ -1,0 +1,4 @@
+pub mod Sorting
+pub mod Filters
+pub mod Stepping
+pub mod Counting

@@ -1,0 +1,4 @@
+pub mod Known
+pub mod Numbered
+pub mod Numbering
+pub mod Related

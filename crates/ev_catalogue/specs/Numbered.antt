@@ -1,0 +1,53 @@
+-- Commands by numbers, and what these mean.
+use Rattle.std.specs.Prelude.{◌≡◌, ℕ, suc, List, [], ◌∷◌, slice_get, Some}
+use Rattle.ev_constraint.specs.Constraint.{ConstraintParts}
+use Rattle.ev_notice.specs.Notice.{Attribute}
+use Rattle.ev_wire.specs.declared.command.Command.{Command}
+use Rattle.ev_wire.specs.declared.command.Command.TheVariants as commands
+use Rattle.ev_wire.specs.Messages.{Lists}
+use Rattle.ev_model.specs.Parts.{ClientParts, NetParts}
+use Rattle.ev_model.specs.Sound.{IsSound}
+use Rattle.ev_catalogue.specs.declared.numbered.NumberedCommand.{NumberedCommand}
+use Rattle.ev_catalogue.specs.declared.numbered.NumberedCommand.TheVariants as numbers
+use Rattle.ev_catalogue.specs.Known.{PublicationParts, publication, publishes_after, known_filters, known_adverts, known_publications}
+
+-- filters, advertisements and publications with their places as numbers
+pub record Catalogued : Type 0 where
+  pub filters : Lists
+  pub adverts : Lists
+  pub publications : List PublicationParts
+
+-- those of the clients of a net
+abbrev pub catalogued : List ClientParts → Catalogued
+catalogued clients = record { filters = known_filters clients; adverts = known_adverts clients; publications = known_publications 1 clients }
+
+-- WHAT A NUMBERED COMMAND MEANS, of a client with so many publishes before it, in a phase: the command whose filter, advertisement or publication has
+-- the number
+abbrev pub Means : Catalogued → ℕ → ℕ → ℕ → NumberedCommand → Command → Type 0
+Means known client count phase (numbers.Subscribe i) command = (f : List ConstraintParts) × (slice_get known.filters i ≡ Some f) × (command ≡ commands.Subscribe f)
+Means known client count phase (numbers.Unsubscribe i) command = (f : List ConstraintParts) × (slice_get known.filters i ≡ Some f) × (command ≡ commands.Unsubscribe f)
+Means known client count phase (numbers.Advertise i) command = (a : List ConstraintParts) × (slice_get known.adverts i ≡ Some a) × (command ≡ commands.Advertise a)
+Means known client count phase (numbers.Unadvertise i) command = (a : List ConstraintParts) × (slice_get known.adverts i ≡ Some a) × (command ≡ commands.Unadvertise a)
+Means known client count phase (numbers.Publish i) command =
+    (n : List Attribute) × (slice_get known.publications i ≡ Some (publication client (suc count) phase n)) × (command ≡ commands.Publish n)
+
+-- the steps of a client by numbers, each with its phase as in the script, mean the script
+abbrev pub AreNumbered : Catalogued → ℕ → ℕ → List (ℕ × NumberedCommand) → List (ℕ × Command) → Type 0
+AreNumbered known client count [] [] = Unit {0}
+AreNumbered known client count [] (step ∷ steps) = ⊥
+AreNumbered known client count (n ∷ ns) [] = ⊥
+AreNumbered known client count (n ∷ ns) (step ∷ steps) =
+    (n.0 ≡ step.0) × Means known client count step.0 n.1 step.1 × AreNumbered known client (publishes_after count step.1) ns steps
+
+-- so do those of clients that are numbered on from one
+abbrev pub AllNumbered : Catalogued → ℕ → List (List (ℕ × NumberedCommand)) → List ClientParts → Type 0
+AllNumbered known number [] [] = Unit {0}
+AllNumbered known number [] (client ∷ clients) = ⊥
+AllNumbered known number (ns ∷ rest) [] = ⊥
+AllNumbered known number (ns ∷ rest) (client ∷ clients) = AreNumbered known number 0 ns client.script × AllNumbered known (suc number) rest clients
+
+-- what a catalogue keeps of a net
+pub record IsCatalogue (net : NetParts) (known : Catalogued) (numbered : List (List (ℕ × NumberedCommand))) : Type 0 where
+  pub sound : IsSound net
+  pub catalogued : known ≡ catalogued net.clients
+  pub scripts : AllNumbered known 1 numbered net.clients

@@ -1,0 +1,83 @@
+-- The places of clients, and tables before any phase.
+use Rattle.std.proofs.Common.{◌≡◌, ℕ, zero, suc, ◌+◌, ◌<◌, ◌≤◌, nat_lt, inl, inr, List, [], ◌∷◌, ◌++◌, map, take, length, slice_get, Some, None, refl, sym, ap, subst, ◌∙◌, arith}
+use Rattle.std.specs.List.{range_with_len}
+use Rattle.std.proofs.lemmas.Bool.Decides.{nat_tests}
+use Rattle.std.proofs.lemmas.List.FromFn.{length-range_with_len, get_or-range_with_len, map-range_with_len_more}
+use Rattle.ev_sets.specs.Sets.{Has, IsRising}
+use Rattle.ev_routing.proofs.Listing.{get-has, has-either}
+use Rattle.ev_forwarding.proofs.Lists.{at-has}
+use Rattle.ev_wire.specs.Messages.{Lists}
+use Rattle.ev_flood.specs.declared.filters.ClientFilters.{ClientFilters}
+use Rattle.ev_flood.specs.declared.tables.Tables.{Tables}
+use Rattle.ev_flood.specs.Numbers.{Steps, numbers_held}
+use Rattle.ev_flood.specs.Tables.{IsNone, AreNoTables, AreTables}
+
+unchanged : (xs : List ℕ) → map (λ x. x) xs ≡ xs
+unchanged [] = refl
+unchanged (x ∷ xs) = ap (λ z. x ∷ z) (unchanged xs)
+
+pub places_more : (n : ℕ) → range_with_len 0 (n + 1) ≡ range_with_len 0 n ++ n ∷ []
+places_more n = sym (unchanged (range_with_len 0 (n + 1))) ∙ map-range_with_len_more (λ x. x) 0 n n (omega arith) ∙ ap (λ z. z ++ n ∷ []) (unchanged (range_with_len 0 n))
+
+pub place_there : (n place : ℕ) → place < n → Has place (range_with_len 0 n)
+place_there n place l =
+    subst (λ z. Has z (range_with_len 0 n)) (get_or-range_with_len 0 n place 0 l ∙ zeroth place)
+    (at-has (range_with_len 0 n) place 0 (omega (arith, l, length-range_with_len 0 n)))
+  where
+    zeroth : (k : ℕ) → 0 + k ≡ k
+    zeroth k = omega arith
+
+above : (a n y : ℕ) → Has y (range_with_len a n) → a ≤ y
+above a zero y h = absurd h
+above a (suc n) y (inl e) = omega (arith, e)
+above a (suc n) y (inr h) = let i = above (a + 1) n y h in omega (arith, i)
+
+pub places_rise : (a n : ℕ) → IsRising nat_lt (range_with_len a n)
+places_rise a zero = tt
+places_rise a (suc n) = ((λ y h. let i = above (a + 1) n y h in grind (arith, nat_tests, i)), places_rise (a + 1) n)
+
+pub none_more : (count : ℕ) (list more : List ClientFilters) (client : ClientFilters) → more ≡ list ++ client ∷ [] → IsNone count client
+    → ((c : ClientFilters) → Has c list → IsNone count c) → (c : ClientFilters) → Has c more → IsNone count c
+none_more count list more client e none before c h = elim (has-either c list (client ∷ []) (subst (λ (z : List ClientFilters). Has c z) e h)) [
+  | inl a ↦ before c a
+  | inr b ↦ elim b [ inl q ↦ subst (λ (z : ClientFilters). IsNone count z) (sym q) none | inr z ↦ absurd z ]
+]
+
+pub tables_first : (known : Lists) (scripts : List Steps) (tables : Tables) → AreNoTables (length scripts) (length known) tables → AreTables known scripts tables
+tables_first known scripts tables none_yet = record {
+  ready = record {
+    count = none_yet.count;
+    going = record {
+      sized = λ place client at. (none place client at).sized;
+      at = λ place client steps at of. record {
+        within = omega (arith, (none place client at).done);
+        held = (none place client at).now ∙ sym (ap (λ k. numbers_held known [] (take k steps)) (none place client at).done ∙ ap (numbers_held known []) (nothing steps));
+      };
+    };
+    shown = record {
+      at_every = λ place client at i. (
+        (λ h. absurd (subst (λ z. Has (place, i) z) none_yet.every h)),
+        (λ h. absurd (subst (λ z. Has i z) (none place client at).every h)),
+      );
+      at_some = λ place client at i. (
+        (λ h. absurd (subst (λ z. Has (place, i) z) none_yet.ever h)),
+        (λ h. absurd (subst (λ z. Has i z) (none place client at).ever h)),
+      );
+    };
+    every_width = none_yet.every_width;
+    ever_width = none_yet.ever_width;
+    every_places = none_yet.every_places;
+    ever_places = none_yet.ever_places;
+  };
+  current = λ phase same. absurd (lost phase (sym none_yet.phase ∙ same));
+}
+  where
+    none : (place : ℕ) (client : ClientFilters) → slice_get tables.clients.items place ≡ Some client → IsNone (length known) client
+    none place client at = none_yet.none client (get-has tables.clients.items place client at)
+
+    nothing : {X : Type 0} (xs : List X) → take 0 xs ≡ []
+    nothing [] = refl
+    nothing (x ∷ xs) = refl
+
+    lost : (phase : ℕ) → None ≡ Some phase → ⊥
+    lost phase e = absurd cc

@@ -1,0 +1,10 @@
+use Rattle.std.proofs.Common.{length}
+use Rattle.ev_flood.specs.Tables.{IsRoom, IsReady, AllUpTo}
+use Rattle.ev_flood.proofs.tables.enter_all.Given as goal
+
+abbrev pub invariant-loop-place : goal.invariant-loop-place
+invariant-loop-place l = record {
+  room : IsRoom (length l.filters) l.room;
+  ready : IsReady l.filters l.scripts l.tables;
+  upto : AllUpTo l.filters l.place l.phase l.scripts l.tables.clients.items;
+}

@@ -1,0 +1,4 @@
+pub mod Grouping
+pub mod Marking
+pub mod Ordering
+pub mod Packed

@@ -1,0 +1,29 @@
+use Rattle.std.proofs.Common.{◌≡◌, ◌∙◌, ◌++◌, [], ap, sym, true, false, ℕ, List}
+use Rattle.std.specs.Ordering.{nat_cmp}
+use Rattle.std.specs.Cmp.Lexicographic.{slice_cmp}
+use Rattle.std.proofs.lemmas.Result.{on_ok_weaker}
+use Rattle.ev_values.specs.declared.value.Value.TheVariants as values
+use Rattle.ev_constraint.specs.declared.op.Op.{Op}
+use Rattle.ev_constraint.specs.declared.op.Op.TheVariants as ops
+use Rattle.ev_index.specs.Pairs.{ids_met}
+use Rattle.ev_index.specs.Lines.{told, on_side}
+use Rattle.ev_index.proofs.Lines.{met-told}
+use Rattle.ev_textindex.specs.Keys.{test_at}
+use Rattle.ev_textindex.proofs.Meets.{asked, any-key, equal-side}
+use Rattle.ev_textlists.proofs.order.meet_line.Goals as goal
+
+pub returns-in-Any : goal.returns-in-Any
+returns-in-Any c =
+    let v = values.Str c.args.x.bytes.now in
+    let line : List (List ℕ × ℕ) = c.args.line.now in
+    let none : c.of.result.bytes.now ≡ [] = c.of.ensures in
+    let met = met-told v (test_at ops.Any) (λ (k : List ℕ). on_side (asked false true false) (slice_cmp nat_cmp k c.of.result.bytes.now)) line (λ k. (ap (λ (s : List ℕ). on_side (asked false true false) (slice_cmp nat_cmp k s)) none ∙ equal-side [] k) ∙ any-key c.args.x.bytes.now k) in
+    let all = met ∙ ap {B = List ℕ} (λ (op : Op). ids_met v (told (test_at op) line)) (sym c.in-Any.is) in
+    on_ok_weaker c.meet.result (λ h. h ∙ ap (λ (ids : List ℕ). c.args.found.now.items ++ ids) all) c.meet.ensures.ok
+
+pub returns-in_default : goal.returns-in_default
+returns-in_default c =
+    let v = values.Str c.args.x.bytes.now in
+    let line : List (List ℕ × ℕ) = c.args.line.now in
+    let met = met-told v (test_at c.args.op) (λ (k : List ℕ). on_side c.sides.result (slice_cmp nat_cmp k c.args.x.bytes.now)) line (c.sides.ensures c.requires c.in_default.not-Any c.args.x.bytes.now) in
+    on_ok_weaker c.meet-in_default.result (λ h. h ∙ ap (λ (ids : List ℕ). c.args.found.now.items ++ ids) met) c.meet-in_default.ensures.ok

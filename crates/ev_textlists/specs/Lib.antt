@@ -1,0 +1,4 @@
+pub mod Groups
+pub mod Keys
+pub mod Marks
+pub mod Orders

@@ -1,0 +1,107 @@
+//! A line of ids under texts, for an operator of their order.
+ghost use Rattle.std.specs.Prelude.{◌≡◌, ◌≢◌, ◌++◌, ◌∷◌, false, ℕ, List, [], OnOk};
+ghost use Rattle.std.specs.Ordering.{nat_cmp};
+ghost use Rattle.std.specs.Cmp.Lexicographic.{slice_cmp};
+ghost use Rattle.ev_values.specs.declared.value.Value.{Value};
+ghost use Rattle.ev_constraint.specs.declared.op.Op.{Op};
+ghost use Rattle.ev_index.specs.Pairs.{passes, ids_met};
+ghost use Rattle.ev_index.specs.Lines.{told, on_side};
+ghost use Rattle.ev_textindex.specs.Heads.{is_pattern_op};
+ghost use Rattle.ev_textindex.specs.Keys.{test_at};
+
+use crate::key::{SoughtText, TextKey};
+use ev_constraint::Op;
+use ev_index::{Line, Sides};
+use ev_memory::NoMemory;
+use std::alloc::Global;
+
+/// Ids by operand, for one operator that is no pattern.
+#[derive(Drop)]
+pub struct Order {
+    pub(crate) op: Op,
+    pub(crate) line: Line<TextKey>,
+    ghost plain: { is_pattern_op op ≡ false },
+}
+
+/// An equal key alone.
+const EQUAL: Sides = Sides {
+    below: false,
+    equal: true,
+    above: false,
+};
+
+/// The sides of a text that an operator asks for.
+fn sides(op: Op) -> Sides
+    ensures { is_pattern_op op ≡ false → op ≢ Op.Any → (x k : List ℕ) → on_side result (slice_cmp nat_cmp k x) ≡ passes (Value.Str x) (test_at op k) }
+{
+    let (below, equal, above) = match op {
+        Op::Eq => (false, true, false),
+        Op::Ne => (true, false, true),
+        Op::Lt => (false, false, true),
+        Op::Le => (false, true, true),
+        Op::Gt => (true, false, false),
+        Op::Ge => (true, true, false),
+        _ => (false, false, false),
+    };
+    Sides {
+        below,
+        equal,
+        above,
+    }
+}
+
+/// Appends the ids of a line whose test the text passes.
+fn meet_line(
+    line: &Line<TextKey>,
+    op: Op,
+    x: SoughtText,
+    found: &mut Vec<u32>,
+) -> Result<(), NoMemory>
+    requires { is_pattern_op op ≡ false }
+    ensures { OnOk result (found.new.items ≡ found.old.items ++ ids_met (Value.Str x.entry.bytes.now) (told (test_at op) line.now)) }
+{
+    match op {
+        Op::Any => line.meet(EQUAL, SoughtText::of(&[]), found),
+        _ => line.meet(sides(op), x, found),
+    }
+}
+
+impl Order {
+    ghost use Rattle.std.specs.Prelude.{◌≡◌, ◌↔◌, ◌++◌, ◌∷◌, [], false, IfOk, OnOk, IsTrue};
+    ghost use Rattle.ev_values.specs.declared.value.Value.{Value};
+    ghost use Rattle.ev_index.specs.Pairs.{Same, ids_met};
+    ghost use Rattle.ev_textindex.specs.Heads.{is_pattern_op};
+    ghost use Rattle.ev_textindex.specs.Keys.{test_at};
+    ghost use Rattle.ev_textlists.specs.Orders.{order_pairs};
+
+    /// The line of an operator with one id.
+    pub(crate) fn with(alloc: Global, op: Op, key: &[u8], id: u32) -> Result<Order, NoMemory>
+        requires { is_pattern_op op ≡ false }
+        ensures { IfOk result (λ order. Same (order_pairs order) ((test_at op key.now, id) ∷ [])) }
+    {
+        let mut line = Line::new(alloc);
+        line.put(TextKey::with(alloc, key)?, id)?;
+        Ok(Order { op, line })
+    }
+
+    /// Whether it is the line of the operator.
+    pub(crate) fn is_of(&self, op: Op) -> bool
+        ensures { IsTrue result ↔ (self.now.op ≡ op) }
+    {
+        self.op == op
+    }
+
+    /// Puts an id under a key.
+    pub(crate) fn put(&mut self, alloc: Global, key: &[u8], id: u32) -> Result<(), NoMemory>
+        ensures { OnOk result (Same (order_pairs self.new) ((test_at self.old.op key.now, id) ∷ order_pairs self.old)) }
+    {
+        self.line.put(TextKey::with(alloc, key)?, id)
+    }
+
+    /// Appends the ids whose test the text passes.
+    pub(crate) fn meet(&self, x: SoughtText, found: &mut Vec<u32>) -> Result<(), NoMemory>
+        ensures { OnOk result (found.new.items ≡ found.old.items ++ ids_met (Value.Str x.entry.bytes.now) (order_pairs self.now)) }
+    {
+        meet_line(&self.line, self.op, x, found)
+    }
+}
