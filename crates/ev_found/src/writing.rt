@@ -18,7 +18,7 @@ use itoa::Buffer;
 
 // A number in decimal.
 fn put_number<K: Sink>(out: &mut Pending, sink: &mut K, number: u64)
-    ensures { Went (outlet (K.written sink.old) (K.faults sink.old) out.old) (outlet (K.written sink.new) (K.faults sink.new) out.new) (decimal number) }
+    ensures { Went (outlet (K.taken sink.old) (K.faults sink.old) out.old) (outlet (K.taken sink.new) (K.faults sink.new) out.new) (decimal number) }
 {
     let mut buffer = Buffer::new();
     out.put(sink, buffer.format(number).as_bytes())
@@ -26,7 +26,7 @@ fn put_number<K: Sink>(out: &mut Pending, sink: &mut K, number: u64)
 
 // A publication.
 fn put_id<K: Sink>(out: &mut Pending, sink: &mut K, names: &[Name], id: Id)
-    ensures { Went (outlet (K.written sink.old) (K.faults sink.old) out.old) (outlet (K.written sink.new) (K.faults sink.new) out.new) (id_text names.now id) }
+    ensures { Went (outlet (K.taken sink.old) (K.faults sink.old) out.old) (outlet (K.taken sink.new) (K.faults sink.new) out.new) (id_text names.now id) }
 {
     out.put(sink, b" ");
     out.put(sink, name_at(names, id.publisher));
@@ -42,7 +42,7 @@ fn put_place<K: Sink>(
     deliveries: &[Delivery],
     place: u64,
 )
-    ensures { Went (outlet (K.written sink.old) (K.faults sink.old) out.old) (outlet (K.written sink.new) (K.faults sink.new) out.new)
+    ensures { Went (outlet (K.taken sink.old) (K.faults sink.old) out.old) (outlet (K.taken sink.new) (K.faults sink.new) out.new)
         (place_text names.now deliveries.now place) }
 {
     let Some(at) = place.checked_sub(1) else {
@@ -62,7 +62,7 @@ fn put_places<K: Sink>(
     deliveries: &[Delivery],
     places: &[u64],
 )
-    ensures { Went (outlet (K.written sink.old) (K.faults sink.old) out.old) (outlet (K.written sink.new) (K.faults sink.new) out.new)
+    ensures { Went (outlet (K.taken sink.old) (K.faults sink.old) out.old) (outlet (K.taken sink.new) (K.faults sink.new) out.new)
         (flat_map (place_text names.now deliveries.now) places.now) }
 {
     for place in places {
@@ -72,7 +72,7 @@ fn put_places<K: Sink>(
 
 // The line of a pattern.
 fn put_head<K: Sink>(out: &mut Pending, sink: &mut K, names: &[Name], client: u32, label: &Name)
-    ensures { Went (outlet (K.written sink.old) (K.faults sink.old) out.old) (outlet (K.written sink.new) (K.faults sink.new) out.new)
+    ensures { Went (outlet (K.taken sink.old) (K.faults sink.old) out.old) (outlet (K.taken sink.new) (K.faults sink.new) out.new)
         (pattern_line names.now client label.now) }
 {
     out.put(sink, b"pattern ");
@@ -90,7 +90,7 @@ fn put_occurrence<K: Sink>(
     deliveries: &[Delivery],
     places: &[u64],
 )
-    ensures { Went (outlet (K.written sink.old) (K.faults sink.old) out.old) (outlet (K.written sink.new) (K.faults sink.new) out.new)
+    ensures { Went (outlet (K.taken sink.old) (K.faults sink.old) out.old) (outlet (K.taken sink.new) (K.faults sink.new) out.new)
         (found_line names.now deliveries.now places.now) }
 {
     out.put(sink, b"found");
@@ -112,7 +112,7 @@ fn put_next<K: Sink>(
     ensures steps { detector.new.steps ≡ detector.old.steps }
     ensures fed { detector.new.fed ≡ detector.old.fed ++ notice.now ∷ [] }
     ensures went { (line : List ℕ)
-        × Went (outlet (K.written sink.old) (K.faults sink.old) out.old) (outlet (K.written sink.new) (K.faults sink.new) out.new) line
+        × Went (outlet (K.taken sink.old) (K.faults sink.old) out.old) (outlet (K.taken sink.new) (K.faults sink.new) out.new) line
         × (flat_map (found_line names.now deliveries.now) (all_occurrences detector.old.steps (detector.old.fed ++ notice.now ∷ []))
         ≡ flat_map (found_line names.now deliveries.now) (all_occurrences detector.old.steps detector.old.fed) ++ line) }
 {
@@ -133,7 +133,7 @@ fn put_occurrences<K: Sink>(
     requires some { 0 < length detector.steps }
     requires nothing { detector.fed ≡ [] }
     requires published { ArePublished notices.now deliveries.now }
-    ensures { Went (outlet (K.written sink.old) (K.faults sink.old) out.old) (outlet (K.written sink.new) (K.faults sink.new) out.new)
+    ensures { Went (outlet (K.taken sink.old) (K.faults sink.old) out.old) (outlet (K.taken sink.new) (K.faults sink.new) out.new)
         (flat_map (found_line names.now deliveries.now) (all_occurrences detector.steps (notices_of notices.now deliveries.now))) }
 {
     for delivery in deliveries {
@@ -158,7 +158,7 @@ pub fn put_pattern<K: Sink>(
     pattern: Searched,
 )
     requires { ArePublished notices.now deliveries.now }
-    ensures { Went (outlet (K.written sink.old) (K.faults sink.old) out.old) (outlet (K.written sink.new) (K.faults sink.new) out.new)
+    ensures { Went (outlet (K.taken sink.old) (K.faults sink.old) out.old) (outlet (K.taken sink.new) (K.faults sink.new) out.new)
         (pattern_text names.now notices.now deliveries.now pattern) }
 {
     let Searched {
