@@ -1,8 +1,8 @@
 -- Where bytes are cut into lines, words and tokens.
-use Rattle.std.proofs.Common.{◌≡◌, ◌≢◌, ℕ, zero, suc, ◌<◌, ◌≤◌, List, [], ◌∷◌, length, take, drop, refl, arith, sym, subst, ◌∙◌, ap, Bool, true, false, get_or}
+use Rattle.std.proofs.Common.{◌≡◌, ◌≢◌, ◌⊎◌, inl, inr, ℕ, zero, suc, ◌<◌, ◌≤◌, List, [], ◌∷◌, ◌++◌, length, take, drop, refl, arith, sym, subst, ◌∙◌, ap, Bool, true, false, get_or}
 use Rattle.std.specs.Prelude.{nat_eq}
 use Rattle.std.proofs.lemmas.Grind.{common_steps}
-use Rattle.ev_input.specs.Lines.{lines, words, is_blank, without_return, before_first, at_newline, at_word_end}
+use Rattle.ev_input.specs.Lines.{IsFirstLine, lines, words, is_blank, without_return, before_first, at_newline, at_word_end}
 
 not_eq : (a b : ℕ) → a ≢ b → nat_eq a b ≡ false
 not_eq a b ne = grind (arith, common_steps)
@@ -53,6 +53,19 @@ cut_line (b ∷ c ∷ cs) (suc zero) lt at before =
 cut_line (b ∷ c ∷ cs) (suc (suc n)) lt at before =
     let h = cut_line (c ∷ cs) (suc n) (omega arith) at (λ k l. before (suc k) (omega arith)) in
     goes_on b (c ∷ cs) (not_eq b 10 (before 0 (omega arith))) (not_eq c 10 (before 1 (omega arith))) ∙ ap (before_first b) h
+
+-- the same with other bytes behind its end
+front_line : (bs more : List ℕ) (n : ℕ) → n < length bs → get_or bs n 0 ≡ 10 → ((k : ℕ) → k < n → get_or bs k 0 ≢ 10) → lines (take (suc n) bs ++ more) ≡ without_return (take n bs) ∷ lines more
+unfolding without_return
+front_line [] more n lt at before = absurd (omega arith)
+front_line (b ∷ bs) more zero lt at before = end_here b more (is_eq b 10 at)
+front_line (b ∷ []) more (suc n) lt at before = absurd (omega arith)
+front_line (b ∷ c ∷ cs) more (suc zero) lt at before =
+    let P : ℕ → Type 0 = λ x. lines (b ∷ x ∷ more) ≡ without_return (b ∷ []) ∷ lines more in
+    subst P (sym at) (cr_one b more (not_eq b 10 (before 0 (omega arith))))
+front_line (b ∷ c ∷ cs) more (suc (suc n)) lt at before =
+    let h = front_line (c ∷ cs) more (suc n) (omega arith) at (λ k l. before (suc k) (omega arith)) in
+    goes_on b (c ∷ take (suc n) cs ++ more) (not_eq b 10 (before 0 (omega arith))) (not_eq c 10 (before 1 (omega arith))) ∙ ap (before_first b) h
 
 -- the last line, without an end
 pub last_line : (b : ℕ) (bs : List ℕ) → ((k : ℕ) → k < length (b ∷ bs) → get_or (b ∷ bs) k 0 ≢ 10) → lines (b ∷ bs) ≡ (b ∷ bs) ∷ []
@@ -146,6 +159,35 @@ last_of bs line end n f g none some all before =
 
 pub line_of : (bs line rest : List ℕ) (n m : ℕ) → m ≡ suc n → line ≡ without_return (take n bs) → rest ≡ drop m bs → n < length bs → get_or bs n 0 ≡ 10 → ((k : ℕ) → k < n → get_or bs k 0 ≢ 10) → lines bs ≡ line ∷ lines rest
 line_of bs line rest n m e f g lt at before = rw (f, g, e) (cut_line bs n lt at before)
+
+nothing_more : (xs : List ℕ) → xs ++ [] ≡ xs
+nothing_more [] = refl
+nothing_more (x ∷ xs) = ap (λ l. x ∷ l) (nothing_more xs)
+
+front_back : (bs : List ℕ) (n : ℕ) → bs ≡ take n bs ++ drop n bs
+front_back bs zero = refl
+front_back [] (suc n) = refl
+front_back (b ∷ bs) (suc n) = ap (λ l. b ∷ l) (front_back bs n)
+
+pub last_is_first : (bs line end : List ℕ) (n : ℕ) → line ≡ take n bs → end ≡ drop n bs → length end ≡ 0 → 0 < length bs → n ≡ length bs → ((k : ℕ) → k < n → get_or bs k 0 ≢ 10) → IsFirstLine bs line end
+last_is_first bs line end n f g none some all before =
+    let h = last_of bs line end n f g none some all before in
+    record {
+      own = bs;
+      parts = sym (ap (λ l. bs ++ l) (is_nil end none) ∙ nothing_more bs);
+      alone = h ∙ ap (λ l. line ∷ l) (ap lines (is_nil end none) ∙ no_lines);
+      ends = inl (is_nil end none);
+    }
+
+pub line_is_first : (bs line rest : List ℕ) (n m : ℕ) → m ≡ suc n → line ≡ without_return (take n bs) → rest ≡ drop m bs → n < length bs → get_or bs n 0 ≡ 10 → ((k : ℕ) → k < n → get_or bs k 0 ≢ 10) → IsFirstLine bs line rest
+line_is_first bs line rest n m e f g lt at before =
+    let whole : (more : List ℕ) → lines (take m bs ++ more) ≡ line ∷ lines more = λ more. rw (e, f) (front_line bs more n lt at before) in
+    record {
+      own = take m bs;
+      parts = front_back bs m ∙ ap (λ l. take m bs ++ l) (sym g);
+      alone = ap lines (sym (nothing_more (take m bs))) ∙ (whole [] ∙ ap (λ l. line ∷ l) no_lines);
+      ends = inr whole;
+    }
 
 pub no_word_of : (bs text : List ℕ) (n : ℕ) → text ≡ drop n bs → length text ≡ 0 → n ≤ length bs → ((k : ℕ) → k < n → is_blank (get_or bs k 0) ≡ true) → words bs ≡ []
 no_word_of bs text n f none le before = (skip_blanks bs n le before ∙ ap words (sym f ∙ is_nil text none)) ∙ no_words

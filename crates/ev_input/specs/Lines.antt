@@ -1,5 +1,5 @@
 -- How bytes are cut into lines, and a line into words.
-use Rattle.std.specs.Prelude.{Bool, true, false, ℕ, List, [], ◌∷◌, ◌&&◌, ◌||◌, nat_eq, if◌then◌else◌}
+use Rattle.std.specs.Prelude.{◌≡◌, ◌⊎◌, Bool, true, false, ℕ, List, [], ◌∷◌, ◌++◌, ◌&&◌, ◌||◌, nat_eq, if◌then◌else◌}
 
 -- the byte stands before the first piece, which it begins where there is none
 abbrev pub before_first : ℕ → List (List ℕ) → List (List ℕ)
@@ -19,6 +19,13 @@ lines (b ∷ bs) =
     if nat_eq b 10 then [] ∷ lines bs
     else if nat_eq b 13 && at_newline bs then lines bs
     else before_first b (lines bs)
+
+-- a line, and the rest of the bytes behind it and its end: either nothing is left, or the line is the same whatever follows
+pub record IsFirstLine (bytes line rest : List ℕ) : Type 0 where
+  pub own : List ℕ
+  pub parts : bytes ≡ own ++ rest
+  pub alone : lines own ≡ line ∷ []
+  pub ends : (rest ≡ []) ⊎ ((more : List ℕ) → lines (own ++ more) ≡ line ∷ lines more)
 
 -- without a carriage return at its end
 unfoldable pub without_return : List ℕ → List ℕ

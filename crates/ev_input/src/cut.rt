@@ -1,6 +1,6 @@
 //! Bytes cut into lines, and a line into words.
 ghost use Rattle.std.specs.Prelude.{◌≡◌, ◌≢◌, ◌∷◌, [], ◌<◌, ◌≤◌, length, IfSome, MatchOption, slice_index, ℕ, true, false};
-ghost use Rattle.ev_input.specs.Lines.{is_blank, lines, without_return, words};
+ghost use Rattle.ev_input.specs.Lines.{IsFirstLine, is_blank, lines, without_return, words};
 
 fn is_blank(byte: u8) -> bool
     ensures { result ≡ is_blank byte }
@@ -37,9 +37,10 @@ fn without_return(line: &[u8]) -> &[u8]
     front
 }
 
-/// The first line, and what follows it.
+/// The first line, without its end, and the bytes behind it; `None` where there are no bytes.
 pub fn next_line(bytes: &[u8]) -> Option<(&[u8], &[u8])>
     ensures cut { MatchOption result (lines bytes.now ≡ []) (λ r. lines bytes.now ≡ r.0.now ∷ lines r.1.now) }
+    ensures parts { IfSome result (λ r. IsFirstLine bytes.now r.0.now r.1.now) }
     ensures within { IfSome result (λ r. length r.0.now ≤ length bytes.now) }
     ensures shorter { IfSome result (λ r. length r.1.now < length bytes.now) }
 {
@@ -83,7 +84,7 @@ fn word_len(bytes: &[u8]) -> usize
     bytes.len()
 }
 
-/// The first word, and what follows it.
+/// The first word of a line, and the bytes behind it; `None` where the line has no word.
 pub fn next_word(bytes: &[u8]) -> Option<(&[u8], &[u8])>
     ensures { MatchOption result (words bytes.now ≡ []) (λ r. words bytes.now ≡ r.0.now ∷ words r.1.now) }
 {

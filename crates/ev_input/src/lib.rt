@@ -22,5 +22,7 @@ mod turns;
 mod version;
 mod words;
 
+pub use cut::{next_line, next_word};
 pub use fault::{Fault, InputFault};
 pub use read::read_net;
+pub use words::two;

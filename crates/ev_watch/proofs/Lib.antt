@@ -1,0 +1,6 @@
+pub mod Searching
+pub mod Parting
+pub mod Stepping
+pub mod Reading
+pub mod Sound
+pub mod Labels

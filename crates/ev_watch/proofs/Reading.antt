@@ -1,0 +1,172 @@
+-- What a reader's answer tells of the input.
+use Rattle.std.proofs.Common.{◌≡◌, ◌⊎◌, inl, inr, ℕ, ◌+◌, ◌≤◌, List, ◌∷◌, length, refl, sym, ap, subst, ◌∙◌, arith, map, [], Result, Ok, Err}
+use Rattle.std.specs.Prelude.{IfOk, IsOk}
+use Rattle.ev_model.specs.Parts.{ClientParts, NetParts}
+use Rattle.ev_input.specs.Lines.{lines}
+use Rattle.ev_input.specs.Net.{IsBadAt, IsNetOf}
+use Rattle.ev_input.specs.Places.{document_of}
+use Rattle.ev_input.specs.Rules.{version_number}
+use Rattle.ev_input.specs.Net.{client_of}
+use Rattle.ev_input.specs.declared.fault.Fault.{Fault}
+use Rattle.std.specs.Prelude.{codes}
+use Rattle.ev_watch.specs.Cut.{IsCutAt, IsNoLine, IsParted, first_number}
+use Rattle.ev_watch.specs.Parts.{PatternParts, WatchingParts}
+use Rattle.ev_watch.specs.Reading.{AnswersWatch, ReadsDocument, ReadsPatterns}
+use Rattle.ev_watch.specs.Rules.{end_rule, line_rule, nothing, read_from}
+use Rattle.ev_watch.specs.Watch.{IsBadDocument, IsBadPattern, IsWatchOf, patterns_in}
+use Rattle.ev_watch.specs.declared.fault.PatternFault.{PatternFault}
+use Rattle.ev_watch.specs.declared.fault.PatternFault.TheVariants as faults
+use Rattle.ev_watch.specs.declared.fault.PatternKind.{PatternKind}
+use Rattle.ev_watch.proofs.Parting.{one_part, part_short, same_document}
+
+-- a line that is taken leaves the rest to read
+pub next_read : (version : ℕ) (clients : List ClientParts) (n : ℕ) (s t : WatchingParts) (ls rest : List (List ℕ)) (l : List ℕ) → ls ≡ l ∷ rest → line_rule version clients s l ≡ Ok t
+    → read_from version clients n s ls ≡ read_from version clients (n + 1) t rest
+next_read version clients n s t ls rest l e f = rw (e, f) refl
+
+-- one answer is not two
+never : {A E : Type 0} (r : Result A E) (x : A) (e : E) → r ≡ Ok x → r ≡ Err e → ⊥
+never r x e p q = cc
+
+the_ok : {A E : Type 0} (r : Result A E) (x y : A) → r ≡ Ok x → r ≡ Ok y → x ≡ y
+the_ok r x y p q = cc
+
+the_err : {A E : Type 0} (r : Result A E) (x y : E) → r ≡ Err x → r ≡ Err y → x ≡ y
+the_err r x y p q = cc
+
+the_place : {A K : Type 0} (r : Result A (ℕ × K)) (l line : ℕ) (k kind : K) → r ≡ Err (l, k) → r ≡ Err (line, kind) → (l ≡ line) × (k ≡ kind)
+the_place {K = K} r l line k kind p q =
+    let x : ℕ × K = (l, k) in
+    let y : ℕ × K = (line, kind) in
+    let e : x ≡ y = the_err r x y p q in
+    (ap (λ (z : ℕ × K). z.0) e, ap (λ (z : ℕ × K). z.1) e)
+
+same_version : (d d' : List ℕ) (n n' : NetParts) → IsNetOf d n → IsNetOf d' n' → document_of d ≡ document_of d' → n.version ≡ n'.version
+same_version d d' n n' h k e =
+    let s : h.state ≡ k.state = the_ok (document_of d) h.state k.state h.read (e ∙ k.read) in
+    h.holds.version ∙ ap (λ z. version_number z.version) s ∙ sym k.holds.version
+
+same_clients : (d d' : List ℕ) (n n' : NetParts) → IsNetOf d n → IsNetOf d' n' → document_of d ≡ document_of d' → n.clients ≡ n'.clients
+same_clients d d' n n' h k e =
+    let s : h.state ≡ k.state = the_ok (document_of d) h.state k.state h.read (e ∙ k.read) in
+    h.holds.clients ∙ ap (λ z. map client_of z.clients) s ∙ sym k.holds.clients
+
+-- two partings of one input
+module _ (bytes : List ℕ) (few : length bytes ≤ 4194304) (d d' : List ℕ) (l l' : List (List ℕ)) (p : IsParted bytes d l) (p' : IsParted bytes d' l') where
+  one_document : document_of d ≡ document_of d'
+  one_document = same_document d d' (omega (arith, few, part_short bytes d l p)) (omega (arith, few, part_short bytes d' l' p')) (one_part bytes d d' l l' p p').0
+
+  one_read : (n n' : NetParts) → IsNetOf d n → IsNetOf d' n' → patterns_in n d l ≡ patterns_in n' d' l'
+  one_read n n' h k =
+      let t = one_part bytes d d' l l' p p' in
+      let v : n.version ≡ n'.version = same_version d d' n n' h k one_document in
+      let c : n.clients ≡ n'.clients = same_clients d d' n n' h k one_document in
+      let f : first_number d ≡ first_number d' = ap (λ z. length z + 2) t.0 in
+      rw (v, c, f, t.1) refl
+
+  refused_once : (n : NetParts) (line : ℕ) (kind : Fault) → IsNetOf d n → IsBadAt d' line kind → ⊥
+  refused_once n line kind h b = never (document_of d) h.state (line, kind) h.read (one_document ∙ b)
+
+  same_place : (line line' : ℕ) (kind kind' : Fault) → IsBadAt d line kind → IsBadAt d' line' kind' → (line ≡ line') × (kind ≡ kind')
+  same_place line line' kind kind' b b' = the_place (document_of d) line line' kind kind' b (one_document ∙ b')
+
+watch_refused : (bytes : List ℕ) (net : NetParts) (patterns : List PatternParts) (line : ℕ) (kind : Fault) → length bytes ≤ 4194304 → IsWatchOf bytes net patterns → IsBadDocument bytes line kind → ⊥
+watch_refused bytes net patterns line kind few w b = refused_once bytes few w.document b.document w.later b.later w.parted b.parted net line kind w.well_formed b.bad
+
+bad_refused : (bytes : List ℕ) (l : ℕ) (k : PatternKind) (line : ℕ) (kind : Fault) → length bytes ≤ 4194304 → IsBadPattern bytes l k → IsBadDocument bytes line kind → ⊥
+bad_refused bytes l k line kind few w b = refused_once bytes few w.document b.document w.later b.later w.parted b.parted w.net line kind w.well_formed b.bad
+
+watch_bad : (bytes : List ℕ) (net : NetParts) (patterns : List PatternParts) (line : ℕ) (kind : PatternKind) → length bytes ≤ 4194304 → IsWatchOf bytes net patterns → IsBadPattern bytes line kind → ⊥
+watch_bad bytes net patterns line kind few w b =
+    never (patterns_in net w.document w.later) patterns (line, kind) w.read
+    (one_read bytes few w.document b.document w.later b.later w.parted b.parted net b.net w.well_formed b.well_formed ∙ b.bad)
+
+same_bad : (bytes : List ℕ) (l line : ℕ) (k kind : PatternKind) → length bytes ≤ 4194304 → IsBadPattern bytes l k → IsBadPattern bytes line kind → (l ≡ line) × (k ≡ kind)
+same_bad bytes l line k kind few w b =
+    the_place (patterns_in w.net w.document w.later) l line k kind w.bad
+    (one_read bytes few w.document b.document w.later b.later w.parted b.parted w.net b.net w.well_formed b.well_formed ∙ b.bad)
+
+same_refused : (bytes : List ℕ) (l line : ℕ) (k kind : Fault) → length bytes ≤ 4194304 → IsBadDocument bytes l k → IsBadDocument bytes line kind → (l ≡ line) × (k ≡ kind)
+same_refused bytes l line k kind few w b = same_place bytes few w.document b.document w.later b.later w.parted b.parted l line k kind w.bad b.bad
+
+module _ {W : Type 0} (n : W → NetParts) (p : W → List PatternParts) (bytes : List ℕ) (few : length bytes ≤ 4194304) where
+  pub watch_read : (r : Result W PatternFault) → AnswersWatch n p bytes r → IfOk r (λ w. IsWatchOf bytes (n w) (p w))
+  watch_read (Ok w) h = h
+  watch_read (Err e) h = tt
+
+  pub given_read : (r : Result W PatternFault) → AnswersWatch n p bytes r → (net : NetParts) (patterns : List PatternParts) → IsWatchOf bytes net patterns → IsOk r ⊎ (r ≡ Err faults.NoMemory)
+  given_read (Ok w) h net patterns k = inl refl
+  given_read (Err faults.NoMemory) h net patterns k = inr refl
+  given_read (Err (faults.Document line kind)) h net patterns k = absurd (watch_refused bytes net patterns line kind few k h)
+  given_read (Err (faults.Bad line kind)) h net patterns k = absurd (watch_bad bytes net patterns line kind few k h)
+
+  pub document_read : (r : Result W PatternFault) → AnswersWatch n p bytes r → (line : ℕ) (kind : Fault) → r ≡ Err (faults.Document line kind) → IsBadDocument bytes line kind
+  document_read (Ok w) h line kind e = cc
+  document_read (Err faults.NoMemory) h line kind e = cc
+  document_read (Err (faults.Document l k)) h line kind e =
+      let a : l ≡ line = cc in
+      let b : k ≡ kind = cc in
+      subst (λ z. IsBadDocument bytes z kind) a (subst (λ z. IsBadDocument bytes l z) b h)
+  document_read (Err (faults.Bad l k)) h line kind e = cc
+
+  pub bad_read : (r : Result W PatternFault) → AnswersWatch n p bytes r → (line : ℕ) (kind : PatternKind) → r ≡ Err (faults.Bad line kind) → IsBadPattern bytes line kind
+  bad_read (Ok w) h line kind e = cc
+  bad_read (Err faults.NoMemory) h line kind e = cc
+  bad_read (Err (faults.Document l k)) h line kind e = cc
+  bad_read (Err (faults.Bad l k)) h line kind e =
+      let a : l ≡ line = cc in
+      let b : k ≡ kind = cc in
+      subst (λ z. IsBadPattern bytes z kind) a (subst (λ z. IsBadPattern bytes l z) b h)
+
+  pub refused_document : (r : Result W PatternFault) → AnswersWatch n p bytes r → (line : ℕ) (kind : Fault) → IsBadDocument bytes line kind
+      → (r ≡ Err (faults.Document line kind)) ⊎ (r ≡ Err faults.NoMemory)
+  refused_document (Ok w) h line kind b = absurd (watch_refused bytes (n w) (p w) line kind few h b)
+  refused_document (Err faults.NoMemory) h line kind b = inr refl
+  refused_document (Err (faults.Document l k)) h line kind b = (let t = same_refused bytes l line k kind few h b in inl (rw (t.0, t.1) refl))
+  refused_document (Err (faults.Bad l k)) h line kind b = absurd (bad_refused bytes l k line kind few h b)
+
+  pub refused_pattern : (r : Result W PatternFault) → AnswersWatch n p bytes r → (line : ℕ) (kind : PatternKind) → IsBadPattern bytes line kind
+      → (r ≡ Err (faults.Bad line kind)) ⊎ (r ≡ Err faults.NoMemory)
+  refused_pattern (Ok w) h line kind b = absurd (watch_bad bytes (n w) (p w) line kind few h b)
+  refused_pattern (Err faults.NoMemory) h line kind b = inr refl
+  refused_pattern (Err (faults.Document l k)) h line kind b = absurd (bad_refused bytes line kind l k few b h)
+  refused_pattern (Err (faults.Bad l k)) h line kind b = (let t = same_bad bytes l line k kind few h b in inl (rw (t.0, t.1) refl))
+
+module _ {W : Type 0} (n : W → NetParts) (p : W → List PatternParts) (bytes : List ℕ) where
+  -- a document that is refused
+  pub refused_first : (d : List ℕ) (l : List (List ℕ)) (e : PatternFault) → IsParted bytes d l → ReadsDocument d (Err e) → AnswersWatch n p bytes (Err e)
+  refused_first d l faults.NoMemory a h = tt
+  refused_first d l (faults.Bad line kind) a h = absurd h
+  refused_first d l (faults.Document line kind) a h = record { document = d; later = l; parted = a; bad = h }
+
+  -- patterns that are refused
+  pub refused_then : {X : Type 0} (view : X → List PatternParts) (d : List ℕ) (l : List (List ℕ)) (net : NetParts) (e : PatternFault) → IsParted bytes d l → IsNetOf d net
+      → ReadsPatterns view (Err e) (patterns_in net d l) → AnswersWatch n p bytes (Err e)
+  refused_then view d l net faults.NoMemory a w h = tt
+  refused_then view d l net (faults.Bad line kind) a w h = record { document = d; later = l; parted = a; net = net; well_formed = w; bad = h }
+  refused_then view d l net (faults.Document line kind) a w h = absurd h
+
+no_patterns : (net : NetParts) (d : List ℕ) → patterns_in net d [] ≡ Ok []
+unfolding end_rule
+no_patterns net d = refl
+
+-- all of an input is its document
+pub all_read : (bytes : List ℕ) (net : NetParts) (patterns : List PatternParts) → IsNoLine (codes "patterns") (lines bytes) → IsNetOf bytes net → patterns ≡ [] → IsWatchOf bytes net patterns
+all_read bytes net patterns none w e = record {
+  document = bytes;
+  later = [];
+  parted = inr (none, refl, refl);
+  well_formed = w;
+  read = no_patterns net bytes ∙ ap Ok (sym e);
+}
+
+-- an input in two parts
+pub parts_read : (bytes before after : List ℕ) (net : NetParts) (patterns : List PatternParts) (number : ℕ) → IsCutAt (codes "patterns") bytes before after → IsNetOf before net
+    → number ≡ first_number before → read_from net.version net.clients number nothing (lines after) ≡ Ok patterns → IsWatchOf bytes net patterns
+parts_read bytes before after net patterns number c w n h = record {
+  document = before;
+  later = lines after;
+  parted = inl (after, c, refl);
+  well_formed = w;
+  read = ap (λ z. read_from net.version net.clients z nothing (lines after)) (sym n) ∙ h;
+}
