@@ -11,7 +11,7 @@ use ev_report::{check_text, flood_text};
 use std::alloc::Global;
 
 /// The net of a document.
-fn net(alloc: Global, document: &[u8]) -> Result<Net, Failure>
+pub fn net(alloc: Global, document: &[u8]) -> Result<Net, Failure>
     ensures { IfOk result IsSound }
 {
     net_is_sound();

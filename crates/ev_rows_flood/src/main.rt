@@ -1,11 +1,13 @@
-//! Prints what flooding brings of some documents and of a generated one. With the word `flood` it reads standard input as a
+//! Prints what flooding brings of some documents and of a generated one, and what catalogues know. With the word `flood` it reads standard input as a
 //! document and writes its flood text.
 #![tactic(auto)]
 
+mod catalogued;
 mod documents;
 mod failure;
 mod flooded;
 mod generated;
+mod many;
 
 use failure::Failure;
 use std::io::{Read, Write};
@@ -35,6 +37,8 @@ fn main(rt: HostRuntime) -> Result<(), Failure> {
     match asked(&rt)? {
         Order::Print => {
             documents::print_documents(&rt, rt.alloc())?;
+            catalogued::print_catalogues(&rt, rt.alloc())?;
+            many::print_many(&rt, rt.alloc())?;
             generated::print_generated(&rt, rt.alloc(), 1)
         }
         Order::Flood => {

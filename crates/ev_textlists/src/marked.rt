@@ -6,7 +6,11 @@ use crate::marks::{Mark, mark_of};
 use crate::meet::{meet_parts, meet_prefixes, meet_suffixes};
 use ev_memory::NoMemory;
 use std::alloc::Global;
+use std::collections::BTreeMap;
 use std::marker::Model;
+
+/// The bytes of a pattern.
+type Key = Vec<u8>;
 
 /// Ids under the bytes of patterns, each pattern with its marks. The marks lie side by side, so that a text goes over them
 /// alone.
@@ -14,6 +18,8 @@ use std::marker::Model;
 pub(crate) struct Marked {
     marks: Vec<Mark>,
     groups: Vec<Group>,
+    /// Where the group of a pattern stands. It only saves a search: what it says is looked at before it is believed.
+    places: BTreeMap<Key, usize>,
 }
 
 impl Model for Marked {
@@ -27,17 +33,19 @@ impl Model for Marked {
     ghost invariant = { λ marked. marked.marks.items ≡ marks_of marked.groups.items };
 }
 
-/// The place of the group of these bytes.
-fn place(marks: &[Mark], groups: &[Group], mark: Mark, key: &[u8]) -> Option<usize>
-    requires { length marks.now ≡ length groups.now }
+/// The place of the group of these bytes, where it is known.
+fn place(places: &BTreeMap<Key, usize>, groups: &[Group], key: &[u8]) -> Option<usize>
     ensures { IfSome result (λ i. (i < length groups.now) × ((d : _) → (slice_index_or groups.now i d).key.items ≡ key.now)) }
 {
-    for (i, other) in marks.iter().enumerate() {
-        if other.first == mark.first && other.last == mark.last && groups[i].is_of(key) {
-            return Some(i);
-        }
+    let Some(i) = places.get(key) else {
+        return None;
+    };
+    let i = *i;
+    if i < groups.len() && groups[i].is_of(key) {
+        Some(i)
+    } else {
+        None
     }
-    None
 }
 
 impl Marked {
@@ -53,6 +61,7 @@ impl Marked {
         Marked {
             marks: Vec::new(alloc),
             groups: Vec::new(alloc),
+            places: BTreeMap::new(alloc),
         }
     }
 
@@ -60,14 +69,15 @@ impl Marked {
     pub(crate) fn put(&mut self, alloc: Global, key: &[u8], id: u32) -> Result<(), NoMemory>
         ensures { OnOk result (Same self.new ((key.now, id) ∷ self.old)) }
     {
-        let mark = mark_of(key);
-        match place(&self.marks, &self.groups, mark, key) {
+        match place(&self.places, &self.groups, key) {
             Some(i) => self.groups[i].add(id),
             None => {
                 let group = Group::with(alloc, key, id)?;
+                let name = Vec::from_slice(alloc, key)?;
                 self.marks.reserve(1)?;
+                self.places.insert(name, self.groups.len())?;
                 self.groups.push(group)?;
-                self.marks.push_reserved(mark);
+                self.marks.push_reserved(mark_of(key));
                 Ok(())
             }
         }

@@ -20,8 +20,8 @@ returns-in-Some c =
     let groups = c.self.inside.groups.items in
     let i = c.in-Some.i in
     let old = c.index_mut.result.now in
-    let l : i < length groups = rw c.deref-2.ensures.value at c.in-Some.ensures.0 in
-    let k : old.key.items ≡ c.args.key.now = ap {B = List ℕ} (λ (g : Group). g.key.items) c.index_mut.ensures.value ∙ (rw c.deref-2.ensures.value at (c.in-Some.ensures.1 old)) in
+    let l : i < length groups = rw c.deref.ensures.value at c.in-Some.ensures.0 in
+    let k : old.key.items ≡ c.args.key.now = ap {B = List ℕ} (λ (g : Group). g.key.items) c.index_mut.ensures.value ∙ (rw c.deref.ensures.value at (c.in-Some.ensures.1 old)) in
     let x : List ℕ × ℕ = (c.args.key.now, c.args.id) in
     on_ok_weaker c.add.result (λ h p. omega (arith, ids-more groups i old c.add.new.self x l c.index_mut.ensures.value (subst (λ (u : List ℕ). Same (group_pairs c.add.new.self) ((u, c.args.id) ∷ group_pairs old)) k h) p, ap (tally p) c.self.view_is)) c.add.ensures.added
 
