@@ -4,9 +4,11 @@
 
 mod phases;
 mod run;
+mod standard;
 mod team;
 mod threaded;
 mod top;
 
 pub use run::run_net;
+pub use standard::with_devices;
 pub use top::siena;

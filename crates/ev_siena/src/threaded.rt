@@ -1,12 +1,12 @@
 //! What is printed of a run with threads.
-ghost use Rattle.std.specs.Prelude.{◌≡◌, ◌≤◌, ◌⊎◌, ℕ, length, IfOk, OnOk, IsOk, IsErrOf};
-ghost use Rattle.std.specs.Io.KnownBytes.{IsAtEnd};
+ghost use Rattle.std.specs.Prelude.{◌≡◌, ◌≤◌, ◌⊎◌, ◌++◌, ℕ, List, true, length, IfOk, OnOk, IsOk, IsErrOf};
+ghost use Rattle.std.specs.Io.KnownBytes.{Consumes, IsAtEnd};
 ghost use Rattle.ev_outside.specs.Cause.{Rose};
 ghost use Rattle.ev_outside.specs.Whole.{Gave};
 ghost use Rattle.ev_model.specs.Sound.{IsSound};
 ghost use Rattle.ev_quiet.specs.Ran.{IsShown};
 ghost use Rattle.ev_quiet.specs.Faults.{IsAtFault, MustBeRefused, CanBeDone};
-ghost use Rattle.ev_quiet.specs.Answers.{IsPrintedBy, IsPrintedOf, HasFaultFor, TellsRefusedFor, CanAnswerFor};
+ghost use Rattle.ev_quiet.specs.Answers.{IsPrintedBy, IsPrintedOf, HasFaultFor, GaveRefusedFor, CanAnswerFor};
 ghost use Rattle.ev_siena.specs.Wishes.{query_of, with_threads};
 
 use crate::run::run_net;
@@ -76,20 +76,19 @@ pub(crate) fn of_source<R: Threads + Wait + Sync, S: Source, G: Gate + Sync>(
     source: &mut S,
     gate: &G,
 ) -> Result<Printed, Refusal>
-    ensures printed { IfOk result (λ p. IsPrintedBy (with_threads options) (S.left source.old) p.text p.journal) }
-    ensures end { OnOk result (IsAtEnd (S.left source.new)) }
+    ensures printed { IfOk result (λ p. IsPrintedBy (with_threads options) (S.given source.old) (S.given source.new) (S.ended source.new) p.text p.journal) }
     ensures sure { OnOk result (S.faults source.new ≡ S.faults source.old) }
     ensures bad { (line : ℕ) (kind : Fault) → IsErrOf result (Refusal.BadInput line kind)
-        → HasFaultFor (with_threads options) (S.left source.old) line kind }
+        → HasFaultFor (with_threads options) (S.given source.old) (S.given source.new) (S.ended source.new) line kind }
     ensures failed { IsErrOf result Refusal.ReadFault → Rose (S.faults source.old) (S.faults source.new) }
     ensures refused { (line : ℕ) (kind : Fault)
-        → TellsRefusedFor (with_threads options) (S.left source.old) line kind
-        → (Rose (S.faults source.old) (S.faults source.new) → ⊥)
+        → GaveRefusedFor (with_threads options) (S.given source.old) (S.given source.new) (S.ended source.new) line kind
         → IsErrOf result (Refusal.BadInput line kind) ⊎ IsErrOf result Refusal.NoMemory }
-    ensures done { CanAnswerFor (with_threads options) (S.left source.old)
-        → (Rose (S.faults source.old) (S.faults source.new) → ⊥)
+    ensures done { CanAnswerFor (with_threads options) (S.given source.old) (S.given source.new) (S.ended source.new)
         → IsOk result ⊎ IsErrOf result Refusal.NoMemory }
-    ensures at_most { Gave (S.left source.old) (S.left source.new) (λ given. length given ≤ 4194305) }
+    ensures at_most { Gave (S.given source.old) (S.given source.new) (λ given. length given ≤ 4194305) }
+    ensures told { (given : List ℕ) → S.given source.new ≡ S.given source.old ++ given → Consumes (S.left source.old) (S.left source.new) given }
+    ensures end { S.ended source.new ≡ true → IsAtEnd (S.left source.new) }
 {
     let bytes = document(alloc, source)?;
     of_document(alloc, rt, &bytes, options, gate)

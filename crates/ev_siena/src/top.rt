@@ -1,10 +1,10 @@
 //! The top call, for all words.
-ghost use Rattle.std.specs.Prelude.{◌≡◌, ◌≢◌, ◌≤◌, ◌⊎◌, ◌↔◌, ℕ, [], true, false, None, Some, length};
-ghost use Rattle.std.specs.Io.KnownBytes.{IsAtEnd, Appends};
+ghost use Rattle.std.specs.Prelude.{◌≡◌, ◌≢◌, ◌≤◌, ◌⊎◌, ◌++◌, ◌↔◌, ℕ, List, [], true, false, None, Some, length};
+ghost use Rattle.std.specs.Io.KnownBytes.{Consumes, IsAtEnd};
 ghost use Rattle.ev_outside.specs.Cause.{Rose};
-ghost use Rattle.ev_outside.specs.Whole.{Gave, AppendsPart};
+ghost use Rattle.ev_outside.specs.Whole.{Gave};
 ghost use Rattle.ev_quiet.specs.Words.{wanted_by, AreNoneOfRun};
-ghost use Rattle.ev_quiet.specs.Answers.{Prints, PrintsPart, reads, HasFault, TellsRefused, CanAnswer};
+ghost use Rattle.ev_quiet.specs.Answers.{Prints, PrintsPart, reads, HasFault, GaveRefused, CanAnswer};
 ghost use Rattle.ev_siena.specs.Wishes.{with_threads};
 
 use crate::threaded::of_source;
@@ -36,24 +36,27 @@ fn run<R: Threads + Wait + Sync, S: Source, K: Sink, G: Gate + Sync>(
     gate: &G,
 ) -> Outcome
     ensures printed { result.status ≡ Status.Done
-        → Prints (Some (with_threads shown)) (S.left source.old) result.journal.items (K.written sink.old) (K.written sink.new) }
-    ensures read { result.status ≡ Status.Done → IsAtEnd (S.left source.new) }
+        → Prints (Some (with_threads shown)) (S.given source.old) (S.given source.new) (S.ended source.new)
+        result.journal.items (K.taken sink.old) (K.taken sink.new) }
     ensures sure { result.status ≡ Status.Done → (S.faults source.new ≡ S.faults source.old) × (K.faults sink.new ≡ K.faults sink.old) }
-    ensures at_most { Gave (S.left source.old) (S.left source.new) (λ given. length given ≤ 4194305) }
+    ensures at_most { Gave (S.given source.old) (S.given source.new) (λ given. length given ≤ 4194305) }
+    ensures told { (given : List ℕ) → S.given source.new ≡ S.given source.old ++ given
+        → Consumes (S.left source.old) (S.left source.new) given }
+    ensures end { S.ended source.new ≡ true → IsAtEnd (S.left source.new) }
     ensures unwritten { result.status ≢ Status.Done → result.status ≢ Status.WriteFault → sink.new ≡ sink.old }
     ensures journal { result.status ≢ Status.Done → result.journal.items ≡ [] }
     ensures usage { result.status ≢ Status.Usage }
     ensures bad_input { (line : ℕ) (kind : Fault) → result.status ≡ Status.BadInput line kind
-        → HasFault (Some (with_threads shown)) (S.left source.old) line kind }
+        → HasFault (Some (with_threads shown)) (S.given source.old) (S.given source.new) (S.ended source.new) line kind }
     ensures read_fault { result.status ≡ Status.ReadFault → Rose (S.faults source.old) (S.faults source.new) }
     ensures write_fault { result.status ≡ Status.WriteFault → Rose (K.faults sink.old) (K.faults sink.new) }
     ensures part { result.status ≡ Status.WriteFault
-        → PrintsPart (Some (with_threads shown)) (S.left source.old) (K.written sink.old) (K.written sink.new) }
-    ensures refused { (line : ℕ) (kind : Fault) → TellsRefused (Some (with_threads shown)) (S.left source.old) line kind
-        → (Rose (S.faults source.old) (S.faults source.new) → ⊥)
+        → PrintsPart (Some (with_threads shown)) (S.given source.old) (S.given source.new) (S.ended source.new) (K.taken sink.old) (K.taken sink.new) }
+    ensures refused { (line : ℕ) (kind : Fault)
+        → GaveRefused (Some (with_threads shown)) (S.given source.old) (S.given source.new) (S.ended source.new) line kind
         → (result.status ≡ Status.BadInput line kind) ⊎ (result.status ≡ Status.NoMemory) }
-    ensures complete { CanAnswer (Some (with_threads shown)) (S.left source.old)
-        → (Rose (S.faults source.old) (S.faults source.new) → ⊥) → (Rose (K.faults sink.old) (K.faults sink.new) → ⊥)
+    ensures complete { CanAnswer (Some (with_threads shown)) (S.given source.old) (S.given source.new) (S.ended source.new)
+        → (Rose (K.faults sink.old) (K.faults sink.new) → ⊥)
         → (result.status ≡ Status.Done) ⊎ (result.status ≡ Status.NoMemory) }
 {
     match of_source(alloc, rt, shown, source, gate) {
@@ -77,25 +80,27 @@ pub fn siena<R: Threads + Wait + Sync, S: Source, K: Sink, G: Gate + Sync>(
     gate: &G,
 ) -> Outcome
     ensures printed { result.status ≡ Status.Done
-        → Prints (wanted_by words.now) (S.left source.old) result.journal.items (K.written sink.old) (K.written sink.new) }
-    ensures read { result.status ≡ Status.Done → reads (wanted_by words.now) ≡ true → IsAtEnd (S.left source.new) }
+        → Prints (wanted_by words.now) (S.given source.old) (S.given source.new) (S.ended source.new)
+        result.journal.items (K.taken sink.old) (K.taken sink.new) }
     ensures sure { result.status ≡ Status.Done → (S.faults source.new ≡ S.faults source.old) × (K.faults sink.new ≡ K.faults sink.old) }
     ensures unread { reads (wanted_by words.now) ≡ false → source.new ≡ source.old }
-    ensures at_most { reads (wanted_by words.now) ≡ true → Gave (S.left source.old) (S.left source.new) (λ given. length given ≤ 4194305) }
+    ensures at_most { reads (wanted_by words.now) ≡ true → Gave (S.given source.old) (S.given source.new) (λ given. length given ≤ 4194305) }
+    ensures told { reads (wanted_by words.now) ≡ true → (given : List ℕ) → S.given source.new ≡ S.given source.old ++ given
+        → Consumes (S.left source.old) (S.left source.new) given }
+    ensures end { reads (wanted_by words.now) ≡ true → S.ended source.new ≡ true → IsAtEnd (S.left source.new) }
     ensures unwritten { result.status ≢ Status.Done → result.status ≢ Status.WriteFault → sink.new ≡ sink.old }
     ensures journal { result.status ≢ Status.Done → result.journal.items ≡ [] }
     ensures usage { result.status ≡ Status.Usage ↔ (wanted_by words.now ≡ None) }
     ensures bad_input { (line : ℕ) (kind : Fault) → result.status ≡ Status.BadInput line kind
-        → HasFault (wanted_by words.now) (S.left source.old) line kind }
+        → HasFault (wanted_by words.now) (S.given source.old) (S.given source.new) (S.ended source.new) line kind }
     ensures read_fault { result.status ≡ Status.ReadFault → Rose (S.faults source.old) (S.faults source.new) }
     ensures write_fault { result.status ≡ Status.WriteFault → Rose (K.faults sink.old) (K.faults sink.new) }
     ensures part { result.status ≡ Status.WriteFault
-        → PrintsPart (wanted_by words.now) (S.left source.old) (K.written sink.old) (K.written sink.new) }
-    ensures refused { (line : ℕ) (kind : Fault) → TellsRefused (wanted_by words.now) (S.left source.old) line kind
-        → (Rose (S.faults source.old) (S.faults source.new) → ⊥)
+        → PrintsPart (wanted_by words.now) (S.given source.old) (S.given source.new) (S.ended source.new) (K.taken sink.old) (K.taken sink.new) }
+    ensures refused { (line : ℕ) (kind : Fault) → GaveRefused (wanted_by words.now) (S.given source.old) (S.given source.new) (S.ended source.new) line kind
         → (result.status ≡ Status.BadInput line kind) ⊎ (result.status ≡ Status.NoMemory) }
-    ensures complete { CanAnswer (wanted_by words.now) (S.left source.old)
-        → (Rose (S.faults source.old) (S.faults source.new) → ⊥) → (Rose (K.faults sink.old) (K.faults sink.new) → ⊥)
+    ensures complete { CanAnswer (wanted_by words.now) (S.given source.old) (S.given source.new) (S.ended source.new)
+        → (Rose (K.faults sink.old) (K.faults sink.new) → ⊥)
         → (result.status ≡ Status.Done) ⊎ (result.status ≡ Status.NoMemory) }
 {
     match threads_by(words) {

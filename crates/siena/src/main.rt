@@ -2,9 +2,9 @@
 //! flooding owes it, or how much the document has.
 #![tactic(auto)]
 
-use ev_outside::{NoGate, StdSink, StdSource, Word};
-use ev_quiet::{Status, fault_text};
-use ev_siena::siena;
+use ev_outside::{NoGate, Word};
+use ev_quiet::{Status, fault_text, is_quiet, quiet_with_devices};
+use ev_siena::with_devices;
 use std::alloc::Global;
 use std::env::Args;
 use std::io::ErrorKind;
@@ -35,13 +35,20 @@ fn words(rt: &(impl Env + AllocGlobal)) -> Result<Vec<Word>, Status> {
 }
 
 fn main(rt: HostRuntime) -> ExitCode {
-    let mut source = StdSource::make(rt.stdin());
-    let mut sink = StdSink::make(rt.stdout());
+    let alloc = rt.alloc();
     let status = match words(&rt) {
-        Ok(words) => siena(rt.alloc(), &rt, &words, &mut source, &mut sink, &NoGate).status,
+        Ok(words) => {
+            if is_quiet(&words) {
+                let over = quiet_with_devices(alloc, &words, rt.stdin(), rt.stdout());
+                over.outcome.status
+            } else {
+                let over = with_devices(alloc, &rt, &words, rt.stdin(), rt.stdout(), &NoGate);
+                over.outcome.status
+            }
+        }
         Err(status) => status,
     };
-    if let Ok(text) = fault_text(rt.alloc(), &status) {
+    if let Ok(text) = fault_text(alloc, &status) {
         let _ = rt.stderr().write_all(&text);
     }
     ExitCode::from(status.number())

@@ -5,7 +5,8 @@ use Rattle.ev_input.specs.declared.fault.Fault.{Fault}
 use Rattle.ev_input.specs.Net.{IsNetOf, IsBadAt}
 use Rattle.ev_quiet.specs.declared.words.Shown.{Shown}
 use Rattle.ev_quiet.specs.Faults.{MustBeRefused}
-use Rattle.ev_quiet.specs.Promise.{IsWholeRun}
+use Rattle.ev_quiet.specs.declared.words.Schedule.TheVariants.{Threads}
+use Rattle.ev_quiet.proofs.Headlines.{headline}
 use Rattle.ev_quiet.proofs.Ended.{no-refusal, without-net, done-without-net}
 use Rattle.ev_siena.specs.Wishes.{query_of}
 use Rattle.ev_siena.proofs.threaded.of_document.Goals as goal
@@ -33,21 +34,9 @@ returns-in-Ok-clause-printed g c =
     let s = c.in-Ok.ensures in
     let net = c.in_ok-net.net in
     let journal = c.in-Ok.printed.journal in
-    let whole : IsWholeRun net journal = record { sound = c.in_ok-net.ensures.sound; notices = c.in_ok-net.ensures.notices; legal = s.legal; drained = s.drained } in record {
-      net = net;
-      well_formed = c.in_ok-net.ensures.net;
-      laws = c.promise.ensures.laws net c.in_ok-net.ensures.sound;
-      legal = s.legal;
-      drained = s.drained;
-      goes_by = s.goes_by;
-      printed = s.printed;
-      owed_once = c.promise.ensures.owed_once net journal whole;
-      allowed = c.promise.ensures.allowed net journal whole;
-      never_twice = c.promise.ensures.never_twice net journal whole;
-      in_order = c.promise.ensures.in_order net journal whole;
-      carries_wanted = c.promise.ensures.carries_wanted net (c.promise.ensures.laws net c.in_ok-net.ensures.sound) journal s.legal;
-      stable = c.promise.ensures.stable c.args.bytes.now net journal c.in_ok-net.ensures.net whole;
-    }
+    headline Threads c.args.options c.args.bytes.now c.in-Ok.printed.text net journal c.in_ok-net.ensures.net c.in_ok-net.ensures.sound c.in_ok-net.ensures.notices s
+    (c.promise.ensures.clients c.args.options c.args.bytes.now net journal c.in_ok-net.ensures.net)
+    (λ whole. c.promise.ensures.network Threads c.args.options net journal whole s.goes_by)
 
 pub returns-in-Ok-clause-refused : goal.returns-in-Ok-clause-refused
 returns-in-Ok-clause-refused g c = λ line kind m.
