@@ -8,3 +8,5 @@ pub mod Told
 pub mod Ended
 pub mod Sources
 pub mod Statuses
+pub mod Heard
+pub mod Searched

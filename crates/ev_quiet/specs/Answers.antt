@@ -7,10 +7,12 @@ use Rattle.ev_generate.specs.Document.{generated}
 use Rattle.ev_quiet.specs.declared.words.Query.{Query}
 use Rattle.ev_quiet.specs.declared.words.Query.TheVariants.{Run, Flood, Check}
 use Rattle.ev_quiet.specs.declared.words.Wanted.{Wanted}
-use Rattle.ev_quiet.specs.declared.words.Wanted.TheVariants.{Document, Generate}
+use Rattle.ev_quiet.specs.declared.words.Wanted.TheVariants.{Document, Generate, Patterns}
 use Rattle.ev_quiet.specs.Printed.{IsFloodOf, IsCheckOf, IsSummaryOf}
 use Rattle.ev_quiet.specs.Headline.{Headline}
+use Rattle.ev_watch.specs.declared.fault.PatternKind.{PatternKind}
 use Rattle.ev_quiet.specs.Faults.{IsAtFault, MustBeRefused, CanBeDone}
+use Rattle.ev_quiet.specs.Patterns.{IsPatternsOf, IsInputAtFault, IsPatternAtFault, HasPatterns}
 
 -- the text and the journal that a document gives
 abbrev pub IsPrintedOf : Query → List ℕ → List ℕ → List EntryParts → Type 0
@@ -32,6 +34,8 @@ abbrev pub IsPrintedBy : Wanted → List ℕ → List ℕ → Bool → List ℕ 
 IsPrintedBy (Document query) given now ended text journal =
     (input : List ℕ) × (now ≡ given ++ input) × (ended ≡ true) × IsPrintedOf query input text journal
 IsPrintedBy (Generate seed summary) given now ended text journal = IsGenerated seed summary text journal
+IsPrintedBy Patterns given now ended text journal =
+    (input : List ℕ) × (now ≡ given ++ input) × (ended ≡ true) × IsPatternsOf input text journal
 
 -- what words ask for
 abbrev pub IsPrinted : Option Wanted → List ℕ → List ℕ → Bool → List ℕ → List EntryParts → Type 0
@@ -51,6 +55,7 @@ PrintsPart wanted given now ended old new =
 abbrev pub reads_document : Wanted → Bool
 reads_document (Document query) = true
 reads_document (Generate seed summary) = false
+reads_document Patterns = true
 
 abbrev pub reads : Option Wanted → Bool
 reads None = false
@@ -60,6 +65,7 @@ reads (Some wanted) = reads_document wanted
 abbrev pub HasFaultFor : Wanted → List ℕ → List ℕ → Bool → ℕ → Fault → Type 0
 HasFaultFor (Document query) given now ended line kind = (input : List ℕ) × GaveDocument given now ended input × IsAtFault query input line kind
 HasFaultFor (Generate seed summary) given now ended line kind = ⊥
+HasFaultFor Patterns given now ended line kind = (input : List ℕ) × GaveDocument given now ended input × IsInputAtFault input line kind
 
 abbrev pub HasFault : Option Wanted → List ℕ → List ℕ → Bool → ℕ → Fault → Type 0
 HasFault None given now ended line kind = ⊥
@@ -69,15 +75,27 @@ HasFault (Some wanted) given now ended line kind = HasFaultFor wanted given now 
 abbrev pub GaveRefusedFor : Wanted → List ℕ → List ℕ → Bool → ℕ → Fault → Type 0
 GaveRefusedFor (Document query) given now ended line kind = (input : List ℕ) × GaveDocument given now ended input × MustBeRefused query input line kind
 GaveRefusedFor (Generate seed summary) given now ended line kind = ⊥
+GaveRefusedFor Patterns given now ended line kind = (input : List ℕ) × GaveDocument given now ended input × IsInputAtFault input line kind
 
 abbrev pub GaveRefused : Option Wanted → List ℕ → List ℕ → Bool → ℕ → Fault → Type 0
 GaveRefused None given now ended line kind = ⊥
 GaveRefused (Some wanted) given now ended line kind = GaveRefusedFor wanted given now ended line kind
 
+-- patterns are asked for, and one of those that the source gave behind a document is at fault
+abbrev pub GaveBadPatternFor : Wanted → List ℕ → List ℕ → Bool → ℕ → PatternKind → Type 0
+GaveBadPatternFor (Document query) given now ended line kind = ⊥
+GaveBadPatternFor (Generate seed summary) given now ended line kind = ⊥
+GaveBadPatternFor Patterns given now ended line kind = (input : List ℕ) × GaveDocument given now ended input × IsPatternAtFault input line kind
+
+abbrev pub GaveBadPattern : Option Wanted → List ℕ → List ℕ → Bool → ℕ → PatternKind → Type 0
+GaveBadPattern None given now ended line kind = ⊥
+GaveBadPattern (Some wanted) given now ended line kind = GaveBadPatternFor wanted given now ended line kind
+
 -- words ask for something, and the source gave a document of which that can be done
 abbrev pub CanAnswerFor : Wanted → List ℕ → List ℕ → Bool → Type 0
 CanAnswerFor (Document query) given now ended = (input : List ℕ) × GaveDocument given now ended input × CanBeDone query input
 CanAnswerFor (Generate seed summary) given now ended = Unit {0}
+CanAnswerFor Patterns given now ended = (input : List ℕ) × GaveDocument given now ended input × HasPatterns input
 
 abbrev pub CanAnswer : Option Wanted → List ℕ → List ℕ → Bool → Type 0
 CanAnswer None given now ended = ⊥

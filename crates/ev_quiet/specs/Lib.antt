@@ -7,6 +7,8 @@ pub mod Network
 pub mod Headline
 pub mod Faults
 pub mod Ran
+pub mod Patterns
 pub mod Answers
 pub mod Refusals
 pub mod Showing
+pub mod Searching

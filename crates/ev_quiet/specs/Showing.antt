@@ -2,7 +2,7 @@
 use Rattle.std.specs.Prelude.{ℕ, List, [], ◌++◌}
 use Rattle.ev_model.specs.Parts.{EntryParts}
 use Rattle.ev_quiet.specs.declared.body.Body.{Body}
-use Rattle.ev_quiet.specs.declared.body.Body.TheVariants.{Nothing, Received, Flooded}
+use Rattle.ev_quiet.specs.declared.body.Body.TheVariants.{Nothing, Received, Flooded, Found}
 
 -- the text and the journal
 pub record PrintedParts : Type 0 where
@@ -14,6 +14,7 @@ abbrev pub body_text : Body → List ℕ
 body_text Nothing = []
 body_text (Received text) = text
 body_text (Flooded text) = text
+body_text (Found text) = text
 
 abbrev pub printed_parts : Body → List ℕ → List EntryParts → PrintedParts
 printed_parts body rest journal = record { text = body_text body ++ rest; journal = journal }

@@ -3,6 +3,8 @@ use Rattle.std.specs.Prelude.{ℕ, List, [], ◌∷◌, ◌++◌, codes}
 use Rattle.std.specs.Fmt.{decimal}
 use Rattle.ev_input.specs.declared.fault.Fault.{Fault}
 use Rattle.ev_input.specs.declared.fault.Fault.TheVariants as faults
+use Rattle.ev_watch.specs.declared.fault.PatternKind.{PatternKind}
+use Rattle.ev_watch.specs.declared.fault.PatternKind.TheVariants as patterns
 use Rattle.ev_quiet.specs.declared.status.Status.{Status}
 use Rattle.ev_quiet.specs.declared.status.Status.TheVariants as statuses
 
@@ -28,11 +30,22 @@ kind_text faults.MuchControl = codes "muchcontrol"
 kind_text faults.MuchNotice = codes "muchnotice"
 kind_text faults.BadTurn = codes "badturn"
 
+abbrev pub pattern_text : PatternKind → List ℕ
+pattern_text patterns.Short = codes "short"
+pattern_text patterns.Order = codes "order"
+pattern_text patterns.Words = codes "words"
+pattern_text patterns.Name = codes "name"
+pattern_text patterns.Count = codes "count"
+pattern_text patterns.Syntax = codes "syntax"
+pattern_text patterns.Value = codes "value"
+pattern_text patterns.Operand = codes "operand"
+
 -- what goes to standard error
 unfoldable pub status_text : Status → List ℕ
 status_text statuses.Done = []
 status_text statuses.Usage = codes "siena: usage: walk, run or replay [--sorted] [--trace]; flood; check; gen --seed N [--summary]" ++ 10 ∷ []
 status_text (statuses.BadInput line kind) = codes "siena: line " ++ decimal line ++ codes ": " ++ kind_text kind ++ 10 ∷ []
+status_text (statuses.BadPattern line kind) = codes "siena: line " ++ decimal line ++ codes ": " ++ pattern_text kind ++ 10 ∷ []
 status_text statuses.ReadFault = codes "siena: the input could not be read" ++ 10 ∷ []
 status_text statuses.WriteFault = codes "siena: the output could not be written" ++ 10 ∷ []
 status_text statuses.NoMemory = codes "siena: out of memory" ++ 10 ∷ []
@@ -42,6 +55,7 @@ abbrev pub status_number : Status → ℕ
 status_number statuses.Done = 0
 status_number statuses.Usage = 2
 status_number (statuses.BadInput line kind) = 3
+status_number (statuses.BadPattern line kind) = 8
 status_number statuses.ReadFault = 4
 status_number statuses.WriteFault = 5
 status_number statuses.NoMemory = 6

@@ -3,7 +3,7 @@ ghost use Rattle.std.specs.Prelude.{◌≡◌, ◌≤◌, ◌⊎◌, ◌++◌, �
 ghost use Rattle.std.specs.Io.KnownBytes.{Consumes, IsAtEnd};
 ghost use Rattle.ev_outside.specs.Cause.{Rose};
 ghost use Rattle.ev_outside.specs.Whole.{Gave};
-ghost use Rattle.ev_quiet.specs.Words.{IsQuietQuery, IsQuietWish};
+ghost use Rattle.ev_quiet.specs.Words.{IsPlainWish, IsQuietQuery};
 ghost use Rattle.ev_quiet.specs.Answers.{IsPrintedBy, reads_document, HasFaultFor, GaveRefusedFor, CanAnswerFor};
 
 use crate::generated::of_seed;
@@ -38,7 +38,7 @@ fn of_source<S: Source>(alloc: Global, query: Query, source: &mut S) -> Result<P
 
 /// What is wanted, or why nothing is written.
 pub fn answer<S: Source>(alloc: Global, wanted: Wanted, source: &mut S) -> Result<Printed, Refusal>
-    requires { IsQuietWish wanted }
+    requires { IsPlainWish wanted }
     ensures printed { IfOk result (λ p. IsPrintedBy wanted (S.given source.old) (S.given source.new) (S.ended source.new) p.text p.journal) }
     ensures sure { OnOk result (S.faults source.new ≡ S.faults source.old) }
     ensures unread { reads_document wanted ≡ false → source.new ≡ source.old }
@@ -56,5 +56,6 @@ pub fn answer<S: Source>(alloc: Global, wanted: Wanted, source: &mut S) -> Resul
     match wanted {
         Wanted::Document(query) => of_source(alloc, query, source),
         Wanted::Generate { seed, summary } => Ok(of_seed(alloc, seed, summary)?),
+        Wanted::Patterns => unreachable!(),
     }
 }

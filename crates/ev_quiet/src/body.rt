@@ -3,6 +3,7 @@ ghost use Rattle.ev_outside.specs.Pending.{outlet, Went};
 ghost use Rattle.ev_quiet.specs.Showing.{body_text};
 
 use crate::given::Given;
+use ev_found::Found;
 use ev_outside::{Pending, Sink};
 use ev_report::Flooded;
 
@@ -15,18 +16,21 @@ pub enum Body {
     Received(Given),
     /// What flooding brings.
     Flooded(Flooded),
+    /// Where patterns occur.
+    Found(Found),
 }
 
 impl Body {
     /// Puts the text behind what waits. It takes no memory.
-    pub fn put<K: Sink>(&self, out: &mut Pending, sink: &mut K)
+    pub fn put<K: Sink>(self, out: &mut Pending, sink: &mut K)
         ensures { Went (outlet (K.taken sink.old) (K.faults sink.old) out.old) (outlet (K.taken sink.new) (K.faults sink.new) out.new)
-            (body_text self.now) }
+            (body_text self) }
     {
         match self {
             Body::Nothing => {}
             Body::Received(given) => given.put(out, sink),
             Body::Flooded(flooded) => flooded.put(out, sink),
+            Body::Found(found) => found.put(out, sink),
         }
     }
 }

@@ -7,6 +7,7 @@ mod generated;
 mod given;
 mod law;
 mod notices;
+mod patterns;
 mod printed;
 mod ran;
 mod reading;

@@ -2,12 +2,13 @@
 ghost use Rattle.std.specs.Prelude.{◌≡◌, ◌≢◌, ◌≤◌, ◌<◌, ◌⊎◌, ◌↔◌, ℕ, [], true, false, None, length};
 ghost use Rattle.std.specs.Io.KnownBytes.{Consumes, IsAtEnd};
 ghost use Rattle.ev_quiet.specs.Words.{wanted_by, AreNoneOfRun};
-ghost use Rattle.ev_quiet.specs.Answers.{Prints, PrintsPart, reads, HasFault, GaveRefused, CanAnswer};
+ghost use Rattle.ev_quiet.specs.Answers.{Prints, PrintsPart, reads, HasFault, GaveRefused, GaveBadPattern, CanAnswer};
 
 use crate::status::Status;
 use crate::top::{Outcome, quiet};
 use ev_input::Fault;
 use ev_outside::{StdSink, StdSource, Word};
+use ev_watch::PatternKind;
 use std::alloc::Global;
 use std::io::{Read, Write};
 
@@ -45,6 +46,8 @@ pub fn quiet_with_devices<R: Read, W: Write>(
     ensures usage { result.outcome.status ≡ Status.Usage ↔ (wanted_by words.now ≡ None) }
     ensures bad_input { (line : ℕ) (kind : Fault) → result.outcome.status ≡ Status.BadInput line kind
         → HasFault (wanted_by words.now) [] result.source.given.bytes result.source.ended line kind }
+    ensures bad_pattern { (line : ℕ) (kind : PatternKind) → result.outcome.status ≡ Status.BadPattern line kind
+        → GaveBadPattern (wanted_by words.now) [] result.source.given.bytes result.source.ended line kind }
     ensures read_fault { result.outcome.status ≡ Status.ReadFault → 0 < result.source.faults }
     ensures write_fault { result.outcome.status ≡ Status.WriteFault → 0 < result.sink.faults }
     ensures part { result.outcome.status ≡ Status.WriteFault
@@ -52,6 +55,9 @@ pub fn quiet_with_devices<R: Read, W: Write>(
     ensures refused { (line : ℕ) (kind : Fault)
         → GaveRefused (wanted_by words.now) [] result.source.given.bytes result.source.ended line kind
         → (result.outcome.status ≡ Status.BadInput line kind) ⊎ (result.outcome.status ≡ Status.NoMemory) }
+    ensures refused_pattern { (line : ℕ) (kind : PatternKind)
+        → GaveBadPattern (wanted_by words.now) [] result.source.given.bytes result.source.ended line kind
+        → (result.outcome.status ≡ Status.BadPattern line kind) ⊎ (result.outcome.status ≡ Status.NoMemory) }
     ensures complete { CanAnswer (wanted_by words.now) [] result.source.given.bytes result.source.ended → result.sink.faults ≡ 0
         → (result.outcome.status ≡ Status.Done) ⊎ (result.outcome.status ≡ Status.NoMemory) }
 {

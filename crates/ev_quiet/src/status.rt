@@ -1,11 +1,12 @@
 //! How a run ends, and what it says of a fault.
 ghost use Rattle.std.specs.Prelude.{◌≡◌, ◌++◌, ◌∷◌, [], IfOk, OnOk, codes};
 ghost use Rattle.std.specs.Fmt.{decimal};
-ghost use Rattle.ev_quiet.specs.Status.{kind_text, status_number, status_text};
+ghost use Rattle.ev_quiet.specs.Status.{kind_text, pattern_text, status_number, status_text};
 
 use ev_decimal::push_number;
 use ev_input::Fault;
 use ev_memory::NoMemory;
+use ev_watch::PatternKind;
 use std::alloc::Global;
 
 /// How a run ended. A bad input is told with the number of its line: the end counts as the line behind the last, and 0
@@ -22,6 +23,13 @@ pub enum Status {
         line: u32,
         /// Its fault.
         kind: Fault,
+    },
+    /// A line behind the line `patterns` is at fault, or the end is.
+    BadPattern {
+        /// The line.
+        line: u32,
+        /// Its fault.
+        kind: PatternKind,
     },
     /// The input could not be read.
     ReadFault,
@@ -40,6 +48,7 @@ impl Status {
             Status::Done => 0,
             Status::Usage => 2,
             Status::BadInput { line: _, kind: _ } => 3,
+            Status::BadPattern { line: _, kind: _ } => 8,
             Status::ReadFault => 4,
             Status::WriteFault => 5,
             Status::NoMemory => 6,
@@ -74,13 +83,29 @@ fn kind_text(kind: Fault) -> &'static [u8]
     }
 }
 
-fn push_bad_input(out: &mut Vec<u8>, line: u32, kind: Fault) -> Result<(), NoMemory>
-    ensures { OnOk result (out.new.items ≡ out.old.items ++ codes "siena: line " ++ decimal line ++ codes ": " ++ kind_text kind ++ 10 ∷ []) }
+fn pattern_text(kind: PatternKind) -> &'static [u8]
+    ensures { result.now ≡ pattern_text kind }
+{
+    match kind {
+        PatternKind::Short => b"short",
+        PatternKind::Order => b"order",
+        PatternKind::Words => b"words",
+        PatternKind::Name => b"name",
+        PatternKind::Count => b"count",
+        PatternKind::Syntax => b"syntax",
+        PatternKind::Value => b"value",
+        PatternKind::Operand => b"operand",
+    }
+}
+
+// The line of a fault, by its word.
+fn push_fault(out: &mut Vec<u8>, line: u32, word: &[u8]) -> Result<(), NoMemory>
+    ensures { OnOk result (out.new.items ≡ out.old.items ++ codes "siena: line " ++ decimal line ++ codes ": " ++ word.now ++ 10 ∷ []) }
 {
     out.extend_from_slice(b"siena: line ")?;
     push_number(out, u64::from(line))?;
     out.extend_from_slice(b": ")?;
-    out.extend_from_slice(kind_text(kind))?;
+    out.extend_from_slice(word)?;
     out.extend_from_slice(b"\n")?;
     Ok(())
 }
@@ -97,7 +122,8 @@ pub fn fault_text(alloc: Global, status: &Status) -> Result<Vec<u8>, NoMemory>
     match status {
         Status::Done => {}
         Status::Usage => out.extend_from_slice(USAGE)?,
-        Status::BadInput { line, kind } => push_bad_input(&mut out, *line, *kind)?,
+        Status::BadInput { line, kind } => push_fault(&mut out, *line, kind_text(*kind))?,
+        Status::BadPattern { line, kind } => push_fault(&mut out, *line, pattern_text(*kind))?,
         Status::ReadFault => out.extend_from_slice(b"siena: the input could not be read\n")?,
         Status::WriteFault => out.extend_from_slice(b"siena: the output could not be written\n")?,
         Status::NoMemory => out.extend_from_slice(b"siena: out of memory\n")?,

@@ -3,16 +3,18 @@ ghost use Rattle.std.specs.Prelude.{◌≡◌, ◌≢◌, ◌≤◌, ◌⊎◌, 
 ghost use Rattle.std.specs.Io.KnownBytes.{Consumes, IsAtEnd};
 ghost use Rattle.ev_outside.specs.Cause.{Rose};
 ghost use Rattle.ev_outside.specs.Whole.{Gave, TookPart};
-ghost use Rattle.ev_quiet.specs.Words.{wanted_by, AreNoneOfRun, IsQuietWish};
-ghost use Rattle.ev_quiet.specs.Answers.{Prints, PrintsPart, reads, HasFault, GaveRefused, CanAnswer};
+ghost use Rattle.ev_quiet.specs.Words.{wanted_by, AreNoneOfRun, IsPlainWish, IsQuietWish};
+ghost use Rattle.ev_quiet.specs.Answers.{Prints, PrintsPart, reads, HasFault, GaveRefused, GaveBadPattern, CanAnswer};
 
 use crate::answer::answer;
+use crate::patterns::of_patterns;
 use crate::printed::Printed;
 use crate::status::Status;
 use crate::words::{Wanted, read_words};
 use ev_input::Fault;
 use ev_model::Entry;
 use ev_outside::{Sink, Source, Word};
+use ev_watch::PatternKind;
 use std::alloc::Global;
 
 /// How a run ended, and its journal in the order of the turns: that of the run for `walk`, `replay` and a summary, and
@@ -61,6 +63,84 @@ impl Outcome {
     }
 }
 
+// Does what is wanted, which is none of patterns.
+fn answered<S: Source, K: Sink>(
+    alloc: Global,
+    wanted: Wanted,
+    source: &mut S,
+    sink: &mut K,
+) -> Outcome
+    requires { IsPlainWish wanted }
+    ensures printed { result.status ≡ Status.Done
+        → Prints (Some wanted) (S.given source.old) (S.given source.new) (S.ended source.new) result.journal.items (K.taken sink.old) (K.taken sink.new) }
+    ensures sure { result.status ≡ Status.Done → (S.faults source.new ≡ S.faults source.old) × (K.faults sink.new ≡ K.faults sink.old) }
+    ensures unread { reads (Some wanted) ≡ false → source.new ≡ source.old }
+    ensures at_most { reads (Some wanted) ≡ true → Gave (S.given source.old) (S.given source.new) (λ given. length given ≤ 4194305) }
+    ensures told { reads (Some wanted) ≡ true → (given : List ℕ) → S.given source.new ≡ S.given source.old ++ given
+        → Consumes (S.left source.old) (S.left source.new) given }
+    ensures end { reads (Some wanted) ≡ true → S.ended source.new ≡ true → IsAtEnd (S.left source.new) }
+    ensures unwritten { result.status ≢ Status.Done → result.status ≢ Status.WriteFault → sink.new ≡ sink.old }
+    ensures journal { result.status ≢ Status.Done → result.journal.items ≡ [] }
+    ensures usage { result.status ≢ Status.Usage }
+    ensures bad_input { (line : ℕ) (kind : Fault) → result.status ≡ Status.BadInput line kind
+        → HasFault (Some wanted) (S.given source.old) (S.given source.new) (S.ended source.new) line kind }
+    ensures bad_pattern { (line : ℕ) (kind : PatternKind) → result.status ≡ Status.BadPattern line kind
+        → GaveBadPattern (Some wanted) (S.given source.old) (S.given source.new) (S.ended source.new) line kind }
+    ensures read_fault { result.status ≡ Status.ReadFault → Rose (S.faults source.old) (S.faults source.new) }
+    ensures write_fault { result.status ≡ Status.WriteFault → Rose (K.faults sink.old) (K.faults sink.new) }
+    ensures part { result.status ≡ Status.WriteFault
+        → PrintsPart (Some wanted) (S.given source.old) (S.given source.new) (S.ended source.new) (K.taken sink.old) (K.taken sink.new) }
+    ensures refused { (line : ℕ) (kind : Fault) → GaveRefused (Some wanted) (S.given source.old) (S.given source.new) (S.ended source.new) line kind
+        → (result.status ≡ Status.BadInput line kind) ⊎ (result.status ≡ Status.NoMemory) }
+    ensures refused_pattern { (line : ℕ) (kind : PatternKind)
+        → GaveBadPattern (Some wanted) (S.given source.old) (S.given source.new) (S.ended source.new) line kind
+        → (result.status ≡ Status.BadPattern line kind) ⊎ (result.status ≡ Status.NoMemory) }
+    ensures complete { CanAnswer (Some wanted) (S.given source.old) (S.given source.new) (S.ended source.new)
+        → (Rose (K.faults sink.old) (K.faults sink.new) → ⊥)
+        → (result.status ≡ Status.Done) ⊎ (result.status ≡ Status.NoMemory) }
+{
+    match answer(alloc, wanted, source) {
+        Ok(printed) => Outcome::written(alloc, printed, sink),
+        Err(refusal) => Outcome::ended(alloc, refusal.status()),
+    }
+}
+
+// Searches for patterns.
+fn search<S: Source, K: Sink>(alloc: Global, source: &mut S, sink: &mut K) -> Outcome
+    ensures printed { result.status ≡ Status.Done
+        → Prints (Some Wanted.Patterns) (S.given source.old) (S.given source.new) (S.ended source.new)
+        result.journal.items (K.taken sink.old) (K.taken sink.new) }
+    ensures sure { result.status ≡ Status.Done → (S.faults source.new ≡ S.faults source.old) × (K.faults sink.new ≡ K.faults sink.old) }
+    ensures at_most { Gave (S.given source.old) (S.given source.new) (λ given. length given ≤ 4194305) }
+    ensures told { (given : List ℕ) → S.given source.new ≡ S.given source.old ++ given
+        → Consumes (S.left source.old) (S.left source.new) given }
+    ensures end { S.ended source.new ≡ true → IsAtEnd (S.left source.new) }
+    ensures unwritten { result.status ≢ Status.Done → result.status ≢ Status.WriteFault → sink.new ≡ sink.old }
+    ensures journal { result.status ≢ Status.Done → result.journal.items ≡ [] }
+    ensures usage { result.status ≢ Status.Usage }
+    ensures bad_input { (line : ℕ) (kind : Fault) → result.status ≡ Status.BadInput line kind
+        → HasFault (Some Wanted.Patterns) (S.given source.old) (S.given source.new) (S.ended source.new) line kind }
+    ensures bad_pattern { (line : ℕ) (kind : PatternKind) → result.status ≡ Status.BadPattern line kind
+        → GaveBadPattern (Some Wanted.Patterns) (S.given source.old) (S.given source.new) (S.ended source.new) line kind }
+    ensures read_fault { result.status ≡ Status.ReadFault → Rose (S.faults source.old) (S.faults source.new) }
+    ensures write_fault { result.status ≡ Status.WriteFault → Rose (K.faults sink.old) (K.faults sink.new) }
+    ensures part { result.status ≡ Status.WriteFault
+        → PrintsPart (Some Wanted.Patterns) (S.given source.old) (S.given source.new) (S.ended source.new) (K.taken sink.old) (K.taken sink.new) }
+    ensures refused { (line : ℕ) (kind : Fault) → GaveRefused (Some Wanted.Patterns) (S.given source.old) (S.given source.new) (S.ended source.new) line kind
+        → (result.status ≡ Status.BadInput line kind) ⊎ (result.status ≡ Status.NoMemory) }
+    ensures refused_pattern { (line : ℕ) (kind : PatternKind)
+        → GaveBadPattern (Some Wanted.Patterns) (S.given source.old) (S.given source.new) (S.ended source.new) line kind
+        → (result.status ≡ Status.BadPattern line kind) ⊎ (result.status ≡ Status.NoMemory) }
+    ensures complete { CanAnswer (Some Wanted.Patterns) (S.given source.old) (S.given source.new) (S.ended source.new)
+        → (Rose (K.faults sink.old) (K.faults sink.new) → ⊥)
+        → (result.status ≡ Status.Done) ⊎ (result.status ≡ Status.NoMemory) }
+{
+    match of_patterns(alloc, source) {
+        Ok(printed) => Outcome::written(alloc, printed, sink),
+        Err(why) => Outcome::ended(alloc, why.status()),
+    }
+}
+
 // Does what is wanted.
 fn carry_out<S: Source, K: Sink>(
     alloc: Global,
@@ -82,19 +162,30 @@ fn carry_out<S: Source, K: Sink>(
     ensures usage { result.status ≢ Status.Usage }
     ensures bad_input { (line : ℕ) (kind : Fault) → result.status ≡ Status.BadInput line kind
         → HasFault (Some wanted) (S.given source.old) (S.given source.new) (S.ended source.new) line kind }
+    ensures bad_pattern { (line : ℕ) (kind : PatternKind) → result.status ≡ Status.BadPattern line kind
+        → GaveBadPattern (Some wanted) (S.given source.old) (S.given source.new) (S.ended source.new) line kind }
     ensures read_fault { result.status ≡ Status.ReadFault → Rose (S.faults source.old) (S.faults source.new) }
     ensures write_fault { result.status ≡ Status.WriteFault → Rose (K.faults sink.old) (K.faults sink.new) }
     ensures part { result.status ≡ Status.WriteFault
         → PrintsPart (Some wanted) (S.given source.old) (S.given source.new) (S.ended source.new) (K.taken sink.old) (K.taken sink.new) }
     ensures refused { (line : ℕ) (kind : Fault) → GaveRefused (Some wanted) (S.given source.old) (S.given source.new) (S.ended source.new) line kind
         → (result.status ≡ Status.BadInput line kind) ⊎ (result.status ≡ Status.NoMemory) }
+    ensures refused_pattern { (line : ℕ) (kind : PatternKind)
+        → GaveBadPattern (Some wanted) (S.given source.old) (S.given source.new) (S.ended source.new) line kind
+        → (result.status ≡ Status.BadPattern line kind) ⊎ (result.status ≡ Status.NoMemory) }
     ensures complete { CanAnswer (Some wanted) (S.given source.old) (S.given source.new) (S.ended source.new)
         → (Rose (K.faults sink.old) (K.faults sink.new) → ⊥)
         → (result.status ≡ Status.Done) ⊎ (result.status ≡ Status.NoMemory) }
 {
-    match answer(alloc, wanted, source) {
-        Ok(printed) => Outcome::written(alloc, printed, sink),
-        Err(refusal) => Outcome::ended(alloc, refusal.status()),
+    match wanted {
+        Wanted::Patterns => search(alloc, source, sink),
+        Wanted::Document(query) => answered(alloc, Wanted::Document(query), source, sink),
+        Wanted::Generate { seed, summary } => answered(
+            alloc,
+            Wanted::Generate { seed, summary },
+            source,
+            sink,
+        ),
     }
 }
 
@@ -103,7 +194,8 @@ fn carry_out<S: Source, K: Sink>(
 /// the first write.
 ///
 /// `walk` and `replay` print what each client receives in a run of the network, `flood` what flooding owes and allows it,
-/// `check` how much the document has, and `gen` the document of a seed, or the summary of its walk.
+/// `check` how much the document has, and `gen` the document of a seed, or the summary of its walk. `patterns` prints where
+/// the patterns behind a document occur in what the clients receive in its walk.
 pub fn quiet<S: Source, K: Sink>(
     alloc: Global,
     words: &[Word],
@@ -125,12 +217,17 @@ pub fn quiet<S: Source, K: Sink>(
     ensures usage { result.status ≡ Status.Usage ↔ (wanted_by words.now ≡ None) }
     ensures bad_input { (line : ℕ) (kind : Fault) → result.status ≡ Status.BadInput line kind
         → HasFault (wanted_by words.now) (S.given source.old) (S.given source.new) (S.ended source.new) line kind }
+    ensures bad_pattern { (line : ℕ) (kind : PatternKind) → result.status ≡ Status.BadPattern line kind
+        → GaveBadPattern (wanted_by words.now) (S.given source.old) (S.given source.new) (S.ended source.new) line kind }
     ensures read_fault { result.status ≡ Status.ReadFault → Rose (S.faults source.old) (S.faults source.new) }
     ensures write_fault { result.status ≡ Status.WriteFault → Rose (K.faults sink.old) (K.faults sink.new) }
     ensures part { result.status ≡ Status.WriteFault
         → PrintsPart (wanted_by words.now) (S.given source.old) (S.given source.new) (S.ended source.new) (K.taken sink.old) (K.taken sink.new) }
     ensures refused { (line : ℕ) (kind : Fault) → GaveRefused (wanted_by words.now) (S.given source.old) (S.given source.new) (S.ended source.new) line kind
         → (result.status ≡ Status.BadInput line kind) ⊎ (result.status ≡ Status.NoMemory) }
+    ensures refused_pattern { (line : ℕ) (kind : PatternKind)
+        → GaveBadPattern (wanted_by words.now) (S.given source.old) (S.given source.new) (S.ended source.new) line kind
+        → (result.status ≡ Status.BadPattern line kind) ⊎ (result.status ≡ Status.NoMemory) }
     ensures complete { CanAnswer (wanted_by words.now) (S.given source.old) (S.given source.new) (S.ended source.new)
         → (Rose (K.faults sink.old) (K.faults sink.new) → ⊥)
         → (result.status ≡ Status.Done) ⊎ (result.status ≡ Status.NoMemory) }

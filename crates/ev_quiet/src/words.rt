@@ -1,7 +1,7 @@
 //! What the words of the command line ask for.
 ghost use Rattle.std.specs.Prelude.{◌≡◌, ◌↔◌, IsTrue};
 ghost use Rattle.std.specs.Str.{bytes_eq};
-ghost use Rattle.ev_quiet.specs.Words.{AreNoneOfRun, alone, asked, generate_by, is_summary, joined_seed, options, parted_seed};
+ghost use Rattle.ev_quiet.specs.Words.{AreNoneOfRun, alone, asked, generate_by, is_summary, joined_seed, options, parted_seed, patterns_by};
 ghost use Rattle.ev_quiet.specs.Words.{plain, run_by, wanted_by, with_option};
 
 use crate::seed::seed;
@@ -50,6 +50,8 @@ pub enum Wanted {
         /// Whether the summary is wanted.
         summary: bool,
     },
+    /// Where the patterns behind the document that the source gives occur in what its walk brings.
+    Patterns,
 }
 
 // Whether it is this word.
@@ -169,6 +171,17 @@ fn generate(words: &[Word]) -> Option<Wanted>
     }
 }
 
+// Patterns, which take no further words.
+fn patterns(words: &[Word]) -> Option<Wanted>
+    ensures { result ≡ patterns_by words.now }
+{
+    if words.is_empty() {
+        Some(Wanted::Patterns)
+    } else {
+        None
+    }
+}
+
 /// What the words ask for, where they ask for something.
 pub fn read_words(words: &[Word]) -> Option<Wanted>
     ensures { result ≡ wanted_by words.now }
@@ -188,6 +201,8 @@ pub fn read_words(words: &[Word]) -> Option<Wanted>
         alone(Query::Check, rest)
     } else if is_word(word, b"gen") {
         generate(rest)
+    } else if is_word(word, b"patterns") {
+        patterns(rest)
     } else {
         None
     }

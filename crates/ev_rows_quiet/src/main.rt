@@ -7,6 +7,7 @@ mod failure;
 mod faults;
 mod generated;
 mod large;
+mod patterns;
 mod replays;
 mod row;
 mod runs;
@@ -21,6 +22,7 @@ fn main(rt: HostRuntime) -> Result<(), Failure> {
     tried::print_rows(&rt, alloc, &replays::REPLAYS)?;
     tried::print_rows(&rt, alloc, &replays::FLOODS)?;
     tried::print_rows(&rt, alloc, &faults::FAULTS)?;
+    tried::print_rows(&rt, alloc, &patterns::PATTERNS)?;
     tried::print_rows(&rt, alloc, &usage::USAGE)?;
     devices::print_devices(&rt, alloc)?;
     large::print_large(&rt, alloc)?;

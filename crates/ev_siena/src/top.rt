@@ -4,13 +4,14 @@ ghost use Rattle.std.specs.Io.KnownBytes.{Consumes, IsAtEnd};
 ghost use Rattle.ev_outside.specs.Cause.{Rose};
 ghost use Rattle.ev_outside.specs.Whole.{Gave};
 ghost use Rattle.ev_quiet.specs.Words.{wanted_by, AreNoneOfRun};
-ghost use Rattle.ev_quiet.specs.Answers.{Prints, PrintsPart, reads, HasFault, GaveRefused, CanAnswer};
+ghost use Rattle.ev_quiet.specs.Answers.{Prints, PrintsPart, reads, HasFault, GaveRefused, GaveBadPattern, CanAnswer};
 ghost use Rattle.ev_siena.specs.Wishes.{with_threads};
 
 use crate::threaded::of_source;
 use ev_input::Fault;
 use ev_outside::{Gate, Sink, Source, Word};
 use ev_quiet::{Outcome, Query, Schedule, Shown, Status, Wanted, quiet, read_words};
+use ev_watch::PatternKind;
 use std::alloc::Global;
 use std::sync::Wait;
 use std::thread::Threads;
@@ -48,6 +49,8 @@ fn run<R: Threads + Wait + Sync, S: Source, K: Sink, G: Gate + Sync>(
     ensures usage { result.status ≢ Status.Usage }
     ensures bad_input { (line : ℕ) (kind : Fault) → result.status ≡ Status.BadInput line kind
         → HasFault (Some (with_threads shown)) (S.given source.old) (S.given source.new) (S.ended source.new) line kind }
+    ensures bad_pattern { (line : ℕ) (kind : PatternKind) → result.status ≡ Status.BadPattern line kind
+        → GaveBadPattern (Some (with_threads shown)) (S.given source.old) (S.given source.new) (S.ended source.new) line kind }
     ensures read_fault { result.status ≡ Status.ReadFault → Rose (S.faults source.old) (S.faults source.new) }
     ensures write_fault { result.status ≡ Status.WriteFault → Rose (K.faults sink.old) (K.faults sink.new) }
     ensures part { result.status ≡ Status.WriteFault
@@ -55,6 +58,9 @@ fn run<R: Threads + Wait + Sync, S: Source, K: Sink, G: Gate + Sync>(
     ensures refused { (line : ℕ) (kind : Fault)
         → GaveRefused (Some (with_threads shown)) (S.given source.old) (S.given source.new) (S.ended source.new) line kind
         → (result.status ≡ Status.BadInput line kind) ⊎ (result.status ≡ Status.NoMemory) }
+    ensures refused_pattern { (line : ℕ) (kind : PatternKind)
+        → GaveBadPattern (Some (with_threads shown)) (S.given source.old) (S.given source.new) (S.ended source.new) line kind
+        → (result.status ≡ Status.BadPattern line kind) ⊎ (result.status ≡ Status.NoMemory) }
     ensures complete { CanAnswer (Some (with_threads shown)) (S.given source.old) (S.given source.new) (S.ended source.new)
         → (Rose (K.faults sink.old) (K.faults sink.new) → ⊥)
         → (result.status ≡ Status.Done) ⊎ (result.status ≡ Status.NoMemory) }
@@ -70,7 +76,8 @@ fn run<R: Threads + Wait + Sync, S: Source, K: Sink, G: Gate + Sync>(
 ///
 /// `run` makes the run of the network with two threads a server, `walk` and `replay` make one on one thread; all three print
 /// what each client receives in it. `flood` prints what flooding owes and allows it, `check` how much the document has, and
-/// `gen` the document of a seed, or the summary of its walk. A call with `run` returns where its threads do.
+/// `gen` the document of a seed, or the summary of its walk. `patterns` prints where the patterns behind a document occur in
+/// what its clients receive. A call with `run` returns where its threads do.
 pub fn siena<R: Threads + Wait + Sync, S: Source, K: Sink, G: Gate + Sync>(
     alloc: Global,
     rt: &R,
@@ -93,12 +100,17 @@ pub fn siena<R: Threads + Wait + Sync, S: Source, K: Sink, G: Gate + Sync>(
     ensures usage { result.status ≡ Status.Usage ↔ (wanted_by words.now ≡ None) }
     ensures bad_input { (line : ℕ) (kind : Fault) → result.status ≡ Status.BadInput line kind
         → HasFault (wanted_by words.now) (S.given source.old) (S.given source.new) (S.ended source.new) line kind }
+    ensures bad_pattern { (line : ℕ) (kind : PatternKind) → result.status ≡ Status.BadPattern line kind
+        → GaveBadPattern (wanted_by words.now) (S.given source.old) (S.given source.new) (S.ended source.new) line kind }
     ensures read_fault { result.status ≡ Status.ReadFault → Rose (S.faults source.old) (S.faults source.new) }
     ensures write_fault { result.status ≡ Status.WriteFault → Rose (K.faults sink.old) (K.faults sink.new) }
     ensures part { result.status ≡ Status.WriteFault
         → PrintsPart (wanted_by words.now) (S.given source.old) (S.given source.new) (S.ended source.new) (K.taken sink.old) (K.taken sink.new) }
     ensures refused { (line : ℕ) (kind : Fault) → GaveRefused (wanted_by words.now) (S.given source.old) (S.given source.new) (S.ended source.new) line kind
         → (result.status ≡ Status.BadInput line kind) ⊎ (result.status ≡ Status.NoMemory) }
+    ensures refused_pattern { (line : ℕ) (kind : PatternKind)
+        → GaveBadPattern (wanted_by words.now) (S.given source.old) (S.given source.new) (S.ended source.new) line kind
+        → (result.status ≡ Status.BadPattern line kind) ⊎ (result.status ≡ Status.NoMemory) }
     ensures complete { CanAnswer (wanted_by words.now) (S.given source.old) (S.given source.new) (S.ended source.new)
         → (Rose (K.faults sink.old) (K.faults sink.new) → ⊥)
         → (result.status ≡ Status.Done) ⊎ (result.status ≡ Status.NoMemory) }

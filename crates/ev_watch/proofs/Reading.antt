@@ -70,23 +70,23 @@ module _ (bytes : List ℕ) (few : length bytes ≤ 4194304) (d d' : List ℕ) (
   same_place : (line line' : ℕ) (kind kind' : Fault) → IsBadAt d line kind → IsBadAt d' line' kind' → (line ≡ line') × (kind ≡ kind')
   same_place line line' kind kind' b b' = the_place (document_of d) line line' kind kind' b (one_document ∙ b')
 
-watch_refused : (bytes : List ℕ) (net : NetParts) (patterns : List PatternParts) (line : ℕ) (kind : Fault) → length bytes ≤ 4194304 → IsWatchOf bytes net patterns → IsBadDocument bytes line kind → ⊥
+pub watch_refused : (bytes : List ℕ) (net : NetParts) (patterns : List PatternParts) (line : ℕ) (kind : Fault) → length bytes ≤ 4194304 → IsWatchOf bytes net patterns → IsBadDocument bytes line kind → ⊥
 watch_refused bytes net patterns line kind few w b = refused_once bytes few w.document b.document w.later b.later w.parted b.parted net line kind w.well_formed b.bad
 
-bad_refused : (bytes : List ℕ) (l : ℕ) (k : PatternKind) (line : ℕ) (kind : Fault) → length bytes ≤ 4194304 → IsBadPattern bytes l k → IsBadDocument bytes line kind → ⊥
+pub bad_refused : (bytes : List ℕ) (l : ℕ) (k : PatternKind) (line : ℕ) (kind : Fault) → length bytes ≤ 4194304 → IsBadPattern bytes l k → IsBadDocument bytes line kind → ⊥
 bad_refused bytes l k line kind few w b = refused_once bytes few w.document b.document w.later b.later w.parted b.parted w.net line kind w.well_formed b.bad
 
-watch_bad : (bytes : List ℕ) (net : NetParts) (patterns : List PatternParts) (line : ℕ) (kind : PatternKind) → length bytes ≤ 4194304 → IsWatchOf bytes net patterns → IsBadPattern bytes line kind → ⊥
+pub watch_bad : (bytes : List ℕ) (net : NetParts) (patterns : List PatternParts) (line : ℕ) (kind : PatternKind) → length bytes ≤ 4194304 → IsWatchOf bytes net patterns → IsBadPattern bytes line kind → ⊥
 watch_bad bytes net patterns line kind few w b =
     never (patterns_in net w.document w.later) patterns (line, kind) w.read
     (one_read bytes few w.document b.document w.later b.later w.parted b.parted net b.net w.well_formed b.well_formed ∙ b.bad)
 
-same_bad : (bytes : List ℕ) (l line : ℕ) (k kind : PatternKind) → length bytes ≤ 4194304 → IsBadPattern bytes l k → IsBadPattern bytes line kind → (l ≡ line) × (k ≡ kind)
+pub same_bad : (bytes : List ℕ) (l line : ℕ) (k kind : PatternKind) → length bytes ≤ 4194304 → IsBadPattern bytes l k → IsBadPattern bytes line kind → (l ≡ line) × (k ≡ kind)
 same_bad bytes l line k kind few w b =
     the_place (patterns_in w.net w.document w.later) l line k kind w.bad
     (one_read bytes few w.document b.document w.later b.later w.parted b.parted w.net b.net w.well_formed b.well_formed ∙ b.bad)
 
-same_refused : (bytes : List ℕ) (l line : ℕ) (k kind : Fault) → length bytes ≤ 4194304 → IsBadDocument bytes l k → IsBadDocument bytes line kind → (l ≡ line) × (k ≡ kind)
+pub same_refused : (bytes : List ℕ) (l line : ℕ) (k kind : Fault) → length bytes ≤ 4194304 → IsBadDocument bytes l k → IsBadDocument bytes line kind → (l ≡ line) × (k ≡ kind)
 same_refused bytes l line k kind few w b = same_place bytes few w.document b.document w.later b.later w.parted b.parted l line k kind w.bad b.bad
 
 module _ {W : Type 0} (n : W → NetParts) (p : W → List PatternParts) (bytes : List ℕ) (few : length bytes ≤ 4194304) where

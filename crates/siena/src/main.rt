@@ -1,5 +1,5 @@
 //! The program: it reads a document of servers, clients and what these do, and prints what each client receives, what
-//! flooding owes it, or how much the document has.
+//! flooding owes it, where patterns occur in what it receives, or how much the document has.
 #![tactic(auto)]
 
 use ev_outside::{NoGate, Word};

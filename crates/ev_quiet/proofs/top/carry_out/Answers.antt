@@ -1,11 +1,24 @@
-use Rattle.std.proofs.Common.{Err, sym, ap, ◌∙◌}
-use Rattle.ev_quiet.proofs.Statuses.{is-bad, refused-status}
+use Rattle.std.proofs.Common.{Some, sym, subst}
+use Rattle.ev_quiet.specs.declared.words.Wanted.{Wanted}
+use Rattle.ev_quiet.specs.Answers.{PrintsPart, GaveRefused, GaveBadPattern}
 use Rattle.ev_quiet.proofs.top.carry_out.Goals as goal
 
-pub returns-in-Err-clause-bad_input : goal.returns-in-Err-clause-bad_input
-returns-in-Err-clause-bad_input g c = λ line kind e.
-    c.in-Err.ensures.bad line kind (ap Err (is-bad c.in-Err.refusal line kind (sym (c.ended.ensures.status ∙ c.status.ensures) ∙ e)))
+pub returns-in-Patterns-clause-part : goal.returns-in-Patterns-clause-part
+returns-in-Patterns-clause-part g c = λ d.
+    subst (λ (w : Wanted). PrintsPart (Some w) (g.S.Source.given c.args.source.now) (g.S.Source.given c.search.new.source) (g.S.Source.ended c.search.new.source) (g.K.Sink.taken c.args.sink.now) (g.K.Sink.taken c.search.new.sink))
+    (sym c.in-Patterns.is) (c.search.ensures.part d)
 
-pub returns-in-Err-clause-refused : goal.returns-in-Err-clause-refused
-returns-in-Err-clause-refused g c = λ line kind t.
-    refused-status c.in-Err.refusal c.ended.result.status line kind (c.ended.ensures.status ∙ c.status.ensures) (c.in-Err.ensures.refused line kind t)
+pub returns-in-Patterns-clause-refused : goal.returns-in-Patterns-clause-refused
+returns-in-Patterns-clause-refused g c = λ line kind t.
+    c.search.ensures.refused line kind
+    (subst (λ (w : Wanted). GaveRefused (Some w) (g.S.Source.given c.args.source.now) (g.S.Source.given c.search.new.source) (g.S.Source.ended c.search.new.source) line kind) c.in-Patterns.is t)
+
+pub returns-in-Patterns-clause-refused_pattern : goal.returns-in-Patterns-clause-refused_pattern
+returns-in-Patterns-clause-refused_pattern g c = λ line kind t.
+    c.search.ensures.refused_pattern line kind
+    (subst (λ (w : Wanted). GaveBadPattern (Some w) (g.S.Source.given c.args.source.now) (g.S.Source.given c.search.new.source) (g.S.Source.ended c.search.new.source) line kind) c.in-Patterns.is t)
+
+pub returns-in-Document-clause-refused : goal.returns-in-Document-clause-refused
+returns-in-Document-clause-refused g c = λ line kind t.
+    c.answered.ensures.refused line kind
+    (subst (λ (w : Wanted). GaveRefused (Some w) (g.S.Source.given c.args.source.now) (g.S.Source.given c.answered.new.source) (g.S.Source.ended c.answered.new.source) line kind) c.in-Document.is t)

@@ -1,6 +1,6 @@
 use Rattle.std.proofs.Common.{◌≡◌, true, false, Option, Some, None, sym, ap, ◌∙◌, subst}
 use Rattle.ev_quiet.specs.declared.words.Wanted.{Wanted}
-use Rattle.ev_quiet.specs.Answers.{Prints, PrintsPart, reads, HasFault, GaveRefused, CanAnswer}
+use Rattle.ev_quiet.specs.Answers.{Prints, PrintsPart, reads, HasFault, GaveRefused, GaveBadPattern, CanAnswer}
 use Rattle.ev_siena.proofs.top.siena.Goals as goal
 
 none-some : (w : Wanted) → ◌≡◌ {A = Option Wanted} (Some w) None → ⊥
@@ -44,3 +44,13 @@ returns-in-Some-clause-refused g c = λ line kind t.
 pub returns-in-Some-clause-complete : goal.returns-in-Some-clause-complete
 returns-in-Some-clause-complete g c = λ a m.
     c.run.ensures.complete (subst (λ (w : Option Wanted). CanAnswer w (g.S.Source.given c.args.source.now) (g.S.Source.given c.run.new.source) (g.S.Source.ended c.run.new.source)) (c.threads_by.ensures.some c.in-Some.shown c.in-Some.is) a) m
+
+pub returns-in-Some-clause-bad_pattern : goal.returns-in-Some-clause-bad_pattern
+returns-in-Some-clause-bad_pattern g c = λ line kind e.
+    subst (λ (w : Option Wanted). GaveBadPattern w (g.S.Source.given c.args.source.now) (g.S.Source.given c.run.new.source) (g.S.Source.ended c.run.new.source) line kind) (sym (c.threads_by.ensures.some c.in-Some.shown c.in-Some.is))
+    (c.run.ensures.bad_pattern line kind e)
+
+pub returns-in-Some-clause-refused_pattern : goal.returns-in-Some-clause-refused_pattern
+returns-in-Some-clause-refused_pattern g c = λ line kind t.
+    c.run.ensures.refused_pattern line kind
+    (subst (λ (w : Option Wanted). GaveBadPattern w (g.S.Source.given c.args.source.now) (g.S.Source.given c.run.new.source) (g.S.Source.ended c.run.new.source) line kind) (c.threads_by.ensures.some c.in-Some.shown c.in-Some.is) t)
