@@ -1,5 +1,4 @@
 use Rattle.std.proofs.Common.{true}
-use Rattle.ev_notice.specs.Cover.{filter_covers}
 use Rattle.ev_measure.proofs.kept.Kept.roots.Given as goal
 
 abbrev pub ghost-roots_without : goal.ghost-roots_without
