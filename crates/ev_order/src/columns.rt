@@ -52,8 +52,8 @@ pub(crate) fn columns(alloc: Global, signs: &[u64]) -> Result<Vec<Row>, NoMemory
     Ok(columns)
 }
 
-/// The row of all numbers.
-pub(crate) fn full(alloc: Global, width: u32) -> Result<Row, NoMemory>
+/// The row of all numbers below a width.
+pub fn full_row(alloc: Global, width: u32) -> Result<Row, NoMemory>
     ensures { IfOk result (λ row. row ≡ full_row width) }
 {
     let mut row = Row::new(alloc, width)?;

@@ -1,7 +1,7 @@
 use Rattle.std.proofs.Common.{nat_lt, true, refl, ap, ◌∙◌}
 use Rattle.ev_sets.specs.Sets.{put_in}
 use Rattle.ev_bits.proofs.Passing.{passing-put}
-use Rattle.ev_order.proofs.columns.full.Goals as goal
+use Rattle.ev_order.proofs.columns.full_row.Goals as goal
 
 pub loop-j-preserved : goal.loop-j-preserved
 loop-j-preserved c =

@@ -1,6 +1,6 @@
 use Rattle.std.proofs.Common.{◌≡◌, true}
 use Rattle.ev_bits.specs.Words.{passing}
-use Rattle.ev_order.proofs.columns.full.Given as goal
+use Rattle.ev_order.proofs.columns.full_row.Given as goal
 
 abbrev pub invariant-loop-j : goal.invariant-loop-j
 invariant-loop-j l =
