@@ -38,7 +38,8 @@ pub record Stocked (T : Type 0) : Type 0 where
 
 abbrev pub stocked_code : {T : Type 0} → Coded T → Coded (Stocked T)
 stocked_code {T} code = code_by ((List T × List ℕ) × (List (Holding T) × (List (List T) × List Told)))
-    (coded× (coded× (coded_list code) (coded_list coded_ℕ)) (coded× (coded_list (holding_code code)) (coded× (coded_list (coded_list code)) (coded_list told_code))))
+    (coded× (coded× (coded_list code) (coded_list coded_ℕ))
+    (coded× (coded_list (holding_code code)) (coded× (coded_list (coded_list code)) (coded_list told_code))))
     (λ s. ((s.items, s.interfaces), (s.holdings, (s.offered, s.told))))
     (λ p. record { items = p.0.0; interfaces = p.0.1; holdings = p.1.0; offered = p.1.1.0; told = p.1.1.1 }) (λ _. refl)
 

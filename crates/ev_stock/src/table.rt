@@ -106,7 +106,8 @@ impl<'a, T: Cover> Table<'a, T> {
         ensures links { length self.new.told ≡ length self.old.told }
         ensures offered { self.new.offered ≡ self.old.offered }
         ensures told { (p : ℕ) (offered : List ℕ) → slice_get self.old.offered p ≡ Some offered → slice_get self.new.told p
-            ≡ Some (told_from (sent_numbers T.covering self.old.items offered self.old.rows p) (sent_numbers T.covering self.old.items offered self.new.rows p)) }
+            ≡ Some (told_from (sent_numbers T.covering self.old.items offered self.old.rows p)
+            (sent_numbers T.covering self.old.items offered self.new.rows p)) }
     {
         self.held.is_within();
         self.held.take_all(place, out);
