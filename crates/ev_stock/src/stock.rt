@@ -3,7 +3,7 @@ ghost use Rattle.std.specs.Prelude.{◌≡◌, ◌≢◌, ◌↔◌, ℕ, true, 
 ghost use Rattle.ev_sets.specs.Sets.{Has, IsRising, union, minus};
 ghost use Rattle.ev_order.specs.Order.{picked};
 ghost use Rattle.ev_stock.specs.Sides.{Told};
-ghost use Rattle.ev_stock.specs.Stock.{held_from, sent, IsTold};
+ghost use Rattle.ev_stock.specs.Stock.{Holding, held_from, sent, IsTold};
 
 use crate::table::Table;
 use ev_bits::Row;
@@ -57,6 +57,20 @@ fn place(interfaces: &[u32], interface: u32) -> Option<usize>
     None
 }
 
+/// The place of an interface among so many first ones.
+fn link_place(interfaces: &[u32], links: usize, interface: u32) -> Option<usize>
+    requires { links ≤ length interfaces.now }
+    ensures some { IfSome result (λ p. (p < links) × (slice_get interfaces.now p ≡ Some interface)) }
+    ensures none { IfNone result ((p : ℕ) → p < links → slice_get interfaces.now p ≢ Some interface) }
+{
+    for p in 0..links {
+        if interfaces[p] == interface {
+            return Some(p);
+        }
+    }
+    None
+}
+
 impl<'a, T: Cover> Stock<'a, T> {
     /// Nothing is held from these interfaces, of which so many are links. All memory is taken here.
     pub fn new(
@@ -77,6 +91,28 @@ impl<'a, T: Cover> Stock<'a, T> {
         order.is_a_set();
         let table = Table::new(alloc, order, interfaces.len() as u32, links)?;
         Ok(Stock { interfaces, table })
+    }
+
+    /// Does nothing; its contract tells what each stock keeps: items and interfaces rise, the links are the first interfaces, and
+    /// what is held or offered is among the items.
+    pub fn is_known(&self)
+        ensures items { IsRising T.order self.now.items }
+        ensures few { length self.now.items < 2 ^ 32 }
+        ensures interfaces { IsRising nat_lt self.now.interfaces }
+        ensures links { length self.now.told ≤ length self.now.interfaces }
+        ensures offered { length self.now.offered ≡ length self.now.told }
+        ensures held { (h : Holding T) → Has h self.now.holdings → Has h.item self.now.items }
+    {
+        self.table.is_a_set();
+        self.table.is_placed();
+    }
+
+    /// The place of an interface among the links, if it is one.
+    pub fn link_place(&self, interface: u32) -> Option<usize>
+        ensures some { IfSome result (λ p. (p < length self.now.told) × (slice_get self.now.interfaces p ≡ Some interface)) }
+        ensures none { IfNone result ((p : ℕ) → p < length self.now.told → slice_get self.now.interfaces p ≢ Some interface) }
+    {
+        link_place(&self.interfaces, self.table.links(), interface)
     }
 
     /// An interface holds the items with some numbers no more, and those with some others too. For

@@ -144,6 +144,22 @@ impl<'a, T: Cover> Table<'a, T> {
         self.order.is_a_set();
     }
 
+    /// Does nothing; its contract tells that each link is a place, and that something is told of each for which something is offered.
+    pub(crate) fn is_placed(&self)
+        ensures links { length self.now.told ≤ length self.now.rows }
+        ensures offered { length self.now.offered ≡ length self.now.told }
+    {
+        let _ = &self.sides;
+    }
+
+    /// How many links there are.
+    pub(crate) fn links(&self) -> usize
+        ensures links { result ≡ length self.now.told }
+        ensures few { result ≤ length self.now.rows }
+    {
+        self.sides.len()
+    }
+
     /// Does nothing; its contract tells that the row at a place is a set of numbers of items.
     pub(crate) fn row_is_a_set(&self, place: usize)
         requires { place < length self.now.rows }
