@@ -221,7 +221,7 @@ module _ {T : Type 0} {covers before : T → T → Bool} (laws : CoverLaws cover
   rising-elsewhere i hs = rising-set_of laws (map (λ h. h.item) (filter (λ h. not (h.interface == i)) hs))
 
   module _ (items : List T) (rising : IsRising before items) where
-    one-number : (i j : ℕ) (x : T) → slice_get items i ≡ Some x → slice_get items j ≡ Some x → i ≡ j
+    pub one-number : (i j : ℕ) (x : T) → slice_get items i ≡ Some x → slice_get items j ≡ Some x → i ≡ j
     one-number i j x e f = elim (cases_order i j) [
       | inl w ↦ w
       | inr (inl l) ↦ absurd (grind (arith, laws.irreflexive x, rising-at laws items rising i j x x l e f))

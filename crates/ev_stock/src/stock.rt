@@ -175,6 +175,7 @@ impl<'a, T: Cover> Stock<'a, T> {
     /// The numbers of what is held from an interface, if it is one.
     pub fn held(&self, interface: u32) -> Option<&Row>
         ensures some { IfSome result (λ row. picked self.now.items row.now.members ≡ held_from T.order interface self.now.holdings) }
+        ensures width { IfSome result (λ row. row.now.width ≡ length self.now.items) }
         ensures none { IfNone result (Has interface self.now.interfaces → ⊥) }
     {
         self.table.is_a_set();
