@@ -1,0 +1,4 @@
+pub mod Cuts
+pub mod PartLaws
+pub mod ListLaws
+pub mod CommandLaws
