@@ -102,7 +102,7 @@ name_bytes (b ∷ w) e =
     let h = both (is_letter b || is_other_name_byte b) (are_name_bytes w) e in
     rw (name_byte b h.0, name_bytes w h.1) refl
 
-whole_name : (b : ℕ) (w : List ℕ) → is_name (b ∷ w) ≡ true → are_word_bytes (b ∷ w) ≡ true
+pub whole_name : (b : ℕ) (w : List ℕ) → is_name (b ∷ w) ≡ true → are_word_bytes (b ∷ w) ≡ true
 unfolding is_name
 whole_name b w e =
     let h = both (is_letter b) (are_name_bytes w && nat_lt (length w) 64) e in

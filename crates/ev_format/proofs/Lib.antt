@@ -1,0 +1,5 @@
+pub mod EdgeLaws
+pub mod LineLaws
+pub mod WordLaws
+pub mod Stands
+pub mod ScriptStands
