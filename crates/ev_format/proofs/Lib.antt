@@ -3,3 +3,5 @@ pub mod LineLaws
 pub mod WordLaws
 pub mod Stands
 pub mod ScriptStands
+pub mod TreeStands
+pub mod ClientStands
