@@ -5,3 +5,4 @@ pub mod Stands
 pub mod ScriptStands
 pub mod TreeStands
 pub mod ClientStands
+pub mod StepStands
