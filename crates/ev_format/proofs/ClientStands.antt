@@ -30,18 +30,13 @@ use Rattle.ev_input.specs.declared.state.State.{State}
 use Rattle.ev_input.specs.declared.state.Place.{Place}
 use Rattle.ev_input.specs.declared.state.Place.TheVariants as at
 use Rattle.ev_input.proofs.Spelled.{command_told}
+use Rattle.ev_input.proofs.Members.{Each}
 use Rattle.ev_format.specs.DocumentText.{client_line, script_lines, step_lines, barrier_lines, is_idle}
 use Rattle.ev_format.specs.Limits.{counted, counts_after}
 use Rattle.ev_format.proofs.TreeStands.{server_test}
 use Rattle.ev_format.proofs.Stands.{state, stands_on, stands_next, client_stands, IsOpen}
 use Rattle.ev_format.proofs.Stands.IsOpen.{Edges, Clients, Scripts}
 use Rattle.ev_format.proofs.ScriptStands.{script_stands, barrier_stands, command_stands}
-
--- Each member.
-
-abbrev pub Each : {A : Type 0} → (A → Type 0) → List A → Type 0
-Each P [] = Unit {0}
-Each P (x ∷ xs) = P x × Each P xs
 
 pub length-append : {A : Type 0} (xs ys : List A) → length (xs ++ ys) ≡ length xs + length ys
 length-append [] ys = omega arith

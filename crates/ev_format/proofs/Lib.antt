@@ -6,3 +6,8 @@ pub mod ScriptStands
 pub mod TreeStands
 pub mod ClientStands
 pub mod StepStands
+pub mod TurnStands
+pub mod Shown
+pub mod ReadLaws
+pub mod Kept
+pub mod Writable

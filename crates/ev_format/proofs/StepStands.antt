@@ -25,12 +25,13 @@ use Rattle.ev_input.specs.declared.state.State.{State}
 use Rattle.ev_input.specs.declared.state.Place.{Place}
 use Rattle.ev_input.specs.declared.state.Place.TheVariants as at
 use Rattle.ev_input.proofs.Spelled.{command_told}
+use Rattle.ev_input.proofs.Members.{Each}
 use Rattle.ev_format.specs.DocumentText.{script_lines, step_lines, barrier_lines, is_idle}
 use Rattle.ev_format.specs.Limits.{counted, counts_after}
 use Rattle.ev_format.proofs.Stands.{state, stands_on, stands_next, IsOpen}
 use Rattle.ev_format.proofs.Stands.IsOpen.{Edges, Clients, Scripts}
 use Rattle.ev_format.proofs.ScriptStands.{script_stands, barrier_stands, command_stands}
-use Rattle.ev_format.proofs.ClientStands.{Each, Rises, length-append, changed-middle, place_here, AreApart, IsWritableClient, names_before, unwritten, written, drafts}
+use Rattle.ev_format.proofs.ClientStands.{Rises, length-append, changed-middle, place_here, AreApart, IsWritableClient, names_before, unwritten, written, drafts}
 
 -- Counts.
 

@@ -35,6 +35,10 @@ tree_lines tree = map edge_line (edges_of tree)
 abbrev pub phase_lines : ℕ × Topology → List (List ℕ)
 phase_lines later = (codes "phase " ++ decimal later.0) ∷ tree_lines later.1
 
+-- the trees, in the order of their phases
+abbrev pub trees_lines : List (ℕ × Topology) → List (List ℕ)
+trees_lines trees = tree_lines (first_tree trees) ++ flat_map phase_lines (later_trees trees)
+
 -- `client NAME SERVER`
 abbrev pub client_line : ClientParts → List ℕ
 client_line client = codes "client " ++ client.name ++ 32 ∷ decimal client.home
@@ -75,9 +79,7 @@ schedule_lines clients (turn ∷ turns) = codes "schedule" ∷ map (λ t. turn_l
 
 -- the lines before the schedule
 abbrev pub lines_before : NetParts → List (List ℕ)
-lines_before net =
-    first_lines net ++ tree_lines (first_tree net.trees) ++ flat_map phase_lines (later_trees net.trees) ++ map client_line net.clients
-    ++ flat_map script_lines net.clients
+lines_before net = first_lines net ++ (trees_lines net.trees ++ (map client_line net.clients ++ flat_map script_lines net.clients))
 
 -- a line with its end, a newline (10)
 abbrev pub ended : List ℕ → List ℕ

@@ -414,13 +414,13 @@ parts_spelled {A = A} P one spelled (suc n) read ts all h s e =
 
 -- what the form of a line has
 abbrev pub IsFormIn : ℕ → CommandForm → Type 0
-IsFormIn version (control v parts) = Each (IsPartIn version) parts × (0 < length parts)
+IsFormIn version (control v parts) = (v ≡ verbs.Publish → ⊥) × Each (IsPartIn version) parts × (0 < length parts)
 IsFormIn version (publish attributes) = Each (IsGivenIn version) attributes × (0 < length attributes)
 
-control_form : (version n : ℕ) (v : Verb) (ts : List Token) (form : CommandForm) → Each IsSeen ts → control_in version n v ts ≡ Some form → IsFormIn version form
-control_form version n v ts form s e =
+control_form : (version n : ℕ) (v : Verb) (ts : List Token) (form : CommandForm) → (v ≡ verbs.Publish → ⊥) → Each IsSeen ts → control_in version n v ts ≡ Some form → IsFormIn version form
+control_form version n v ts form not_publish s e =
     let p = bind_some (parts_in (constraint_in version) n [] ts) (λ p. Some (control v p)) form e in
-    subst (IsFormIn version) (same_Some (control v p.0) form p.2) (parts_spelled (IsPartIn version) (constraint_in version) (constraint_spelled version) n [] ts p.0 tt s p.1)
+    subst (IsFormIn version) (same_Some (control v p.0) form p.2) (let q = parts_spelled (IsPartIn version) (constraint_in version) (constraint_spelled version) n [] ts p.0 tt s p.1 in (not_publish, q.0, q.1))
 
 publish_form : (version n : ℕ) (ts : List Token) (form : CommandForm) → Each IsSeen ts → publish_in version n ts ≡ Some form → IsFormIn version form
 publish_form version n ts form s e =
@@ -429,10 +429,10 @@ publish_form version n ts form s e =
 
 verb_form : (version n : ℕ) (v : Verb) (ts : List Token) (form : CommandForm) → Each IsSeen ts → form_in version n v ts ≡ Some form → IsFormIn version form
 verb_form version n verbs.Publish ts form s e = publish_form version n ts form s e
-verb_form version n verbs.Subscribe ts form s e = control_form version n verbs.Subscribe ts form s e
-verb_form version n verbs.Unsubscribe ts form s e = control_form version n verbs.Unsubscribe ts form s e
-verb_form version n verbs.Advertise ts form s e = control_form version n verbs.Advertise ts form s e
-verb_form version n verbs.Unadvertise ts form s e = control_form version n verbs.Unadvertise ts form s e
+verb_form version n verbs.Subscribe ts form s e = control_form version n verbs.Subscribe ts form (λ h. cc) s e
+verb_form version n verbs.Unsubscribe ts form s e = control_form version n verbs.Unsubscribe ts form (λ h. cc) s e
+verb_form version n verbs.Advertise ts form s e = control_form version n verbs.Advertise ts form (λ h. cc) s e
+verb_form version n verbs.Unadvertise ts form s e = control_form version n verbs.Unadvertise ts form (λ h. cc) s e
 
 pub form_spelled : (version : ℕ) (line : List ℕ) (form : CommandForm) → form_of version line ≡ Some form → IsFormIn version form
 unfolding form_of

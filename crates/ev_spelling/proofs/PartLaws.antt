@@ -238,3 +238,7 @@ test_again name kind op (Some u) ts h =
 pub constraint_again : (version : ℕ) (c : ConstraintParts) (ts : List Token) → IsConstraintIn version c → constraint_in version (constraint_tokens c ++ ts) ≡ Some (Whole c, ts)
 unfolding constraint_in
 constraint_again version c ts is = rw (head_again version c.name c.kind (op_token c.op ∷ (operand_tokens c.operand ++ ts)) is.0 is.2) (test_again c.name c.kind c.op c.operand ts is.1)
+
+-- the operand of a constraint is a value
+pub operand_value : (c : ConstraintParts) (u : Value) → c.operand ≡ Some u → IsConstraint c → IsValue u
+operand_value c u e is = (operand_is c.kind c.op u (subst (IsTest c.kind c.op) e is)).value
