@@ -11,3 +11,5 @@ pub mod Shown
 pub mod ReadLaws
 pub mod Kept
 pub mod Writable
+pub mod Chain
+pub mod SameText
