@@ -87,8 +87,8 @@ fn put_turns<K: Sink>(
     ensures { Went (outlet (K.taken sink.old) (K.faults sink.old) out.old) (outlet (K.taken sink.new) (K.faults sink.new) out.new)
         (flat_map (λ turn. ended (turn_line clients.now turn.1)) schedule.now) }
 {
-    for (_, turn) in schedule {
-        put_turn(out, sink, clients, *turn);
+    for turn in schedule {
+        put_turn(out, sink, clients, turn.1);
     }
 }
 

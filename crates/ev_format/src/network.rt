@@ -54,8 +54,8 @@ fn put_phases<K: Sink>(out: &mut Pending, sink: &mut K, trees: &[(u32, Tree)])
     ensures { Went (outlet (K.taken sink.old) (K.faults sink.old) out.old) (outlet (K.taken sink.new) (K.faults sink.new) out.new)
         (flat_map (λ tree. flat_map ended (phase_lines tree)) trees.now) }
 {
-    for (phase, tree) in trees {
-        put_phase(out, sink, *phase, tree);
+    for tree in trees {
+        put_phase(out, sink, tree.0, &tree.1);
     }
 }
 

@@ -2,7 +2,7 @@
 ghost use Rattle.std.specs.Prelude.{◌≡◌, ◌-◌};
 ghost use Rattle.std.specs.List.{flat_map};
 ghost use Rattle.ev_outside.specs.Pending.{outlet, Went};
-ghost use Rattle.ev_format.specs.DocumentText.{barrier_lines, ended, script_lines, step_lines};
+ghost use Rattle.ev_format.specs.DocumentText.{barrier_lines, ended, is_idle, script_lines, step_lines};
 
 use crate::command::put_command;
 use crate::line::put_line;
@@ -33,12 +33,19 @@ fn put_steps<K: Sink>(out: &mut Pending, sink: &mut K, script: &[(u32, Command)]
     put_barriers(out, sink, barriers.saturating_sub(phase))
 }
 
+// Whether a client has neither commands nor barriers.
+fn is_idle(client: &Client) -> bool
+    ensures { result ≡ is_idle client.now }
+{
+    client.script.is_empty() && client.barriers == 0
+}
+
 /// The script of a client, where it has commands or barriers.
 pub(crate) fn put_script<K: Sink>(out: &mut Pending, sink: &mut K, client: &Client)
     ensures { Went (outlet (K.taken sink.old) (K.faults sink.old) out.old) (outlet (K.taken sink.new) (K.faults sink.new) out.new)
         (flat_map ended (script_lines client.now)) }
 {
-    if client.script.is_empty() && client.barriers == 0 {
+    if is_idle(client) {
         return;
     }
     put_line(out, sink, b"script ", client.name.bytes());
