@@ -6,7 +6,7 @@ use Rattle.ev_constraint.specs.Constraint.{ConstraintParts}
 use Rattle.ev_notice.specs.Notice.{Attribute}
 use Rattle.ev_wire.specs.FilterText.{constraint_text, constraints_text}
 use Rattle.ev_wire.specs.NoticeText.{attribute_text, later, notice_text}
-use Rattle.std.specs.Prelude.{codes, ◌==◌, if◌then◌else◌}
+use Rattle.std.specs.Prelude.{codes, ◌==◌}
 use Rattle.ev_wire.specs.declared.command.Command.{Command}
 use Rattle.ev_spelling.specs.CommandText.{command_text}
 use Rattle.ev_model.specs.Parts.{ClientParts, NetParts}

@@ -1,42 +1,28 @@
 -- What stands after the canonical lines of the clients and of their scripts.
-use Rattle.std.proofs.Common.{◌≡◌, ◌≢◌, ◌⊎◌, inl, inr, ℕ, zero, suc, ◌+◌, ◌*◌, ◌-◌, ◌<◌, ◌≤◌, Bool, true, false, cond, not, ◌&&◌, List, [], ◌∷◌, ◌++◌, length, map, refl, sym, ap, subst, ◌∙◌, arith, Option, Some, None, Result, Ok, Err, append_assoc, append-nil}
-use Rattle.std.specs.Prelude.{AllPairs, codes, nat_eq, nat_lt, nat_le, position, slice_get, if◌then◌else◌}
-use Rattle.std.specs.List.{flat_map, prefix_len}
-use Rattle.std.specs.Fmt.{decimal}
+use Rattle.std.proofs.Common.{◌≡◌, ◌⊎◌, inr, ℕ, suc, ◌+◌, ◌<◌, ◌≤◌, true, false, not, List, [], ◌∷◌, ◌++◌, length, map, refl, sym, ap, subst, ◌∙◌, arith, Some, None, Ok, append_assoc, append-nil}
+use Rattle.std.specs.Prelude.{nat_lt, slice_get}
+use Rattle.std.specs.List.{prefix_len}
 use Rattle.std.specs.Str.{bytes_eq}
-use Rattle.std.proofs.Math.Nat.{mul-le-mul_left}
 use Rattle.std.proofs.lemmas.Grind.{common_steps}
-use Rattle.ev_constraint.proofs.BytesLemmas.{bytes_eq-tells, bytes_eq-self}
+use Rattle.ev_constraint.proofs.BytesLemmas.{bytes_eq-self}
 use Rattle.ev_values.specs.Name.{IsName}
 use Rattle.ev_wire.specs.declared.command.Command.{Command}
-use Rattle.ev_wire.specs.declared.command.Command.TheVariants as commands
 use Rattle.ev_wire.specs.declared.semantics.Semantics.{Semantics}
-use Rattle.ev_spelling.specs.CommandText.{command_text, IsCommandIn}
-use Rattle.ev_spelling.proofs.CommandLaws.{command_spelled}
-use Rattle.ev_model.specs.Parts.{ClientParts, client_parts}
-use Rattle.ev_input.specs.Answer.{◌>>=◌, need}
-use Rattle.ev_input.specs.Drawn.{Drawn, is_apart, is_server}
-use Rattle.ev_input.specs.Drafts.{barriers_at, barriers_of, begun, changed_at, client_at, draft, has_script, is_scripted, name_of, name_place, scriptless, with_barrier, with_command}
-use Rattle.ev_input.specs.Tally.{CommandCounts, no_counts, with_control, with_publish, control_product, notice_product, control_rule, publish_rule}
-use Rattle.ev_input.specs.Commands.{command_of}
-use Rattle.ev_input.specs.Rules.{count_rule, version_number}
+use Rattle.ev_spelling.specs.CommandText.{IsCommandIn}
+use Rattle.ev_model.specs.Parts.{ClientParts}
+use Rattle.ev_input.specs.Drawn.{Drawn, is_apart}
+use Rattle.ev_input.specs.Drafts.{changed_at, client_at, draft, name_of, scriptless}
+use Rattle.ev_input.specs.Tally.{no_counts}
+use Rattle.ev_input.specs.Rules.{version_number}
 use Rattle.ev_input.specs.Meaning.{stands}
-use Rattle.ev_input.specs.Net.{client_of}
 use Rattle.ev_input.specs.declared.draft.Draft.{Draft}
-use Rattle.ev_input.specs.declared.fault.Fault.{Fault}
-use Rattle.ev_input.specs.declared.fault.Fault.TheVariants as is
 use Rattle.ev_input.specs.declared.version.Version.{Version}
-use Rattle.ev_input.specs.declared.state.State.{State}
 use Rattle.ev_input.specs.declared.state.Place.{Place}
 use Rattle.ev_input.specs.declared.state.Place.TheVariants as at
-use Rattle.ev_input.proofs.Spelled.{command_told}
 use Rattle.ev_input.proofs.Members.{Each}
-use Rattle.ev_format.specs.DocumentText.{client_line, script_lines, step_lines, barrier_lines, is_idle}
-use Rattle.ev_format.specs.Limits.{counted, counts_after}
+use Rattle.ev_format.specs.DocumentText.{client_line, is_idle}
 use Rattle.ev_format.proofs.TreeStands.{server_test}
-use Rattle.ev_format.proofs.Stands.{state, stands_on, stands_next, client_stands, IsOpen}
-use Rattle.ev_format.proofs.Stands.IsOpen.{Edges, Clients, Scripts}
-use Rattle.ev_format.proofs.ScriptStands.{script_stands, barrier_stands, command_stands}
+use Rattle.ev_format.proofs.Stands.{state, stands_next, client_stands}
 
 pub length-append : {A : Type 0} (xs ys : List A) → length (xs ++ ys) ≡ length xs + length ys
 length-append [] ys = omega arith
@@ -156,10 +142,12 @@ clients_stand n p v sem trees done [] o whole small each apart few = (p, o, ap (
 clients_stand n p v sem trees done (c ∷ rest) o whole small each apart few =
     let l : length (map unwritten done) < 1024 = omega (arith, length-append done (c ∷ rest), map-length done, few) in
     let here = client_stands n p v sem trees (map unwritten done) c.name c.home o whole each.0.name (omega (arith, each.0.home.1, small)) (server_test trees.servers c.home each.0.home)
-        (absent_place c.name (map unwritten done) (absent_unwritten c.name done (names_before done rest c apart))) l in
+    (absent_place c.name (map unwritten done) (absent_unwritten c.name done (names_before done rest c apart))) l in
     let same : (done ++ c ∷ []) ++ rest ≡ done ++ c ∷ rest = append_assoc done (c ∷ []) rest in
-    let more = clients_stand (n + 1) at.Clients v sem trees (done ++ c ∷ []) rest (inr refl) whole small each.1 (subst AreApart (sym same) apart) (subst (λ (z : List ClientParts). length z ≤ 1024) (sym same) few) in
-    (more.0, more.1,
-    stands_next n _ _ _ (client_line c) (map client_line rest) here
-    (subst (λ (z : List Draft). stands (n + 1) (state at.Clients v sem trees z 0 no_counts []) (map client_line rest) ≡ Ok (state more.0 v sem trees (map unwritten (done ++ c ∷ rest)) 0 no_counts [])) (map-append done c)
-    (more.2 ∙ ap (λ (z : List ClientParts). Ok (state more.0 v sem trees (map unwritten z) 0 no_counts [])) same)))
+    let more = clients_stand (n + 1) at.Clients v sem trees (done ++ c ∷ []) rest (inr refl) whole small each.1 (subst AreApart (sym same) apart) (subst (λ (z : List ClientParts). length z ≤ 1024) (sym same) few) in (
+      more.0,
+      more.1,
+      stands_next n _ _ _ (client_line c) (map client_line rest) here
+          (subst (λ (z : List Draft). stands (n + 1) (state at.Clients v sem trees z 0 no_counts []) (map client_line rest) ≡ Ok (state more.0 v sem trees (map unwritten (done ++ c ∷ rest)) 0 no_counts [])) (map-append done c)
+          (more.2 ∙ ap (λ (z : List ClientParts). Ok (state more.0 v sem trees (map unwritten z) 0 no_counts [])) same)),
+    )

@@ -1,18 +1,15 @@
 -- The edges of a tree of servers, each once, are a tree, whose neighbours are those of the tree.
-use Rattle.std.proofs.Common.{◌≡◌, ℕ, zero, suc, ◌+◌, ◌<◌, ◌≤◌, ◌==◌, Bool, true, false, cond, ◌&&◌, ◌||◌, List, [], ◌∷◌, ◌++◌, ◌⊎◌, inl, inr, map, filter, refl, sym, ap, subst, ◌∙◌, arith, nat_lt, nat_le, eq-eqb, eqb-true, append_assoc}
-use Rattle.std.specs.List.{flat_map, list_any, range_with_len}
+use Rattle.std.proofs.Common.{◌≡◌, ℕ, zero, suc, ◌+◌, ◌<◌, ◌≤◌, ◌==◌, Bool, true, false, ◌&&◌, ◌||◌, List, [], ◌∷◌, ◌++◌, ◌⊎◌, inl, inr, map, filter, refl, sym, ap, subst, arith, nat_lt, nat_le, eq-eqb, eqb-true}
+use Rattle.std.specs.List.{flat_map, range_with_len}
 use Rattle.std.proofs.lemmas.Bool.Decides.{nat_tests}
 use Rattle.ev_sets.specs.Laws.{CoverLaws}
 use Rattle.ev_sets.specs.Sets.{Has, IsRising}
-use Rattle.ev_sets.specs.Numbers.{IsDistinct}
 use Rattle.ev_sets.proofs.Roots.{Has-filter, filter-Has}
 use Rattle.ev_sets.proofs.Sets.{rising-filter, ext}
-use Rattle.ev_tree.specs.Graph.{joins, has_edge, IsTrail, AreJoined, IsForest, IsTree, AreWithin, servers_to, neighbours_by}
-use Rattle.ev_tree.specs.Hops.{AreHops}
-use Rattle.ev_tree.specs.Sides.{AreSides}
+use Rattle.ev_tree.specs.Graph.{joins, has_edge, IsTrail, AreJoined, neighbours_by}
 use Rattle.ev_tree.specs.Tree.{Topology, TreeLaws, servers_of, links_of, hop_of, IsWay, NeverTurnsBack, IsPath}
 use Rattle.ev_tree.proofs.Truths.{both-left, both-right, Test, Yes, No, test, either-left, either-right}
-use Rattle.ev_tree.proofs.Joined.{has_edge-back, has_edge-swap}
+use Rattle.ev_tree.proofs.Joined.{has_edge-back}
 use Rattle.ev_tree.proofs.Paths.{sides}
 use Rattle.ev_tree.proofs.Servers.{server-in, in-server, rising-neighbours}
 use Rattle.ev_format.specs.Edges.{edges_at, edges_of}

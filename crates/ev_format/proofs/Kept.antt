@@ -1,5 +1,5 @@
 -- What each line of a document keeps of what its canonical text needs.
-use Rattle.std.proofs.Common.{◌≡◌, ◌⊎◌, inl, inr, ℕ, ◌+◌, ◌<◌, ◌≤◌, Bool, true, false, not, ◌&&◌, List, [], ◌∷◌, ◌++◌, length, map, refl, sym, ap, subst, ◌∙◌, arith, Option, Some, None, Result, Ok, Err}
+use Rattle.std.proofs.Common.{◌≡◌, ◌⊎◌, inl, inr, ℕ, ◌+◌, ◌≤◌, Bool, true, false, not, ◌&&◌, List, [], ◌∷◌, length, refl, sym, ap, subst, ◌∙◌, arith, Option, Some, None, Result, Ok, Err}
 use Rattle.std.specs.Prelude.{codes, nat_eq, nat_le, nat_lt, if◌then◌else◌}
 use Rattle.std.specs.Option.{is_some, option_and_then, option_zip}
 use Rattle.std.specs.Str.{bytes_eq}
@@ -8,13 +8,10 @@ use Rattle.std.proofs.lemmas.Option.{same_Some}
 use Rattle.ev_values.specs.Name.{IsName, is_name}
 use Rattle.ev_values.proofs.NameTests.{tested_name}
 use Rattle.ev_tree.specs.Graph.{has_edge}
-use Rattle.ev_tree.proofs.Truths.{both-left, both-right}
+use Rattle.ev_tree.proofs.Truths.{both-right}
 use Rattle.ev_wire.specs.declared.command.Command.{Command}
-use Rattle.ev_wire.specs.declared.command.Command.TheVariants as commands
 use Rattle.ev_script.specs.declared.fault.ScriptFault.{ScriptFault}
-use Rattle.ev_script.specs.declared.verb.Verb.{Verb}
 use Rattle.ev_script.specs.declared.verb.Verb.TheVariants as verbs
-use Rattle.ev_script.specs.declared.form.Part.{Part}
 use Rattle.ev_script.specs.Tokens.{first_word, tokens}
 use Rattle.ev_script.specs.Form.{CommandForm, verb_named}
 use Rattle.ev_script.specs.Form.CommandForm.{control, publish}
@@ -24,14 +21,14 @@ use Rattle.ev_spelling.proofs.FormLaws.{IsFormIn, form_spelled}
 use Rattle.ev_spelling.proofs.SpelledLaws.{list_in, notice_in}
 use Rattle.ev_model.specs.declared.turn.Turn.{Turn}
 use Rattle.ev_model.specs.declared.turn.Turn.TheVariants as turns
-use Rattle.ev_input.specs.Answer.{◌>>=◌, need, want}
-use Rattle.ev_input.specs.Lines.{lines, words}
+use Rattle.ev_input.specs.Answer.{◌>>=◌, want}
+use Rattle.ev_input.specs.Lines.{words}
 use Rattle.ev_input.specs.Words.{name_and_number, number, one, one_name, one_number, two, two_numbers}
-use Rattle.ev_input.specs.Drawn.{Block, Drawn, are_neighbours, are_servers, blocks, is_apart, is_server, are_joined}
-use Rattle.ev_input.specs.Drafts.{barriers_at, begun, client_at, has_script, name_of, scriptless, with_barrier, with_command}
+use Rattle.ev_input.specs.Drawn.{Block, Drawn, are_neighbours, are_servers, is_apart, is_server, are_joined}
+use Rattle.ev_input.specs.Drafts.{barriers_at, begun, client_at, has_script, scriptless, with_barrier, with_command}
 use Rattle.ev_input.specs.Commands.{command_of, command_of_form, command_in, unless_fault, document_fault}
 use Rattle.ev_input.specs.Rules.{barrier_rule, client_rule, command_rule, command_turn, count_rule, edge_rule, header_rule, phase_rule, schedule_rule, script_rule, semantics_named, semantics_rule, servers_rule, take_turn, version_named, version_number, version_turn, with_turn}
-use Rattle.ev_input.specs.Places.{at_clients, at_edges, at_place, at_schedule, at_token, document_of, end_rule, has_servers, is_comment, line_rule, start, words_rule}
+use Rattle.ev_input.specs.Places.{at_clients, at_edges, at_place, at_schedule, at_token, has_servers, is_comment, line_rule, start, words_rule}
 use Rattle.ev_input.specs.Meaning.{stands}
 use Rattle.ev_input.specs.declared.draft.Draft.{Draft}
 use Rattle.ev_input.specs.declared.fault.Fault.{Fault}

@@ -1,7 +1,7 @@
 -- The canonical text of a net is read as it.
-use Rattle.std.proofs.Common.{◌≡◌, ◌⊎◌, inl, inr, ℕ, zero, suc, ◌+◌, ◌-◌, ◌<◌, ◌≤◌, Bool, true, false, not, ◌&&◌, List, [], ◌∷◌, ◌++◌, length, map, refl, sym, ap, subst, ◌∙◌, arith, Option, Some, None, Result, Ok, Err, append_assoc}
+use Rattle.std.proofs.Common.{◌≡◌, ◌⊎◌, inl, inr, ℕ, zero, suc, ◌+◌, ◌-◌, ◌<◌, ◌≤◌, Bool, true, false, ◌&&◌, List, [], ◌∷◌, ◌++◌, length, map, refl, sym, ap, subst, ◌∙◌, arith, Ok}
 use Rattle.std.specs.Prelude.{codes, slice_get, if◌then◌else◌}
-use Rattle.std.specs.List.{flat_map, list_all, list_any}
+use Rattle.std.specs.List.{flat_map, list_all}
 use Rattle.std.specs.Fmt.{decimal}
 use Rattle.ev_sets.specs.Sets.{Has}
 use Rattle.ev_tree.specs.Tree.{Topology}
@@ -15,15 +15,13 @@ use Rattle.ev_model.specs.Parts.{ClientParts, NetParts, net_parts}
 use Rattle.ev_model.specs.Nets.{client_at as client_of_number}
 use Rattle.ev_model.specs.declared.turn.Turn.{Turn}
 use Rattle.ev_model.specs.declared.turn.Turn.TheVariants as turns
-use Rattle.ev_input.specs.Answer.{◌>>=◌, need}
-use Rattle.ev_input.specs.Drawn.{Drawn, is_apart, undrawn, blocks}
+use Rattle.ev_input.specs.Drawn.{Drawn, is_apart, blocks}
 use Rattle.ev_input.specs.Tally.{CommandCounts, no_counts}
 use Rattle.ev_input.specs.Lines.{lines}
-use Rattle.ev_input.specs.Places.{document_of, end_rule, has_servers, start}
+use Rattle.ev_input.specs.Places.{end_rule, has_servers, start}
 use Rattle.ev_input.specs.Meaning.{stands, AreTaken}
-use Rattle.ev_input.specs.Net.{IsNetIn, IsNetOf, AreTreesOf, client_of}
+use Rattle.ev_input.specs.Net.{IsNetOf, AreTreesOf, client_of}
 use Rattle.ev_input.specs.Rules.{version_number}
-use Rattle.ev_input.specs.declared.draft.Draft.{Draft}
 use Rattle.ev_input.specs.declared.version.Version.{Version}
 use Rattle.ev_input.specs.declared.version.Version.TheVariants.{One, Two}
 use Rattle.ev_input.specs.declared.state.State.{State}
@@ -32,16 +30,16 @@ use Rattle.ev_input.specs.declared.state.Place.TheVariants as at
 use Rattle.ev_input.proofs.Meaning.{net_means}
 use Rattle.ev_input.proofs.Members.{Each}
 use Rattle.ev_format.specs.Edges.{edges_of}
-use Rattle.ev_format.specs.DocumentText.{first_lines, semantics_word, edge_line, tree_lines, phase_lines, client_line, barrier_lines, step_lines, script_lines, is_idle, turn_line, name_in, schedule_lines, lines_before, trees_lines, ended, document_text, on_lines, as_written}
+use Rattle.ev_format.specs.DocumentText.{first_lines, semantics_word, edge_line, tree_lines, phase_lines, client_line, barrier_lines, step_lines, script_lines, is_idle, turn_line, name_in, schedule_lines, lines_before, trees_lines, document_text, on_lines, as_written}
 use Rattle.ev_format.specs.Limits.{counts_after, counts_of, FitsDocument}
 use Rattle.ev_format.proofs.EdgeLaws.{edges-within}
 use Rattle.ev_format.proofs.LineLaws.{are_shown, lines_cut}
 use Rattle.ev_format.proofs.WordLaws.{word_shown, name_word, decimal_word}
 use Rattle.ev_format.proofs.Shown.{shown-append, shown-then, command_shown}
 use Rattle.ev_format.proofs.Stands.{state, stands_on, first_stands, IsOpen}
-use Rattle.ev_format.proofs.Stands.IsOpen.{Edges, Clients, Scripts}
+use Rattle.ev_format.proofs.Stands.IsOpen.{Edges, Clients}
 use Rattle.ev_format.proofs.TreeStands.{IsDrawable, AreDrawable, drawn_all, all_whole, all_servers, all_trees_of, trees_stand}
-use Rattle.ev_format.proofs.ClientStands.{AreApart, Rises, IsWritableClient, unwritten, written, drafts, clients_stand}
+use Rattle.ev_format.proofs.ClientStands.{AreApart, IsWritableClient, written, clients_stand}
 use Rattle.ev_format.proofs.StepStands.{AreCounts, scripts_stand}
 use Rattle.ev_format.proofs.TurnStands.{IsWritableTurn, schedule_stand}
 
@@ -234,7 +232,7 @@ module _ (v : Version) (sem : Semantics) (first : ℕ × Topology) (later : List
       let s5 = schedule_stand n5 s4.0 v sem trees clients s4.2 (counts_after no_counts (flat_map (λ client. client.script) clients)) schedule s4.1 whole are here apart in
       let e : n5 + 1 ≡ length (lines_before net) + 2 = omega arith in
       let before : stands 1 start (lines_before net) ≡ Ok (state s4.0 v sem trees (map written clients) s4.2 (counts_after no_counts (flat_map (λ client. client.script) clients)) []) =
-          stands_on 1 _ _ _ lines1 (lines2 ++ (lines3 ++ lines4)) s1 (stands_on n2 _ _ _ lines2 (lines3 ++ lines4) s2 (stands_on n3 _ _ _ lines3 lines4 s3.2 s4.3)) in
+      stands_on 1 _ _ _ lines1 (lines2 ++ (lines3 ++ lines4)) s1 (stands_on n2 _ _ _ lines2 (lines3 ++ lines4) s2 (stands_on n3 _ _ _ lines3 lines4 s3.2 s4.3)) in
       record {
         place = s5.0;
         stop = s5.1;
@@ -285,7 +283,7 @@ pub text_read : (n : NetParts) → IsWritable n → FitsDocument n → IsNetOf (
 unfolding net
 text_read n w fits =
     let same : n ≡ net_parts (version_number w.version) n.semantics (w.first ∷ w.later) n.clients n.schedule =
-        ap (λ (z : ℕ). net_parts z n.semantics n.trees n.clients n.schedule) w.number ∙ ap (λ (z : List (ℕ × Topology)). net_parts (version_number w.version) n.semantics z n.clients n.schedule) w.trees in
+    ap (λ (z : ℕ). net_parts z n.semantics n.trees n.clients n.schedule) w.number ∙ ap (λ (z : List (ℕ × Topology)). net_parts (version_number w.version) n.semantics z n.clients n.schedule) w.trees in
     let m = net_parts (version_number w.version) n.semantics (w.first ∷ w.later) n.clients n.schedule in
     let there : FitsDocument m = subst FitsDocument same fits in
     subst (λ (z : NetParts). IsNetOf (document_text z) (as_written z)) (sym same)

@@ -1,16 +1,16 @@
 -- Nets of one document have one canonical text, and the text's net has the same.
-use Rattle.std.proofs.Common.{◌≡◌, ℕ, suc, ◌+◌, List, [], ◌∷◌, ◌++◌, length, map, refl, sym, ap, subst, ◌∙◌, Result, Ok, Err}
+use Rattle.std.proofs.Common.{◌≡◌, ℕ, suc, ◌+◌, List, [], ◌∷◌, ◌++◌, length, map, refl, sym, ap, subst, ◌∙◌, Result, Ok}
 use Rattle.std.specs.Prelude.{codes}
 use Rattle.std.specs.List.{flat_map}
 use Rattle.std.specs.Fmt.{decimal}
 use Rattle.ev_tree.specs.Tree.{Topology, links_of, servers_of}
-use Rattle.ev_tree.specs.Graph.{neighbours_by, servers_to}
+use Rattle.ev_tree.specs.Graph.{servers_to}
 use Rattle.ev_wire.specs.declared.semantics.Semantics.{Semantics}
 use Rattle.ev_model.specs.Parts.{ClientParts, NetParts}
-use Rattle.ev_model.specs.Nets.{first_tree, later_trees}
+use Rattle.ev_model.specs.Nets.{first_tree}
 use Rattle.ev_model.specs.declared.turn.Turn.{Turn}
 use Rattle.ev_input.specs.Drawn.{Block, blocks}
-use Rattle.ev_input.specs.Net.{AreTreesOf, IsNetIn, IsNetOf, IsTreeOf, client_of}
+use Rattle.ev_input.specs.Net.{AreTreesOf, IsNetIn, IsNetOf, IsTreeOf}
 use Rattle.ev_input.specs.declared.fault.Fault.{Fault}
 use Rattle.ev_input.specs.declared.state.State.{State}
 use Rattle.ev_format.specs.Edges.{edges_to, edges_at, edges_of}

@@ -1,6 +1,6 @@
 -- What stands after the canonical lines of scripts and of the schedule.
-use Rattle.std.proofs.Common.{◌≡◌, ◌⊎◌, inl, inr, ℕ, zero, suc, ◌+◌, ◌-◌, ◌<◌, ◌≤◌, Bool, true, false, cond, not, ◌&&◌, ◌||◌, List, [], ◌∷◌, ◌++◌, length, map, refl, sym, ap, subst, ◌∙◌, arith, Option, Some, None, Result, Ok, Err, append_assoc, append-nil}
-use Rattle.std.specs.Prelude.{codes, nat_eq, nat_le, nat_lt, if◌then◌else◌}
+use Rattle.std.proofs.Common.{◌≡◌, ℕ, ◌+◌, ◌<◌, true, false, List, [], ◌∷◌, ◌++◌, length, refl, ◌∙◌, arith, Some, Ok}
+use Rattle.std.specs.Prelude.{codes, nat_eq, nat_lt}
 use Rattle.std.specs.Str.{bytes_eq}
 use Rattle.std.specs.Fmt.{decimal}
 use Rattle.std.specs.Option.{is_some}
@@ -18,21 +18,19 @@ use Rattle.ev_spelling.specs.CommandText.{command_text}
 use Rattle.ev_spelling.proofs.Cuts.{are_word_bytes, word_cut}
 use Rattle.ev_model.specs.declared.turn.Turn.{Turn}
 use Rattle.ev_model.specs.declared.turn.Turn.TheVariants as turns
-use Rattle.ev_input.specs.Answer.{◌>>=◌, need, want}
 use Rattle.ev_input.specs.Lines.{words}
 use Rattle.ev_input.specs.Drawn.{Drawn, are_servers, are_neighbours, is_apart, is_server}
 use Rattle.ev_input.specs.Drafts.{barriers_at, begun, changed_at, client_at, has_script, with_barrier, with_command}
 use Rattle.ev_input.specs.Tally.{CommandCounts}
 use Rattle.ev_input.specs.Commands.{command_of}
-use Rattle.ev_input.specs.Rules.{Answer, barrier_rule, command_rule, command_turn, count_rule, schedule_rule, script_rule, take_turn, version_number, version_turn, with_turn}
-use Rattle.ev_input.specs.Places.{at_clients, at_place, at_schedule, at_token, line_rule, words_rule}
+use Rattle.ev_input.specs.Rules.{barrier_rule, command_rule, command_turn, count_rule, schedule_rule, script_rule, take_turn, version_number, version_turn}
+use Rattle.ev_input.specs.Places.{at_clients, at_schedule, at_token, line_rule, words_rule}
 use Rattle.ev_input.specs.declared.draft.Draft.{Draft}
-use Rattle.ev_input.specs.declared.fault.Fault.{Fault}
 use Rattle.ev_input.specs.declared.version.Version.{Version}
 use Rattle.ev_input.specs.declared.state.State.{State}
 use Rattle.ev_input.specs.declared.state.Place.{Place}
 use Rattle.ev_input.specs.declared.state.Place.TheVariants as at
-use Rattle.ev_format.proofs.WordLaws.{IsWord, decimal_word, name_word, words_last, words_then, one_again, two_again, name_again}
+use Rattle.ev_format.proofs.WordLaws.{decimal_word, name_word, words_last, words_then, one_again, two_again, name_again}
 use Rattle.ev_format.proofs.Stands.{state, by_words, words_one, words_two, plain_word, to_clients, IsOpen}
 use Rattle.ev_format.proofs.Stands.IsOpen.{Edges, Clients, Scripts}
 

@@ -1,13 +1,12 @@
 -- No byte of a canonical line is below a space.
-use Rattle.std.proofs.Common.{◌≡◌, ◌<◌, ◌≤◌, ◌^◌, ℕ, zero, suc, ℤ, Bool, true, false, ◌&&◌, ◌||◌, refl, sym, ap, ◌∙◌, arith, List, [], ◌∷◌, ◌++◌, length, map, Option, Some, None, FitsSigned, rules, nat_le, nat_lt}
-use Rattle.std.specs.Prelude.{pos, negsuc, codes, ◌==◌, ◌-◌, slice_get, if◌then◌else◌}
+use Rattle.std.proofs.Common.{◌≡◌, ℕ, suc, Bool, true, false, ◌&&◌, refl, arith, List, [], ◌∷◌, ◌++◌, Option, Some, None, rules, nat_le}
+use Rattle.std.specs.Prelude.{pos, negsuc, codes, ◌==◌}
 use Rattle.std.specs.List.{list_all, flat_map}
-use Rattle.std.specs.Int.{w64}
-use Rattle.std.specs.Fmt.{decimal, signed_decimal}
+use Rattle.std.specs.Fmt.{decimal}
 use Rattle.std.proofs.lemmas.Fmt.{decimal_is_IsNumeral}
 use Rattle.std.proofs.lemmas.Bool.Decides.{nat_tests}
 use Rattle.ev_values.specs.Name.{IsName}
-use Rattle.ev_values.specs.Text.{IsText, is_open_byte}
+use Rattle.ev_values.specs.Text.{is_open_byte}
 use Rattle.ev_values.specs.Value.{IsValue, kind_of}
 use Rattle.ev_values.specs.declared.value.Value.{Value}
 use Rattle.ev_values.specs.declared.value.Value.TheVariants as values
@@ -18,8 +17,8 @@ use Rattle.ev_constraint.specs.declared.op.Op.TheVariants as ops
 use Rattle.ev_constraint.specs.Constraint.{ConstraintParts, IsConstraint}
 use Rattle.ev_notice.specs.Canonical.{AreConstraints}
 use Rattle.ev_notice.specs.Notice.{Attribute, AreNames, AreValues}
-use Rattle.ev_wire.specs.ValueText.{escape, string_text, truth_word, value_text, kind_word, op_word}
-use Rattle.ev_wire.specs.NoticeText.{attribute_text, notice_text, later, joined}
+use Rattle.ev_wire.specs.ValueText.{escape, value_text, kind_word, op_word}
+use Rattle.ev_wire.specs.NoticeText.{attribute_text, notice_text, later}
 use Rattle.ev_wire.specs.FilterText.{test_text, constraint_text, constraints_text, AreNamed}
 use Rattle.ev_wire.specs.declared.command.Command.{Command}
 use Rattle.ev_wire.specs.declared.command.Command.TheVariants as commands
@@ -27,7 +26,7 @@ use Rattle.ev_spelling.specs.CommandText.{command_text, IsCommandIn}
 use Rattle.ev_spelling.proofs.Cuts.{digits_bytes}
 use Rattle.ev_spelling.proofs.PartLaws.{operand_value}
 use Rattle.ev_format.proofs.LineLaws.{are_shown}
-use Rattle.ev_format.proofs.WordLaws.{word_shown, name_word, decimal_word}
+use Rattle.ev_format.proofs.WordLaws.{word_shown, name_word}
 
 both : (a b : Bool) → a && b ≡ true → (a ≡ true) × (b ≡ true)
 both true b h = (refl, h)

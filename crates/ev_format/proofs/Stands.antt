@@ -1,46 +1,33 @@
 -- What stands after canonical lines, kind by kind.
-use Rattle.std.proofs.Common.{◌≡◌, ◌⊎◌, inl, inr, ℕ, zero, suc, ◌+◌, ◌-◌, ◌<◌, ◌≤◌, Bool, true, false, cond, not, ◌&&◌, ◌||◌, List, [], ◌∷◌, ◌++◌, length, map, refl, sym, ap, subst, ◌∙◌, arith, Option, Some, None, Result, Ok, Err, append_assoc, append-nil}
-use Rattle.std.specs.Prelude.{codes, nat_eq, nat_le, nat_lt, if◌then◌else◌}
+use Rattle.std.proofs.Common.{◌≡◌, ◌⊎◌, inl, inr, ℕ, ◌+◌, ◌<◌, ◌≤◌, true, false, List, [], ◌∷◌, ◌++◌, length, refl, ap, subst, ◌∙◌, arith, Some, None, Result, Ok, Err}
+use Rattle.std.specs.Prelude.{codes, nat_le, nat_lt}
 use Rattle.std.specs.Str.{bytes_eq}
 use Rattle.std.specs.Fmt.{decimal}
-use Rattle.std.specs.Option.{is_some}
 use Rattle.std.proofs.lemmas.Fmt.{decimal_digit}
 use Rattle.std.proofs.lemmas.Grind.{common_steps}
 use Rattle.ev_values.specs.Name.{IsName}
 use Rattle.ev_tree.specs.Graph.{has_edge}
-use Rattle.ev_wire.specs.declared.command.Command.{Command}
-use Rattle.ev_wire.specs.declared.command.Command.TheVariants as commands
 use Rattle.ev_wire.specs.declared.semantics.Semantics.{Semantics}
 use Rattle.ev_wire.specs.declared.semantics.Semantics.TheVariants.{Subscription, Advertisement}
-use Rattle.ev_script.specs.Tokens.{first_word, tokens, Token}
-use Rattle.ev_script.specs.Tokens.Token.{word}
-use Rattle.ev_script.specs.Form.{verb_named}
-use Rattle.ev_script.proofs.TokenLaws.{nothing_left}
-use Rattle.ev_spelling.specs.CommandText.{command_text}
-use Rattle.ev_spelling.proofs.Cuts.{are_word_bytes, word_cut, space_cut}
-use Rattle.ev_model.specs.Parts.{client_parts}
+use Rattle.ev_spelling.proofs.Cuts.{are_word_bytes}
 use Rattle.ev_model.specs.declared.turn.Turn.{Turn}
-use Rattle.ev_model.specs.declared.turn.Turn.TheVariants as turns
-use Rattle.ev_input.specs.Answer.{◌>>=◌, need, want}
-use Rattle.ev_input.specs.Lines.{lines, words}
-use Rattle.ev_input.specs.Words.{one, one_number, two_numbers, name_and_number, one_name}
-use Rattle.ev_input.specs.Drawn.{Block, Drawn, drawn, undrawn, blocks, are_joined, are_servers, are_neighbours, is_apart, is_server, with_edge, with_phase}
-use Rattle.ev_input.specs.Drafts.{barriers_at, barriers_of, begun, changed_at, client_at, has_script, is_scripted, name_of, scriptless, with_barrier, with_command}
+use Rattle.ev_input.specs.Answer.{◌>>=◌}
+use Rattle.ev_input.specs.Lines.{words}
+use Rattle.ev_input.specs.Drawn.{Block, Drawn, drawn, undrawn, are_joined, are_servers, is_apart, is_server}
+use Rattle.ev_input.specs.Drafts.{client_at, scriptless}
 use Rattle.ev_input.specs.Tally.{CommandCounts, no_counts}
-use Rattle.ev_input.specs.Commands.{command_of}
-use Rattle.ev_input.specs.Rules.{Answer, barrier_rule, client_rule, command_rule, command_turn, count_rule, edge_rule, header_rule, phase_rule, schedule_rule, script_rule, semantics_named, semantics_rule, servers_rule, take_turn, version_named, version_number, version_turn, with_turn}
-use Rattle.ev_input.specs.Places.{at_clients, at_edges, at_place, at_schedule, at_token, end_rule, has_servers, is_comment, line_rule, start, words_rule}
+use Rattle.ev_input.specs.Rules.{client_rule, edge_rule, header_rule, phase_rule, semantics_named, semantics_rule, servers_rule, version_named, version_number}
+use Rattle.ev_input.specs.Places.{at_clients, at_edges, line_rule, start, words_rule}
 use Rattle.ev_input.specs.Meaning.{stands}
 use Rattle.ev_input.specs.declared.draft.Draft.{Draft}
 use Rattle.ev_input.specs.declared.fault.Fault.{Fault}
-use Rattle.ev_input.specs.declared.fault.Fault.TheVariants as is
 use Rattle.ev_input.specs.declared.version.Version.{Version}
 use Rattle.ev_input.specs.declared.version.Version.TheVariants.{One, Two}
 use Rattle.ev_input.specs.declared.state.State.{State}
 use Rattle.ev_input.specs.declared.state.Place.{Place}
 use Rattle.ev_input.specs.declared.state.Place.TheVariants as at
-use Rattle.ev_format.specs.DocumentText.{edge_line, client_line, semantics_word}
-use Rattle.ev_format.proofs.WordLaws.{IsWord, decimal_word, name_word, words_last, words_then, one_again, two_again, named_again, name_again}
+use Rattle.ev_format.specs.DocumentText.{edge_line, semantics_word}
+use Rattle.ev_format.proofs.WordLaws.{IsWord, decimal_word, name_word, words_last, words_then, one_again, two_again, named_again}
 
 -- what stands, by its parts
 abbrev pub state : Place → Version → Semantics → Drawn → List Draft → ℕ → CommandCounts → List (ℕ × Turn) → State

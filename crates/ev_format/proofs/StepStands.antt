@@ -1,27 +1,23 @@
 -- What stands after the canonical lines of scripts.
-use Rattle.std.proofs.Common.{◌≡◌, ◌≢◌, ◌⊎◌, inl, inr, ℕ, zero, suc, ◌+◌, ◌*◌, ◌-◌, ◌<◌, ◌≤◌, Bool, true, false, cond, not, ◌&&◌, List, [], ◌∷◌, ◌++◌, length, map, refl, sym, ap, subst, ◌∙◌, arith, Option, Some, None, Result, Ok, Err, append_assoc, append-nil}
-use Rattle.std.specs.Prelude.{codes, nat_eq, nat_lt, nat_le, slice_get, if◌then◌else◌}
+use Rattle.std.proofs.Common.{◌≡◌, ℕ, zero, suc, ◌+◌, ◌*◌, ◌-◌, ◌<◌, ◌≤◌, Bool, true, false, ◌&&◌, List, [], ◌∷◌, ◌++◌, length, map, refl, sym, ap, subst, ◌∙◌, arith, Option, Some, Ok, append_assoc, append-nil}
+use Rattle.std.specs.Prelude.{codes, nat_eq, nat_lt, nat_le, slice_get}
 use Rattle.std.specs.List.{flat_map}
 use Rattle.std.specs.Str.{bytes_eq}
 use Rattle.std.proofs.Math.Nat.{mul-le-mul_left}
 use Rattle.std.proofs.lemmas.Grind.{common_steps}
-use Rattle.ev_values.specs.Name.{IsName}
 use Rattle.ev_wire.specs.declared.command.Command.{Command}
 use Rattle.ev_wire.specs.declared.command.Command.TheVariants as commands
 use Rattle.ev_wire.specs.declared.semantics.Semantics.{Semantics}
 use Rattle.ev_spelling.specs.CommandText.{command_text, IsCommandIn}
 use Rattle.ev_spelling.proofs.CommandLaws.{command_spelled}
 use Rattle.ev_model.specs.Parts.{ClientParts, client_parts}
-use Rattle.ev_input.specs.Answer.{◌>>=◌, need}
 use Rattle.ev_input.specs.Drawn.{Drawn, is_apart}
-use Rattle.ev_input.specs.Drafts.{barriers_at, barriers_of, begun, changed_at, client_at, draft, has_script, is_scripted, name_of, scriptless, with_barrier, with_command}
+use Rattle.ev_input.specs.Drafts.{barriers_at, barriers_of, begun, draft, has_script, is_scripted, name_of, with_barrier, with_command}
 use Rattle.ev_input.specs.Tally.{CommandCounts, with_control, with_publish, control_product, notice_product, control_rule, publish_rule}
-use Rattle.ev_input.specs.Commands.{command_of}
 use Rattle.ev_input.specs.Rules.{count_rule, version_number}
 use Rattle.ev_input.specs.Meaning.{stands}
 use Rattle.ev_input.specs.declared.draft.Draft.{Draft}
 use Rattle.ev_input.specs.declared.version.Version.{Version}
-use Rattle.ev_input.specs.declared.state.State.{State}
 use Rattle.ev_input.specs.declared.state.Place.{Place}
 use Rattle.ev_input.specs.declared.state.Place.TheVariants as at
 use Rattle.ev_input.proofs.Spelled.{command_told}
@@ -29,7 +25,7 @@ use Rattle.ev_input.proofs.Members.{Each}
 use Rattle.ev_format.specs.DocumentText.{script_lines, step_lines, barrier_lines, is_idle}
 use Rattle.ev_format.specs.Limits.{counted, counts_after}
 use Rattle.ev_format.proofs.Stands.{state, stands_on, stands_next, IsOpen}
-use Rattle.ev_format.proofs.Stands.IsOpen.{Edges, Clients, Scripts}
+use Rattle.ev_format.proofs.Stands.IsOpen.{Scripts}
 use Rattle.ev_format.proofs.ScriptStands.{script_stands, barrier_stands, command_stands}
 use Rattle.ev_format.proofs.ClientStands.{Rises, length-append, changed-middle, place_here, AreApart, IsWritableClient, names_before, unwritten, written, drafts}
 
@@ -170,7 +166,7 @@ steps_stand n v sem trees done rest name home phase before (step ∷ steps) barr
     let taken : count_rule tally step.1 (length (command_text step.1)) trees.servers (length (done ++ d ∷ rest)) ≡ Ok (counted tally step.1) = subst (λ (z : ℕ). count_rule tally step.1 (length (command_text step.1)) trees.servers z ≡ Ok (counted tally step.1)) (sym len) (counts_taken tally step.1 trees.servers (length done + suc (length rest)) now) in
     let spelled = command_told (version_number v) (command_text step.1) step.1 (command_spelled (version_number v) step.1 each.0) in
     let here = command_stands k v sem trees (done ++ d ∷ rest) (length done) tally (counted tally step.1) step.1 spelled taken
-        ∙ ap (λ (z : List Draft). Ok (state at.Scripts v sem trees z (length done) (counted tally step.1) [])) (changed-middle done rest d (with_command step.1)) in
+    ∙ ap (λ (z : List Draft). Ok (state at.Scripts v sem trees z (length done) (counted tally step.1) [])) (changed-middle done rest d (with_command step.1)) in
     stands_on n _ (state at.Scripts v sem trees (done ++ d ∷ rest) (length done) tally []) _ (barrier_lines (step.0 - phase)) (command_text step.1 ∷ step_lines step.0 steps barriers)
     (subst (λ (z : ℕ). stands n (state at.Scripts v sem trees (done ++ in_script name home phase before ∷ rest) (length done) tally []) (barrier_lines (step.0 - phase)) ≡ Ok (state at.Scripts v sem trees (done ++ in_script name home z before ∷ rest) (length done) tally []))
     e (barriers_stand n v sem trees done rest name home phase before tally (step.0 - phase) (omega (arith, e, m, few))))
@@ -226,10 +222,13 @@ script_stand n p v sem trees done rest c k tally o whole is absent counts = go (
         (p, o, k, rw e (ap (λ (z : Draft). Ok (state p v sem trees (done ++ z ∷ rest) k tally [])) (idle_written c e) ∙ ap (λ (z : List (ℕ × Command)). Ok (state p v sem trees (done ++ draft c false ∷ rest) k (counts_after tally z) [])) (sym i.0)))
     go false e =
         let here = script_stands n p v sem trees (done ++ unwritten c ∷ rest) k tally c.name (length done) o whole is.name (place_here c.name done rest (unwritten c) absent refl) (no-scripts done rest (unwritten c) refl)
-            ∙ ap (λ (z : List Draft). Ok (state at.Scripts v sem trees z (length done) tally [])) (changed-middle done rest (unwritten c) begun) in
-        let more = steps_stand (n + 1) v sem trees done rest c.name c.home 0 [] c.script c.barriers tally is.barriers is.rises is.commands counts in
-        (at.Scripts, Scripts, length done,
-        rw e (stands_next n _ _ _ (codes "script " ++ c.name) (step_lines 0 c.script c.barriers) here more))
+        ∙ ap (λ (z : List Draft). Ok (state at.Scripts v sem trees z (length done) tally [])) (changed-middle done rest (unwritten c) begun) in
+        let more = steps_stand (n + 1) v sem trees done rest c.name c.home 0 [] c.script c.barriers tally is.barriers is.rises is.commands counts in (
+          at.Scripts,
+          Scripts,
+          length done,
+          rw e (stands_next n _ _ _ (codes "script " ++ c.name) (step_lines 0 c.script c.barriers) here more),
+        )
 
 counts-append : (tally : CommandCounts) (xs ys : List (ℕ × Command)) → counts_after tally (xs ++ ys) ≡ counts_after (counts_after tally xs) ys
 counts-append tally [] ys = refl
@@ -254,10 +253,13 @@ scripts_stand n p v sem trees done (c ∷ rest) k tally o whole each apart count
     let one = script_stand n p v sem trees (map written done) (map unwritten rest) c k tally o whole each.0 (absent_drafts c.name done (names_before done rest c apart)) (subst (λ (z : ℕ). AreCounts (counts_after tally c.script) trees.servers z) len counts_now) in
     let same : (done ++ c ∷ []) ++ rest ≡ done ++ c ∷ rest = append_assoc done (c ∷ []) rest in
     let front : drafts (done ++ c ∷ []) rest ≡ map written done ++ written c ∷ map unwritten rest = ap (λ (z : List Draft). z ++ map unwritten rest) (written-append done c) ∙ append_assoc (map written done) (written c ∷ []) (map unwritten rest) in
-    let more = scripts_stand (length (script_lines c) + n) one.0 v sem trees (done ++ c ∷ []) rest one.2 (counts_after tally c.script) one.1 whole each.1 (subst AreApart (sym same) apart) (subst (λ (z : List ClientParts). AreCounts (counts_after (counts_after tally c.script) later) trees.servers (length z)) (sym same) counts_then) in
-    (more.0, more.1, more.2,
-    stands_on n _ _ _ (script_lines c) (flat_map script_lines rest) one.3
-    (ap (λ (z : List Draft). stands (length (script_lines c) + n) (state one.0 v sem trees z one.2 (counts_after tally c.script) []) (flat_map script_lines rest)) (sym front)
-    ∙ more.3
-    ∙ ap (λ (z : List ClientParts). Ok (state more.0 v sem trees (map written z) more.2 (counts_after (counts_after tally c.script) later) [])) same
-    ∙ ap (λ (z : CommandCounts). Ok (state more.0 v sem trees (map written (done ++ c ∷ rest)) more.2 z [])) (sym split)))
+    let more = scripts_stand (length (script_lines c) + n) one.0 v sem trees (done ++ c ∷ []) rest one.2 (counts_after tally c.script) one.1 whole each.1 (subst AreApart (sym same) apart) (subst (λ (z : List ClientParts). AreCounts (counts_after (counts_after tally c.script) later) trees.servers (length z)) (sym same) counts_then) in (
+      more.0,
+      more.1,
+      more.2,
+      stands_on n _ _ _ (script_lines c) (flat_map script_lines rest) one.3
+          (ap (λ (z : List Draft). stands (length (script_lines c) + n) (state one.0 v sem trees z one.2 (counts_after tally c.script) []) (flat_map script_lines rest)) (sym front)
+          ∙ more.3
+          ∙ ap (λ (z : List ClientParts). Ok (state more.0 v sem trees (map written z) more.2 (counts_after (counts_after tally c.script) later) [])) same
+          ∙ ap (λ (z : CommandCounts). Ok (state more.0 v sem trees (map written (done ++ c ∷ rest)) more.2 z [])) (sym split)),
+    )

@@ -1,24 +1,23 @@
 -- What stands after the canonical lines of the trees.
-use Rattle.std.proofs.Common.{◌≡◌, ◌⊎◌, inl, inr, ℕ, zero, suc, ◌+◌, ◌<◌, ◌≤◌, Bool, true, false, not, List, [], ◌∷◌, ◌++◌, length, map, take, drop, refl, sym, ap, subst, ◌∙◌, arith, Option, Some, None, Result, Ok, Err, append_assoc, append-nil}
-use Rattle.std.specs.Prelude.{codes, slice_get, nat_lt, nat_le}
+use Rattle.std.proofs.Common.{◌≡◌, inl, inr, ℕ, zero, suc, ◌+◌, ◌≤◌, Bool, true, false, List, [], ◌∷◌, ◌++◌, length, map, take, drop, refl, sym, ap, subst, ◌∙◌, arith, Some, Ok, append_assoc, append-nil}
+use Rattle.std.specs.Prelude.{codes, slice_get}
 use Rattle.std.specs.List.{flat_map}
 use Rattle.std.specs.Fmt.{decimal}
 use Rattle.std.proofs.lemmas.Grind.{common_steps}
 use Rattle.std.proofs.lemmas.Option.{same_Some}
 use Rattle.ev_sets.specs.Sets.{Has}
-use Rattle.ev_tree.specs.Graph.{has_edge, IsForest, IsTree, AreJoined, neighbours_by}
-use Rattle.ev_tree.specs.Tree.{Topology, TreeLaws, servers_of, links_of}
+use Rattle.ev_tree.specs.Graph.{has_edge, IsTree, neighbours_by}
+use Rattle.ev_tree.specs.Tree.{Topology, TreeLaws, links_of}
 use Rattle.ev_tree.proofs.Joined.{joined-edge}
 use Rattle.ev_tree.proofs.Servers.{server-in}
 use Rattle.ev_phases.specs.Trees.{RiseFrom}
 use Rattle.ev_wire.specs.declared.semantics.Semantics.{Semantics}
-use Rattle.ev_input.specs.Drawn.{Block, block, Drawn, drawn, undrawn, blocks, are_joined, are_servers, is_apart, is_server}
+use Rattle.ev_input.specs.Drawn.{Block, Drawn, drawn, undrawn, blocks, are_joined, is_apart, is_server}
 use Rattle.ev_input.specs.Tally.{no_counts}
 use Rattle.ev_input.specs.Meaning.{stands}
 use Rattle.ev_input.specs.Net.{IsTreeOf, AreTreesOf}
 use Rattle.ev_input.specs.declared.version.Version.{Version}
-use Rattle.ev_input.specs.declared.version.Version.TheVariants.{One, Two}
-use Rattle.ev_input.specs.declared.state.State.{State}
+use Rattle.ev_input.specs.declared.version.Version.TheVariants.{Two}
 use Rattle.ev_input.specs.declared.state.Place.TheVariants as at
 use Rattle.ev_input.proofs.Joining.{told, whole_is_not_apart}
 use Rattle.ev_format.specs.Edges.{edges_of}
@@ -130,9 +129,9 @@ later_stand : (n : ℕ) (v : Version) (sem : Semantics) (count : ℕ) (earlier :
 later_stand n v sem count earlier tree [] is more rise = refl
 later_stand n v sem count earlier tree (next ∷ later) is more rise =
     let here : stands n (state at.Edges v sem (drawn count earlier tree.0 (edges_of tree.1)) [] 0 no_counts []) (phase_lines next) ≡ Ok (state at.Edges v sem (drawn count (earlier ++ (tree.0, edges_of tree.1) ∷ []) next.0 (edges_of next.1)) [] 0 no_counts []) =
-        subst (λ (w : Version). stands n (state at.Edges w sem (drawn count earlier tree.0 (edges_of tree.1)) [] 0 no_counts []) (phase_lines next) ≡ Ok (state at.Edges w sem (drawn count (earlier ++ (tree.0, edges_of tree.1) ∷ []) next.0 (edges_of next.1)) [] 0 no_counts [])) (sym more.1)
-        (stands_next n _ _ _ (codes "phase " ++ decimal next.0) (tree_lines next.1) (phase_stands n sem count tree.0 next.0 earlier (edges_of tree.1) (whole count earlier tree is) rise.0 more.2)
-        (tree_stands (n + 1) Two sem count (earlier ++ (tree.0, edges_of tree.1) ∷ []) next more.0)) in
+    subst (λ (w : Version). stands n (state at.Edges w sem (drawn count earlier tree.0 (edges_of tree.1)) [] 0 no_counts []) (phase_lines next) ≡ Ok (state at.Edges w sem (drawn count (earlier ++ (tree.0, edges_of tree.1) ∷ []) next.0 (edges_of next.1)) [] 0 no_counts [])) (sym more.1)
+    (stands_next n _ _ _ (codes "phase " ++ decimal next.0) (tree_lines next.1) (phase_stands n sem count tree.0 next.0 earlier (edges_of tree.1) (whole count earlier tree is) rise.0 more.2)
+    (tree_stands (n + 1) Two sem count (earlier ++ (tree.0, edges_of tree.1) ∷ []) next more.0)) in
     stands_on n _ _ _ (phase_lines next) (flat_map phase_lines later) here
     (later_stand (length (phase_lines next) + n) v sem count (earlier ++ (tree.0, edges_of tree.1) ∷ []) next later more.0 more.3 rise.1)
 

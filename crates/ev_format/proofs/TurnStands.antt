@@ -1,18 +1,16 @@
 -- What stands after the canonical lines of the schedule.
-use Rattle.std.proofs.Common.{◌≡◌, ◌⊎◌, inl, inr, ℕ, zero, suc, ◌+◌, ◌-◌, ◌<◌, ◌≤◌, Bool, true, false, ◌&&◌, ◌||◌, List, [], ◌∷◌, ◌++◌, length, map, refl, sym, ap, subst, ◌∙◌, arith, Option, Some, None, Result, Ok, Err, append_assoc, append-nil}
+use Rattle.std.proofs.Common.{◌≡◌, ◌⊎◌, inl, inr, ℕ, zero, suc, ◌+◌, ◌<◌, ◌≤◌, Bool, true, false, ◌||◌, List, [], ◌∷◌, ◌++◌, length, map, refl, sym, ap, subst, ◌∙◌, arith, Some, Ok, append_assoc, append-nil}
 use Rattle.std.specs.Prelude.{codes, slice_get}
 use Rattle.std.specs.List.{list_any}
-use Rattle.std.specs.Fmt.{decimal}
 use Rattle.std.specs.Str.{bytes_eq}
 use Rattle.ev_sets.specs.Sets.{Has}
 use Rattle.ev_sets.proofs.Roots.{Has-filter}
 use Rattle.ev_tree.specs.Graph.{has_edge, servers_to}
-use Rattle.ev_tree.specs.Tree.{Topology, links_of}
+use Rattle.ev_tree.specs.Tree.{Topology}
 use Rattle.ev_tree.proofs.Servers.{in-server}
 use Rattle.ev_tree.proofs.Truths.{either-left, either-right}
 use Rattle.ev_wire.specs.declared.semantics.Semantics.{Semantics}
 use Rattle.ev_model.specs.Parts.{ClientParts}
-use Rattle.ev_model.specs.Nets.{client_at as client_of_number}
 use Rattle.ev_model.specs.declared.turn.Turn.{Turn}
 use Rattle.ev_model.specs.declared.turn.Turn.TheVariants as turns
 use Rattle.ev_input.specs.Drawn.{Block, Drawn, are_neighbours, are_servers, is_server, is_apart}
@@ -20,11 +18,10 @@ use Rattle.ev_input.specs.Drafts.{client_at, name_of}
 use Rattle.ev_input.specs.Tally.{CommandCounts}
 use Rattle.ev_input.specs.Meaning.{stands}
 use Rattle.ev_input.specs.Places.{line_rule}
-use Rattle.ev_input.specs.Net.{IsTreeOf, AreTreesOf}
+use Rattle.ev_input.specs.Net.{AreTreesOf}
 use Rattle.ev_input.specs.Rules.{version_number}
 use Rattle.ev_input.specs.declared.draft.Draft.{Draft}
 use Rattle.ev_input.specs.declared.version.Version.{Version}
-use Rattle.ev_input.specs.declared.state.State.{State}
 use Rattle.ev_input.specs.declared.state.Place.{Place}
 use Rattle.ev_input.specs.declared.state.Place.TheVariants as at
 use Rattle.ev_input.proofs.Members.{Each}
@@ -82,10 +79,10 @@ command_stands n v sem trees clients k tally before place l each apart =
     let is = each-middle (IsWritableClient (version_number v) trees.servers) s.done s.rest s.client (subst (Each (IsWritableClient (version_number v) trees.servers)) s.parts each) in
     let absent = absent_written s.client.name s.done (names_before s.done s.rest s.client (subst AreApart s.parts apart)) in
     let here : client_at (map written clients) s.client.name ≡ Some place =
-        ap (λ (z : List ClientParts). client_at (map written z) s.client.name) s.parts
-        ∙ ap (λ (z : List Draft). client_at z s.client.name) (written-append s.done s.rest s.client)
-        ∙ place_here s.client.name (map written s.done) (map written s.rest) (written s.client) absent refl
-        ∙ ap Some (written-length s.done ∙ s.at) in
+    ap (λ (z : List ClientParts). client_at (map written z) s.client.name) s.parts
+    ∙ ap (λ (z : List Draft). client_at z s.client.name) (written-append s.done s.rest s.client)
+    ∙ place_here s.client.name (map written s.done) (map written s.rest) (written s.client) absent refl
+    ∙ ap Some (written-length s.done ∙ s.at) in
     let same : name_in (slice_get clients place) ≡ s.client.name = ap name_in s.there in
     let e : place + 1 ≡ suc place = omega arith in
     subst (λ (z : List ℕ). line_rule (state at.Schedule v sem trees (map written clients) k tally before) n (codes "command " ++ z) ≡ Ok (state at.Schedule v sem trees (map written clients) k tally (before ++ (n, turns.Command (suc place)) ∷ []))) (sym same)
@@ -115,10 +112,12 @@ pub schedule_stand : (n : ℕ) (p : Place) (v : Version) (sem : Semantics) (tree
     → Each (λ t. IsWritableTurn trees clients t.1) schedule → Each (IsWritableClient (version_number v) trees.servers) clients → AreApart clients
     → (q : Place) × (IsOpen q ⊎ (q ≡ at.Schedule)) × (stands n (state p v sem trees (map written clients) k tally []) (schedule_lines clients schedule) ≡ Ok (state q v sem trees (map written clients) k tally (on_lines (n + 1) schedule)))
 schedule_stand n p v sem trees clients k tally [] o whole is each apart = (p, inl o, refl)
-schedule_stand n p v sem trees clients k tally (turn ∷ schedule) o whole is each apart =
-    (at.Schedule, inr refl,
-    stands_next n _ _ _ (codes "schedule") (map (λ t. turn_line clients t.1) (turn ∷ schedule)) (schedule_stands n p v sem trees (map written clients) k tally o whole)
-    (turns_stand (n + 1) v sem trees clients k tally [] (turn ∷ schedule) is each apart))
+schedule_stand n p v sem trees clients k tally (turn ∷ schedule) o whole is each apart = (
+  at.Schedule,
+  inr refl,
+  stands_next n _ _ _ (codes "schedule") (map (λ t. turn_line clients t.1) (turn ∷ schedule)) (schedule_stands n p v sem trees (map written clients) k tally o whole)
+      (turns_stand (n + 1) v sem trees clients k tally [] (turn ∷ schedule) is each apart),
+)
 
 -- Neighbours in some tree.
 

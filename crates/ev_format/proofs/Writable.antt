@@ -1,29 +1,27 @@
 -- A net that a document has is one whose text is read as it.
-use Rattle.std.proofs.Common.{◌≡◌, ◌≢◌, ◌⊎◌, inl, inr, ℕ, zero, suc, ◌+◌, ◌<◌, ◌≤◌, Bool, true, false, not, ◌&&◌, List, [], ◌∷◌, ◌++◌, length, map, get_or, refl, sym, ap, subst, ◌∙◌, arith, Option, Some, None, Result, Ok, Err}
+use Rattle.std.proofs.Common.{◌≡◌, ◌≢◌, ◌⊎◌, inl, inr, ℕ, suc, ◌+◌, ◌<◌, ◌≤◌, Bool, true, false, not, List, [], ◌∷◌, ◌++◌, length, map, get_or, refl, sym, ap, subst, arith, Result, Ok, Err}
 use Rattle.std.specs.Prelude.{AllPairs, nat_lt, if◌then◌else◌}
 use Rattle.std.specs.List.{flat_map, list_any}
 use Rattle.std.specs.Str.{bytes_eq}
-use Rattle.std.proofs.lemmas.Grind.{common_steps}
 use Rattle.ev_constraint.proofs.BytesLemmas.{bytes_eq-tells}
 use Rattle.ev_sets.specs.Sets.{Has}
 use Rattle.ev_sets.specs.Numbers.{sum_over, count}
 use Rattle.ev_tree.specs.Graph.{has_edge}
 use Rattle.ev_tree.specs.Tree.{Topology, TreeLaws}
-use Rattle.ev_routing.specs.Net.{NeverFalls, PhasedCommand}
+use Rattle.ev_routing.specs.Net.{NeverFalls}
 use Rattle.ev_routing.specs.Clients.{is_publish}
 use Rattle.ev_phases.specs.Trees.{RiseFrom}
 use Rattle.ev_theory.specs.Real.{real}
 use Rattle.ev_wire.specs.declared.command.Command.{Command}
 use Rattle.ev_wire.specs.declared.command.Command.TheVariants as commands
-use Rattle.ev_spelling.specs.CommandText.{IsCommandIn}
 use Rattle.ev_model.specs.Parts.{ClientParts, NetParts}
 use Rattle.ev_model.specs.Meaning.{command_of, phased_command}
-use Rattle.ev_model.specs.Nets.{first_tree, later_trees}
-use Rattle.ev_model.specs.Sound.{AreTrees, HasTrees, IsAmong, IsSound, IsSoundClient, IsSoundTurn, controls, publishes}
+use Rattle.ev_model.specs.Nets.{first_tree}
+use Rattle.ev_model.specs.Sound.{AreTrees, HasTrees, IsSound, IsSoundClient, IsSoundTurn}
 use Rattle.ev_model.specs.declared.turn.Turn.{Turn}
 use Rattle.ev_model.specs.declared.turn.Turn.TheVariants as turns
 use Rattle.ev_input.specs.Lines.{lines}
-use Rattle.ev_input.specs.Drawn.{Block, Drawn, are_neighbours, are_servers, blocks, is_server}
+use Rattle.ev_input.specs.Drawn.{Block, Drawn, are_neighbours, blocks, is_server}
 use Rattle.ev_input.specs.Rules.{version_number}
 use Rattle.ev_input.specs.Tally.{CommandCounts, no_counts}
 use Rattle.ev_input.specs.Places.{document_of, start}
@@ -32,13 +30,13 @@ use Rattle.ev_input.specs.declared.draft.Draft.{Draft}
 use Rattle.ev_input.specs.declared.fault.Fault.{Fault}
 use Rattle.ev_input.specs.declared.fault.Fault.TheVariants as is
 use Rattle.ev_input.specs.declared.version.Version.{Version}
-use Rattle.ev_input.specs.declared.version.Version.TheVariants.{One, Two}
+use Rattle.ev_input.specs.declared.version.Version.TheVariants.{Two}
 use Rattle.ev_input.specs.declared.state.State.{State}
 use Rattle.ev_input.proofs.Meaning.{taken_stands}
-use Rattle.ev_input.proofs.Members.{Each, each_map, each_more}
+use Rattle.ev_input.proofs.Members.{Each, each_more}
 use Rattle.ev_input.proofs.SoundDocuments.{document_is_sound}
-use Rattle.ev_format.specs.Limits.{counted, counts_after, counts_of}
-use Rattle.ev_format.proofs.TreeStands.{IsDrawable, AreDrawable, drawn_all, all_blocks, all_servers, server_test, written_block}
+use Rattle.ev_format.specs.Limits.{counted, counts_after}
+use Rattle.ev_format.proofs.TreeStands.{AreDrawable, drawn_all, all_blocks, all_servers, server_test}
 use Rattle.ev_format.proofs.ClientStands.{AreApart, Rises, IsWritableClient}
 use Rattle.ev_format.proofs.TurnStands.{IsWritableTurn, near_again}
 use Rattle.ev_format.proofs.ReadLaws.{IsWritable}
@@ -149,9 +147,12 @@ writable_turn count clients cs first later old (turns.Take a b) small len same t
     let servers = all_servers count [] first later in
     let ta : is_server count a ≡ true = server_test count a sound.0 in
     let tb : is_server count b ≡ true = server_test count b sound.1 in
-    let there : (1 ≤ b) × (b ≤ old.servers) = (sound.1.0, omega (arith, same, lb)) in
-    (omega (arith, la, small), omega (arith, lb, small), rw (servers, ta, tb) refl,
-    subst (λ (bs : List Block). list_any (λ block. has_edge block.1 a b) bs ≡ true) (sym (all_blocks count [] first later)) (near_again old.servers a b (blocks old) (first ∷ later) trees there near))
+    let there : (1 ≤ b) × (b ≤ old.servers) = (sound.1.0, omega (arith, same, lb)) in (
+      omega (arith, la, small),
+      omega (arith, lb, small),
+      rw (servers, ta, tb) refl,
+      subst (λ (bs : List Block). list_any (λ block. has_edge block.1 a b) bs ≡ true) (sym (all_blocks count [] first later)) (near_again old.servers a b (blocks old) (first ∷ later) trees there near),
+    )
 writable_turn count clients cs first later old (turns.Version a) small len same trees near sound =
     let la = sound.1 in
     (omega (arith, la, small), rw (all_servers count [] first later) (server_test count a sound))

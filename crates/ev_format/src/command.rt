@@ -11,12 +11,7 @@ use ev_outside::{Pending, Sink};
 use ev_wire::Command;
 
 // A first word with its space, and constraints.
-fn put_control<K: Sink>(
-    out: &mut Pending,
-    sink: &mut K,
-    verb: &[u8],
-    constraints: &[Constraint],
-)
+fn put_control<K: Sink>(out: &mut Pending, sink: &mut K, verb: &[u8], constraints: &[Constraint])
     ensures { Went (outlet (K.taken sink.old) (K.faults sink.old) out.old) (outlet (K.taken sink.new) (K.faults sink.new) out.new)
         (verb.now ++ constraints_text constraints.now) }
 {

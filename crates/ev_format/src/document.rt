@@ -78,12 +78,7 @@ fn put_turn<K: Sink>(out: &mut Pending, sink: &mut K, clients: &[Client], turn: 
 }
 
 // Turns.
-fn put_turns<K: Sink>(
-    out: &mut Pending,
-    sink: &mut K,
-    clients: &[Client],
-    schedule: &[(u32, Turn)],
-)
+fn put_turns<K: Sink>(out: &mut Pending, sink: &mut K, clients: &[Client], schedule: &[(u32, Turn)])
     ensures { Went (outlet (K.taken sink.old) (K.faults sink.old) out.old) (outlet (K.taken sink.new) (K.faults sink.new) out.new)
         (flat_map (λ turn. ended (turn_line clients.now turn.1)) schedule.now) }
 {

@@ -136,11 +136,7 @@ fn put_later_constraints<K: Sink>(out: &mut Pending, sink: &mut K, constraints: 
 }
 
 /// The constraints of a filter or an advertisement.
-pub(crate) fn put_constraints<K: Sink>(
-    out: &mut Pending,
-    sink: &mut K,
-    constraints: &[Constraint],
-)
+pub(crate) fn put_constraints<K: Sink>(out: &mut Pending, sink: &mut K, constraints: &[Constraint])
     ensures { Went (outlet (K.taken sink.old) (K.faults sink.old) out.old) (outlet (K.taken sink.new) (K.faults sink.new) out.new)
         (constraints_text constraints.now) }
 {
@@ -178,11 +174,7 @@ fn put_later_attributes<K: Sink>(out: &mut Pending, sink: &mut K, attributes: &[
 }
 
 /// The attributes of a notice.
-pub(crate) fn put_attributes<K: Sink>(
-    out: &mut Pending,
-    sink: &mut K,
-    attributes: &[(Name, Value)],
-)
+pub(crate) fn put_attributes<K: Sink>(out: &mut Pending, sink: &mut K, attributes: &[(Name, Value)])
     ensures { Went (outlet (K.taken sink.old) (K.faults sink.old) out.old) (outlet (K.taken sink.new) (K.faults sink.new) out.new)
         (notice_text attributes.now) }
 {

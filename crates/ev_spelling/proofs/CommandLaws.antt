@@ -1,8 +1,7 @@
 -- The line of a command spells it.
-use Rattle.std.proofs.Common.{◌≡◌, ℕ, suc, ◌+◌, ◌<◌, ◌≤◌, Bool, true, false, refl, sym, ap, subst, ◌∙◌, arith, List, [], ◌∷◌, ◌++◌, length, map}
+use Rattle.std.proofs.Common.{◌≡◌, ℕ, suc, ◌≤◌, true, false, refl, sym, ap, subst, ◌∙◌, arith, List, [], ◌∷◌, ◌++◌, length, map}
 use Rattle.std.specs.Prelude.{Some, None, nat_lt, codes}
-use Rattle.std.specs.declared.option.Option.{Option}
-use Rattle.std.specs.List.{list_any, filter_map}
+use Rattle.std.specs.List.{list_any}
 use Rattle.std.specs.List.Sorted.{IsPermutation}
 use Rattle.std.proofs.lemmas.List.Sorted.{IsPermutation-refl}
 use Rattle.std.proofs.lemmas.Bool.Decides.{nat_tests}
@@ -11,26 +10,24 @@ use Rattle.ev_values.specs.Value.{kind_of}
 use Rattle.ev_notice.specs.Canonical.{canonical, AreConstraints}
 use Rattle.ev_notice.specs.Notice.{Attribute, AreNames, AreValues}
 use Rattle.ev_wire.specs.FilterText.{constraint_text, constraints_text, AreNamed}
-use Rattle.ev_wire.specs.NoticeText.{attribute_text, notice_text, joined}
+use Rattle.ev_wire.specs.NoticeText.{attribute_text, notice_text}
 use Rattle.ev_wire.specs.MessageText.{Each}
-use Rattle.ev_wire.specs.Reading.{◌>>=◌}
 use Rattle.ev_wire.specs.declared.command.Command.{Command}
 use Rattle.ev_wire.specs.declared.command.Command.TheVariants as commands
-use Rattle.ev_script.specs.declared.form.Given.{Given}
 use Rattle.ev_script.specs.declared.form.Part.{Part}
 use Rattle.ev_script.specs.declared.form.Part.TheVariants.{Whole}
 use Rattle.ev_script.specs.declared.verb.Verb.{Verb}
 use Rattle.ev_script.specs.declared.verb.Verb.TheVariants as verbs
 use Rattle.ev_script.specs.Tokens.{Token, tokens}
 use Rattle.ev_script.specs.Tokens.Token.{word}
-use Rattle.ev_script.specs.Form.{CommandForm, constraint_in, attribute_in, parts_in, verb_in, form_in, control_in, publish_in}
+use Rattle.ev_script.specs.Form.{CommandForm, constraint_in, attribute_in, parts_in, verb_in, form_in}
 use Rattle.ev_script.specs.Form.CommandForm.{control, publish}
-use Rattle.ev_script.specs.Command.{IsCommandOf, Spells, form_of, fault_in, is_beyond, is_empty, is_wide, wholes, fits, control_fault, publish_fault, most}
+use Rattle.ev_script.specs.Command.{IsCommandOf, Spells, form_of, is_beyond, is_empty, is_wide, wholes, fits, control_fault, publish_fault, most}
 use Rattle.ev_script.proofs.CommandLaws.{control_none}
 use Rattle.ev_spelling.specs.CommandText.{has_kind, command_text, IsListIn, IsNoticeIn, IsCommandIn}
 use Rattle.ev_spelling.proofs.Cuts.{word_cut, space_cut}
 use Rattle.ev_spelling.proofs.PartLaws.{IsConstraintIn, constraint_tokens, constraint_cut, constraint_again, IsAttributeIn, attribute_tokens, attribute_part, attribute_cut, attribute_again}
-use Rattle.ev_spelling.proofs.ListLaws.{IsItem, parts_again, joined_long, canonical_same, rising_once}
+use Rattle.ev_spelling.proofs.ListLaws.{parts_again, joined_long, canonical_same, rising_once}
 
 -- The parts.
 
@@ -142,9 +139,12 @@ publish_spelled version n is =
     let line = codes "publish " ++ notice_text n in
     let l : length n ≤ length line = omega (arith, notice_long n) in
     let parts : parts_in (attribute_in version) (length line) [] (tokens (notice_text n)) ≡ Some (map attribute_part n) = publish_parts version (length line) n is l in
-    let cut : tokens line ≡ word (codes "publish") ∷ tokens (notice_text n) = word_cut 112 (codes "ublish") (32 ∷ notice_text n) refl refl ∙ ap (λ (ts : List Token). word (codes "publish") ∷ ts) (space_cut (notice_text n)) in
-    (publish (map attribute_part n), line_form version line (codes "publish") (notice_text n) verbs.Publish (publish (map attribute_part n)) cut refl (rw parts refl), no_publish_fault version n is,
-    (subst (λ (z : List Attribute). IsPermutation z n) (sym (fit_parts n)) (IsPermutation-refl n), is.notice.rising))
+    let cut : tokens line ≡ word (codes "publish") ∷ tokens (notice_text n) = word_cut 112 (codes "ublish") (32 ∷ notice_text n) refl refl ∙ ap (λ (ts : List Token). word (codes "publish") ∷ ts) (space_cut (notice_text n)) in (
+      publish (map attribute_part n),
+      line_form version line (codes "publish") (notice_text n) verbs.Publish (publish (map attribute_part n)) cut refl (rw parts refl),
+      no_publish_fault version n is,
+      (subst (λ (z : List Attribute). IsPermutation z n) (sym (fit_parts n)) (IsPermutation-refl n), is.notice.rising),
+    )
 
 pub command_spelled : (version : ℕ) (command : Command) → IsCommandIn version command → IsCommandOf version (command_text command) command
 command_spelled version (commands.Subscribe f) is = subscribe_spelled version f is

@@ -1,8 +1,7 @@
 -- The tokens of a canonical text.
-use Rattle.std.proofs.Common.{◌≡◌, ◌<◌, ◌≤◌, ◌^◌, ℕ, suc, ℤ, Bool, true, false, cond, refl, sym, ap, ◌∙◌, arith, List, [], ◌∷◌, ◌++◌, length, append_assoc, FitsSigned, rules}
+use Rattle.std.proofs.Common.{◌≡◌, ◌<◌, ◌≤◌, ℕ, suc, Bool, true, false, refl, sym, ap, ◌∙◌, arith, List, [], ◌∷◌, ◌++◌, length, append_assoc, rules}
 use Rattle.std.specs.Prelude.{Some, pos, negsuc, nat_lt, codes, ◌==◌, ◌||◌, ◌&&◌}
 use Rattle.std.specs.List.{list_all, flat_map}
-use Rattle.std.specs.Int.{w64}
 use Rattle.std.specs.Char.{digit_value}
 use Rattle.std.specs.Fmt.{signed_decimal, decimal}
 use Rattle.std.specs.Str.Parse.{AllDigits}
@@ -10,9 +9,9 @@ use Rattle.std.proofs.lemmas.List.{append-nil}
 use Rattle.std.proofs.lemmas.Fmt.{decimal_is_IsNumeral}
 use Rattle.std.proofs.lemmas.Bool.Decides.{nat_tests}
 use Rattle.ev_values.specs.Name.{IsName, is_letter, is_other_name_byte, are_name_bytes, is_name}
-use Rattle.ev_values.specs.Text.{IsText, is_open_byte}
+use Rattle.ev_values.specs.Text.{IsText}
 use Rattle.ev_values.proofs.NameTests.{name_tested}
-use Rattle.ev_values.specs.Value.{IsValue, kind_of}
+use Rattle.ev_values.specs.Value.{IsValue}
 use Rattle.ev_values.specs.declared.value.Value.{Value}
 use Rattle.ev_values.specs.declared.value.Value.TheVariants as values
 use Rattle.ev_values.specs.declared.value.Kind.{Kind}
@@ -21,7 +20,7 @@ use Rattle.ev_constraint.specs.declared.op.Op.{Op}
 use Rattle.ev_constraint.specs.declared.op.Op.TheVariants as ops
 use Rattle.ev_notice.proofs.Lists.{both}
 use Rattle.ev_wire.specs.ValueText.{escape, string_text, truth_word, value_text, kind_word, op_word}
-use Rattle.ev_script.specs.Tokens.{Token, is_word_byte, run_at, quoted_at, token_at, skip, is_string, tokens}
+use Rattle.ev_script.specs.Tokens.{Token, is_word_byte, run_at, quoted_at, token_at, skip, tokens}
 use Rattle.ev_script.specs.Tokens.Token.{word, sign, string, semicolon}
 use Rattle.ev_script.proofs.TokenLaws.{nothing_left, cut_off}
 

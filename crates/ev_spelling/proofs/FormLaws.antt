@@ -1,9 +1,9 @@
 -- What the form of a line has: parts of constraints and attributes that documents of its version may have.
-use Rattle.std.proofs.Common.{◌≡◌, ℕ, zero, suc, ◌+◌, ◌<◌, ◌≤◌, ◌^◌, Bool, true, false, cond, not, refl, sym, ap, subst, ◌∙◌, arith, inl, inr, List, [], ◌∷◌, ◌++◌, length, Option, Some, None, append_assoc}
-use Rattle.std.specs.Prelude.{nat_lt, nat_le, ◌&&◌, ◌==◌, codes, if◌then◌else◌}
+use Rattle.std.proofs.Common.{◌≡◌, ℕ, zero, suc, ◌<◌, ◌^◌, Bool, true, false, cond, refl, sym, ap, subst, arith, inl, inr, List, [], ◌∷◌, ◌++◌, length, Option, Some, None}
+use Rattle.std.specs.Prelude.{nat_lt, ◌==◌, if◌then◌else◌}
 use Rattle.std.specs.List.{list_all}
 use Rattle.std.specs.Str.Parse.{digits_value, signed_digits_value, without_leading_sign}
-use Rattle.std.specs.Str.{bytes_eq, is_utf8}
+use Rattle.std.specs.Str.{is_utf8}
 use Rattle.std.proofs.lemmas.Bool.Decides.{nat_tests}
 use Rattle.std.proofs.lemmas.Option.{same_Some}
 use Rattle.ev_values.specs.Name.{IsName, is_name}
@@ -18,9 +18,8 @@ use Rattle.ev_constraint.specs.declared.op.Op.{Op}
 use Rattle.ev_constraint.specs.declared.op.Op.TheVariants as ops
 use Rattle.ev_constraint.specs.declared.constraint.BadConstraint.{BadConstraint}
 use Rattle.ev_constraint.specs.declared.constraint.BadConstraint.TheVariants.{EmptyPattern, BadOp, Operand, WrongKind}
-use Rattle.ev_constraint.specs.Constraint.{ConstraintParts, IsTest, IsConstraint}
+use Rattle.ev_constraint.specs.Constraint.{ConstraintParts, IsTest}
 use Rattle.ev_constraint.specs.Faults.{fault_of, has_op}
-use Rattle.ev_notice.specs.Notice.{Attribute}
 use Rattle.ev_notice.proofs.Lists.{both}
 use Rattle.ev_wire.specs.MessageText.{Each}
 use Rattle.ev_wire.specs.Reading.{◌>>=◌}
@@ -35,7 +34,7 @@ use Rattle.ev_script.specs.declared.form.Part.{Part}
 use Rattle.ev_script.specs.declared.form.Part.TheVariants.{Whole, Beyond, Empty}
 use Rattle.ev_script.specs.declared.verb.Verb.{Verb}
 use Rattle.ev_script.specs.declared.verb.Verb.TheVariants as verbs
-use Rattle.ev_script.specs.Tokens.{Token, token_at, tokens_in, tokens, cut_by, skip, is_string, string_seen, string_token, quoted_at, equals_at, sign_token, is_word_byte, run_at}
+use Rattle.ev_script.specs.Tokens.{Token, token_at, tokens_in, tokens, cut_by, skip, is_string, string_seen, string_token, quoted_at, equals_at, sign_token, is_word_byte}
 use Rattle.ev_script.specs.Tokens.Token.{word, sign, string, long, semicolon, bad}
 use Rattle.ev_script.specs.Form.{CommandForm, int_given, time_given, are_digits, word_in, kind_of_version, kind_by, head_in, op_in, given_in, operand_in, judged, part_of, constraint_in, attribute_in, more_in, parts_in, verb_named, verb_in, control_in, publish_in, form_in}
 use Rattle.ev_script.specs.Form.CommandForm.{control, publish}

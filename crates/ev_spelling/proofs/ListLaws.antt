@@ -1,11 +1,10 @@
 -- Joined members of a canonical text, as the parts of a command; lists that are canonical already.
-use Rattle.std.proofs.Common.{◌≡◌, ℕ, zero, suc, ◌+◌, ◌*◌, ◌<◌, ◌≤◌, Bool, true, false, cond, ◌||◌, refl, sym, ap, subst, ◌∙◌, arith, inl, inr, List, [], ◌∷◌, ◌++◌, length, map, append_assoc, append-nil}
+use Rattle.std.proofs.Common.{◌≡◌, ℕ, zero, suc, ◌+◌, ◌<◌, ◌≤◌, Bool, true, false, refl, ap, subst, ◌∙◌, arith, List, [], ◌∷◌, ◌++◌, length, map, append_assoc}
 use Rattle.std.specs.Prelude.{Some, None}
 use Rattle.std.specs.declared.option.Option.{Option}
-use Rattle.std.specs.declared.cmp.Ordering.TheVariants.{Less, Equal, Greater}
+use Rattle.std.specs.declared.cmp.Ordering.TheVariants.{Less}
 use Rattle.std.specs.Ordering.{nat_cmp}
 use Rattle.std.specs.Cmp.Lexicographic.{slice_cmp, nat_list_cmp_total}
-use Rattle.std.specs.List.{list_any, Contains}
 use Rattle.std.specs.Str.{bytes_eq}
 use Rattle.std.proofs.lemmas.Cmp.{tied_itself}
 use Rattle.ev_constraint.proofs.BytesLemmas.{bytes_eq-tells}
@@ -15,9 +14,8 @@ use Rattle.ev_notice.specs.Notice.{Attribute, AreRising, has_name, twice_from, f
 use Rattle.ev_notice.proofs.CanonicalLaws.{rises, unique-contains, canonical_contains, contains_canonical}
 use Rattle.ev_wire.specs.NoticeText.{later, joined}
 use Rattle.ev_wire.specs.MessageText.{Each}
-use Rattle.ev_wire.specs.Reading.{◌>>=◌}
-use Rattle.ev_script.specs.Tokens.{Token, tokens, tokens_in}
-use Rattle.ev_script.specs.Form.{more_in, parts_in}
+use Rattle.ev_script.specs.Tokens.{Token, tokens}
+use Rattle.ev_script.specs.Form.{parts_in}
 use Rattle.ev_script.proofs.TokenLaws.{nothing_left}
 use Rattle.ev_spelling.proofs.Cuts.{IsEnded, space_cut, semicolon_cut}
 

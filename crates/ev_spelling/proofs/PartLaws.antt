@@ -1,6 +1,6 @@
 -- A constraint and an attribute of a canonical text, as parts of a command.
-use Rattle.std.proofs.Common.{◌≡◌, ◌<◌, ◌≤◌, ◌-◌, ◌^◌, ℕ, suc, ℤ, Bool, true, false, cond, refl, sym, ap, subst, ◌∙◌, arith, List, [], ◌∷◌, ◌++◌, length, append_assoc, FitsSigned, rules}
-use Rattle.std.specs.Prelude.{Some, None, pos, negsuc, nat_le, nat_lt, codes, ◌==◌, ◌&&◌, if◌then◌else◌}
+use Rattle.std.proofs.Common.{◌≡◌, ◌<◌, ◌≤◌, ◌^◌, ℕ, suc, ℤ, true, false, refl, ap, subst, ◌∙◌, arith, List, [], ◌∷◌, ◌++◌, length, append_assoc, FitsSigned, rules}
+use Rattle.std.specs.Prelude.{Some, None, pos, negsuc, nat_lt, ◌==◌}
 use Rattle.std.specs.declared.option.Option.{Option}
 use Rattle.std.specs.List.{list_all}
 use Rattle.std.specs.Int.{w64}
@@ -9,7 +9,7 @@ use Rattle.std.specs.Fmt.{signed_decimal, decimal}
 use Rattle.std.specs.Str.Parse.{AllDigits, IsNumeral, without_leading_sign}
 use Rattle.std.proofs.lemmas.Fmt.{decimal_is_IsNumeral}
 use Rattle.std.proofs.lemmas.Bool.Decides.{nat_tests}
-use Rattle.ev_values.specs.Name.{IsName, is_name}
+use Rattle.ev_values.specs.Name.{IsName}
 use Rattle.ev_values.specs.Value.{IsValue, kind_of}
 use Rattle.ev_values.proofs.NameTests.{name_tested}
 use Rattle.ev_values.specs.declared.value.Value.{Value}
@@ -25,7 +25,6 @@ use Rattle.ev_wire.specs.ValueText.{value_text, kind_word, op_word}
 use Rattle.ev_wire.specs.NoticeText.{attribute_text}
 use Rattle.ev_wire.specs.FilterText.{test_text, constraint_text}
 use Rattle.ev_wire.specs.Reading.{◌>>=◌}
-use Rattle.ev_wire.specs.Words.{fits_i64}
 use Rattle.ev_wire.proofs.IntLaws.{valued, fits_told}
 use Rattle.ev_script.specs.declared.form.Given.{Given}
 use Rattle.ev_script.specs.declared.form.Given.TheVariants.{Fit}

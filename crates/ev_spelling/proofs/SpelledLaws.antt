@@ -1,5 +1,5 @@
 -- The command of a form without fault is one of the version.
-use Rattle.std.proofs.Common.{◌≡◌, ℕ, suc, ◌<◌, ◌≤◌, Bool, true, false, cond, Ordering, refl, sym, ap, subst, ◌∙◌, arith, inl, inr, List, [], ◌∷◌, length, Option, Some, None}
+use Rattle.std.proofs.Common.{◌≡◌, ℕ, ◌<◌, ◌≤◌, true, false, Ordering, refl, arith, inl, inr, List, [], ◌∷◌, length, Option, Some, None}
 use Rattle.std.specs.Prelude.{nat_lt}
 use Rattle.std.specs.List.{list_any}
 use Rattle.std.specs.declared.cmp.Ordering.TheVariants.{Less, Equal, Greater}
@@ -13,13 +13,12 @@ use Rattle.ev_notice.specs.Notice.{Attribute, AreNames, AreValues, is_name_less}
 use Rattle.ev_notice.proofs.CanonicalLaws.{rises, canonical_some}
 use Rattle.ev_wire.specs.FilterText.{AreNamed}
 use Rattle.ev_wire.specs.MessageText.{Each}
-use Rattle.ev_wire.proofs.Options.{choose, none_not}
-use Rattle.ev_script.specs.declared.fault.ScriptFault.{ScriptFault}
+use Rattle.ev_wire.proofs.Options.{choose}
 use Rattle.ev_script.specs.declared.form.Given.{Given}
 use Rattle.ev_script.specs.declared.form.Given.TheVariants.{Fit, Wide}
 use Rattle.ev_script.specs.declared.form.Part.{Part}
 use Rattle.ev_script.specs.declared.form.Part.TheVariants.{Whole, Beyond, Empty}
-use Rattle.ev_script.specs.Command.{is_beyond, is_empty, is_wide, wholes, fits, has_twice, control_fault, publish_fault}
+use Rattle.ev_script.specs.Command.{is_beyond, is_empty, is_wide, wholes, fits, control_fault, publish_fault}
 use Rattle.ev_script.proofs.CommandLaws.{some_whole, some_fits}
 use Rattle.ev_spelling.specs.CommandText.{has_kind, IsListIn, IsNoticeIn}
 use Rattle.ev_spelling.proofs.PartLaws.{IsConstraintIn, IsAttributeIn}

@@ -1,5 +1,4 @@
-use Rattle.std.proofs.Common.{take, ◌++◌}
-use Rattle.std.specs.Prelude.{codes}
+use Rattle.std.proofs.Common.{take}
 use Rattle.std.specs.List.{flat_map}
 use Rattle.ev_outside.specs.Pending.{outlet, Went}
 use Rattle.ev_format.specs.DocumentText.{ended, script_lines}

@@ -1,4 +1,4 @@
-use Rattle.std.proofs.Common.{sym, subst, arith, ◌++◌}
+use Rattle.std.proofs.Common.{subst}
 use Rattle.ev_outside.specs.Pending.{outlet, Went}
 use Rattle.ev_outside.proofs.Outlets.{went-then, went-nothing}
 use Rattle.ev_format.proofs.Chain.{first_attribute, no_attribute}
