@@ -30,6 +30,7 @@ pub mod Ranges
 pub mod Replayed
 pub mod Rounds
 pub mod Tries
+pub mod Begun
 pub mod Turns
 pub mod Walks
 pub mod Starting
@@ -39,3 +40,5 @@ pub mod Told
 pub mod Again
 pub mod Passing
 pub mod HandedOn
+pub mod Stopping
+pub mod Drained

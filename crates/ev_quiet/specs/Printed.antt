@@ -13,6 +13,7 @@ use Rattle.ev_flood.specs.Flooding.{IsFlooding}
 use Rattle.ev_report.specs.Deliveries.{deliveries_text}
 use Rattle.ev_report.specs.Flood.{flood_text}
 use Rattle.ev_report.specs.Trace.{trace_text}
+pub use Rattle.ev_report.specs.Counts.{total}
 use Rattle.ev_report.specs.Summary.{check_text, summary_text}
 use Rattle.ev_quiet.specs.declared.words.Schedule.TheVariants.{Walk}
 use Rattle.ev_quiet.specs.declared.words.Shown.{Shown}
@@ -50,10 +51,6 @@ pub record IsFormatOf (input text : List ℕ) : Type 0 where
   pub printed : text ≡ document_text net
   pub read : FitsDocument net → IsNetOf text (as_written net)
   pub again : FitsDocument net → (other : NetParts) → IsNetOf text other → document_text other ≡ text
-
--- the members of lists, counted
-abbrev pub total : {A : Type 0} → List (List A) → ℕ
-total lists = sum_over length lists
 
 -- how many publishes of a net were accepted in a run that took all commands
 abbrev pub accepted_in : NetParts → List EntryParts → ℕ
