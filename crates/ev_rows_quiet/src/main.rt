@@ -5,6 +5,7 @@
 mod devices;
 mod failure;
 mod faults;
+mod formats;
 mod generated;
 mod large;
 mod patterns;
@@ -23,6 +24,7 @@ fn main(rt: HostRuntime) -> Result<(), Failure> {
     tried::print_rows(&rt, alloc, &replays::FLOODS)?;
     tried::print_rows(&rt, alloc, &faults::FAULTS)?;
     tried::print_rows(&rt, alloc, &patterns::PATTERNS)?;
+    tried::print_rows(&rt, alloc, &formats::FORMATS)?;
     tried::print_rows(&rt, alloc, &usage::USAGE)?;
     devices::print_devices(&rt, alloc)?;
     large::print_large(&rt, alloc)?;
