@@ -1,5 +1,5 @@
 -- What is published stays the fold of a beginning of the history.
-use Rattle.std.proofs.Common.{fold, Result, Ok, Err, MatchResult, ◌≡◌, ◌≢◌, ℕ, List, [], ◌∷◌, ◌++◌, true, false, set, refl, sym, ap, ◌∙◌, subst, ⊎_elim}
+use Rattle.std.proofs.Common.{fold, Result, Ok, Err, MatchResult, ◌≡◌, ◌≢◌, ℕ, ◌+◌, List, [], ◌∷◌, ◌++◌, true, false, set, refl, sym, ap, ◌∙◌, subst, ⊎_elim}
 use Rattle.std.proofs.lemmas.List.{append-nil}
 use Rattle.std.proofs.lemmas.List.Sums.{fold-append}
 use Rattle.std.proofs.Common.{append_assoc}
@@ -19,8 +19,8 @@ use Rattle.ev_versions.proofs.Pairs.{more-after}
 pub sees : (seat : ℕ) (v : View) → Turns KeepsViews seat v (λ x. x) (λ v x y w. Sighted v x w)
 sees seat v x views k at = (v, (k.0, (λ j u e. k.1 j u (subst (λ l. get_elem? l j ≡ some u) (set_again views seat v at) e))), (refl, k.0, k.1 seat v at))
 
-shows : (seat : ℕ) (v : View) (x y : Version) → IsFolded y → y.front.seen.book ≡ x.front.seen.book → TurnsAt KeepsViews seat v x y (λ v x y w. ShownView y w)
-shows seat v x y folded same views k at = let w = named_by y.front.seen.book in
+shows : (seat : ℕ) (v : View) (x y : Version) → IsFolded y → y.front.seen.book ≡ x.front.seen.book → TurnsAt KeepsViews seat v x y (λ v x y w. ShownView v y w)
+shows seat v x y folded same views k at = let w = named_by (v.shows + 1) y.front.seen.book in
     (w, (folded, (λ j u e. ⊎_elim (λ (t : (j ≡ seat) × (w ≡ u)). subst (λ z. Knows y.front.seen.book z) t.1 (λ _. refl)) (λ (t : (j ≢ seat) × (get_elem? views j ≡ some u)). λ p. k.1 j u t.1 p ∙ sym same) (at_set views seat j w u e))), (folded, refl))
 
 pub admits : Admits KeepsViews nobody
@@ -61,7 +61,7 @@ folds now next ops folded may e =
     ap (λ (t : Told). t.0) f ∙ ap (λ (s : List HeldFilter). fold changed s (changes_of ops)) folded ∙ sym (more-after now.front.seen.log (changes_of ops)) ∙ ap pairs_after (sym log)
 
 pub shows_fold : (seat : ℕ) (v : View) (now next : Version) (ops : List Step) → IsFolded now → MayShow now ops → told next ≡ fold applied (told now) ops
-    → TurnsAt KeepsViews seat v now next (λ v x y w. ShownView y w)
+    → TurnsAt KeepsViews seat v now next (λ v x y w. ShownView v y w)
 shows_fold seat v now next ops folded may e =
     let f : told next ≡ (fold changed (pair_set now.table) (changes_of ops), last_seen now.front.seen ops) = e ∙ fold_is (pair_set now.table) now.front.seen ops in
     shows seat v now next (folds now next ops folded may e) (ap (λ (t : Told). t.1.book) f ∙ may.1)

@@ -1,5 +1,5 @@
 -- The rule of the versions: what is published is the fold of a beginning of the history.
-use Rattle.std.specs.Prelude.{◌≡◌, ℕ, List, [], ◌∷◌, ◌++◌, true, false}
+use Rattle.std.specs.Prelude.{◌≡◌, ℕ, ◌+◌, List, [], ◌∷◌, ◌++◌, true, false}
 use mathlib.Core.Option.{some}
 use lib.ListN.{get_elem?}
 use Rattle.logbook.specs.Pages.{Book}
@@ -17,11 +17,15 @@ view_book v = record { number = v.number; log_name = v.log_name; cells_name = v.
 
 -- the view that names no book
 abbrev pub nobody : View
-nobody = record { named = false; number = 0; log_name = 0; cells_name = 0 }
+nobody = record { named = false; number = 0; log_name = 0; cells_name = 0; shows = 0 }
 
--- the view that names this book
-abbrev pub named_by : Book → View
-named_by b = record { named = true; number = b.number; log_name = b.log_name; cells_name = b.cells_name }
+-- the view that names this book, with so many shows
+abbrev pub named_by : ℕ → Book → View
+named_by n b = record { named = true; number = b.number; log_name = b.log_name; cells_name = b.cells_name; shows = n }
+
+-- it names this book
+abbrev pub IsNamedBy : Book → View → Type 0
+IsNamedBy b v = (v.named ≡ true) × (view_book v ≡ b)
 
 -- the table has the pairs after the changes of the version's front
 abbrev pub IsFolded : Version → Type 0
@@ -39,9 +43,9 @@ KeepsViews x views = IsFolded x × ((seat : ℕ) (v : View) → get_elem? views 
 abbrev pub Sighted : View → Version → View → Type 0
 Sighted v x w = (w ≡ v) × IsFolded x × Knows x.front.seen.book v
 
--- what publishing tells the publisher
-abbrev pub ShownView : Version → View → Type 0
-ShownView y w = IsFolded y × (w ≡ named_by y.front.seen.book)
+-- what publishing tells the publisher: one more show
+abbrev pub ShownView : View → Version → View → Type 0
+ShownView v y w = IsFolded y × (w ≡ named_by (v.shows + 1) y.front.seen.book)
 
 -- the changes of all steps
 abbrev pub changes_of : List Step → List Change

@@ -1,5 +1,6 @@
 -- What contracts see of publishers, viewers and matches ahead.
 use Rattle.std.specs.Prelude.{◌≡◌, ℕ, List}
+use Rattle.left_right.specs.Sides.{view}
 use Rattle.ev_notice.specs.Notice.{Attribute}
 use Rattle.ev_counting.specs.declared.change.Change.{Change}
 use Rattle.ev_versions.specs.declared.publisher.Publisher.{Publisher}
@@ -13,6 +14,10 @@ staged p = p.top.seen.log
 -- the changes that are published
 abbrev pub published : Publisher → List Change
 published p = p.shown.seen.log
+
+-- how often it showed a version: each was one step, at which viewers came to see all that was published with it and none of it before
+abbrev pub shows : Publisher → ℕ
+shows p = (view p.writer.desk.place).shows
 
 -- the published changes that the viewer has seen
 abbrev pub seen_by : Viewer → List Change

@@ -1,9 +1,10 @@
 //! What a publisher does.
-ghost use Rattle.std.specs.Prelude.{◌≡◌, ◌↔◌, ◌++◌, ◌∷◌, [], false, drop, length, IfOk, OnOk, MatchResult};
+ghost use Rattle.std.specs.Prelude.{◌≡◌, ◌↔◌, ◌+◌, ◌++◌, ◌∷◌, [], cond, false, drop, length, IfOk, OnOk, MatchResult};
+ghost use Rattle.left_right.specs.Sides.{view};
 ghost use Rattle.ev_counting.specs.Table.{IsRouteOf};
 ghost use Rattle.ev_versions.specs.Pairs.{pairs_after};
 ghost use Rattle.ev_versions.specs.Chain.{IsFolded, IsShownAfter, MayShow};
-ghost use Rattle.ev_versions.specs.Ends.{staged, published, IsSamePublisher};
+ghost use Rattle.ev_versions.specs.Ends.{staged, published, shows, IsSamePublisher};
 
 use crate::publisher::Publisher;
 use crate::rule::{Shows, VersionWriter};
@@ -37,6 +38,7 @@ impl Publisher {
     pub fn stage(&mut self, change: Change) -> Result<(), NoMemory>
         ensures same { IsSamePublisher self.old self.new }
         ensures published { published self.new ≡ published self.old }
+        ensures none { shows self.new ≡ shows self.old }
         ensures staged { MatchResult result (λ _. staged self.new ≡ staged self.old ++ change ∷ []) (λ _. staged self.new ≡ staged self.old) }
     {
         if self.top.count >= MOST {
@@ -51,13 +53,14 @@ impl Publisher {
         Ok(())
     }
 
-    /// Publishes all staged changes at once, or none where it finds no memory. `false` exactly where nothing is staged.
+    /// Publishes all staged changes at once, by just one show, or none where it finds no memory. `false` exactly where nothing is staged.
     /// It may wait for a viewer that is inside a match.
     pub fn publish<R: Wait>(&mut self, rt: &R) -> Result<bool, NoMemory>
         ensures same { IsSamePublisher self.old self.new }
         ensures staged { staged self.new ≡ staged self.old }
         ensures some { IfOk result (λ b. (b ≡ false) ↔ (staged self.old ≡ published self.old)) }
         ensures published { MatchResult result (λ _. published self.new ≡ staged self.old) (λ _. published self.new ≡ published self.old) }
+        ensures once { MatchResult result (λ some. shows self.new ≡ shows self.old + cond some 1 0) (λ _. shows self.new ≡ shows self.old) }
     {
         if self.top.count == self.shown.count {
             return Ok(false);
@@ -71,6 +74,7 @@ impl Publisher {
     fn hand_over(&mut self) -> Result<(), NoMemory>
         ensures fronts { (self.new.top ≡ self.old.top) × (self.new.shown ≡ self.old.shown) }
         ensures handed { OnOk result (self.new.waiting.items ≡ []) }
+        ensures none { shows self.new ≡ shows self.old }
     {
         if self.waiting.is_empty() {
             return Ok(());
@@ -91,6 +95,7 @@ impl Publisher {
         requires { self.old.waiting.items ≡ [] }
         ensures top { self.new.top ≡ self.old.top }
         ensures shown { MatchResult result (λ _. self.new.shown.seen ≡ self.old.top.seen) (λ _. self.new.shown ≡ self.old.shown) }
+        ensures once { MatchResult result (λ _. shows self.new ≡ shows self.old + 1) (λ _. shows self.new ≡ shows self.old) }
     {
         replace_with(&mut self.writer, rt, |writer, rt| publish_now(rt, writer))?;
         self.shown = self.top.again();
@@ -118,6 +123,9 @@ fn publish_now<R: Wait>(rt: &R, writer: VersionWriter) -> (VersionWriter, Result
     ensures shown { MatchResult result.1
         (λ _. IsShownAfter writer.desk.shown.value (drop writer.behind writer.log.items) result.0.desk.shown.value)
         (λ _. result.0.desk.shown.value ≡ writer.desk.shown.value) }
+    ensures once { MatchResult result.1
+        (λ _. (view result.0.desk.place).shows ≡ (view writer.desk.place).shows + 1)
+        (λ _. (view result.0.desk.place).shows ≡ (view writer.desk.place).shows) }
     ensures left { MatchResult result.1
         (λ _. drop result.0.behind result.0.log.items ≡ [])
         (λ _. drop result.0.behind result.0.log.items ≡ drop writer.behind writer.log.items) }

@@ -6,7 +6,7 @@ use crossbeam_utils::rule::{Outcome, Protocol};
 use left_right::reader::Reader;
 use left_right::writer::Writer;
 
-/// What a place knows: the book of the history, once it is named. No value of it is made.
+/// What a place knows: the book of the history, once it is named, and how often it showed a version. No value of it is made.
 pub struct View {
     /// Whether it names a book.
     pub named: bool,
@@ -16,6 +16,8 @@ pub struct View {
     pub log_name: u64,
     /// The name of its cells.
     pub cells_name: u64,
+    /// How often this place showed a version. `Shows` alone counts, one for each step at which the tables turn.
+    pub shows: u64,
 }
 
 /// The rule.
@@ -44,7 +46,7 @@ pub struct Shows;
 impl Outcome<Version, View> for Shows {
     ghost use Rattle.ev_versions.specs.Chain.{ShownView};
 
-    ghost then = { λ v x y w. ShownView y w };
+    ghost then = { λ v x y w. ShownView v y w };
 }
 
 /// The publisher tells a viewer the book, and the viewer learns it.

@@ -1,7 +1,7 @@
 //! Places of viewers beside a publisher's.
 ghost use Rattle.std.specs.Prelude.{◌≡◌, List, length, All, IfOk};
 ghost use Rattle.left_right.specs.Sides.{view};
-ghost use Rattle.ev_versions.specs.Chain.{named_by};
+ghost use Rattle.ev_versions.specs.Chain.{IsNamedBy};
 
 use crate::history::Front;
 use crate::rule::{Notes, VersionWriter};
@@ -11,7 +11,7 @@ use std::alloc::Global;
 
 /// A viewer that has seen this front.
 fn seat(writer: &mut VersionWriter, front: &Front) -> Result<Viewer, NoMemory>
-    requires { view writer.old.desk.place ≡ named_by front.now.seen.book }
+    requires { IsNamedBy front.now.seen.book (view writer.old.desk.place) }
     ensures shown { writer.new.desk.shown ≡ writer.old.desk.shown }
     ensures log { (writer.new.log ≡ writer.old.log) × (writer.new.behind ≡ writer.old.behind) }
     ensures told { view writer.new.desk.place ≡ view writer.old.desk.place }
@@ -32,9 +32,10 @@ pub fn seats(
     front: &Front,
     count: usize,
 ) -> Result<Vec<Viewer>, NoMemory>
-    requires { view writer.old.desk.place ≡ named_by front.now.seen.book }
+    requires { IsNamedBy front.now.seen.book (view writer.old.desk.place) }
     ensures shown { writer.new.desk.shown ≡ writer.old.desk.shown }
     ensures log { (writer.new.log ≡ writer.old.log) × (writer.new.behind ≡ writer.old.behind) }
+    ensures told { view writer.new.desk.place ≡ view writer.old.desk.place }
     ensures viewers { IfOk result (λ vs. (length vs.items ≡ count) × All (λ v. v.front.seen ≡ front.now.seen) vs.items) }
 {
     let mut viewers = Vec::new(alloc);

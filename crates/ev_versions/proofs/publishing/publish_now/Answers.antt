@@ -1,5 +1,6 @@
 use Rattle.std.proofs.Common.{drop, ap, ◌∙◌}
 use Rattle.ev_versions.specs.Pairs.{pair_set}
+use Rattle.ev_versions.specs.declared.rule.View.{View}
 use Rattle.ev_versions.proofs.Chains.{shows_fold, fold_is, match_both, Told}
 use Rattle.ev_versions.proofs.publishing.publish_now.Goals as goal
 
@@ -17,3 +18,7 @@ returns-clause-shown g c =
 
 pub returns-clause-left : goal.returns-clause-left
 returns-clause-left g c = let done = c.publish_as.ensures in match_both c.publish_as.result.1 _ _ _ _ _ _ (λ x a b. a.1) (λ y a b. a.1) done.values done.rule
+
+pub returns-clause-once : goal.returns-clause-once
+returns-clause-once g c = let done = c.publish_as.ensures in
+    match_both c.publish_as.result.1 _ _ _ _ _ _ (λ x a b. ap (λ (v : View). v.shows) b.1) (λ y a b. ap (λ (v : View). v.shows) b) done.values done.rule

@@ -1,6 +1,6 @@
 use Rattle.std.proofs.Common.{◌≡◌, length, All}
 use Rattle.left_right.specs.Sides.{view}
-use Rattle.ev_versions.specs.Chain.{named_by}
+use Rattle.ev_versions.specs.Chain.{IsNamedBy}
 use Rattle.ev_versions.proofs.seats.seats.Given as goal
 
 abbrev pub invariant-loop : goal.invariant-loop
@@ -10,5 +10,6 @@ invariant-loop l = record {
   desk : l.writer.desk.shown ≡ l.initial.writer.desk.shown;
   log : l.writer.log ≡ l.initial.writer.log;
   behind : l.writer.behind ≡ l.initial.writer.behind;
-  told : view l.writer.desk.place ≡ named_by l.front.seen.book;
+  told : view l.writer.desk.place ≡ view l.initial.writer.desk.place;
+  named : IsNamedBy l.front.seen.book (view l.writer.desk.place);
 }
