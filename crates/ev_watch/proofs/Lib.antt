@@ -1,4 +1,3 @@
-pub mod Searching
 pub mod Parting
 pub mod Stepping
 pub mod Reading

@@ -9,7 +9,8 @@ use Rattle.ev_input.specs.Rules.{version_number}
 use Rattle.ev_input.specs.Net.{client_of}
 use Rattle.ev_input.specs.declared.fault.Fault.{Fault}
 use Rattle.std.specs.Prelude.{codes}
-use Rattle.ev_watch.specs.Cut.{IsCutAt, IsNoLine, IsParted, first_number}
+use Rattle.ev_cut.specs.Cut.{IsCutAt, IsNoLine, first_number}
+use Rattle.ev_watch.specs.Cut.{IsParted}
 use Rattle.ev_watch.specs.Parts.{PatternParts, WatchingParts}
 use Rattle.ev_watch.specs.Reading.{AnswersWatch, ReadsDocument, ReadsPatterns}
 use Rattle.ev_watch.specs.Rules.{end_rule, line_rule, nothing, read_from}
@@ -17,7 +18,8 @@ use Rattle.ev_watch.specs.Watch.{IsBadDocument, IsBadPattern, IsWatchOf, pattern
 use Rattle.ev_watch.specs.declared.fault.PatternFault.{PatternFault}
 use Rattle.ev_watch.specs.declared.fault.PatternFault.TheVariants as faults
 use Rattle.ev_watch.specs.declared.fault.PatternKind.{PatternKind}
-use Rattle.ev_watch.proofs.Parting.{one_part, part_short, same_document}
+use Rattle.ev_cut.proofs.Parting.{same_document}
+use Rattle.ev_watch.proofs.Parting.{one_part, part_short}
 
 -- a line that is taken leaves the rest to read
 pub next_read : (version : ℕ) (clients : List ClientParts) (n : ℕ) (s t : WatchingParts) (ls rest : List (List ℕ)) (l : List ℕ) → ls ≡ l ∷ rest → line_rule version clients s l ≡ Ok t

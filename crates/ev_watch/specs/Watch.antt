@@ -4,7 +4,8 @@ use Rattle.ev_model.specs.Parts.{NetParts}
 use Rattle.ev_input.specs.Net.{IsBadAt, IsNetOf}
 use Rattle.ev_input.specs.declared.fault.Fault.{Fault}
 use Rattle.ev_watch.specs.Parts.{PatternParts}
-use Rattle.ev_watch.specs.Cut.{IsParted, first_number}
+use Rattle.ev_cut.specs.Cut.{first_number}
+use Rattle.ev_watch.specs.Cut.{IsParted}
 use Rattle.ev_watch.specs.Rules.{nothing, read_from}
 use Rattle.ev_watch.specs.declared.fault.PatternKind.{PatternKind}
 

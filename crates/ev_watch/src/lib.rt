@@ -1,7 +1,6 @@
 //! The input of a document with patterns: read whole into the net and the patterns, or refused with its first fault.
 #![tactic(auto)]
 
-mod cut;
 mod fault;
 pub mod law;
 mod line;
@@ -11,7 +10,6 @@ mod step;
 mod watching;
 mod words;
 
-pub use cut::{Cut, cut_at};
 pub use fault::{PatternFault, PatternKind};
 pub use pattern::{Pattern, Watch};
 pub use read::read_patterns;

@@ -3,7 +3,7 @@ use Rattle.std.proofs.Common.{◌≡◌, ◌⊎◌, inl, inr, ℕ, zero, suc, �
 use Rattle.std.specs.Str.{bytes_eq}
 use Rattle.ev_input.specs.Lines.{IsFirstLine, lines}
 use Rattle.ev_input.proofs.Cutting.{no_lines}
-use Rattle.ev_watch.specs.Cut.{IsCutAt, IsNoLine}
+use Rattle.ev_cut.specs.Cut.{IsCutAt, IsNoLine}
 
 -- the lines so far are none of the word, and bytes before the rest are these lines, whatever follows
 pub record Searching (bytes word rest : List ℕ) (number : ℕ) : Type 0 where
@@ -93,6 +93,8 @@ found bytes word rest line after front number n s e f same g m =
         alone = f.alone ∙ ap (λ l. l ∷ []) same;
         cut = s.left ∙ ap (λ l. s.done ++ l) e ∙ ap (λ l. l ++ (line ∷ lines after)) (sym (ap lines is_front ∙ before)) ∙ ap (λ w. lines front ++ w ∷ lines after) same;
         first = subst (IsNoLine word) (sym (ap lines is_front ∙ before)) s.none;
+        whole = λ more. ap (λ l. lines (l ++ more)) is_front ∙ whole_before s.whole more ∙ ap (λ l. l ++ lines more) (sym (ap lines is_front ∙ before));
+        ends = subst (λ w. (after ≡ []) ⊎ ((more : List ℕ) → lines (f.own ++ more) ≡ w ∷ lines more)) same f.ends;
       },
       s.counted ∙ ap (λ l. length l + 2) (sym (ap lines is_front ∙ before)),
     )
@@ -102,6 +104,10 @@ found bytes word rest line after front number n s e f same g m =
       where
         no_line : line ∷ lines after ≡ [] → ⊥
         no_line k = cc
+
+    whole_before : (rest ≡ []) ⊎ ((more : List ℕ) → lines (s.before ++ more) ≡ s.done ++ lines more) → (more : List ℕ) → lines (s.before ++ more) ≡ s.done ++ lines more
+    whole_before (inl z) more = absurd (some z)
+    whole_before (inr h) more = h more
 
     alone : (rest ≡ []) ⊎ ((more : List ℕ) → lines (s.before ++ more) ≡ s.done ++ lines more) → lines s.before ≡ s.done
     alone (inl z) = absurd (some z)

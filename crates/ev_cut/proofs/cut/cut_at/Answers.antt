@@ -1,8 +1,8 @@
 use Rattle.std.proofs.Common.{◌≡◌, refl, sym, ◌∙◌, arith}
 use Rattle.ev_constraint.proofs.BytesLemmas.{bytes_eq-tells}
-use Rattle.ev_watch.specs.Cut.{IsCutAt, first_number}
-use Rattle.ev_watch.proofs.Searching.{begun, found, searched}
-use Rattle.ev_watch.proofs.cut.cut_at.Goals as goal
+use Rattle.ev_cut.specs.Cut.{IsCutAt, first_number}
+use Rattle.ev_cut.proofs.Searching.{begun, found, searched}
+use Rattle.ev_cut.proofs.cut.cut_at.Goals as goal
 
 pub lines-init : goal.lines-init
 lines-init c = begun c.args.bytes.now c.args.word.now

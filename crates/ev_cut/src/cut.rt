@@ -1,7 +1,7 @@
 //! An input, cut at a line.
 ghost use Rattle.std.specs.Prelude.{◌≡◌, ◌≤◌, ◌+◌, IfSome, MatchOption, length};
 ghost use Rattle.ev_input.specs.Lines.{lines};
-ghost use Rattle.ev_watch.specs.Cut.{IsCutAt, IsNoLine, first_number};
+ghost use Rattle.ev_cut.specs.Cut.{IsCutAt, IsNoLine, first_number};
 
 use ev_input::next_line;
 
@@ -16,13 +16,13 @@ pub struct Cut<'a> {
     pub after: &'a [u8],
 }
 
-/// The parts of an input of at most 4,194,304 bytes that is cut at its first line that is exactly the word, without the
+/// The parts of an input of at most 268,435,456 bytes that is cut at its first line that is exactly the word, without the
 /// line's end; `None` where there is no such line.
 pub fn cut_at<'a>(bytes: &'a [u8], word: &[u8]) -> Option<Cut<'a>>
-    requires { length bytes.now ≤ 4194304 }
+    requires { length bytes.now ≤ 268435456 }
     ensures cut { MatchOption result (IsNoLine word.now (lines bytes.now)) (λ c. IsCutAt word.now bytes.now c.before.now c.after.now) }
     ensures number { IfSome result (λ c. c.number ≡ first_number c.before.now) }
-    ensures bound { IfSome result (λ c. c.number + length c.after.now ≤ 4194306) }
+    ensures bound { IfSome result (λ c. c.number + length c.after.now ≤ length bytes.now + 2) }
 {
     let mut number: u32 = 2;
     let mut rest = bytes;

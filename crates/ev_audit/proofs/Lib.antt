@@ -1,0 +1,5 @@
+pub mod Places
+pub mod Pieces
+pub mod Apart
+pub mod Digits
+pub mod Claiming

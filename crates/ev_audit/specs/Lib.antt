@@ -1,0 +1,5 @@
+pub mod Output
+pub mod Difference
+pub mod Trace
+pub mod Claim
+pub mod Reading

@@ -1,0 +1,89 @@
+//! The turns that a trace shows.
+ghost use Rattle.std.specs.Prelude.{◌≡◌, ◌≤◌, ◌+◌, [], Ok, Err, IfOk, IsOk, MatchResult, length};
+ghost use Rattle.ev_model.specs.Sound.{IsSound};
+ghost use Rattle.ev_audit.specs.Output.{output_lines};
+ghost use Rattle.ev_audit.specs.Trace.{shown_by, trace_behind, trace_line, turns_from, with_line};
+ghost use Rattle.ev_audit.specs.Reading.{ReadsAs, Steps};
+
+use crate::fault::ClaimFault;
+use crate::line::{TraceLine, begins_trace, is_trace_head, trace_line};
+use crate::output::next_line;
+use ev_model::{Net, Turn};
+use std::alloc::Global;
+
+// The lines behind the first of the trace, with the number of the first of them, in an output whose first line has this number.
+fn behind_head(first: u32, output: &[u8]) -> Result<(u32, &[u8]), ClaimFault>
+    requires { first + length output.now ≤ 268435458 }
+    ensures read { ReadsAs (λ p. (p.0, output_lines p.1.now)) result (trace_behind first (output_lines output.now)) }
+    ensures bound { IfOk result (λ p. p.0 + length p.1.now ≤ 268435458) }
+{
+    let mut number = first;
+    let mut rest = output;
+    'lines: while let Some((line, after)) = next_line(rest) {
+        if begins_trace(line) {
+            return if is_trace_head(line) {
+                Ok((number + 1, after))
+            } else {
+                Err(ClaimFault::Form(number))
+            };
+        }
+        number += 1;
+        rest = after;
+    }
+    Err(ClaimFault::Form(number))
+}
+
+// Takes line n of the trace.
+fn take_line(
+    turns: &mut Vec<(u32, Turn)>,
+    n: u32,
+    shown: Option<TraceLine>,
+) -> Result<(), ClaimFault>
+    ensures { Steps result turns.new.items (with_line n turns.old.items shown) }
+{
+    match shown {
+        None => Err(ClaimFault::Form(n)),
+        Some(TraceLine::Message) => Ok(()),
+        Some(TraceLine::Entry(turn)) => {
+            turns.push((n, turn))?;
+            Ok(())
+        }
+    }
+}
+
+// The turns of the lines behind the first of a trace, of which the first has this number, and the number of the end.
+fn turns_behind(
+    alloc: Global,
+    net: &Net,
+    first: u32,
+    lines: &[u8],
+) -> Result<(Vec<(u32, Turn)>, u32), ClaimFault>
+    requires sound { IsSound net.now }
+    requires bound { first + length lines.now ≤ 268435458 }
+    ensures { ReadsAs (λ p. (p.0.items, p.1)) result (turns_from net.now first [] (output_lines lines.now)) }
+{
+    let mut turns = Vec::new(alloc);
+    let mut number = first;
+    let mut rest = lines;
+    'lines: while let Some((line, after)) = next_line(rest) {
+        take_line(&mut turns, number, trace_line(net, line))?;
+        number += 1;
+        rest = after;
+    }
+    Ok((turns, number))
+}
+
+/// The turns that an output shows, each with its line, and the number of its end; its first line has this number.
+pub fn shown_turns(
+    alloc: Global,
+    net: &Net,
+    first: u32,
+    output: &[u8],
+) -> Result<(Vec<(u32, Turn)>, u32), ClaimFault>
+    requires sound { IsSound net.now }
+    requires bound { first + length output.now ≤ 268435458 }
+    ensures { ReadsAs (λ p. (p.0.items, p.1)) result (shown_by net.now first (output_lines output.now)) }
+{
+    let (number, lines) = behind_head(first, output)?;
+    turns_behind(alloc, net, number, lines)
+}
