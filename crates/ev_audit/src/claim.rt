@@ -73,7 +73,9 @@ fn alone(alloc: Global, bytes: &[u8]) -> ClaimFault
 fn with_output(alloc: Global, cut: Cut<'_>, from: usize) -> Result<Claim, ClaimFault>
     requires number { cut.number ≡ first_number cut.before.now }
     requires bound { cut.number + length cut.after.now ≤ 268435458 }
-    ensures { (bytes : List ℕ) → IsCutAt (codes "output") bytes cut.entry.before.now cut.entry.after.now → cut.entry.after.now ≡ drop from bytes
+    ensures from { IfOk result (λ c. c.from ≡ from) }
+    ensures line { IfOk result (λ c. c.line ≡ cut.entry.number) }
+    ensures answers { (bytes : List ℕ) → IsCutAt (codes "output") bytes cut.entry.before.now cut.entry.after.now → cut.entry.after.now ≡ drop from bytes
         → AnswersClaim (λ c. c.net) (λ c. c.from) (λ c. c.line) (λ c. c.end) (λ c. c.turns.items) bytes result }
 {
     let net = document(alloc, cut.before)?;
@@ -89,7 +91,9 @@ fn with_output(alloc: Global, cut: Cut<'_>, from: usize) -> Result<Claim, ClaimF
 
 fn answered(alloc: Global, bytes: &[u8]) -> Result<Claim, ClaimFault>
     requires { length bytes.now ≤ 268435456 }
-    ensures { AnswersClaim (λ c. c.net) (λ c. c.from) (λ c. c.line) (λ c. c.end) (λ c. c.turns.items) bytes.now result }
+    ensures within { IfOk result (λ c. c.from ≤ length bytes.now) }
+    ensures bound { IfOk result (λ c. c.line ≤ 268435458) }
+    ensures answers { AnswersClaim (λ c. c.net) (λ c. c.from) (λ c. c.line) (λ c. c.end) (λ c. c.turns.items) bytes.now result }
 {
     match cut_at(bytes, b"output".as_slice()) {
         Some(cut) => with_output(alloc, cut, bytes.len() - cut.after.len()),
@@ -104,6 +108,8 @@ fn answered(alloc: Global, bytes: &[u8]) -> Result<Claim, ClaimFault>
 pub fn read_claim(alloc: Global, bytes: &[u8]) -> Result<Claim, ClaimFault>
     requires { length bytes.now ≤ 268435456 }
     ensures claim { IfOk result (λ c. IsClaimOf bytes.now c.net c.from c.line c.end c.turns.items) }
+    ensures within { IfOk result (λ c. c.from ≤ length bytes.now) }
+    ensures bound { IfOk result (λ c. c.line ≤ 268435458) }
     ensures given { CanClaim bytes.now → IsOk result ⊎ IsErrOf result NoMemory }
     ensures document { (line : ℕ) (kind : DocumentFault) → IsErrOf result (Document line kind) → IsBadDocument bytes.now line kind }
     ensures form { (line : ℕ) → IsErrOf result (Form line) → IsFormless bytes.now line }

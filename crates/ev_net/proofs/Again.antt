@@ -42,7 +42,7 @@ act-same acts.Version (acts.Command y) e = absurd cc
 act-same acts.Version (acts.Take y) e = absurd cc
 act-same acts.Version acts.Version e = refl
 
-entry-same : (a b : EntryParts) → entry_of a ≡ entry_of b → a ≡ b
+pub entry-same : (a b : EntryParts) → entry_of a ≡ entry_of b → a ≡ b
 entry-same a b e = λ i. record {
   stamp = ap (λ (z : JournalEntry). z.stamp) e i;
   server = ap (λ (z : JournalEntry). z.server) e i;
@@ -73,7 +73,7 @@ turn-home net x server (acts.Take from) entry e = refl
 turn-home net x server acts.Version entry e = refl
 
 -- a turn makes one entry
-permitted-once : (net : NetParts) (m : Moment real (phased_net net)) (turn : Turn) (one other : JournalEntry) (next after : Moment real (phased_net net)) → IsPermittedTurn real (phased_net net) m turn one next
+pub permitted-once : (net : NetParts) (m : Moment real (phased_net net)) (turn : Turn) (one other : JournalEntry) (next after : Moment real (phased_net net)) → IsPermittedTurn real (phased_net net) m turn one next
     → IsPermittedTurn real (phased_net net) m turn other after → one ≡ other
 permitted-once net m turn one other next after x y =
     same_Some _ _ (sym x.possible ∙ (ap (λ z. entry_made real (phased_net net) z turn) (sym (found-is real (phased_net net) m (turn_phase real (phased_net net) m turn) x.found x.ready) ∙ found-is real (phased_net net) m (turn_phase real (phased_net net) m turn) y.found y.ready) ∙ y.possible))

@@ -39,3 +39,4 @@ pub mod Told
 pub mod Again
 pub mod Passing
 pub mod HandedOn
+pub mod Stopping

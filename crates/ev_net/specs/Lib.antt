@@ -1,5 +1,6 @@
 pub mod Network
 pub mod Turns
+pub mod Stopping
 pub mod Walked
 pub mod Kept
 pub mod Links

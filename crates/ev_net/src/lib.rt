@@ -22,4 +22,4 @@ mod walking;
 pub use making::is_among;
 pub use network::Network;
 pub use replaying::ReplayFault;
-pub use retelling::retell;
+pub use retelling::{retell, turn_of};

@@ -194,7 +194,7 @@ impl<'a> Network<'a> {
     }
 
     /// The texts of the messages of the last turn, by rising neighbour.
-    pub(crate) fn last_told(&self) -> Result<Lists<Sent>, NoMemory>
+    pub fn last_told(&self) -> Result<Lists<Sent>, NoMemory>
         ensures { IfOk result (λ told. (before : List EntryParts) (entry : EntryParts) → self.now.journal ≡ before ++ entry ∷ []
             → told ≡ told_of self.now.net (found_of real (phased_net self.now.net) (journal_of self.now.journal) (length before)) entry) }
     {

@@ -28,7 +28,7 @@ pub fn retell(alloc: Global, net: &Net, journal: &[Entry]) -> Result<Vec<Lists<S
 }
 
 /// The turn of an entry.
-fn turn_of(entry: &Entry) -> Turn
+pub fn turn_of(entry: &Entry) -> Turn
     ensures { result ≡ turn_of_entry entry.now }
 {
     match entry.act {

@@ -2,7 +2,8 @@
 use Rattle.std.specs.Prelude.{◌≡◌, ℕ, List, [], ◌∷◌, ◌++◌, ◌⊎◌}
 use Rattle.ev_model.specs.declared.turn.Turn.{Turn}
 use Rattle.ev_model.specs.Parts.{NetParts, EntryParts}
-use Rattle.ev_net.specs.Turns.{AreMade, IsEntryOf, IsBarred}
+use Rattle.ev_net.specs.Turns.{AreMade}
+pub use Rattle.ev_net.specs.Stopping.{StopsAtLine}
 use Rattle.ev_input.specs.declared.fault.Fault.{Fault}
 use Rattle.ev_input.specs.declared.fault.Fault.TheVariants.{BadTurn}
 use Rattle.ev_input.specs.Net.{IsNetOf, IsBadAt}
@@ -10,13 +11,6 @@ use Rattle.ev_quiet.specs.declared.words.Schedule.{Schedule}
 use Rattle.ev_quiet.specs.declared.words.Query.{Query}
 use Rattle.ev_quiet.specs.declared.words.Query.TheVariants.{Run, Flood, Check}
 use Rattle.ev_quiet.specs.Runs.{turns_first}
-
--- after a journal, the first of these turns that is not permitted when it comes is that of this line, and each before it is made
-abbrev pub StopsAtLine : NetParts → List EntryParts → List (ℕ × Turn) → ℕ → Type 0
-StopsAtLine net journal [] line = ⊥
-StopsAtLine net journal (turn ∷ turns) line =
-    ((turn.0 ≡ line) × IsBarred net journal turn.1)
-    ⊎ ((entry : EntryParts) × IsEntryOf net journal turn.1 entry × StopsAtLine net (journal ++ entry ∷ []) turns line)
 
 -- each of these turns is permitted when it comes
 abbrev pub ArePermitted : NetParts → List (ℕ × Turn) → Type 0

@@ -11,6 +11,7 @@ use Rattle.ev_flood.specs.Flooding.{IsFlooding}
 use Rattle.ev_report.specs.Deliveries.{deliveries_text}
 use Rattle.ev_report.specs.Flood.{flood_text}
 use Rattle.ev_report.specs.Trace.{trace_text}
+pub use Rattle.ev_report.specs.Counts.{total}
 use Rattle.ev_report.specs.Summary.{check_text, summary_text}
 use Rattle.ev_quiet.specs.declared.words.Schedule.TheVariants.{Walk}
 use Rattle.ev_quiet.specs.declared.words.Shown.{Shown}
@@ -39,10 +40,6 @@ pub record IsCheckOf (input text : List ℕ) : Type 0 where
   pub net : NetParts
   pub well_formed : IsNetOf input net
   pub printed : text ≡ check_text net
-
--- the members of lists, counted
-abbrev pub total : {A : Type 0} → List (List A) → ℕ
-total lists = sum_over length lists
 
 -- how many publishes of a net were accepted in a run that took all commands
 abbrev pub accepted_in : NetParts → List EntryParts → ℕ

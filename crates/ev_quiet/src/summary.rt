@@ -11,7 +11,7 @@ ghost use Rattle.ev_quiet.specs.Ran.{IsCollected};
 use crate::ran::Ran;
 use ev_memory::NoMemory;
 use ev_model::{Client, Command, Entry, Net};
-use ev_report::summary_text;
+use ev_report::{summary_text, total};
 use ev_wire::Lists;
 use std::alloc::Global;
 
@@ -23,17 +23,6 @@ fn plus(count: u64, more: usize) -> Result<u64, NoMemory>
         Some(sum) => Ok(sum),
         None => Err(NoMemory),
     }
-}
-
-// How many members lists have.
-fn total<L>(lists: &[Lists<L>]) -> Result<u64, NoMemory>
-    ensures { IfOk result (λ count. count ≡ total lists.now) }
-{
-    let mut count = 0;
-    for list in lists {
-        count = plus(count, list.as_slice().len())?;
-    }
-    Ok(count)
 }
 
 // How many messages the entries of a journal put on links.

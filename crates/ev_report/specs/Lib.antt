@@ -5,3 +5,4 @@ pub mod Deliveries
 pub mod Trace
 pub mod Summary
 pub mod Drained
+pub mod Counts

@@ -10,8 +10,13 @@ use ev_model::{Client, Net};
 use ev_wire::{Delivery, Lists};
 use std::alloc::Global;
 
+/// The line of a delivery.
 #[tactic(auto, unfolding(crate::specs::Deliveries::delivery_line))]
-fn push_delivery(out: &mut Vec<u8>, clients: &[Client], delivery: &Delivery) -> Result<(), NoMemory>
+pub fn push_delivery(
+    out: &mut Vec<u8>,
+    clients: &[Client],
+    delivery: &Delivery,
+) -> Result<(), NoMemory>
     ensures { OnOk result (out.new.items ≡ out.old.items ++ delivery_line clients.now delivery.now) }
 {
     push_publication(

@@ -24,7 +24,7 @@ pub(crate) fn name_of(clients: &[Client], number: u32) -> &[u8]
 
 /// The line before what a client receives.
 #[tactic(auto, unfolding(crate::specs::Lines::client_line))]
-pub(crate) fn push_client(out: &mut Vec<u8>, name: &Name) -> Result<(), NoMemory>
+pub fn push_client(out: &mut Vec<u8>, name: &Name) -> Result<(), NoMemory>
     ensures { OnOk result (out.new.items ≡ out.old.items ++ client_line name.now) }
 {
     out.extend_from_slice(b"client ")?;
@@ -44,7 +44,7 @@ fn push_refusal(out: &mut Vec<u8>, ordinal: u32) -> Result<(), NoMemory>
 }
 
 /// A line for each refused publish.
-pub(crate) fn push_refused(out: &mut Vec<u8>, ordinals: &[u32]) -> Result<(), NoMemory>
+pub fn push_refused(out: &mut Vec<u8>, ordinals: &[u32]) -> Result<(), NoMemory>
     ensures { OnOk result (out.new.items ≡ out.old.items ++ flat_map refused_line ordinals.now) }
 {
     for ordinal in ordinals {

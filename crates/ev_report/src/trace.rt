@@ -66,8 +66,9 @@ fn push_messages(out: &mut Vec<u8>, messages: &[Sent]) -> Result<(), NoMemory>
     Ok(())
 }
 
+/// An entry of a journal, with the messages of its step.
 #[tactic(auto, unfolding(crate::specs::Trace::entry_text))]
-fn push_entry(
+pub fn push_trace_entry(
     out: &mut Vec<u8>,
     clients: &[Client],
     entry: &Entry,
@@ -79,8 +80,9 @@ fn push_entry(
     push_messages(out, messages)
 }
 
+/// The line before the entries, of which there are so many.
 #[tactic(auto, unfolding(crate::specs::Trace::trace_head))]
-fn push_head(out: &mut Vec<u8>, entries: usize) -> Result<(), NoMemory>
+pub fn push_trace_head(out: &mut Vec<u8>, entries: usize) -> Result<(), NoMemory>
     ensures { OnOk result (out.new.items ≡ out.old.items ++ trace_head entries) }
 {
     out.extend_from_slice(b"trace ")?;
@@ -101,9 +103,9 @@ pub fn trace_text(
     ensures { IfOk result (λ text. text.items ≡ trace_text net.now journal.now outs.now) }
 {
     let mut out = Vec::new(alloc);
-    push_head(&mut out, journal.len())?;
+    push_trace_head(&mut out, journal.len())?;
     for (i, entry) in journal.iter().enumerate() {
-        push_entry(&mut out, &net.clients, entry, outs[i].as_slice())?;
+        push_trace_entry(&mut out, &net.clients, entry, outs[i].as_slice())?;
     }
     Ok(out)
 }
