@@ -56,7 +56,10 @@ fn is_drained(network: &mut Network<'_>) -> Result<bool, NoMemory>
     ensures { IfOk result (λ drained. TellsDrained drained network.old.net network.old.journal) }
 {
     match network.walk_phase() {
-        Ok(more) => Ok(!more),
+        Ok(more) => {
+            network.journal();
+            Ok(!more)
+        }
         Err(_) => Err(NoMemory),
     }
 }

@@ -79,7 +79,7 @@ permitted-once net m turn one other next after x y =
     same_Some _ _ (sym x.possible ∙ (ap (λ z. entry_made real (phased_net net) z turn) (sym (found-is real (phased_net net) m (turn_phase real (phased_net net) m turn) x.found x.ready) ∙ found-is real (phased_net net) m (turn_phase real (phased_net net) m turn) y.found y.ready) ∙ y.possible))
 
 -- the moment after a beginning of a journal
-begin-is : (net : NetParts) (journal : List EntryParts) (n : ℕ) → n ≤ length journal → moment_by net (take n journal) ≡ moment_of real (phased_net net) (journal_of journal) n
+pub begin-is : (net : NetParts) (journal : List EntryParts) (n : ℕ) → n ≤ length journal → moment_by net (take n journal) ≡ moment_of real (phased_net net) (journal_of journal) n
 begin-is net journal n less =
     let most : length (journal_of (take n journal)) ≡ n = length-map (take n journal) entry_of ∙ length-take-le n journal less in
     ap (moment_of real (phased_net net) (journal_of (take n journal))) most
@@ -93,7 +93,7 @@ slice-map f (y ∷ xs) (suc i) x e = slice-map f xs i x e
 
 -- an entry of a legal run, made again after those before it
 module _ (net : NetParts) (journal : List EntryParts) (legal : IsLegal net journal) (i : ℕ) (d : EntryParts) (less : i < length journal) where
-  permitted-there : IsPermittedTurn real (phased_net net) (moment_of real (phased_net net) (journal_of journal) i) ((get_or journal i d).server, act_of (get_or journal i d).act) (entry_of (get_or journal i d))
+  pub permitted-there : IsPermittedTurn real (phased_net net) (moment_of real (phased_net net) (journal_of journal) i) ((get_or journal i d).server, act_of (get_or journal i d).act) (entry_of (get_or journal i d))
       (moment_of real (phased_net net) (journal_of journal) (suc i))
   permitted-there =
       happens-permitted real (phased_net net) (moment_of real (phased_net net) (journal_of journal) i) (found_of real (phased_net net) (journal_of journal) i) (moment_of real (phased_net net) (journal_of journal) (suc i)) (entry_of (get_or journal i d))

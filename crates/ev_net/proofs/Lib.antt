@@ -40,3 +40,4 @@ pub mod Again
 pub mod Passing
 pub mod HandedOn
 pub mod Stopping
+pub mod Drained

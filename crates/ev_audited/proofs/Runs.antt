@@ -1,0 +1,2 @@
+-- The runs that turns make.
+use Rattle.std.proofs.Common.{◌≡◌, ℕ}
