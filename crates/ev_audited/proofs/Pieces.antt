@@ -1,5 +1,5 @@
 -- A text compared piece by piece.
-use Rattle.std.proofs.Common.{◌≡◌, ℕ, zero, suc, ◌+◌, ◌<◌, ◌≤◌, Bool, true, false, List, [], ◌∷◌, ◌++◌, length, take, drop, Option, Some, None, refl, sym, ap, subst, ◌∙◌, arith, append_assoc}
+use Rattle.std.proofs.Common.{◌≡◌, ◌⊎◌, inl, inr, ℕ, zero, suc, ◌+◌, ◌<◌, ◌≤◌, Bool, true, false, List, [], ◌∷◌, ◌++◌, length, take, drop, Option, Some, None, refl, sym, ap, subst, ◌∙◌, arith, append_assoc}
 use Rattle.std.specs.Prelude.{nat_lt}
 use Rattle.std.specs.Option.{option_map}
 use Rattle.std.proofs.lemmas.Grind.{common_steps}
@@ -10,9 +10,11 @@ use Rattle.ev_audit.proofs.Apart.{at_beginning, begins_claimed, behind_alike, eq
 use Rattle.ev_audited.specs.Comparing.{ComparingParts, GoesOn, IsComparedAt, IsComparedTo, comparing}
 
 take_both : (xs : List ℕ) (n m : ℕ) → n ≤ length xs → take n xs ++ take m (drop n xs) ≡ take (n + m) xs
-take_both xs zero m l = refl
+take_both xs zero m l = let z : m ≡ 0 + m = omega arith in ap (λ k. take k xs) z
 take_both [] (suc n) m l = absurd (omega (arith, l))
-take_both (x ∷ xs) (suc n) m l = ap (λ z. x ∷ z) (take_both xs n m (omega (arith, l)))
+take_both (x ∷ xs) (suc n) m l =
+    let z : suc (n + m) ≡ suc n + m = omega arith in
+    ap (λ k. x ∷ k) (take_both xs n m (omega (arith, l))) ∙ ap (λ k. take k (x ∷ xs)) z
 
 is_lt : (a b : ℕ) → nat_lt a b ≡ true → a < b
 is_lt a b e = grind (arith, common_steps)
@@ -76,3 +78,19 @@ goes_then a b c x y p q = record {
   claimed = q.claimed ∙ p.claimed;
   compared = λ text h. subst (IsComparedTo c) (append_assoc text x y) (q.compared (text ++ x) (p.compared text h));
 }
+
+-- Where the comparison stands.
+
+pub placed_all : (c : ComparingParts) (claimed : List ℕ) (at : ℕ) (b : Bool) → comparing claimed at b ≡ c → b ≡ false → at ≡ length claimed
+    → (text : List ℕ) → IsComparedTo c text → None ≡ difference c.claimed text
+placed_all c claimed at b same f e text h =
+    subst (λ (z : ComparingParts). None ≡ difference z.claimed text) (ap (comparing claimed at) (sym f) ∙ same)
+    (placed_none claimed text at e (subst (λ z. IsComparedTo z text) (sym (ap (comparing claimed at) (sym f) ∙ same)) h))
+
+pub placed_some : (c : ComparingParts) (claimed : List ℕ) (at : ℕ) (b : Bool) → comparing claimed at b ≡ c → (b ≡ true) ⊎ (at ≡ length claimed → ⊥)
+    → (text : List ℕ) → IsComparedTo c text → Some at ≡ difference c.claimed text
+placed_some c claimed at true same ne text h =
+    subst (λ (z : ComparingParts). Some at ≡ difference z.claimed text) same (placed_apart claimed text at (subst (λ z. IsComparedTo z text) (sym same) h))
+placed_some c claimed at false same (inl e) text h = cc
+placed_some c claimed at false same (inr ne) text h =
+    subst (λ (z : ComparingParts). Some at ≡ difference z.claimed text) same (placed_before claimed text at ne (subst (λ z. IsComparedTo z text) (sym same) h))

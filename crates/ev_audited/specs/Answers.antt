@@ -1,8 +1,10 @@
 -- How the code follows the definitions; no promise to a caller speaks of it.
-use Rattle.std.specs.Prelude.{◌≡◌, ℕ, Bool, true, false, List, Result, Ok, Err, Option, Some, None}
+use Rattle.std.specs.Prelude.{◌≡◌, ℕ, Bool, true, false, List, [], Result, Ok, Err, Option, Some, None}
 use Rattle.ev_model.specs.declared.turn.Turn.{Turn}
 use Rattle.ev_model.specs.Parts.{NetParts, EntryParts}
-use Rattle.ev_net.specs.Network.{IsDrainedBy}
+use Rattle.ev_net.specs.Network.{NetworkParts, IsDrainedBy}
+use Rattle.ev_net.specs.Stopping.{StopsAtLine}
+use Rattle.ev_net.specs.Turns.{AreMade}
 use Rattle.ev_net.specs.declared.replaying.ReplayFault.{ReplayFault}
 use Rattle.ev_net.specs.declared.replaying.ReplayFault.TheVariants as turns
 use Rattle.ev_audit.specs.Claim.{IsBadDocument}
@@ -30,6 +32,13 @@ fault_of_turn turns.NoMemory = faults.NoMemory
 abbrev pub TellsDrained : Bool → NetParts → List EntryParts → Type 0
 TellsDrained true net journal = IsDrainedBy net journal
 TellsDrained false net journal = IsDrainedBy net journal → ⊥
+
+-- the network after turns, as it is seen, or the turn that is not permitted
+abbrev pub TellsMade : {A : Type 0} → (A → NetworkParts) → NetParts → List (ℕ × Turn) → Result A AuditFault → Type 0
+TellsMade view net turns (Ok a) = ((view a).net ≡ net) × AreMade net [] turns (view a).journal
+TellsMade view net turns (Err faults.NoMemory) = Unit {0}
+TellsMade view net turns (Err (faults.Document line kind)) = ⊥
+TellsMade view net turns (Err (faults.Refuted line kind)) = (kind ≡ BadTurn) × StopsAtLine net [] turns line
 
 -- by the text that was compared, and whether the run is drained
 abbrev pub ConcludesAt : ℕ → ℕ → List ℕ → Bool → Result (Unit {0}) AuditFault → Option ℕ → Type 0

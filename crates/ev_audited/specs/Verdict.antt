@@ -79,8 +79,11 @@ abbrev pub CanAudit : List ℕ → Type 0
 CanAudit bytes = AllInputs bytes (λ net document output. (journal : List EntryParts) × IsVerdict net document output (Ok journal))
 
 -- how many rows are owed
+abbrev pub owed_of : List OwedRow → ℕ
+owed_of rows = sum_over (λ (row : OwedRow). count row.must) rows
+
 abbrev pub owed_in : List (List OwedRow) → ℕ
-owed_in lists = sum_over (λ rows. sum_over (λ (row : OwedRow). count row.must) rows) lists
+owed_in lists = sum_over owed_of lists
 
 -- WHAT AN AUDIT COUNTS: the publications that flooding owes, over all clients, and the deliveries of the run
 abbrev pub Owes : NetParts → ℕ → Type 0

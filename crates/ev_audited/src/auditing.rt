@@ -1,23 +1,21 @@
 //! Audits.
-ghost use Rattle.std.specs.Prelude.{◌≡◌, ◌≤◌, ◌⊎◌, ℕ, [], length, IfOk, IsOk, IsErrOf};
+ghost use Rattle.std.specs.Prelude.{◌≡◌, ◌≤◌, ◌⊎◌, ℕ, length, IfOk, IsOk, IsErrOf, OnOk};
 ghost use Rattle.ev_model.specs.Nets.{of_clients};
 ghost use Rattle.ev_model.specs.Sound.{IsSound};
-ghost use Rattle.ev_net.specs.Network.{received_by};
-ghost use Rattle.ev_net.specs.Stopping.{StopsAtLine};
-ghost use Rattle.ev_net.specs.Turns.{AreMade};
+ghost use Rattle.ev_net.specs.Network.{IsLegal, received_by};
 ghost use Rattle.ev_input.specs.declared.fault.Fault.{Fault as DocumentFault};
 ghost use Rattle.ev_report.specs.Counts.{total};
 ghost use Rattle.ev_audit.specs.Claim.{IsBadDocument};
-ghost use Rattle.ev_audited.specs.Answers.{AnswersAudit, Concludes, TellsAudited, TellsRun};
-ghost use Rattle.ev_audited.specs.Verdict.{CanAudit, IsAudited, IsRefuted, MustBeRefuted};
+ghost use Rattle.ev_audited.specs.Comparing.{GoesOn};
+ghost use Rattle.ev_audited.specs.Answers.{AnswersAudit, Concludes, TellsAudited, TellsDrained, TellsMade, TellsRun};
+ghost use Rattle.ev_audited.specs.Verdict.{CanAudit, IsAudited, IsRefuted, MustBeRefuted, delivered_in, traced_text};
 ghost use Rattle.ev_audited.specs.declared.fault.AuditKind.{AuditKind as Kind};
-ghost use Rattle.ev_audited.specs.declared.fault.AuditKind.TheVariants.{BadTurn};
 ghost use Rattle.ev_audited.specs.declared.fault.AuditFault.TheVariants.{Document, NoMemory as OutOfMemory, Refuted};
 
 use crate::compared::compare_deliveries;
 use crate::comparing::Comparing;
 use crate::counts::owed;
-use crate::fault::{AuditFault, AuditKind};
+use crate::fault::{AuditFault, AuditKind, stopped, unclaimed};
 use crate::place::line_at;
 use crate::traced::compare_trace;
 use ev_audit::{Claim, read_claim};
@@ -42,13 +40,13 @@ pub struct Audited {
 // The network after turns.
 fn replayed<'a>(alloc: Global, net: &'a Net, turns: &[(u32, Turn)]) -> Result<Network<'a>, AuditFault>
     requires { IsSound net.now }
-    ensures made { IfOk result (λ network. (network.net ≡ net.now) × AreMade net.now [] turns.now network.journal) }
-    ensures stops { (line : ℕ) (kind : Kind) → IsErrOf result (Refuted line kind) → (kind ≡ BadTurn) × StopsAtLine net.now [] turns.now line }
-    ensures sound { (line : ℕ) (kind : DocumentFault) → IsErrOf result (Document line kind) → ⊥ }
+    ensures { TellsMade (λ network. network) net.now turns.now result }
 {
     let mut network = Network::start(alloc, net)?;
-    network.replay(turns)?;
-    Ok(network)
+    match network.replay(turns) {
+        Ok(()) => Ok(network),
+        Err(fault) => Err(stopped(fault)),
+    }
 }
 
 // The journal of a network, and how many deliveries there were.
@@ -58,6 +56,35 @@ fn left(network: Network<'_>) -> Result<(Vec<Entry>, u64), NoMemory>
 {
     let (journal, received) = network.into_parts()?;
     Ok((journal, total(&received)?))
+}
+
+// What is left of a network, whose run is compared.
+#[derive(Drop)]
+struct Compared {
+    journal: Vec<Entry>,
+    deliveries: u64,
+    drained: bool,
+}
+
+// Compares the text of the run of a network.
+fn compare(alloc: Global, net: &Net, network: Network<'_>, text: &mut Comparing<'_>) -> Result<Compared, NoMemory>
+    requires sound { IsSound net.now }
+    requires same { network.net ≡ net.now }
+    ensures journal { IfOk result (λ l. l.journal.items ≡ network.entry.journal) }
+    ensures legal { OnOk result (IsLegal net.now network.entry.journal) }
+    ensures deliveries { IfOk result (λ l. l.deliveries ≡ delivered_in net.now network.entry.journal) }
+    ensures drained { IfOk result (λ l. TellsDrained l.drained net.now network.entry.journal) }
+    ensures compared { OnOk result (GoesOn text.old text.new (traced_text net.now network.entry.journal)) }
+{
+    network.journal();
+    compare_deliveries(alloc, text, net, &network)?;
+    let (journal, deliveries) = left(network)?;
+    let drained = compare_trace(alloc, text, net, &journal)?;
+    Ok(Compared {
+        journal,
+        deliveries,
+        drained,
+    })
 }
 
 // Whether the text that was compared, of a run that is drained or not, is what is claimed.
@@ -97,13 +124,20 @@ fn run(
     requires short { length output.now ≤ 268435456 }
     ensures { TellsRun (λ p. p.0.items) (λ p. p.1) net.now first end output.now turns.now result }
 {
-    let network = replayed(alloc, net, turns)?;
+    let network = match replayed(alloc, net, turns) {
+        Ok(network) => network,
+        Err(fault) => return Err(fault),
+    };
     let mut text = Comparing::new(output);
-    compare_deliveries(alloc, &mut text, net, &network)?;
-    let (journal, deliveries) = left(network)?;
-    let drained = compare_trace(alloc, &mut text, net, &journal)?;
-    concluded(&text, first, end, output, drained)?;
-    Ok((journal, deliveries))
+    let Compared {
+        journal,
+        deliveries,
+        drained,
+    } = compare(alloc, net, network, &mut text)?;
+    match concluded(&text, first, end, output, drained) {
+        Ok(()) => Ok((journal, deliveries)),
+        Err(fault) => Err(fault),
+    }
 }
 
 // The answer to what is claimed.
@@ -113,7 +147,10 @@ fn of_claim(alloc: Global, claim: Claim, output: &[u8]) -> Result<Audited, Audit
     requires short { length output.now ≤ 268435456 }
     ensures { TellsAudited (λ a. a.journal.items) (λ a. a.owed) (λ a. a.deliveries) claim.net claim.line claim.end output.now claim.turns.items result }
 {
-    let (journal, deliveries) = run(alloc, &claim.net, &claim.turns, claim.line, claim.end, output)?;
+    let (journal, deliveries) = match run(alloc, &claim.net, &claim.turns, claim.line, claim.end, output) {
+        Ok(left) => left,
+        Err(fault) => return Err(fault),
+    };
     let owed = owed(alloc, &claim.net)?;
     Ok(Audited {
         journal,
@@ -127,7 +164,10 @@ fn answered(alloc: Global, bytes: &[u8]) -> Result<Audited, AuditFault>
     ensures { AnswersAudit (λ a. a.journal.items) (λ a. a.owed) (λ a. a.deliveries) bytes.now result }
 {
     net_is_sound();
-    let claim = read_claim(alloc, bytes)?;
+    let claim = match read_claim(alloc, bytes) {
+        Ok(claim) => claim,
+        Err(fault) => return Err(unclaimed(fault)),
+    };
     let (_, output) = bytes.split_at(claim.from);
     of_claim(alloc, claim, output)
 }

@@ -1,5 +1,5 @@
 //! A text compared with what is claimed, as it is written.
-ghost use Rattle.std.specs.Prelude.{◌≡◌, List, ℕ, false};
+ghost use Rattle.std.specs.Prelude.{◌≡◌, ◌≤◌, List, ℕ, false, length, IfSome};
 ghost use Rattle.ev_audit.specs.Difference.{difference};
 ghost use Rattle.ev_audited.specs.Comparing.{GoesOn, IsComparedTo, comparing};
 
@@ -56,7 +56,8 @@ impl<'a> Comparing<'a> {
 
     /// The first place at which what is claimed is not the text that was compared.
     pub fn place(&self) -> Option<usize>
-        ensures { (text : List ℕ) → IsComparedTo self.now text → result ≡ difference self.now.claimed text }
+        ensures value { (text : List ℕ) → IsComparedTo self.now text → result ≡ difference self.now.claimed text }
+        ensures within { IfSome result (λ place. place ≤ length self.now.claimed) }
     {
         if !self.apart && self.at == self.claimed.len() {
             None

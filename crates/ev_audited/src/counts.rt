@@ -1,8 +1,7 @@
 //! What an audit counts.
 ghost use Rattle.std.specs.Prelude.{◌≡◌, ◌+◌, ◌≤◌, IfOk, length};
-ghost use Rattle.ev_sets.specs.Numbers.{count, sum_over};
 ghost use Rattle.ev_model.specs.Sound.{IsSound};
-ghost use Rattle.ev_audited.specs.Verdict.{Owes, owed_in};
+ghost use Rattle.ev_audited.specs.Verdict.{Owes, owed_in, owed_of};
 
 use ev_flood::{OwedRow, must_may};
 use ev_memory::NoMemory;
@@ -12,7 +11,7 @@ use std::alloc::Global;
 
 // How many of these rows are owed.
 fn owed_of(rows: &[OwedRow]) -> u64
-    ensures value { result ≡ sum_over (λ (row : OwedRow). count row.must) rows.now }
+    ensures value { result ≡ owed_of rows.now }
     ensures most { result ≤ length rows.now }
 {
     let mut owed = 0;

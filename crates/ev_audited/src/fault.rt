@@ -43,32 +43,30 @@ pub enum AuditFault {
     NoMemory,
 }
 
-impl From<ClaimFault> for AuditFault {
-    ghost from_gives = { λ fault e. e ≡ fault_of_claim fault };
-
-    fn from(fault: ClaimFault) -> Self {
-        match fault {
-            ClaimFault::Document { line, kind } => AuditFault::Document { line, kind },
-            ClaimFault::Form(line) => AuditFault::Refuted {
-                line,
-                kind: AuditKind::Form,
-            },
-            ClaimFault::NoMemory => AuditFault::NoMemory,
-        }
+/// Of an input that claims nothing.
+pub(crate) fn unclaimed(fault: ClaimFault) -> AuditFault
+    ensures { result ≡ fault_of_claim fault }
+{
+    match fault {
+        ClaimFault::Document { line, kind } => AuditFault::Document { line, kind },
+        ClaimFault::Form(line) => AuditFault::Refuted {
+            line,
+            kind: AuditKind::Form,
+        },
+        ClaimFault::NoMemory => AuditFault::NoMemory,
     }
 }
 
-impl From<ReplayFault> for AuditFault {
-    ghost from_gives = { λ fault e. e ≡ fault_of_turn fault };
-
-    fn from(fault: ReplayFault) -> Self {
-        match fault {
-            ReplayFault::BadTurn(line) => AuditFault::Refuted {
-                line,
-                kind: AuditKind::BadTurn,
-            },
-            ReplayFault::NoMemory => AuditFault::NoMemory,
-        }
+/// Of turns that stop.
+pub(crate) fn stopped(fault: ReplayFault) -> AuditFault
+    ensures { result ≡ fault_of_turn fault }
+{
+    match fault {
+        ReplayFault::BadTurn(line) => AuditFault::Refuted {
+            line,
+            kind: AuditKind::BadTurn,
+        },
+        ReplayFault::NoMemory => AuditFault::NoMemory,
     }
 }
 
