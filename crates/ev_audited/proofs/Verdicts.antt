@@ -110,33 +110,34 @@ module _ {A : Type 0} (j : A → List EntryParts) (n : A → ℕ) (net : NetPart
 
 -- What is told of an input.
 
-pub unclaimed_tells : {A : Type 0} (j : A → List EntryParts) (o n : A → ℕ) (bytes : List ℕ) (fault : ClaimFault) → ((line : ℕ) (kind : Fault) → fault ≡ claims.Document line kind → IsBadDocument bytes line kind)
-    → ((line : ℕ) → fault ≡ claims.Form line → IsFormless bytes line) → AnswersAudit j o n bytes (Err (fault_of_claim fault))
-unclaimed_tells j o n bytes (claims.Document line kind) bad form = bad line kind refl
-unclaimed_tells j o n bytes claims.NoMemory bad form = tt
-unclaimed_tells j o n bytes (claims.Form line) bad form = go (form line refl)
+pub unclaimed_tells : {A : Type 0} (g : A → NetParts) (j : A → List EntryParts) (o n : A → ℕ) (bytes : List ℕ) (fault : ClaimFault) → ((line : ℕ) (kind : Fault) → fault ≡ claims.Document line kind → IsBadDocument bytes line kind)
+    → ((line : ℕ) → fault ≡ claims.Form line → IsFormless bytes line) → AnswersAudit g j o n bytes (Err (fault_of_claim fault))
+unclaimed_tells g j o n bytes (claims.Document line kind) bad form = bad line kind refl
+unclaimed_tells g j o n bytes claims.NoMemory bad form = tt
+unclaimed_tells g j o n bytes (claims.Form line) bad form = go (form line refl)
   where
     go : IsFormless bytes line → IsRefuted bytes line is.Form
     go (inl alone) = inr (alone, refl)
     go (inr (d, out, net, i, e)) = inl (d, out, net, i, subst (ShowsRun net (first_number d) out (Err (line, is.Form))) (sym e) refl)
 
-module _ {A : Type 0} (j : A → List EntryParts) (o n : A → ℕ) (bytes : List ℕ) (net : NetParts) (from first end : ℕ) (turns : List (ℕ × Turn)) (output : List ℕ) (c : IsClaimOf bytes net from first end turns) (behind : output ≡ drop from bytes) where
+module _ {A : Type 0} (g : A → NetParts) (j : A → List EntryParts) (o n : A → ℕ) (bytes : List ℕ) (net : NetParts) (from first end : ℕ) (turns : List (ℕ × Turn)) (output : List ℕ) (c : IsClaimOf bytes net from first end turns) (behind : output ≡ drop from bytes) where
   verdict_of : (v : Verdict) → MakesRun net first end output turns v → IsVerdict net c.document c.output v
   verdict_of v m =
       subst (ShowsRun net (first_number c.document) c.output v) (sym c.shows)
       (subst (λ z. MakesRun net z end c.output turns v) c.first (subst (λ z. MakesRun net first end z turns v) (behind ∙ sym c.begins) m))
 
-  pub claim_tells : (r : Result A AuditFault) → TellsAudited j o n net first end output turns r → AnswersAudit j o n bytes r
-  claim_tells (Ok a) ((m, run, delivers), owes) = record {
-    document = c.document;
-    output = c.output;
-    net = net;
-    input = c.input;
-    run = subst (IsOutputOf net (j a)) (behind ∙ sym c.begins) run;
-    verdict = verdict_of (Ok (j a)) m;
-    owes = owes;
-    delivers = delivers;
-  }
+  pub claim_tells : (r : Result A AuditFault) → TellsAudited g j o n net first end output turns r → AnswersAudit g j o n bytes r
+  claim_tells (Ok a) ((m, run, delivers), (same, owes)) =
+      subst (λ z. IsAudited bytes z (j a) (o a) (n a)) (sym same)
+      (record {
+        document = c.document;
+        output = c.output;
+        input = c.input;
+        run = subst (IsOutputOf net (j a)) (behind ∙ sym c.begins) run;
+        verdict = verdict_of (Ok (j a)) m;
+        owes = owes;
+        delivers = delivers;
+      })
   claim_tells (Err faults.NoMemory) h = tt
   claim_tells (Err (faults.Document line kind)) h = absurd h.0
   claim_tells (Err (faults.Refuted line kind)) h = inl (c.document, c.output, net, c.input, verdict_of (Err (line, kind)) h.0)
@@ -153,43 +154,49 @@ one_place l line k kind e =
     let p : x ≡ y = cc in
     (ap (λ (z : ℕ × AuditKind). z.0) p, ap (λ (z : ℕ × AuditKind). z.1) p)
 
-refuted_or_bad : (bytes : List ℕ) (l : ℕ) (k : AuditKind) (line : ℕ) (kind : Fault) → IsRefuted bytes l k → IsBadDocument bytes line kind → ⊥
+pub refuted_or_bad : (bytes : List ℕ) (l : ℕ) (k : AuditKind) (line : ℕ) (kind : Fault) → IsRefuted bytes l k → IsBadDocument bytes line kind → ⊥
 refuted_or_bad bytes l k line kind (inl (d, out, net, i, v)) b = input_or_bad bytes d out net line kind i b
 refuted_or_bad bytes l k line kind (inr (alone, e)) b = formless_or_bad bytes l line kind (inl alone) b
 
-refuted_once : (bytes : List ℕ) (l line : ℕ) (k kind : AuditKind) → IsRefuted bytes l k → MustBeRefuted bytes line kind → (l ≡ line) × (k ≡ kind)
+pub refuted_once : (bytes : List ℕ) (l line : ℕ) (k kind : AuditKind) → IsRefuted bytes l k → MustBeRefuted bytes line kind → (l ≡ line) × (k ≡ kind)
 refuted_once bytes l line k kind (inl (d, out, net, i, v)) (inl (h, all)) = one_place l line k kind (one_verdict net d out (Err (l, k)) (Err (line, kind)) v (all d out net i))
 refuted_once bytes l line k kind (inl (d, out, net, i, v)) (inr (alone, e)) = absurd (not_alone bytes d out i.cut alone.0)
 refuted_once bytes l line k kind (inr (alone, e)) (inl ((d, out, net, i), all)) = absurd (not_alone bytes d out i.cut alone.0)
 refuted_once bytes l line k kind (inr (alone, e)) (inr (alone', e')) = (alone.2 ∙ sym alone'.2, e ∙ sym e')
 
-must_or_bad : (bytes : List ℕ) (l : ℕ) (k : Fault) (line : ℕ) (kind : AuditKind) → IsBadDocument bytes l k → MustBeRefuted bytes line kind → ⊥
+pub must_or_bad : (bytes : List ℕ) (l : ℕ) (k : Fault) (line : ℕ) (kind : AuditKind) → IsBadDocument bytes l k → MustBeRefuted bytes line kind → ⊥
 must_or_bad bytes l k line kind b (inl ((d, out, net, i), all)) = input_or_bad bytes d out net l k i b
 must_or_bad bytes l k line kind b (inr (alone, e)) = formless_or_bad bytes line l k (inl alone) b
 
-audited_or_must : (bytes : List ℕ) (journal : List EntryParts) (owed deliveries line : ℕ) (kind : AuditKind) → IsAudited bytes journal owed deliveries → MustBeRefuted bytes line kind → ⊥
-audited_or_must bytes journal owed deliveries line kind a (inl (h, all)) =
-    never_both journal (line, kind) (one_verdict a.net a.document a.output (Ok journal) (Err (line, kind)) a.verdict (all a.document a.output a.net a.input))
-audited_or_must bytes journal owed deliveries line kind a (inr (alone, e)) = not_alone bytes a.document a.output a.input.cut alone.0
+pub audited_or_must : (bytes : List ℕ) (net : NetParts) (journal : List EntryParts) (owed deliveries line : ℕ) (kind : AuditKind) → IsAudited bytes net journal owed deliveries → MustBeRefuted bytes line kind → ⊥
+audited_or_must bytes net journal owed deliveries line kind a (inl (h, all)) =
+    never_both journal (line, kind) (one_verdict net a.document a.output (Ok journal) (Err (line, kind)) a.verdict (all a.document a.output net a.input))
+audited_or_must bytes net journal owed deliveries line kind a (inr (alone, e)) = not_alone bytes a.document a.output a.input.cut alone.0
 
-can_or_refuted : (bytes : List ℕ) (l : ℕ) (k : AuditKind) → CanAudit bytes → IsRefuted bytes l k → ⊥
+pub can_or_refuted : (bytes : List ℕ) (l : ℕ) (k : AuditKind) → CanAudit bytes → IsRefuted bytes l k → ⊥
 can_or_refuted bytes l k (h, all) (inl (d, out, net, i, v)) =
     let t = all d out net i in
     never_both t.0 (l, k) (one_verdict net d out (Ok t.0) (Err (l, k)) t.1 v)
 can_or_refuted bytes l k ((d, out, net, i), all) (inr (alone, e)) = not_alone bytes d out i.cut alone.0
 
-module _ {A : Type 0} (j : A → List EntryParts) (o n : A → ℕ) (bytes : List ℕ) where
-  pub audited_told : (r : Result A AuditFault) → AnswersAudit j o n bytes r → IfOk r (λ a. IsAudited bytes (j a) (o a) (n a))
+pub audited_or_bad : (bytes : List ℕ) (net : NetParts) (journal : List EntryParts) (owed deliveries line : ℕ) (kind : Fault) → IsAudited bytes net journal owed deliveries → IsBadDocument bytes line kind → ⊥
+audited_or_bad bytes net journal owed deliveries line kind a b = input_or_bad bytes a.document a.output net line kind a.input b
+
+pub can_or_bad : (bytes : List ℕ) (line : ℕ) (kind : Fault) → CanAudit bytes → IsBadDocument bytes line kind → ⊥
+can_or_bad bytes line kind ((d, out, net, i), all) b = input_or_bad bytes d out net line kind i b
+
+module _ {A : Type 0} (g : A → NetParts) (j : A → List EntryParts) (o n : A → ℕ) (bytes : List ℕ) where
+  pub audited_told : (r : Result A AuditFault) → AnswersAudit g j o n bytes r → IfOk r (λ a. IsAudited bytes (g a) (j a) (o a) (n a))
   audited_told (Ok a) h = h
   audited_told (Err e) h = tt
 
-  pub done_told : (r : Result A AuditFault) → AnswersAudit j o n bytes r → CanAudit bytes → IsOk r ⊎ (r ≡ Err faults.NoMemory)
+  pub done_told : (r : Result A AuditFault) → AnswersAudit g j o n bytes r → CanAudit bytes → IsOk r ⊎ (r ≡ Err faults.NoMemory)
   done_told (Ok a) h k = inl refl
   done_told (Err faults.NoMemory) h k = inr refl
   done_told (Err (faults.Document line kind)) h ((d, out, net, i), all) = absurd (input_or_bad bytes d out net line kind i h)
   done_told (Err (faults.Refuted line kind)) h k = absurd (can_or_refuted bytes line kind k h)
 
-  pub document_told : (r : Result A AuditFault) → AnswersAudit j o n bytes r → (line : ℕ) (kind : Fault) → r ≡ Err (faults.Document line kind) → IsBadDocument bytes line kind
+  pub document_told : (r : Result A AuditFault) → AnswersAudit g j o n bytes r → (line : ℕ) (kind : Fault) → r ≡ Err (faults.Document line kind) → IsBadDocument bytes line kind
   document_told (Ok a) h line kind e = cc
   document_told (Err faults.NoMemory) h line kind e = cc
   document_told (Err (faults.Refuted l k)) h line kind e = cc
@@ -198,7 +205,7 @@ module _ {A : Type 0} (j : A → List EntryParts) (o n : A → ℕ) (bytes : Lis
       let b : k ≡ kind = cc in
       subst (λ z. IsBadDocument bytes z kind) a (subst (λ z. IsBadDocument bytes l z) b h)
 
-  pub refuted_told : (r : Result A AuditFault) → AnswersAudit j o n bytes r → (line : ℕ) (kind : AuditKind) → r ≡ Err (faults.Refuted line kind) → IsRefuted bytes line kind
+  pub refuted_told : (r : Result A AuditFault) → AnswersAudit g j o n bytes r → (line : ℕ) (kind : AuditKind) → r ≡ Err (faults.Refuted line kind) → IsRefuted bytes line kind
   refuted_told (Ok a) h line kind e = cc
   refuted_told (Err faults.NoMemory) h line kind e = cc
   refuted_told (Err (faults.Document l k)) h line kind e = cc
@@ -207,18 +214,18 @@ module _ {A : Type 0} (j : A → List EntryParts) (o n : A → ℕ) (bytes : Lis
       let b : k ≡ kind = cc in
       subst (λ z. IsRefuted bytes z kind) a (subst (λ z. IsRefuted bytes l z) b h)
 
-  pub refused_document_told : (r : Result A AuditFault) → AnswersAudit j o n bytes r → (line : ℕ) (kind : Fault) → IsBadDocument bytes line kind
+  pub refused_document_told : (r : Result A AuditFault) → AnswersAudit g j o n bytes r → (line : ℕ) (kind : Fault) → IsBadDocument bytes line kind
       → (r ≡ Err (faults.Document line kind)) ⊎ (r ≡ Err faults.NoMemory)
-  refused_document_told (Ok a) h line kind b = absurd (input_or_bad bytes h.document h.output h.net line kind h.input b)
+  refused_document_told (Ok a) h line kind b = absurd (input_or_bad bytes h.document h.output (g a) line kind h.input b)
   refused_document_told (Err faults.NoMemory) h line kind b = inr refl
   refused_document_told (Err (faults.Refuted l k)) h line kind b = absurd (refuted_or_bad bytes l k line kind h b)
   refused_document_told (Err (faults.Document l k)) h line kind b =
       let t = one_bad bytes l line k kind h b in
       inl (λ i. Err (faults.Document (t.0 i) (t.1 i)))
 
-  pub must_told : (r : Result A AuditFault) → AnswersAudit j o n bytes r → (line : ℕ) (kind : AuditKind) → MustBeRefuted bytes line kind
+  pub must_told : (r : Result A AuditFault) → AnswersAudit g j o n bytes r → (line : ℕ) (kind : AuditKind) → MustBeRefuted bytes line kind
       → (r ≡ Err (faults.Refuted line kind)) ⊎ (r ≡ Err faults.NoMemory)
-  must_told (Ok a) h line kind m = absurd (audited_or_must bytes (j a) (o a) (n a) line kind h m)
+  must_told (Ok a) h line kind m = absurd (audited_or_must bytes (g a) (j a) (o a) (n a) line kind h m)
   must_told (Err faults.NoMemory) h line kind m = inr refl
   must_told (Err (faults.Document l k)) h line kind m = absurd (must_or_bad bytes l k line kind h m)
   must_told (Err (faults.Refuted l k)) h line kind m =

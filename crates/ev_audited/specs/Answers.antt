@@ -57,19 +57,19 @@ TellsRun journal deliveries net first end output turns (Err faults.NoMemory) = U
 TellsRun journal deliveries net first end output turns (Err (faults.Document line kind)) = ⊥
 TellsRun journal deliveries net first end output turns (Err (faults.Refuted line kind)) = MakesRun net first end output turns (Err (line, kind))
 
--- and of what it owes besides
-abbrev pub OwesWhere : {A : Type 0} → (A → ℕ) → NetParts → Result A AuditFault → Type 0
-OwesWhere owed net (Ok a) = Owes net (owed a)
-OwesWhere owed net (Err e) = Unit {0}
+-- and of what it owes besides, by its net
+abbrev pub OwesWhere : {A : Type 0} → (A → NetParts) → (A → ℕ) → NetParts → Result A AuditFault → Type 0
+OwesWhere of owed net (Ok a) = (of a ≡ net) × Owes net (owed a)
+OwesWhere of owed net (Err e) = Unit {0}
 
-abbrev pub TellsAudited : {A : Type 0} → (A → List EntryParts) → (A → ℕ) → (A → ℕ) → NetParts → ℕ → ℕ → List ℕ → List (ℕ × Turn)
+abbrev pub TellsAudited : {A : Type 0} → (A → NetParts) → (A → List EntryParts) → (A → ℕ) → (A → ℕ) → NetParts → ℕ → ℕ → List ℕ → List (ℕ × Turn)
     → Result A AuditFault → Type 0
-TellsAudited journal owed deliveries net first end output turns result =
-    TellsRun journal deliveries net first end output turns result × OwesWhere owed net result
+TellsAudited of journal owed deliveries net first end output turns result =
+    TellsRun journal deliveries net first end output turns result × OwesWhere of owed net result
 
 -- the answer to an input
-abbrev pub AnswersAudit : {A : Type 0} → (A → List EntryParts) → (A → ℕ) → (A → ℕ) → List ℕ → Result A AuditFault → Type 0
-AnswersAudit journal owed deliveries bytes (Ok a) = IsAudited bytes (journal a) (owed a) (deliveries a)
-AnswersAudit journal owed deliveries bytes (Err faults.NoMemory) = Unit {0}
-AnswersAudit journal owed deliveries bytes (Err (faults.Document line kind)) = IsBadDocument bytes line kind
-AnswersAudit journal owed deliveries bytes (Err (faults.Refuted line kind)) = IsRefuted bytes line kind
+abbrev pub AnswersAudit : {A : Type 0} → (A → NetParts) → (A → List EntryParts) → (A → ℕ) → (A → ℕ) → List ℕ → Result A AuditFault → Type 0
+AnswersAudit of journal owed deliveries bytes (Ok a) = IsAudited bytes (of a) (journal a) (owed a) (deliveries a)
+AnswersAudit of journal owed deliveries bytes (Err faults.NoMemory) = Unit {0}
+AnswersAudit of journal owed deliveries bytes (Err (faults.Document line kind)) = IsBadDocument bytes line kind
+AnswersAudit of journal owed deliveries bytes (Err (faults.Refuted line kind)) = IsRefuted bytes line kind

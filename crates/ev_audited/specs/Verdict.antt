@@ -93,10 +93,9 @@ abbrev pub delivered_in : NetParts → List EntryParts → ℕ
 delivered_in net journal = total (of_clients net (received_by net journal))
 
 -- THE OUTPUT OF AN INPUT IS THAT OF THIS RUN, which is legal and drained, with its counts
-pub record IsAudited (bytes : List ℕ) (journal : List EntryParts) (owed deliveries : ℕ) : Type 0 where
+pub record IsAudited (bytes : List ℕ) (net : NetParts) (journal : List EntryParts) (owed deliveries : ℕ) : Type 0 where
   pub document : List ℕ
   pub output : List ℕ
-  pub net : NetParts
   pub input : IsInput bytes document output net
   pub run : IsOutputOf net journal output
   pub verdict : IsVerdict net document output (Ok journal)

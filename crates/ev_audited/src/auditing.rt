@@ -29,6 +29,8 @@ use std::alloc::Global;
 /// A run that is what was claimed.
 #[derive(Drop)]
 pub struct Audited {
+    /// The net of its document.
+    pub net: Net,
     /// Its journal, in the order of the turns.
     pub journal: Vec<Entry>,
     /// How many publications flooding owes, over all clients.
@@ -145,14 +147,22 @@ fn of_claim(alloc: Global, claim: Claim, output: &[u8]) -> Result<Audited, Audit
     requires sound { IsSound claim.net }
     requires first { claim.line ≤ 268435458 }
     requires short { length output.now ≤ 268435456 }
-    ensures { TellsAudited (λ a. a.journal.items) (λ a. a.owed) (λ a. a.deliveries) claim.net claim.line claim.end output.now claim.turns.items result }
+    ensures { TellsAudited (λ a. a.net) (λ a. a.journal.items) (λ a. a.owed) (λ a. a.deliveries) claim.net claim.line claim.end output.now claim.turns.items result }
 {
-    let (journal, deliveries) = match run(alloc, &claim.net, &claim.turns, claim.line, claim.end, output) {
+    let Claim {
+        net,
+        line,
+        end,
+        turns,
+        ..
+    } = claim;
+    let (journal, deliveries) = match run(alloc, &net, &turns, line, end, output) {
         Ok(left) => left,
         Err(fault) => return Err(fault),
     };
-    let owed = owed(alloc, &claim.net)?;
+    let owed = owed(alloc, &net)?;
     Ok(Audited {
+        net,
         journal,
         owed,
         deliveries,
@@ -161,7 +171,7 @@ fn of_claim(alloc: Global, claim: Claim, output: &[u8]) -> Result<Audited, Audit
 
 fn answered(alloc: Global, bytes: &[u8]) -> Result<Audited, AuditFault>
     requires { length bytes.now ≤ 268435456 }
-    ensures { AnswersAudit (λ a. a.journal.items) (λ a. a.owed) (λ a. a.deliveries) bytes.now result }
+    ensures { AnswersAudit (λ a. a.net) (λ a. a.journal.items) (λ a. a.owed) (λ a. a.deliveries) bytes.now result }
 {
     net_is_sound();
     let claim = match read_claim(alloc, bytes) {
@@ -177,7 +187,7 @@ fn answered(alloc: Global, bytes: &[u8]) -> Result<Audited, AuditFault>
 /// piece: the text is never whole in memory. It takes the time of two walks, and of flooding.
 pub fn audit(alloc: Global, bytes: &[u8]) -> Result<Audited, AuditFault>
     requires { length bytes.now ≤ 268435456 }
-    ensures audited { IfOk result (λ a. IsAudited bytes.now a.journal.items a.owed a.deliveries) }
+    ensures audited { IfOk result (λ a. IsAudited bytes.now a.net a.journal.items a.owed a.deliveries) }
     ensures done { CanAudit bytes.now → IsOk result ⊎ IsErrOf result OutOfMemory }
     ensures document { (line : ℕ) (kind : DocumentFault) → IsErrOf result (Document line kind) → IsBadDocument bytes.now line kind }
     ensures refuted { (line : ℕ) (kind : Kind) → IsErrOf result (Refuted line kind) → IsRefuted bytes.now line kind }

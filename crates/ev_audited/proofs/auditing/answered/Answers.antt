@@ -6,8 +6,8 @@ use Rattle.ev_audited.proofs.auditing.answered.Goals as goal
 
 pub returns-in-Err : goal.returns-in-Err
 returns-in-Err c =
-    subst (λ z. AnswersAudit (λ (a : Audited). a.journal.items) (λ (a : Audited). a.owed) (λ (a : Audited). a.deliveries) c.args.bytes.now (Err z)) (sym c.unclaimed.ensures)
-    (unclaimed_tells (λ (a : Audited). a.journal.items) (λ (a : Audited). a.owed) (λ (a : Audited). a.deliveries) c.args.bytes.now c.in-Err.fault
+    subst (λ z. AnswersAudit (λ (a : Audited). a.net) (λ (a : Audited). a.journal.items) (λ (a : Audited). a.owed) (λ (a : Audited). a.deliveries) c.args.bytes.now (Err z)) (sym c.unclaimed.ensures)
+    (unclaimed_tells (λ (a : Audited). a.net) (λ (a : Audited). a.journal.items) (λ (a : Audited). a.owed) (λ (a : Audited). a.deliveries) c.args.bytes.now c.in-Err.fault
     (λ line kind e. c.in-Err.ensures.document line kind (ap Err e)) (λ line e. c.in-Err.ensures.form line (ap Err e)))
 
 pub of_claim-requires-clause-sound : goal.of_claim-requires-clause-sound
@@ -15,5 +15,5 @@ of_claim-requires-clause-sound c = c.net_is_sound.ensures c.in-Ok.ensures.claim.
 
 pub returns : goal.returns
 returns c =
-    claim_tells (λ (a : Audited). a.journal.items) (λ (a : Audited). a.owed) (λ (a : Audited). a.deliveries) c.args.bytes.now c.in-Ok.claim.net c.in-Ok.claim.from c.in-Ok.claim.line c.in-Ok.claim.end
+    claim_tells (λ (a : Audited). a.net) (λ (a : Audited). a.journal.items) (λ (a : Audited). a.owed) (λ (a : Audited). a.deliveries) c.args.bytes.now c.in-Ok.claim.net c.in-Ok.claim.from c.in-Ok.claim.line c.in-Ok.claim.end
     c.in-Ok.claim.turns.items c.split_at.result.1.now c.in-Ok.ensures.claim c.split_at.ensures.back c.of_claim.result c.of_claim.ensures
