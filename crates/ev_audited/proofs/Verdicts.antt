@@ -100,8 +100,8 @@ module _ {A : Type 0} (j : A → List EntryParts) (n : A → ℕ) (net : NetPart
       never : {z : AuditFault} → r ≡ Ok u → r ≡ Err z → ⊥
       never p q = cc
   tells_ok true told r u e None same c = (
-      inr (journal, made, subst (ComparesRun net first end output journal (Ok journal)) same (inl (told, refl))),
-      record { legal = legal; drained = told; text = none_equal output (traced_text net journal) (sym same) },
+    inr (journal, made, subst (ComparesRun net first end output journal (Ok journal)) same (inl (told, refl))),
+    record { legal = legal; drained = told; text = none_equal output (traced_text net journal) (sym same) },
   )
   tells_ok false told r u e None same c = absurd (never e c)
     where

@@ -40,7 +40,11 @@ pub struct Audited {
 }
 
 // The network after turns.
-fn replayed<'a>(alloc: Global, net: &'a Net, turns: &[(u32, Turn)]) -> Result<Network<'a>, AuditFault>
+fn replayed<'a>(
+    alloc: Global,
+    net: &'a Net,
+    turns: &[(u32, Turn)],
+) -> Result<Network<'a>, AuditFault>
     requires { IsSound net.now }
     ensures { TellsMade (λ network. network) net.now turns.now result }
 {
@@ -69,7 +73,12 @@ struct Compared {
 }
 
 // Compares the text of the run of a network.
-fn compare(alloc: Global, net: &Net, network: Network<'_>, text: &mut Comparing<'_>) -> Result<Compared, NoMemory>
+fn compare(
+    alloc: Global,
+    net: &Net,
+    network: Network<'_>,
+    text: &mut Comparing<'_>,
+) -> Result<Compared, NoMemory>
     requires sound { IsSound net.now }
     requires same { network.net ≡ net.now }
     ensures journal { IfOk result (λ l. l.journal.items ≡ network.entry.journal) }
@@ -90,7 +99,13 @@ fn compare(alloc: Global, net: &Net, network: Network<'_>, text: &mut Comparing<
 }
 
 // Whether the text that was compared, of a run that is drained or not, is what is claimed.
-fn concluded(text: &Comparing<'_>, first: u32, end: u32, output: &[u8], drained: bool) -> Result<(), AuditFault>
+fn concluded(
+    text: &Comparing<'_>,
+    first: u32,
+    end: u32,
+    output: &[u8],
+    drained: bool,
+) -> Result<(), AuditFault>
     requires first { first ≤ 268435458 }
     requires short { length output.now ≤ 268435456 }
     requires claimed { text.now.claimed ≡ output.now }

@@ -15,7 +15,12 @@ use ev_report::{push_client, push_delivery, push_refused};
 use std::alloc::Global;
 
 // The line of a delivery, put together in a buffer.
-fn compare_delivery(text: &mut Comparing<'_>, line: &mut Vec<u8>, clients: &[Client], delivery: &Delivery) -> Result<(), NoMemory>
+fn compare_delivery(
+    text: &mut Comparing<'_>,
+    line: &mut Vec<u8>,
+    clients: &[Client],
+    delivery: &Delivery,
+) -> Result<(), NoMemory>
     ensures { OnOk result (GoesOn text.old text.new (delivery_line clients.now delivery.now)) }
 {
     line.clear();
@@ -25,7 +30,12 @@ fn compare_delivery(text: &mut Comparing<'_>, line: &mut Vec<u8>, clients: &[Cli
 }
 
 // The lines of deliveries, in their order.
-fn compare_received(text: &mut Comparing<'_>, line: &mut Vec<u8>, clients: &[Client], received: &[Delivery]) -> Result<(), NoMemory>
+fn compare_received(
+    text: &mut Comparing<'_>,
+    line: &mut Vec<u8>,
+    clients: &[Client],
+    received: &[Delivery],
+) -> Result<(), NoMemory>
     ensures { OnOk result (GoesOn text.old text.new (flat_map (delivery_line clients.now) received.now)) }
 {
     for delivery in received {
@@ -36,7 +46,14 @@ fn compare_received(text: &mut Comparing<'_>, line: &mut Vec<u8>, clients: &[Cli
 
 // A client with what it received.
 #[tactic(auto, unfolding(ev_report::specs::Deliveries::delivery_section))]
-fn compare_section(text: &mut Comparing<'_>, line: &mut Vec<u8>, clients: &[Client], client: &Client, refused: &[u32], received: &[Delivery]) -> Result<(), NoMemory>
+fn compare_section(
+    text: &mut Comparing<'_>,
+    line: &mut Vec<u8>,
+    clients: &[Client],
+    client: &Client,
+    refused: &[u32],
+    received: &[Delivery],
+) -> Result<(), NoMemory>
     ensures { OnOk result (GoesOn text.old text.new (delivery_section clients.now false client.now refused.now received.now)) }
 {
     line.clear();
@@ -47,7 +64,12 @@ fn compare_section(text: &mut Comparing<'_>, line: &mut Vec<u8>, clients: &[Clie
 }
 
 /// Compares what the clients of a network have received, client by client in the order of its net, each delivery in the order received.
-pub fn compare_deliveries(alloc: Global, text: &mut Comparing<'_>, net: &Net, network: &Network<'_>) -> Result<(), NoMemory>
+pub fn compare_deliveries(
+    alloc: Global,
+    text: &mut Comparing<'_>,
+    net: &Net,
+    network: &Network<'_>,
+) -> Result<(), NoMemory>
     requires few { length net.now.clients ≤ 1024 }
     requires same { network.now.net ≡ net.now }
     ensures { OnOk result (GoesOn text.old text.new (deliveries_text net.now
@@ -56,7 +78,14 @@ pub fn compare_deliveries(alloc: Global, text: &mut Comparing<'_>, net: &Net, ne
     let mut line = Vec::new(alloc);
     for (i, client) in net.clients.iter().enumerate() {
         let number = i as u32 + 1;
-        compare_section(text, &mut line, &net.clients, client, network.refused(number), network.received(number))?;
+        compare_section(
+            text,
+            &mut line,
+            &net.clients,
+            client,
+            network.refused(number),
+            network.received(number),
+        )?;
     }
     Ok(())
 }

@@ -15,7 +15,13 @@ use ev_report::{push_trace_entry, push_trace_head};
 use std::alloc::Global;
 
 // The line of an entry with those of its messages, put together in a buffer.
-fn compare_entry(text: &mut Comparing<'_>, lines: &mut Vec<u8>, clients: &[Client], entry: &Entry, messages: &[Sent]) -> Result<(), NoMemory>
+fn compare_entry(
+    text: &mut Comparing<'_>,
+    lines: &mut Vec<u8>,
+    clients: &[Client],
+    entry: &Entry,
+    messages: &[Sent],
+) -> Result<(), NoMemory>
     ensures { OnOk result (GoesOn text.old text.new (entry_text clients.now entry.now messages.now)) }
 {
     lines.clear();
@@ -35,7 +41,12 @@ fn compare_head(alloc: Global, text: &mut Comparing<'_>, entries: usize) -> Resu
 }
 
 // Makes the turns of a run again, and compares each entry with its messages.
-fn compare_entries<'a>(alloc: Global, text: &mut Comparing<'_>, net: &'a Net, journal: &[Entry]) -> Result<Network<'a>, NoMemory>
+fn compare_entries<'a>(
+    alloc: Global,
+    text: &mut Comparing<'_>,
+    net: &'a Net,
+    journal: &[Entry],
+) -> Result<Network<'a>, NoMemory>
     requires sound { IsSound net.now }
     requires legal { IsLegal net.now journal.now }
     ensures again { IfOk result (λ network. network ≡ network_parts net.now journal.now) }
@@ -65,7 +76,12 @@ fn is_drained(network: &mut Network<'_>) -> Result<bool, NoMemory>
 }
 
 /// Compares the trace of a legal run, whose turns it makes again for the messages, and says whether the run is drained.
-pub fn compare_trace(alloc: Global, text: &mut Comparing<'_>, net: &Net, journal: &[Entry]) -> Result<bool, NoMemory>
+pub fn compare_trace(
+    alloc: Global,
+    text: &mut Comparing<'_>,
+    net: &Net,
+    journal: &[Entry],
+) -> Result<bool, NoMemory>
     requires sound { IsSound net.now }
     requires legal { IsLegal net.now journal.now }
     ensures compared { OnOk result (GoesOn text.old text.new (trace_text net.now journal.now (told_by net.now journal.now))) }

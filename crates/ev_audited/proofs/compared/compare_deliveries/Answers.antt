@@ -26,9 +26,9 @@ loop-i-preserved c =
     let item = c.client-item.is ∙ ap (λ z. get_or z i c.client-item.result) shown in
     let within : i < length clients = rw shown at c.loop-i-test.true in
     let r-is : c.refused.result.now ≡ get_or refused i c.refused.result.now = c.refused.ensures ∙ (ap (λ z. refused_by z journal (i + 1)) c.requires.same
-        ∙ sym (get_or-map-range_with_len (refused_by net journal) 1 (length clients) i (i + 1) c.refused.result.now within (omega arith))) in
+    ∙ sym (get_or-map-range_with_len (refused_by net journal) 1 (length clients) i (i + 1) c.refused.result.now within (omega arith))) in
     let d-is : c.received.result.now ≡ get_or received i c.received.result.now = c.received.ensures ∙ (ap (λ z. received_by z journal (i + 1)) c.requires.same
-        ∙ sym (get_or-map-range_with_len (received_by net journal) 1 (length clients) i (i + 1) c.received.result.now within (omega arith))) in
+    ∙ sym (get_or-map-range_with_len (received_by net journal) 1 (length clients) i (i + 1) c.received.result.now within (omega arith))) in
     let section = rw also at c.in_ok-compare_section.ensures in
     let text = delivery_section clients false c.client-item.result c.refused.result.now c.received.result.now in
     let next = sections-next clients false clients refused received i c.client-item.result c.refused.result.now c.received.result.now
