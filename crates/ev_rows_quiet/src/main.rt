@@ -2,6 +2,7 @@
 //! and wrote is as wanted.
 #![tactic(auto)]
 
+mod audits;
 mod devices;
 mod failure;
 mod faults;
@@ -23,6 +24,8 @@ fn main(rt: HostRuntime) -> Result<(), Failure> {
     tried::print_rows(&rt, alloc, &replays::FLOODS)?;
     tried::print_rows(&rt, alloc, &faults::FAULTS)?;
     tried::print_rows(&rt, alloc, &patterns::PATTERNS)?;
+    tried::print_rows(&rt, alloc, &audits::AUDITS)?;
+    audits::print_changed(&rt, alloc)?;
     tried::print_rows(&rt, alloc, &usage::USAGE)?;
     devices::print_devices(&rt, alloc)?;
     large::print_large(&rt, alloc)?;
