@@ -24,10 +24,14 @@ catalogued clients = record { filters = known_filters clients; adverts = known_a
 -- WHAT A NUMBERED COMMAND MEANS, of a client with so many publishes before it, in a phase: the command whose filter, advertisement or publication has
 -- the number
 abbrev pub Means : Catalogued → ℕ → ℕ → ℕ → NumberedCommand → Command → Type 0
-Means known client count phase (numbers.Subscribe i) command = (f : List ConstraintParts) × (slice_get known.filters i ≡ Some f) × (command ≡ commands.Subscribe f)
-Means known client count phase (numbers.Unsubscribe i) command = (f : List ConstraintParts) × (slice_get known.filters i ≡ Some f) × (command ≡ commands.Unsubscribe f)
-Means known client count phase (numbers.Advertise i) command = (a : List ConstraintParts) × (slice_get known.adverts i ≡ Some a) × (command ≡ commands.Advertise a)
-Means known client count phase (numbers.Unadvertise i) command = (a : List ConstraintParts) × (slice_get known.adverts i ≡ Some a) × (command ≡ commands.Unadvertise a)
+Means known client count phase (numbers.Subscribe i) command =
+    (f : List ConstraintParts) × (slice_get known.filters i ≡ Some f) × (command ≡ commands.Subscribe f)
+Means known client count phase (numbers.Unsubscribe i) command =
+    (f : List ConstraintParts) × (slice_get known.filters i ≡ Some f) × (command ≡ commands.Unsubscribe f)
+Means known client count phase (numbers.Advertise i) command =
+    (a : List ConstraintParts) × (slice_get known.adverts i ≡ Some a) × (command ≡ commands.Advertise a)
+Means known client count phase (numbers.Unadvertise i) command =
+    (a : List ConstraintParts) × (slice_get known.adverts i ≡ Some a) × (command ≡ commands.Unadvertise a)
 Means known client count phase (numbers.Publish i) command =
     (n : List Attribute) × (slice_get known.publications i ≡ Some (publication client (suc count) phase n)) × (command ≡ commands.Publish n)
 

@@ -1,6 +1,5 @@
 //! How the filters and advertisements of a net are related, as rows that are made where they are asked for.
-ghost use Rattle.std.specs.Prelude.{◌≡◌, ◌<◌, ◌^◌, cond, nat_lt, length, IfOk};
-ghost use Rattle.ev_sets.specs.Sets.{put_in};
+ghost use Rattle.std.specs.Prelude.{◌≡◌, ◌<◌, ◌^◌, length, IfOk};
 ghost use Rattle.ev_notice.specs.Cover.{overlaps};
 ghost use Rattle.ev_catalogue.specs.Related.{overlap_row, overlap_rows};
 
@@ -9,7 +8,7 @@ use ev_bits::Row;
 use ev_cover::{Ad, Sub};
 use ev_memory::NoMemory;
 use ev_notice::Advert;
-use ev_order::Order;
+use ev_order::{Order, put_if};
 use ev_overlap::overlaps;
 use std::alloc::Global;
 
@@ -33,17 +32,6 @@ fn copied_ads(alloc: Global, ads: &[Ad]) -> Result<Vec<Ad>, NoMemory>
         copies.push(Ad(ad.0.copy(alloc)?))?;
     }
     Ok(copies)
-}
-
-// Puts a number in where it holds.
-fn put_if(row: &mut Row, i: u32, holds: bool)
-    requires { i < row.old.width }
-    ensures width { row.new.width ≡ row.old.width }
-    ensures members { row.new.members ≡ cond holds (put_in nat_lt i row.old.members) row.old.members }
-{
-    if holds {
-        row.insert(i);
-    }
 }
 
 // Whether the filter overlaps the advertisement.

@@ -52,7 +52,8 @@ pub record AreShown (every ever : List Pair) (clients : List ClientFilters) : Ty
 -- each client's rows are as wide as there are filters, and it is somewhere in its script
 pub record AreGoing (known : Lists) (scripts : List Steps) (clients : List ClientFilters) : Type 0 where
   pub sized : (place : ℕ) (client : ClientFilters) → slice_get clients place ≡ Some client → IsSized (length known) client
-  pub at : (place : ℕ) (client : ClientFilters) (steps : Steps) → slice_get clients place ≡ Some client → slice_get scripts place ≡ Some steps → IsAt known steps client
+  pub at : (place : ℕ) (client : ClientFilters) (steps : Steps) → slice_get clients place ≡ Some client → slice_get scripts place ≡ Some steps
+      → IsAt known steps client
 
 -- what the tables keep
 pub record IsReady (known : Lists) (scripts : List Steps) (tables : Tables) : Type 0 where

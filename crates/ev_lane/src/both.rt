@@ -5,6 +5,7 @@ ghost use mathlib.Core.List.{IsPrefix};
 ghost use Rattle.rtrb.specs.Ring.{sent, received, known_items, producer_capacity, IsPair, SameProducer, SameConsumer};
 ghost use Rattle.ev_lane.specs.Lane.{put_list, pushed_list, waiting_list, spare, mark_of, taken_list, rest_list, coming_list, misses, IsLane, SameIn, SameOut};
 
+use crate::fulls::Fulls;
 use crate::mark::{Bounded, Ends, Mark, Raise};
 use crate::putting::{LaneIn, move_out};
 use crate::taking::{LaneOut, take_known};
@@ -37,6 +38,7 @@ pub fn lane<T: Drop>(alloc: Global) -> Result<(LaneIn<T>, LaneOut<T>), NoMemory>
         outbox: VecDeque::new(alloc),
         producer,
         pushed: 0,
+        fulls: Fulls::none(),
         mark,
         seat,
     };
@@ -54,6 +56,7 @@ pub fn lane<T: Drop>(alloc: Global) -> Result<(LaneIn<T>, LaneOut<T>), NoMemory>
 fn move_all<T: Drop>(
     outbox: &mut VecDeque<T>,
     producer: &mut Producer<T, Global, Bounded>,
+    fulls: &mut Fulls,
     rest: &mut VecDeque<T>,
     consumer: &mut Consumer<T, Global, Bounded>,
 ) -> u64
@@ -73,7 +76,7 @@ fn move_all<T: Drop>(
     take_known(consumer, rest);
     while !outbox.is_empty() {
         producer.slots_beside(consumer);
-        pushed += move_out(outbox, producer);
+        pushed += move_out(outbox, producer, fulls);
         consumer.slots_beside(producer);
         take_known(consumer, rest);
     }
@@ -100,7 +103,13 @@ pub fn settle<T: Drop>(a: &mut LaneIn<T>, b: &mut LaneOut<T>) -> Result<(), NoMe
     if b.rest.reserve(waiting + a.outbox.len()).is_err() {
         return Err(NoMemory);
     }
-    let pushed = move_all(&mut a.outbox, &mut a.producer, &mut b.rest, &mut b.consumer);
+    let pushed = move_all(
+        &mut a.outbox,
+        &mut a.producer,
+        &mut a.fulls,
+        &mut b.rest,
+        &mut b.consumer,
+    );
     a.pushed += pushed;
     a.mark.shared.store::<Raise>(&mut a.seat, 0, a.pushed);
     Ok(())

@@ -4,7 +4,9 @@ ghost use Rattle.std.specs.VecDeque.{deque_len, deque_capacity};
 ghost use Rattle.std.specs.Arc.{arc_value};
 ghost use mathlib.Core.List.{IsPrefix};
 ghost use Rattle.rtrb.specs.Ring.{sent, known_free, producer_capacity, SameProducer};
+ghost use Rattle.ev_lane.specs.Fulls.{IsOneMore};
 
+use crate::fulls::{Fulls, has_no_place};
 use crate::mark::{Bounded, Mark, MarkSeat, Raise};
 use ev_memory::NoMemory;
 use rtrb::Producer;
@@ -18,6 +20,7 @@ pub struct LaneIn<T: Drop> {
     pub(crate) outbox: VecDeque<T>,
     pub(crate) producer: Producer<T, Global, Bounded>,
     pub(crate) pushed: u64,
+    pub(crate) fulls: Fulls,
     pub(crate) mark: Arc<Mark>,
     pub(crate) seat: MarkSeat,
     ghost seated: { (seat.table_id ≡ (arc_value mark).shared.table_id) × (seat.table_id.words ≡ 1) × (seat.me.1 ≡ []) },
@@ -26,22 +29,24 @@ pub struct LaneIn<T: Drop> {
     ghost places: { producer_capacity producer ≡ 256 },
 }
 
-// Moves items into the ring, as long as a place is known to be free.
+// Moves items into the ring until none is left, or a look finds no free place.
 pub(crate) fn move_out<T: Drop>(
     outbox: &mut VecDeque<T>,
     producer: &mut Producer<T, Global, Bounded>,
+    fulls: &mut Fulls,
 ) -> u64
     requires { length (sent producer.old) + deque_len outbox.old ≤ 2 ^ 63 }
     ensures same { SameProducer producer.old producer.new }
     ensures items { sent producer.new ++ outbox.new.items ≡ sent producer.old ++ outbox.old.items }
     ensures moved { IsPrefix (sent producer.old) (sent producer.new) }
     ensures count { (length (sent producer.new) ≡ length (sent producer.old) + result) × (deque_len outbox.new + result ≡ deque_len outbox.old) }
-    ensures done { (deque_len outbox.new ≡ 0) ⊎ (known_free producer.new ≡ 0) }
+    ensures done { ((deque_len outbox.new ≡ 0) × (fulls.new ≡ fulls.old))
+        ⊎ ((known_free producer.new ≡ 0) × IsOneMore fulls.old fulls.new) }
     ensures free { known_free producer.old ≤ known_free producer.new + result }
     ensures capacity { deque_capacity outbox.new ≡ deque_capacity outbox.old }
 {
     let mut moved = 0;
-    while !outbox.is_empty() && !producer.is_full() {
+    while !outbox.is_empty() && (producer.cached_slots() > 0 || !has_no_place(producer, fulls)) {
         let x = outbox.pop_front().unwrap();
         producer.push_reserved(x);
         moved += 1;
@@ -52,13 +57,13 @@ pub(crate) fn move_out<T: Drop>(
 impl<T: Drop> LaneIn<T> {
     ghost use Rattle.std.specs.Prelude.{◌≡◌, ◌+◌, ◌<◌, ◌≤◌, ◌^◌, ◌⊎◌, ◌↔◌, ◌++◌, ◌∷◌, [], length, OnOk, OnErr, IsTrue, IsFalse};
     ghost use mathlib.Core.List.{IsPrefix};
-    ghost use Rattle.ev_lane.specs.Lane.{put_list, pushed_list, waiting_list, spare, free_places, mark_of, SameIn};
+    ghost use Rattle.ev_lane.specs.Lane.{put_list, pushed_list, waiting_list, spare, free_places, mark_of, NoFull, IsFull, SameIn};
 
     /// Makes room for n items, which can then be put without memory. It wants memory only where there
     /// isn't room for n already; after want of memory the lane is as before.
     pub fn room(&mut self, n: usize) -> Result<(), NoMemory>
         ensures same { SameIn self.old self.new × (pushed_list self.new ≡ pushed_list self.old) × (waiting_list self.new ≡ waiting_list self.old)
-            × (mark_of self.new ≡ mark_of self.old) }
+            × (mark_of self.new ≡ mark_of self.old) × NoFull self.old self.new }
         ensures kept { spare self.old ≤ spare self.new }
         ensures room { OnOk result (n ≤ spare self.new) }
         ensures wanting { OnErr result (spare self.old < n) }
@@ -84,7 +89,8 @@ impl<T: Drop> LaneIn<T> {
     pub fn put(&mut self, item: T)
         requires spare { 0 < spare self.old }
         requires few { length (put_list self.old) < 2 ^ 63 }
-        ensures same { SameIn self.old self.new × (pushed_list self.new ≡ pushed_list self.old) × (mark_of self.new ≡ mark_of self.old) }
+        ensures same { SameIn self.old self.new × (pushed_list self.new ≡ pushed_list self.old) × (mark_of self.new ≡ mark_of self.old)
+            × NoFull self.old self.new }
         ensures put { put_list self.new ≡ put_list self.old ++ item ∷ [] }
         ensures waiting { waiting_list self.new ≡ waiting_list self.old ++ item ∷ [] }
         ensures spare { spare self.old ≡ spare self.new + 1 }
@@ -92,16 +98,17 @@ impl<T: Drop> LaneIn<T> {
         self.outbox.push_back_reserved(item);
     }
 
-    /// Moves items of the outbox into the ring, in order, until the outbox is empty or no place is
-    /// known to be free, and raises the mark to what was pushed.
+    /// Moves items of the outbox into the ring, in order, until the outbox is empty or a look at the ring finds every
+    /// place taken, which is one more full. Raises the mark to what was pushed.
     pub fn flush(&mut self)
         ensures same { SameIn self.old self.new × (spare self.old ≤ spare self.new) }
         ensures put { put_list self.new ≡ put_list self.old }
         ensures moved { IsPrefix (pushed_list self.old) (pushed_list self.new) }
         ensures done { (waiting_list self.new ≡ []) ⊎ (free_places self.new ≡ 0) }
+        ensures full { ((waiting_list self.new ≡ []) × NoFull self.old self.new) ⊎ IsFull self.old self.new }
         ensures mark { mark_of self.new ≡ length (pushed_list self.new) }
     {
-        let moved = move_out(&mut self.outbox, &mut self.producer);
+        let moved = move_out(&mut self.outbox, &mut self.producer, &mut self.fulls);
         if moved == 0 {
             return;
         }

@@ -30,6 +30,7 @@ pub mod Ranges
 pub mod Replayed
 pub mod Rounds
 pub mod Tries
+pub mod Begun
 pub mod Turns
 pub mod Walks
 pub mod Starting

@@ -69,14 +69,14 @@ walk-starts network sound legal phase e = subst (λ n. IsWalkedTo n network netw
 })
 
 -- what is left of the walk at a phase: its entries, and then those of the later ones
-walk-split : (network : NetworkParts) (phase : ℕ) → phase < phases_of network.net
+pub walk-split : (network : NetworkParts) (phase : ℕ) → phase < phases_of network.net
     → walk_left network phase ≡ entries_tried network phase (phase_turns network.net phase)
     ++ walk_phases real (phased_net network.net) (phases_of network.net - suc phase) (suc phase) (moment_tried real (phased_net network.net) phase (moment_by network.net network.journal) (phase_turns network.net phase))
 walk-split network phase less =
     let one : phases_of network.net - phase ≡ suc (phases_of network.net - suc phase) = omega (arith, less) in
     ap (λ n. walk_phases real (phased_net network.net) n phase (moment_by network.net network.journal)) one
 
-here-can : (network : NetworkParts) (phase : ℕ) → phase < phases_of network.net → CanWalk phase network → CanTry phase (phase_turns network.net phase) network
+pub here-can : (network : NetworkParts) (phase : ℕ) → phase < phases_of network.net → CanWalk phase network → CanTry phase (phase_turns network.net phase) network
 here-can network phase less can = record {
   end = moment_tried real (phased_net network.net) phase now turns;
   run = (run-first real (phased_net network.net) phase now can.end turns more (subst (λ z. IsRunTo real (phased_net network.net) now z can.end) (walk-split network phase less) can.run)).0;

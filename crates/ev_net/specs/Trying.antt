@@ -1,5 +1,6 @@
 -- Turns of the walk that are tried one after the other within a phase: what is made of them, and what is left.
 use Rattle.std.specs.Prelude.{◌≡◌, ℕ, ◌-◌, List, [], ◌∷◌, ◌++◌, length, map}
+use mathlib.Core.List.{IsPrefix}
 use Rattle.ev_run.specs.Machine.{Did, Took}
 use Rattle.ev_run.specs.Walk.{repeated}
 use Rattle.ev_routing.specs.Step.{NextCommand}
@@ -41,6 +42,16 @@ pub record IsOnWay (phase : ℕ) (turns left : List Turn) (old new : NetworkPart
 -- within a phase turns are tried where they can be
 abbrev pub Tries : ℕ → List Turn → NetworkParts → NetworkParts → Type 0
 Tries phase turns old new = CanTry phase turns old → IsTried phase turns old new
+
+-- within a phase a beginning was made of what turns would make
+pub record IsBegun (phase : ℕ) (turns : List Turn) (old new : NetworkParts) : Type 0 where
+  pub made : List EntryParts
+  pub later : new ≡ network_parts old.net (old.journal ++ made)
+  pub begins : IsPrefix (journal_of made) (entries_tried old phase turns)
+
+-- within a phase turns are begun where they can be tried
+abbrev pub Begins : ℕ → List Turn → NetworkParts → NetworkParts → Type 0
+Begins phase turns old new = CanTry phase turns old → IsBegun phase turns old new
 
 -- the turn of a client's next command
 abbrev pub command_turn : NetParts → ℕ → Turn

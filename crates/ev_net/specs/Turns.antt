@@ -1,5 +1,6 @@
 -- Turns of a network: which are made, and what they add to its journal.
 use Rattle.std.specs.Prelude.{◌≡◌, ℕ, Bool, true, false, List, [], ◌∷◌, ◌++◌}
+use mathlib.Core.List.{IsPrefix}
 use Rattle.ev_phases.specs.Trees.{JournalEntry}
 use Rattle.ev_phases.specs.Moments.{Moment}
 use Rattle.ev_phases.specs.Turns.{IsPermittedTurn}
@@ -40,6 +41,13 @@ AreMade net journal (turn ∷ turns) after = (entry : EntryParts) × IsEntryOf n
 pub record AreReplayed (turns : List (ℕ × Turn)) (old new : NetworkParts) : Type 0 where
   pub net : new.net ≡ old.net
   pub made : AreMade old.net old.journal turns new.journal
+
+-- a beginning of these turns was made
+pub record AreBegun (turns : List (ℕ × Turn)) (old new : NetworkParts) : Type 0 where
+  pub first : List (ℕ × Turn)
+  pub begins : IsPrefix first turns
+  pub net : new.net ≡ old.net
+  pub made : AreMade old.net old.journal first new.journal
 
 -- the turns before the one of this line were made, and that one is not permitted then
 pub record StopsAt (line : ℕ) (turns : List (ℕ × Turn)) (old new : NetworkParts) : Type 0 where

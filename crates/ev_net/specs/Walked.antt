@@ -1,5 +1,6 @@
 -- The walk of a network: the rest of its phases, by the walk schedule.
 use Rattle.std.specs.Prelude.{◌≡◌, ℕ, ◌≤◌, ◌<◌, Bool, true, false, List, [], ◌++◌}
+use mathlib.Core.List.{IsPrefix}
 use Rattle.ev_phases.specs.Trees.{JournalEntry, net_at}
 use Rattle.ev_phases.specs.Walk.{entries_by, walk_of}
 use Rattle.ev_routing.specs.Walk.{walk_turns}
@@ -25,6 +26,12 @@ pub record IsWalked (old new : NetworkParts) : Type 0 where
   pub walk : journal_of made ≡ walk_after old.net old.journal
   pub drained : IsDrainedBy old.net (old.journal ++ made)
 
+-- a beginning of the walk was made
+pub record IsWalkBegun (old new : NetworkParts) : Type 0 where
+  pub made : List EntryParts
+  pub later : new ≡ network_parts old.net (old.journal ++ made)
+  pub begins : IsPrefix (journal_of made) (walk_after old.net old.journal)
+
 -- the rest of a phase was made: the first, from the one in hand on, in which something is left
 pub record IsPhaseWalked (old new : NetworkParts) : Type 0 where
   pub phase : ℕ
@@ -34,6 +41,15 @@ pub record IsPhaseWalked (old new : NetworkParts) : Type 0 where
   pub some : made ≡ [] → ⊥
   pub later : new ≡ network_parts old.net (old.journal ++ made)
   pub walk : journal_of made ≡ phase_after old.net old.journal phase
+
+-- a beginning of the rest of a phase was made, and nothing is left of the phases from the one in hand up to it
+pub record IsPhaseBegun (old new : NetworkParts) : Type 0 where
+  pub phase : ℕ
+  pub from : (moment_by old.net old.journal).phase ≤ phase
+  pub first : (earlier : ℕ) → (moment_by old.net old.journal).phase ≤ earlier → earlier < phase → phase_after old.net old.journal earlier ≡ []
+  pub made : List EntryParts
+  pub later : new ≡ network_parts old.net (old.journal ++ made)
+  pub begins : IsPrefix (journal_of made) (phase_after old.net old.journal phase)
 
 -- a phase was walked, or nothing was left to do
 abbrev pub IsPhaseOf : Bool → NetworkParts → NetworkParts → Type 0

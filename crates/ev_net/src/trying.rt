@@ -1,5 +1,5 @@
 //! Turns of the walk, tried one after the other.
-ghost use Rattle.std.specs.Prelude.{◌≡◌, ◌≤◌, ◌<◌, ◌∷◌, [], ℕ, true, false, length, OnOk, IfOk};
+ghost use Rattle.std.specs.Prelude.{◌≡◌, ◌≤◌, ◌<◌, ◌∷◌, [], ℕ, true, false, length, OnOk, OnErr, IfOk};
 ghost use Rattle.ev_sets.specs.Sets.{Has};
 ghost use Rattle.ev_routing.specs.Walk.{enough_rounds};
 ghost use Rattle.ev_phases.specs.Trees.{net_at};
@@ -13,11 +13,13 @@ use ev_tree::Tree;
 
 impl<'a> Network<'a> {
     ghost use Rattle.ev_net.specs.Network.{IsLater};
-    ghost use Rattle.ev_net.specs.Trying.{Tries, command_turn, script_turns, server_turns, commands_turns, takings, round_turns, rounds_turns, phase_turns};
+    ghost use Rattle.ev_net.specs.Trying.{Tries, Begins, command_turn, script_turns, server_turns, commands_turns};
+    ghost use Rattle.ev_net.specs.Trying.{takings, round_turns, rounds_turns, phase_turns};
 
     /// Makes what is left of a phase: its commands, and then rounds until one makes nothing.
     pub(crate) fn make_phase(&mut self, phase: u32) -> Result<(), NoMemory>
         ensures tried { OnOk result (Tries phase (phase_turns self.old.net phase) self.old self.new) }
+        ensures begun { OnErr result (Begins phase (phase_turns self.old.net phase) self.old self.new) }
         ensures later { IsLater self.old self.new }
     {
         let tree = self.net().tree(phase);
@@ -29,6 +31,7 @@ impl<'a> Network<'a> {
     fn make_commands(&mut self, servers: u32, phase: u32) -> Result<(), NoMemory>
         requires { servers ≡ (first_tree self.old.net.trees).count }
         ensures tried { OnOk result (Tries phase (commands_turns self.old.net phase) self.old self.new) }
+        ensures begun { OnErr result (Begins phase (commands_turns self.old.net phase) self.old self.new) }
         ensures later { IsLater self.old self.new }
     {
         for server in 1..=servers {
@@ -41,6 +44,7 @@ impl<'a> Network<'a> {
     fn make_commands_at(&mut self, server: u32, phase: u32) -> Result<(), NoMemory>
         requires { Has server (servers_in self.old.net) }
         ensures tried { OnOk result (Tries phase (server_turns self.old.net phase server) self.old self.new) }
+        ensures begun { OnErr result (Begins phase (server_turns self.old.net phase server) self.old self.new) }
         ensures later { IsLater self.old self.new }
     {
         for place in 0..self.clients(server).len() {
@@ -54,6 +58,7 @@ impl<'a> Network<'a> {
     fn make_script(&mut self, client: u32, phase: u32) -> Result<(), NoMemory>
         requires { (1 ≤ client) × (client ≤ length self.old.net.clients) }
         ensures tried { OnOk result (Tries phase (script_turns self.old.net phase client) self.old self.new) }
+        ensures begun { OnErr result (Begins phase (script_turns self.old.net phase client) self.old self.new) }
         ensures later { IsLater self.old self.new }
     {
         for _ in 0..script_len(self.net(), client) {
@@ -68,6 +73,7 @@ impl<'a> Network<'a> {
     fn make_command(&mut self, client: u32, phase: u32) -> Result<bool, NoMemory>
         requires { (1 ≤ client) × (client ≤ length self.old.net.clients) }
         ensures tried { OnOk result (Tries phase (command_turn self.old.net client ∷ []) self.old self.new) }
+        ensures begun { OnErr result (Begins phase (command_turn self.old.net client ∷ []) self.old self.new) }
         ensures none { IfOk result (λ made. made ≡ false → self.new ≡ self.old) }
         ensures later { IsLater self.old self.new }
     {
@@ -81,6 +87,8 @@ impl<'a> Network<'a> {
     fn settle(&mut self, tree: &Tree) -> Result<(), NoMemory>
         ensures tried { OnOk result ((phase : ℕ) → tree.now ≡ topology_at self.old.net phase
             → Tries phase (rounds_turns self.old.net phase) self.old self.new) }
+        ensures begun { OnErr result ((phase : ℕ) → tree.now ≡ topology_at self.old.net phase
+            → Begins phase (rounds_turns self.old.net phase) self.old self.new) }
         ensures later { IsLater self.old self.new }
     {
         while self.make_round(tree)? {}
@@ -92,7 +100,9 @@ impl<'a> Network<'a> {
     fn make_round(&mut self, tree: &Tree) -> Result<bool, NoMemory>
         ensures tried { OnOk result ((phase : ℕ) → tree.now ≡ topology_at self.old.net phase
             → Tries phase (round_turns self.old.net phase) self.old self.new) }
-        ensures bounded { OnOk result ((phase : ℕ) → length self.old.journal < enough_rounds real (net_at real (phased_net self.old.net) phase)) }
+        ensures begun { OnErr result ((phase : ℕ) → tree.now ≡ topology_at self.old.net phase
+            → Begins phase (round_turns self.old.net phase) self.old self.new) }
+        ensures bounded { (phase : ℕ) → length self.old.journal < enough_rounds real (net_at real (phased_net self.old.net) phase) }
         ensures some { IfOk result (λ some. some ≡ true → length self.old.journal < length self.new.journal) }
         ensures none { IfOk result (λ some. some ≡ false → self.new ≡ self.old) }
         ensures later { IsLater self.old self.new }
@@ -108,6 +118,7 @@ impl<'a> Network<'a> {
     /// Takes a message from each of these neighbours that has sent one.
     fn take_each(&mut self, server: u32, neighbours: &[u32]) -> Result<(), NoMemory>
         ensures tried { OnOk result ((phase : ℕ) → Tries phase (takings server neighbours.now) self.old self.new) }
+        ensures begun { OnErr result ((phase : ℕ) → Begins phase (takings server neighbours.now) self.old self.new) }
         ensures later { IsLater self.old self.new }
     {
         for from in neighbours {

@@ -6,12 +6,13 @@ use ev_memory::NoMemory;
 
 impl<'a> Network<'a> {
     ghost use Rattle.ev_net.specs.Network.{IsLater};
-    ghost use Rattle.ev_net.specs.Walked.{IsWalked, IsPhaseOf};
+    ghost use Rattle.ev_net.specs.Walked.{IsWalked, IsWalkBegun, IsPhaseOf, IsPhaseBegun};
 
     /// Makes what is left of the phase in hand, or else of the next phase that has something left, and answers whether
-    /// there was something. After want of memory the turns that were made stand.
+    /// there was something. After want of memory the turns that were made stand: a beginning of these.
     pub fn walk_phase(&mut self) -> Result<bool, NoMemory>
         ensures walked { IfOk result (λ some. IsPhaseOf some self.old self.new) }
+        ensures begun { OnErr result (IsPhaseBegun self.old self.new) }
         ensures err { OnErr result (IsLater self.old self.new) }
     {
         let before = self.journal().len();
@@ -25,9 +26,10 @@ impl<'a> Network<'a> {
     }
 
     /// Makes what is left of all phases, so that all commands are taken, all links are empty and nothing is staged.
-    /// After want of memory the turns that were made stand.
+    /// After want of memory the turns that were made stand: a beginning of these.
     pub fn walk(&mut self) -> Result<(), NoMemory>
         ensures walked { OnOk result (IsWalked self.old self.new) }
+        ensures begun { OnErr result (IsWalkBegun self.old self.new) }
         ensures err { OnErr result (IsLater self.old self.new) }
     {
         for phase in self.phase()..self.net().phases() {

@@ -11,7 +11,8 @@ use Rattle.ev_wire.specs.declared.message.Message.{Message}
 use Rattle.ev_wire.specs.declared.message.Message.TheVariants.{Notice, Subs, Advs}
 use Rattle.ev_model.specs.Parts.{NetParts, EntryParts}
 use Rattle.ev_model.specs.Meaning.{message_of}
-use Rattle.ev_server.specs.Core.{CoreParts}
+use Rattle.ev_server.specs.Core.{CoreParts, published_from}
+use Rattle.ev_server.specs.Routed.{IsRoute, RoutesNext, RoutesMessage}
 use Rattle.ev_server.specs.declared.stepped.StepFault.{StepFault}
 use Rattle.ev_sets.specs.Sets.{Has}
 use Rattle.ev_session.specs.declared.planned.Planned.{Planned}
@@ -21,7 +22,7 @@ use Rattle.ev_session.specs.Plan.{next_plan}
 use Rattle.ev_versions.specs.declared.publisher.Publisher.{Publisher}
 use Rattle.ev_versions.specs.Pairs.{pairs_after}
 use Rattle.ev_versions.specs.declared.ahead.Ahead.{Ahead}
-use Rattle.ev_versions.specs.Ends.{notice_in, published}
+use Rattle.ev_versions.specs.Ends.{notice_in, route_in, published}
 use Rattle.ev_node.specs.declared.held.ServerInHand.{ServerInHand}
 use Rattle.ev_node.specs.declared.held.Root.{Root}
 use Rattle.ev_node.specs.declared.what.What.{What}
@@ -34,7 +35,7 @@ use Rattle.ev_net.specs.Kept.{IsSomeServer, IsTableOf}
 use Rattle.ev_node.specs.Cell.{IsServerInHand, IsKept}
 use Rattle.ev_node.specs.Turns.{IsStill}
 use Rattle.ev_node.specs.Asked.{act_for}
-use Rattle.ev_node.specs.Ahead.{AnswersAhead, IsChoice, IsChoiceNext, IsChoiceOf, IsNoticeOf, PublishesNext, RoutesNotice}
+use Rattle.ev_node.specs.Ahead.{AnswersAhead, IsChoice, IsChoiceNext, IsChoiceOf, IsNoticeOf, IsRight, IsUpToDate, PublishesNext, RoutesNotice}
 use Rattle.ev_node.proofs.Routes.{one-session, distinct, routes_next, routes_message}
 use Rattle.ev_node.proofs.Keeping.{kept-turn, kept-still}
 
@@ -81,7 +82,7 @@ module _ (core : CoreParts) (client : ℕ) (some : IsSomeServer core) where
     pub choice-next : (n : List Attribute) → AreValues n → PublishesNext core client n → (ch : Choice) → IsChoice publisher ahead n ch → IsChoiceNext core publisher ahead client ch
     choice-next n values next Other f = λ m. f (one-notice n (notice_in ahead) next m)
     choice-next n values next Outdated f = (subst (PublishesNext core client) f.0 next, f.1)
-    choice-next n values next (Agreed r) f = (f.1, routes_next core (pairs_after (published publisher)) agrees (λ (x : List Attribute). x) (Some n) client r.now some next tt (values, f.2))
+    choice-next n values next (Agreed r) f = (f.1, routes_next core (pairs_after (published publisher)) agrees (λ (x : List Attribute). x) (Some n) client r.now some next tt (values, f.2), f.3)
 
   pub choice-none : (m : List Attribute) → (s : SessionParts) × Has s core.clients × (s.client ≡ client) × ((id : Id) (n : List Attribute) → next_plan s ≡ Some (Publish id n) → ⊥) → PublishesNext core client m → ⊥
   choice-none m (s, h, e, none) (t, g, f, (id, q)) =
@@ -92,4 +93,14 @@ module _ (core : CoreParts) (publisher : Publisher) (ahead : Ahead) (agrees : Is
   pub choice-of : (m : Message) (n : List Attribute) → AreValues n → IsNoticeOf m n → (ch : Choice) → IsChoice publisher ahead n ch → IsChoiceOf core publisher ahead m ch
   choice-of m n values is Other f = λ h. f (let e : Notice is.0 n ≡ Notice h.0 (notice_in ahead) = sym is.1 ∙ h.1 in cc)
   choice-of m n values is Outdated f = (subst (IsNoticeOf m) f.0 is, f.1)
-  choice-of m n values is (Agreed r) f = (f.1, routes_message core (pairs_after (published publisher)) agrees (λ (x : List Attribute). x) (Some n) m r.now is tt (values, f.2))
+  choice-of m n values is (Agreed r) f = (f.1, routes_message core (pairs_after (published publisher)) agrees (λ (x : List Attribute). x) (Some n) m r.now is tt (values, f.2), f.3)
+
+-- the route that goes for the step is that of the match ahead
+pub right-next : (core : CoreParts) (publisher : Publisher) (ahead : Ahead) (client : ℕ) (r : List ℕ) → IsUpToDate publisher ahead → RoutesNext core client r → r ≡ route_in ahead
+    → PublishesNext core client (notice_in ahead) → IsRight core publisher ahead
+right-next core publisher ahead client r up routes same (s, h, e, (id, p)) = (up, subst (λ z. IsRoute (notice_in ahead) (published_from core) z) same (routes s id (notice_in ahead) h e p))
+
+pub right-of : (core : CoreParts) (publisher : Publisher) (ahead : Ahead) (m : Message) (r : List ℕ) → IsUpToDate publisher ahead → RoutesMessage core m r → r ≡ route_in ahead
+    → IsNoticeOf m (notice_in ahead) → IsRight core publisher ahead
+right-of core publisher ahead m r up routes same (id, e) =
+    (up, subst (λ z. IsRoute (notice_in ahead) (published_from core) z) same (subst (λ z. RoutesMessage core z r) e routes))

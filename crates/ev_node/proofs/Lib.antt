@@ -44,3 +44,4 @@ pub mod Rehung
 pub mod Onward
 pub mod Nexts
 pub mod Settled
+pub mod Growing

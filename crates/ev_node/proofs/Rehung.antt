@@ -3,7 +3,6 @@ use Rattle.std.proofs.Common.{◌≡◌, ℕ, ◌≤◌, ◌<◌, ◌^◌, List,
 use Rattle.std.proofs.lemmas.List.{append-nil}
 use Rattle.ev_sets.specs.Sets.{Has}
 use Rattle.ev_run.specs.Journals.{Cell, IsReplay}
-use Rattle.ev_routing.specs.Server.{ServerState}
 use Rattle.std.proofs.lemmas.List.{take_all}
 use Rattle.ev_phases.specs.Trees.{net_at, entries_on}
 use Rattle.ev_theory.specs.Real.{real}

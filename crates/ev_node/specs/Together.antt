@@ -1,5 +1,6 @@
 -- The cells of all servers of a net.
 use Rattle.std.specs.Prelude.{◌≡◌, ◌⊎◌, ◌<◌, ℕ, zero, suc, List, [], map, length, drop, Some, slice_get, slice_index_or}
+use mathlib.Core.List.{IsPrefix}
 use Rattle.ev_sets.specs.Sets.{Has}
 use Rattle.ev_run.specs.Machine.{Entry}
 use Rattle.ev_run.specs.Journals.{Cell, IsPhaseInHand, IsPhaseEnded}
@@ -14,7 +15,7 @@ use Rattle.ev_server.specs.Core.{CoreParts}
 use Rattle.ev_server.specs.Step.{last_stamp}
 use Rattle.ev_node.specs.declared.link.Link.{Link}
 use Rattle.ev_node.specs.declared.held.Root.{Root}
-use Rattle.ev_node.specs.Links.{At, IsOneLane, IsNeighbour, put_for, taken_from}
+use Rattle.ev_node.specs.Links.{At, Both, IsOneLane, IsNeighbour, put_for, taken_from}
 use Rattle.ev_node.specs.Lanes.{AreEnds}
 use Rattle.ev_node.specs.Cell.{CellParts, IsCellOf, machine_in}
 use Rattle.ev_node.specs.Turns.{HasCommand}
@@ -53,6 +54,14 @@ sight cell = record {
 
 abbrev pub sights : List CellParts → List Sight
 sights cells = map sight cells
+
+-- its journal goes on: it begins with what it was
+abbrev pub HasGrown : CellParts → CellParts → Type 0
+HasGrown old new = IsPrefix old.journal new.journal
+
+-- so do all of them
+abbrev pub HaveGrown : List CellParts → List CellParts → Type 0
+HaveGrown old new = Both HasGrown old new
 
 -- all that was put on the lane from the neighbour at a place is taken
 abbrev pub IsTakenUp : List Sight → ℕ → ℕ → Type 0

@@ -6,7 +6,7 @@ ghost use Rattle.ev_model.specs.Parts.{NetParts};
 ghost use Rattle.ev_node.specs.declared.held.Root.{Root as RootParts};
 ghost use Rattle.ev_node.specs.Cell.{CellParts, IsKept, machine_in};
 ghost use Rattle.ev_node.specs.Links.{At, IsNextAt, IsOneLane, IsSettledLane};
-ghost use Rattle.ev_node.specs.Together.{AreTogether, AreBegun, AreDone, IsCellDone, IsFinished, IsLaneOf, IsTakenUp, IsWornSomewhere};
+ghost use Rattle.ev_node.specs.Together.{AreTogether, AreBegun, AreDone, HaveGrown, IsCellDone, IsFinished, IsLaneOf, IsTakenUp, IsWornSomewhere};
 ghost use Rattle.ev_node.specs.Together.{root_links, cell_roots, sights};
 ghost use Rattle.ev_node.specs.InHand.{AreAllInHand, AreTakenInOrder, IsTakenInOrder};
 
@@ -68,6 +68,7 @@ fn take_settled<R: Wait>(
     requires from { (b : RootParts) → slice_get (cell_roots cells.old) taker ≡ Some b → from < length (root_links b) }
     requires together { (net : NetParts) × (phase : ℕ) × AreTogether net phase (cell_roots cells.old) }
     ensures roots { cell_roots cells.new ≡ cell_roots cells.old }
+    ensures grown { HaveGrown cells.old cells.new }
     ensures idle { IfOk result (λ made. made ≡ false → (sights cells.new ≡ sights cells.old) × IsTakenUp (sights cells.new) taker from) }
     ensures worn { (s : ℕ) → IsErrOf result (StepFault.Worn s) → IsWornSomewhere s (sights cells.new) }
 {
@@ -90,6 +91,7 @@ fn walk_links<R: Wait>(rt: &R, cells: &mut [Cell<'_>], k: usize) -> Result<bool,
     requires k { k < length cells.old }
     requires together { (net : NetParts) × (phase : ℕ) × AreTogether net phase (cell_roots cells.old) }
     ensures roots { cell_roots cells.new ≡ cell_roots cells.old }
+    ensures grown { HaveGrown cells.old cells.new }
     ensures idle { IfOk result (λ made. made ≡ false → (sights cells.new ≡ sights cells.old)
         × ((p : ℕ) → IsTakenUp (sights cells.new) k p)) }
     ensures worn { (s : ℕ) → IsErrOf result (StepFault.Worn s) → IsWornSomewhere s (sights cells.new) }
@@ -110,6 +112,7 @@ fn walk_cell<R: Wait>(rt: &R, cells: &mut [Cell<'_>], k: usize) -> Result<bool, 
     requires k { k < length cells.old }
     requires together { (net : NetParts) × (phase : ℕ) × AreTogether net phase (cell_roots cells.old) }
     ensures roots { cell_roots cells.new ≡ cell_roots cells.old }
+    ensures grown { HaveGrown cells.old cells.new }
     ensures idle { IfOk result (λ made. made ≡ false → (sights cells.new ≡ sights cells.old) × IsCellDone (sights cells.new) k) }
     ensures worn { (s : ℕ) → IsErrOf result (StepFault.Worn s) → IsWornSomewhere s (sights cells.new) }
 {
@@ -122,6 +125,7 @@ fn walk_cell<R: Wait>(rt: &R, cells: &mut [Cell<'_>], k: usize) -> Result<bool, 
 fn walk_once<R: Wait>(rt: &R, cells: &mut [Cell<'_>]) -> Result<bool, StepFault>
     requires { (net : NetParts) × (phase : ℕ) × AreTogether net phase (cell_roots cells.old) }
     ensures roots { cell_roots cells.new ≡ cell_roots cells.old }
+    ensures grown { HaveGrown cells.old cells.new }
     ensures idle { IfOk result (λ made. made ≡ false → AreDone (sights cells.new)) }
     ensures worn { (s : ℕ) → IsErrOf result (StepFault.Worn s) → IsWornSomewhere s (sights cells.new) }
 {
@@ -138,6 +142,7 @@ fn walk_once<R: Wait>(rt: &R, cells: &mut [Cell<'_>]) -> Result<bool, StepFault>
 fn walk_rest<R: Wait>(rt: &R, cells: &mut [Cell<'_>]) -> Result<(), StepFault>
     requires { (net : NetParts) × (phase : ℕ) × AreTogether net phase (cell_roots cells.old) }
     ensures roots { cell_roots cells.new ≡ cell_roots cells.old }
+    ensures grown { HaveGrown cells.old cells.new }
     ensures done { OnOk result (AreDone (sights cells.new)) }
     ensures worn { (s : ℕ) → IsErrOf result (StepFault.Worn s) → IsWornSomewhere s (sights cells.new) }
 {
@@ -152,6 +157,7 @@ fn walk_rest<R: Wait>(rt: &R, cells: &mut [Cell<'_>]) -> Result<(), StepFault>
 /// Takes the commands of the phase that are left, server by server.
 fn walk_commands(cells: &mut [Cell<'_>]) -> Result<(), StepFault>
     ensures roots { cell_roots cells.new ≡ cell_roots cells.old }
+    ensures grown { HaveGrown cells.old cells.new }
     ensures worn { (s : ℕ) → IsErrOf result (StepFault.Worn s) → IsWornSomewhere s (sights cells.new) }
 {
     for k in 0..cells.len() {
@@ -204,6 +210,7 @@ fn settle_all(cells: &mut [Cell<'_>]) -> Result<(), NoMemory>
 fn walk_phase<R: Wait>(rt: &R, cells: &mut [Cell<'_>]) -> Result<(), StepFault>
     requires together { (net : NetParts) × (phase : ℕ) × AreTogether net phase (cell_roots cells.old) }
     ensures roots { cell_roots cells.new ≡ cell_roots cells.old }
+    ensures grown { HaveGrown cells.old cells.new }
     ensures done { OnOk result (AreDone (sights cells.new)) }
     ensures finished { OnOk result ((net : NetParts) (phase : ℕ) → AreTogether net phase (cell_roots cells.old)
         → (begun : ℕ → Begun (machine_in net phase)) → AreBegun net phase cells.new begun → IsFinished net phase cells.new begun) }
@@ -217,11 +224,12 @@ fn walk_phase<R: Wait>(rt: &R, cells: &mut [Cell<'_>]) -> Result<(), StepFault>
 
 /// Makes the rest of the phase: all commands that are left, server by server, and then rounds, in which each server takes
 /// from each neighbour and publishes what is staged, until one makes nothing. Then all lanes are empty, nothing is staged,
-/// and no command of the phase is left. After a fault the steps that were made stand; where no stamp is left, all that was put is
+/// and no command of the phase is left. Each journal goes on. After a fault the steps that were made stand; where no stamp is left, all that was put is
 /// brought to the taking ends, so that all cells are in hand.
 pub fn finish_phase<R: Wait>(rt: &R, cells: &mut [Cell<'_>]) -> Result<(), StepFault>
     requires together { (net : NetParts) × (phase : ℕ) × AreTogether net phase (cell_roots cells.old) }
     ensures roots { cell_roots cells.new ≡ cell_roots cells.old }
+    ensures grown { HaveGrown cells.old cells.new }
     ensures done { OnOk result (AreDone (sights cells.new)) }
     ensures finished { OnOk result ((net : NetParts) (phase : ℕ) → AreTogether net phase (cell_roots cells.old)
         → (begun : ℕ → Begun (machine_in net phase)) → AreBegun net phase cells.new begun → IsFinished net phase cells.new begun) }

@@ -16,6 +16,7 @@ use std::sync::Wait;
 
 impl<'a> Cell<'a> {
     ghost use Rattle.std.specs.Prelude.{◌≡◌, ◌<◌, ◌≤◌, ℕ, suc, true, false, [], length, OnOk, IfOk, IfSome, IfNone, IsErrOf};
+    ghost use mathlib.Core.List.{IsPrefix};
     ghost use Rattle.ev_sets.specs.Sets.{Has};
     ghost use Rattle.ev_model.specs.Nets.{clients_of};
     ghost use Rattle.ev_node.specs.Links.{At, Both, HasMissed, IsNeighbour, IsNextAt, IsOneLane, IsSameLink, IsSettledLane};
@@ -85,6 +86,7 @@ impl<'a> Cell<'a> {
     ) -> Result<bool, StepFault>
         requires { place < length self.old.held.links.items }
         ensures root { self.new.root ≡ self.old.root }
+        ensures grown { IsPrefix self.old.journal self.new.journal }
         ensures idle { IfOk result (λ made. made ≡ false → (sight self.new ≡ sight self.old)
             × Both IsSameLink self.old.held.links.items self.new.held.links.items
             × HasMissed place self.old.held.links.items self.new.held.links.items) }
@@ -106,6 +108,7 @@ impl<'a> Cell<'a> {
     fn take_command(&mut self, client: u32) -> Result<bool, StepFault>
         requires { Has client (clients_of self.old.root.net.value self.old.root.server) }
         ensures root { self.new.root ≡ self.old.root }
+        ensures grown { IsPrefix self.old.journal self.new.journal }
         ensures idle { IfOk result (λ made. made ≡ false → (sight self.new ≡ sight self.old)
             × (HasCommand self.new.held.core client self.new.root.phase → ⊥)) }
         ensures worn { (s : ℕ) → IsErrOf result (StepFault.Worn s) → (s ≡ last_stamp) × (self.new.held.core.clock ≡ last_stamp) }
@@ -126,6 +129,7 @@ impl<'a> Cell<'a> {
     fn take_script(&mut self, client: u32) -> Result<bool, StepFault>
         requires { Has client (clients_of self.old.root.net.value self.old.root.server) }
         ensures root { self.new.root ≡ self.old.root }
+        ensures grown { IsPrefix self.old.journal self.new.journal }
         ensures idle { IfOk result (λ made. made ≡ false → (sight self.new ≡ sight self.old)
             × (HasCommand self.new.held.core client self.new.root.phase → ⊥)) }
         ensures worn { (s : ℕ) → IsErrOf result (StepFault.Worn s) → (s ≡ last_stamp) × (self.new.held.core.clock ≡ last_stamp) }
@@ -146,6 +150,7 @@ impl<'a> Cell<'a> {
     fn take_home(&mut self, place: usize) -> Result<bool, StepFault>
         requires { place < length self.old.root.net.value.clients }
         ensures root { self.new.root ≡ self.old.root }
+        ensures grown { IsPrefix self.old.journal self.new.journal }
         ensures idle { IfOk result (λ made. made ≡ false → (sight self.new ≡ sight self.old)
             × (Has (suc place) (clients_of self.old.root.net.value self.old.root.server)
             → HasCommand self.new.held.core (suc place) self.new.root.phase → ⊥)) }
@@ -162,6 +167,7 @@ impl<'a> Cell<'a> {
     /// Takes the commands of the phase that are left of the server's clients; answers whether there were any.
     pub(crate) fn take_commands(&mut self) -> Result<bool, StepFault>
         ensures root { self.new.root ≡ self.old.root }
+        ensures grown { IsPrefix self.old.journal self.new.journal }
         ensures idle { IfOk result (λ made. made ≡ false → (sight self.new ≡ sight self.old)
             × HasNoCommand self.new.held.core self.new.root.phase) }
         ensures worn { (s : ℕ) → IsErrOf result (StepFault.Worn s) → (s ≡ last_stamp) × (self.new.held.core.clock ≡ last_stamp) }
@@ -179,6 +185,7 @@ impl<'a> Cell<'a> {
     /// Publishes what is staged; answers whether something was.
     fn publish_staged<R: Wait>(&mut self, rt: &R) -> Result<bool, StepFault>
         ensures root { self.new.root ≡ self.old.root }
+        ensures grown { IsPrefix self.old.journal self.new.journal }
         ensures idle { IfOk result (λ made. made ≡ false → (sight self.new ≡ sight self.old) × (self.new.held.core.staged ≡ [])) }
         ensures worn { (s : ℕ) → IsErrOf result (StepFault.Worn s) → (s ≡ last_stamp) × (self.new.held.core.clock ≡ last_stamp) }
     {
@@ -196,6 +203,7 @@ impl<'a> Cell<'a> {
     /// Publishes what is staged, and takes the commands that are left; answers whether there was something to do.
     pub(crate) fn walk_tasks<R: Wait>(&mut self, rt: &R) -> Result<bool, StepFault>
         ensures root { self.new.root ≡ self.old.root }
+        ensures grown { IsPrefix self.old.journal self.new.journal }
         ensures idle { IfOk result (λ made. made ≡ false → (sight self.new ≡ sight self.old)
             × (self.new.held.core.staged ≡ []) × HasNoCommand self.new.held.core self.new.root.phase) }
         ensures worn { (s : ℕ) → IsErrOf result (StepFault.Worn s) → (s ≡ last_stamp) × (self.new.held.core.clock ≡ last_stamp) }

@@ -5,10 +5,10 @@ use Rattle.ev_model.specs.Parts.{EntryParts}
 use Rattle.ev_input.specs.declared.fault.Fault.{Fault}
 use Rattle.ev_generate.specs.Document.{generated}
 use Rattle.ev_quiet.specs.declared.words.Query.{Query}
-use Rattle.ev_quiet.specs.declared.words.Query.TheVariants.{Run, Flood, Check}
+use Rattle.ev_quiet.specs.declared.words.Query.TheVariants.{Run, Flood, Check, Format}
 use Rattle.ev_quiet.specs.declared.words.Wanted.{Wanted}
 use Rattle.ev_quiet.specs.declared.words.Wanted.TheVariants.{Audit, Document, Generate, Patterns}
-use Rattle.ev_quiet.specs.Printed.{IsFloodOf, IsCheckOf, IsSummaryOf}
+use Rattle.ev_quiet.specs.Printed.{IsFloodOf, IsCheckOf, IsFormatOf, IsSummaryOf}
 use Rattle.ev_quiet.specs.Headline.{Headline}
 use Rattle.ev_watch.specs.declared.fault.PatternKind.{PatternKind}
 use Rattle.ev_quiet.specs.Faults.{IsAtFault, MustBeRefused, CanBeDone}
@@ -21,6 +21,7 @@ abbrev pub IsPrintedOf : Query → List ℕ → List ℕ → List EntryParts →
 IsPrintedOf (Run schedule shown) input text journal = Headline schedule shown input text journal
 IsPrintedOf Flood input text journal = IsFloodOf input text × (journal ≡ [])
 IsPrintedOf Check input text journal = IsCheckOf input text × (journal ≡ [])
+IsPrintedOf Format input text journal = IsFormatOf input text × (journal ≡ [])
 
 -- those that a seed gives: its document, or the summary of its walk
 abbrev pub IsGenerated : ℕ → Bool → List ℕ → List EntryParts → Type 0

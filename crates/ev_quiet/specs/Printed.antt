@@ -6,6 +6,8 @@ use Rattle.ev_model.specs.Sound.{publishes}
 use Rattle.ev_net.specs.Network.{IsLegal, IsDrainedBy}
 use Rattle.ev_net.specs.Told.{told_by}
 use Rattle.ev_input.specs.Net.{IsNetOf}
+use Rattle.ev_format.specs.DocumentText.{as_written, document_text}
+use Rattle.ev_format.specs.Limits.{FitsDocument}
 use Rattle.ev_flood.specs.declared.owed.OwedRow.{OwedRow}
 use Rattle.ev_flood.specs.Flooding.{IsFlooding}
 use Rattle.ev_report.specs.Deliveries.{deliveries_text}
@@ -40,6 +42,15 @@ pub record IsCheckOf (input text : List ℕ) : Type 0 where
   pub net : NetParts
   pub well_formed : IsNetOf input net
   pub printed : text ≡ check_text net
+
+-- the text is the canonical one of a document; where it is within the limits of a document it is one itself: its net is that of the first, with
+-- its turns on their lines of the text, and its own canonical text is the same
+pub record IsFormatOf (input text : List ℕ) : Type 0 where
+  pub net : NetParts
+  pub well_formed : IsNetOf input net
+  pub printed : text ≡ document_text net
+  pub read : FitsDocument net → IsNetOf text (as_written net)
+  pub again : FitsDocument net → (other : NetParts) → IsNetOf text other → document_text other ≡ text
 
 -- how many publishes of a net were accepted in a run that took all commands
 abbrev pub accepted_in : NetParts → List EntryParts → ℕ

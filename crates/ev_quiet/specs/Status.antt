@@ -51,7 +51,7 @@ audit_text audits.Open = codes "open"
 -- what goes to standard error
 unfoldable pub status_text : Status → List ℕ
 status_text statuses.Done = []
-status_text statuses.Usage = codes "siena: usage: walk, run or replay [--sorted] [--trace]; flood; check; gen --seed N [--summary]" ++ 10 ∷ []
+status_text statuses.Usage = codes "siena: usage: walk, run or replay [--sorted] [--trace]; flood; check; format; gen --seed N [--summary]" ++ 10 ∷ []
 status_text (statuses.BadInput line kind) = codes "siena: line " ++ decimal line ++ codes ": " ++ kind_text kind ++ 10 ∷ []
 status_text (statuses.BadPattern line kind) = codes "siena: line " ++ decimal line ++ codes ": " ++ pattern_text kind ++ 10 ∷ []
 status_text (statuses.Refuted line kind) = codes "siena: audit: line " ++ decimal line ++ codes ": " ++ audit_text kind ++ 10 ∷ []

@@ -8,7 +8,7 @@ use Rattle.ev_quiet.specs.declared.words.Schedule.{Schedule}
 use Rattle.ev_quiet.specs.declared.words.Schedule.TheVariants.{Walk, Replay, Threads}
 use Rattle.ev_quiet.specs.declared.words.Shown.{Shown}
 use Rattle.ev_quiet.specs.declared.words.Query.{Query}
-use Rattle.ev_quiet.specs.declared.words.Query.TheVariants.{Run, Flood, Check}
+use Rattle.ev_quiet.specs.declared.words.Query.TheVariants.{Run, Flood, Check, Format}
 use Rattle.ev_quiet.specs.declared.words.Wanted.{Wanted}
 use Rattle.ev_quiet.specs.declared.words.Wanted.TheVariants.{Audit, Document, Generate, Patterns}
 
@@ -93,6 +93,7 @@ wanted_by (word ∷ words) =
     else if bytes_eq word (codes "run") then run_by Threads words
     else if bytes_eq word (codes "flood") then alone Flood words
     else if bytes_eq word (codes "check") then alone Check words
+    else if bytes_eq word (codes "format") then alone Format words
     else if bytes_eq word (codes "gen") then generate_by words
     else if bytes_eq word (codes "patterns") then patterns_by words
     else if bytes_eq word (codes "audit") then audit_by words
@@ -109,6 +110,7 @@ abbrev pub IsQuietQuery : Query → Type 0
 IsQuietQuery (Run schedule shown) = is_quiet schedule ≡ true
 IsQuietQuery Flood = Unit {0}
 IsQuietQuery Check = Unit {0}
+IsQuietQuery Format = Unit {0}
 
 abbrev pub IsQuietWish : Wanted → Type 0
 IsQuietWish (Document query) = IsQuietQuery query

@@ -3,7 +3,9 @@ ghost use Rattle.ev_outside.specs.Pending.{outlet, Went};
 ghost use Rattle.ev_quiet.specs.Showing.{body_text};
 
 use crate::given::Given;
+use ev_format::put_document;
 use ev_found::Found;
+use ev_model::Net;
 use ev_outside::{Pending, Sink};
 use ev_report::Flooded;
 
@@ -18,6 +20,8 @@ pub enum Body {
     Flooded(Flooded),
     /// Where patterns occur.
     Found(Found),
+    /// The canonical text of a net.
+    Formatted(Net),
 }
 
 impl Body {
@@ -31,6 +35,7 @@ impl Body {
             Body::Received(given) => given.put(out, sink),
             Body::Flooded(flooded) => flooded.put(out, sink),
             Body::Found(found) => found.put(out, sink),
+            Body::Formatted(net) => put_document(out, sink, &net),
         }
     }
 }

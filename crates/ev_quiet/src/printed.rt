@@ -18,6 +18,7 @@ use crate::refusal::Refusal;
 use crate::text::printed_run;
 use crate::words::{Query, Schedule, Shown};
 use ev_flood::must_may;
+use ev_format::law::text_is_read;
 use ev_input::Fault;
 use ev_memory::NoMemory;
 use ev_model::{Entry, Net};
@@ -163,6 +164,25 @@ fn check(alloc: Global, bytes: &[u8]) -> Result<Printed, Refusal>
     Ok(Printed::alone(alloc, text)?)
 }
 
+// The canonical text of a document.
+fn format(alloc: Global, bytes: &[u8]) -> Result<Printed, Refusal>
+    ensures printed { IfOk result (λ p. IsPrintedOf Query.Format bytes.now p.text p.journal) }
+    ensures bad { (line : ℕ) (kind : Fault) → IsErrOf result (Refusal.BadInput line kind) → IsAtFault Query.Format bytes.now line kind }
+    ensures refused { (line : ℕ) (kind : Fault) → MustBeRefused Query.Format bytes.now line kind
+        → IsErrOf result (Refusal.BadInput line kind) ⊎ IsErrOf result Refusal.NoMemory }
+    ensures done { CanBeDone Query.Format bytes.now → IsOk result ⊎ IsErrOf result Refusal.NoMemory }
+    ensures unread { IsErrOf result Refusal.ReadFault → ⊥ }
+{
+    text_is_read();
+    let net = net(alloc, bytes)?;
+    Ok(Printed::make(
+        alloc,
+        Body::Formatted(net),
+        Vec::new(alloc),
+        Vec::new(alloc),
+    )?)
+}
+
 /// What is wanted of a document, or its fault.
 pub fn of_document(alloc: Global, query: Query, bytes: &[u8]) -> Result<Printed, Refusal>
     requires { IsQuietQuery query }
@@ -177,5 +197,6 @@ pub fn of_document(alloc: Global, query: Query, bytes: &[u8]) -> Result<Printed,
         Query::Run(schedule, shown) => run(alloc, bytes, schedule, shown),
         Query::Flood => flood(alloc, bytes),
         Query::Check => check(alloc, bytes),
+        Query::Format => format(alloc, bytes),
     }
 }

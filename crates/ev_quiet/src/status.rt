@@ -131,7 +131,7 @@ fn push_fault(out: &mut Vec<u8>, before: &[u8], line: u32, word: &[u8]) -> Resul
 }
 
 const USAGE: &[u8] =
-    b"siena: usage: walk, run or replay [--sorted] [--trace]; flood; check; gen --seed N [--summary]\n";
+    b"siena: usage: walk, run or replay [--sorted] [--trace]; flood; check; format; gen --seed N [--summary]\n";
 
 /// What goes to standard error: one line, or nothing where the run is done.
 #[tactic(auto, unfolding(crate::specs::Status::status_text))]

@@ -36,6 +36,8 @@ pub enum Query {
     Flood,
     /// How much it has.
     Check,
+    /// Its canonical text.
+    Format,
 }
 
 /// What the words ask for.
@@ -212,6 +214,8 @@ pub fn read_words(words: &[Word]) -> Option<Wanted>
         alone(Query::Flood, rest)
     } else if is_word(word, b"check") {
         alone(Query::Check, rest)
+    } else if is_word(word, b"format") {
+        alone(Query::Format, rest)
     } else if is_word(word, b"gen") {
         generate(rest)
     } else if is_word(word, b"patterns") {

@@ -135,7 +135,7 @@ pub const AUDITS: [Row; 14] = [
         words: "audit --trace",
         document: "siena 1\nsemantics subscription\nservers 1\nclient c1 1\nclient c2 1\nscript c1\n\
             subscribe x int = 7\nbarrier\nscript c2\nbarrier\npublish x int 7\npublish x int 5\n",
-        fault: "siena: usage: walk, run or replay [--sorted] [--trace]; flood; check; gen --seed N [--summary]\n",
+        fault: "siena: usage: walk, run or replay [--sorted] [--trace]; flood; check; format; gen --seed N [--summary]\n",
         text: "",
     },
 ];

@@ -6,6 +6,7 @@ mod audits;
 mod devices;
 mod failure;
 mod faults;
+mod formats;
 mod generated;
 mod large;
 mod patterns;
@@ -26,6 +27,7 @@ fn main(rt: HostRuntime) -> Result<(), Failure> {
     tried::print_rows(&rt, alloc, &patterns::PATTERNS)?;
     tried::print_rows(&rt, alloc, &audits::AUDITS)?;
     audits::print_changed(&rt, alloc)?;
+    tried::print_rows(&rt, alloc, &formats::FORMATS)?;
     tried::print_rows(&rt, alloc, &usage::USAGE)?;
     devices::print_devices(&rt, alloc)?;
     large::print_large(&rt, alloc)?;

@@ -66,7 +66,7 @@ pub const PATTERNS: [Row; 11] = [
         name: "Patterns with a further word",
         words: "patterns --sorted",
         document: "siena 1\nsemantics subscription\nservers 1\n",
-        fault: "siena: usage: walk, run or replay [--sorted] [--trace]; flood; check; gen --seed N [--summary]\n",
+        fault: "siena: usage: walk, run or replay [--sorted] [--trace]; flood; check; format; gen --seed N [--summary]\n",
         text: "",
     },
     Row {

@@ -8,7 +8,7 @@ pub const USAGE: [Row; 12] = [
         words: "walk --sorted --sorted",
         document: "siena 1\nsemantics subscription\nservers 1\nclient c1 1\nclient c2 1\nscript c1\n\
             subscribe x int = 7\nbarrier\nscript c2\nbarrier\npublish x int 7\npublish x int 5\n",
-        fault: "siena: usage: walk, run or replay [--sorted] [--trace]; flood; check; gen --seed N [--summary]\n",
+        fault: "siena: usage: walk, run or replay [--sorted] [--trace]; flood; check; format; gen --seed N [--summary]\n",
         text: "",
     },
     Row {
@@ -16,7 +16,7 @@ pub const USAGE: [Row; 12] = [
         words: "fly",
         document: "siena 1\nsemantics subscription\nservers 1\nclient c1 1\nclient c2 1\nscript c1\n\
             subscribe x int = 7\nbarrier\nscript c2\nbarrier\npublish x int 7\npublish x int 5\n",
-        fault: "siena: usage: walk, run or replay [--sorted] [--trace]; flood; check; gen --seed N [--summary]\n",
+        fault: "siena: usage: walk, run or replay [--sorted] [--trace]; flood; check; format; gen --seed N [--summary]\n",
         text: "",
     },
     Row {
@@ -24,7 +24,7 @@ pub const USAGE: [Row; 12] = [
         words: "gen",
         document: "siena 1\nsemantics subscription\nservers 1\nclient c1 1\nclient c2 1\nscript c1\n\
             subscribe x int = 7\nbarrier\nscript c2\nbarrier\npublish x int 7\npublish x int 5\n",
-        fault: "siena: usage: walk, run or replay [--sorted] [--trace]; flood; check; gen --seed N [--summary]\n",
+        fault: "siena: usage: walk, run or replay [--sorted] [--trace]; flood; check; format; gen --seed N [--summary]\n",
         text: "",
     },
     Row {
@@ -32,7 +32,7 @@ pub const USAGE: [Row; 12] = [
         words: "gen --seed x",
         document: "siena 1\nsemantics subscription\nservers 1\nclient c1 1\nclient c2 1\nscript c1\n\
             subscribe x int = 7\nbarrier\nscript c2\nbarrier\npublish x int 7\npublish x int 5\n",
-        fault: "siena: usage: walk, run or replay [--sorted] [--trace]; flood; check; gen --seed N [--summary]\n",
+        fault: "siena: usage: walk, run or replay [--sorted] [--trace]; flood; check; format; gen --seed N [--summary]\n",
         text: "",
     },
     Row {
@@ -40,7 +40,7 @@ pub const USAGE: [Row; 12] = [
         words: "",
         document: "siena 1\nsemantics subscription\nservers 1\nclient c1 1\nclient c2 1\nscript c1\n\
             subscribe x int = 7\nbarrier\nscript c2\nbarrier\npublish x int 7\npublish x int 5\n",
-        fault: "siena: usage: walk, run or replay [--sorted] [--trace]; flood; check; gen --seed N [--summary]\n",
+        fault: "siena: usage: walk, run or replay [--sorted] [--trace]; flood; check; format; gen --seed N [--summary]\n",
         text: "",
     },
     Row {
@@ -48,7 +48,7 @@ pub const USAGE: [Row; 12] = [
         words: "flood --sorted",
         document: "siena 1\nsemantics subscription\nservers 1\nclient c1 1\nclient c2 1\nscript c1\n\
             subscribe x int = 7\nbarrier\nscript c2\nbarrier\npublish x int 7\npublish x int 5\n",
-        fault: "siena: usage: walk, run or replay [--sorted] [--trace]; flood; check; gen --seed N [--summary]\n",
+        fault: "siena: usage: walk, run or replay [--sorted] [--trace]; flood; check; format; gen --seed N [--summary]\n",
         text: "",
     },
     Row {
@@ -56,7 +56,7 @@ pub const USAGE: [Row; 12] = [
         words: "gen --seed 18446744073709551616",
         document: "siena 1\nsemantics subscription\nservers 1\nclient c1 1\nclient c2 1\nscript c1\n\
             subscribe x int = 7\nbarrier\nscript c2\nbarrier\npublish x int 7\npublish x int 5\n",
-        fault: "siena: usage: walk, run or replay [--sorted] [--trace]; flood; check; gen --seed N [--summary]\n",
+        fault: "siena: usage: walk, run or replay [--sorted] [--trace]; flood; check; format; gen --seed N [--summary]\n",
         text: "",
     },
     Row {
@@ -64,7 +64,7 @@ pub const USAGE: [Row; 12] = [
         words: "gen --seed 000000000000000000001",
         document: "siena 1\nsemantics subscription\nservers 1\nclient c1 1\nclient c2 1\nscript c1\n\
             subscribe x int = 7\nbarrier\nscript c2\nbarrier\npublish x int 7\npublish x int 5\n",
-        fault: "siena: usage: walk, run or replay [--sorted] [--trace]; flood; check; gen --seed N [--summary]\n",
+        fault: "siena: usage: walk, run or replay [--sorted] [--trace]; flood; check; format; gen --seed N [--summary]\n",
         text: "",
     },
     Row {
@@ -72,7 +72,7 @@ pub const USAGE: [Row; 12] = [
         words: "gen --seed 1 --seed=1",
         document: "siena 1\nsemantics subscription\nservers 1\nclient c1 1\nclient c2 1\nscript c1\n\
             subscribe x int = 7\nbarrier\nscript c2\nbarrier\npublish x int 7\npublish x int 5\n",
-        fault: "siena: usage: walk, run or replay [--sorted] [--trace]; flood; check; gen --seed N [--summary]\n",
+        fault: "siena: usage: walk, run or replay [--sorted] [--trace]; flood; check; format; gen --seed N [--summary]\n",
         text: "",
     },
     Row {
@@ -80,7 +80,7 @@ pub const USAGE: [Row; 12] = [
         words: "gen --summary --seed 1 --summary",
         document: "siena 1\nsemantics subscription\nservers 1\nclient c1 1\nclient c2 1\nscript c1\n\
             subscribe x int = 7\nbarrier\nscript c2\nbarrier\npublish x int 7\npublish x int 5\n",
-        fault: "siena: usage: walk, run or replay [--sorted] [--trace]; flood; check; gen --seed N [--summary]\n",
+        fault: "siena: usage: walk, run or replay [--sorted] [--trace]; flood; check; format; gen --seed N [--summary]\n",
         text: "",
     },
     Row {
@@ -88,7 +88,7 @@ pub const USAGE: [Row; 12] = [
         words: "gen --seed --summary",
         document: "siena 1\nsemantics subscription\nservers 1\nclient c1 1\nclient c2 1\nscript c1\n\
             subscribe x int = 7\nbarrier\nscript c2\nbarrier\npublish x int 7\npublish x int 5\n",
-        fault: "siena: usage: walk, run or replay [--sorted] [--trace]; flood; check; gen --seed N [--summary]\n",
+        fault: "siena: usage: walk, run or replay [--sorted] [--trace]; flood; check; format; gen --seed N [--summary]\n",
         text: "",
     },
     Row {
@@ -96,7 +96,7 @@ pub const USAGE: [Row; 12] = [
         words: "--help",
         document: "siena 1\nsemantics subscription\nservers 1\nclient c1 1\nclient c2 1\nscript c1\n\
             subscribe x int = 7\nbarrier\nscript c2\nbarrier\npublish x int 7\npublish x int 5\n",
-        fault: "siena: usage: walk, run or replay [--sorted] [--trace]; flood; check; gen --seed N [--summary]\n",
+        fault: "siena: usage: walk, run or replay [--sorted] [--trace]; flood; check; format; gen --seed N [--summary]\n",
         text: "",
     },
 ];

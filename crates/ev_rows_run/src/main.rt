@@ -1,4 +1,4 @@
-//! Runs documents with two threads a server, free and held at gates, and prints of each whether what it wrote is as wanted.
+//! Runs documents with two workers a server, free and held at gates, and prints of each whether what it wrote is as wanted.
 #![tactic(auto)]
 
 mod documents;

@@ -1,4 +1,4 @@
-//! The program: from the words of a command line and the bytes of a source to the bytes of a sink, with two threads a server
+//! The program: from the words of a command line and the bytes of a source to the bytes of a sink, with two workers a server
 //! where `run` is asked for.
 #![tactic(auto)]
 

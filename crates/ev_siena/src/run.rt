@@ -1,4 +1,4 @@
-//! The run of a net with two threads a server.
+//! The run of a net with two workers a server.
 ghost use Rattle.std.specs.Prelude.{ℕ, IfOk};
 ghost use Rattle.ev_model.specs.Sound.{IsSound};
 ghost use Rattle.ev_siena.specs.Runs.{IsThreaded};

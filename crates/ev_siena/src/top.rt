@@ -80,8 +80,8 @@ fn run<R: Threads + Wait + Sync, S: Source, K: Sink, G: Gate + Sync>(
 /// Does what the words say. The words are read first, then the source, whose document is refused at its first fault; then the
 /// run is made, and then the text is written. All memory is taken before the first write.
 ///
-/// `run` makes the run of the network with two threads a server, `walk` and `replay` make one on one thread; all three print
-/// what each client receives in it. `flood` prints what flooding owes and allows it, `check` how much the document has, and
+/// `run` makes the run of the network with two workers a server, each in a thread where one can be had, `walk` and `replay` make
+/// one on one thread; all three print what each client receives in it. `flood` prints what flooding owes and allows it, `check` how much the document has, and
 /// `gen` the document of a seed, or the summary of its walk. `patterns` prints where the patterns behind a document occur in
 /// what its clients receive. A call with `run` returns where its threads do.
 pub fn siena<R: Threads + Wait + Sync, S: Source, K: Sink, G: Gate + Sync>(

@@ -7,7 +7,7 @@ use Rattle.ev_run.proofs.Lists.{Same, Is, Not, compare}
 use Rattle.ev_routing.specs.Net.{NetLaws, NeverFalls, PhasedCommand, Subscribe, Unsubscribe, Advertise, Publish}
 use Rattle.ev_routing.proofs.Witness.{line-laws}
 use Rattle.ev_worked.specs.Ranges.{Below, Equal, Above, AtLeast, Any, ranges}
-use Rattle.ev_worked.specs.SmallNets.{in_phase, pair_links, line_clients, line_of, wide_and_narrow, withdrawn_wide, equal_ranges, advertised_small, subscribed_again}
+use Rattle.ev_worked.specs.SmallNets.{in_phase, pair_links, line_clients, line_of, wide_and_narrow, withdrawn_wide, equal_ranges, advertised_small, subscribed_again, withdrawn_pair}
 
 -- what holds of 1, 2, 3 and of the others holds of all
 pub each : (P : ℕ → Type 0) → P 1 → P 2 → P 3 → ((t : ℕ) → (t == 1) ≡ false → (t == 2) ≡ false → (t == 3) ≡ false → P t) → (t : ℕ) → P t
@@ -124,6 +124,17 @@ advertised_small-lawful = record {
   lives = one-each (λ t c. advertised_small.home c ≡ t) refl refl;
   single = each (λ t. IsDistinct (advertised_small.clients t)) (just 1) (just 2) tt (λ t x y z. rw (x, y) tt);
   phased = each (λ c. NeverFalls ranges (advertised_small.script c)) (rises (in_phase 0 (Advertise (Below 3)) ∷ []) tt) (rises (in_phase 1 (Subscribe (Above 5)) ∷ in_phase 2 (Subscribe (Below 9)) ∷ []) (omega arith, tt)) tt (λ c x y z. rw (x, y) tt);
+}
+
+pub withdrawn_pair-lawful : NetLaws ranges withdrawn_pair
+withdrawn_pair-lawful = record {
+  tree = pair-hops;
+  small = pair-small;
+  counted = one-each (λ t c. 1 ≤ c) (omega arith) (omega arith);
+  housed = λ c. pair-home (c == 2);
+  lives = one-each (λ t c. withdrawn_pair.home c ≡ t) refl refl;
+  single = each (λ t. IsDistinct (withdrawn_pair.clients t)) (just 1) (just 2) tt (λ t x y z. rw (x, y) tt);
+  phased = each (λ c. NeverFalls ranges (withdrawn_pair.script c)) (rises (in_phase 0 (Subscribe Any) ∷ in_phase 1 (Unsubscribe Any) ∷ []) (omega arith, tt)) (rises (in_phase 1 (Publish 9) ∷ []) tt) tt (λ c x y z. rw (x, y) tt);
 }
 
 -- one server

@@ -3,3 +3,4 @@ pub mod Lawful
 pub mod LawfulNets
 pub mod Replayed
 pub mod Phased
+pub mod SettledNotOwed

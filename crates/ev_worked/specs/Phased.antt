@@ -1,5 +1,5 @@
 -- What a run over trees by phase tells line by line, and nets on one tree as nets with trees by phase.
-use Rattle.std.specs.Prelude.{ℕ, ◌==◌, false, cond, List, [], ◌∷◌, ◌++◌, length, map}
+use Rattle.std.specs.Prelude.{◌≡◌, ℕ, ◌==◌, false, cond, List, [], ◌∷◌, ◌++◌, length, map}
 use Rattle.ev_run.specs.Network.{messages_of}
 use Rattle.ev_routing.specs.Theory.{Theory}
 use Rattle.ev_routing.specs.Net.{Net, Subscribe, Publish}
@@ -7,11 +7,13 @@ use Rattle.ev_routing.specs.Server.{Message, Publication}
 use Rattle.ev_routing.specs.Example.{line_clients, line_home}
 use Rattle.ev_phases.specs.Trees.{JournalEntry, entry_on, PhasedNet, net_at, machine_at, at_phase}
 use Rattle.ev_phases.specs.Moments.{Moment, opening_moment, found_by, acted, moment_of}
+use Rattle.ev_phases.specs.Runs.{PhasedRun}
+use Rattle.ev_phases.specs.Settled.{IsSettledTo}
 use Rattle.ev_phases.specs.Walk.{walk_of}
 use Rattle.ev_phases.specs.Example.{line_tree, star_tree}
 use Rattle.ev_worked.specs.Ranges.{Any, ranges}
 use Rattle.ev_worked.specs.Trace.{Line, line}
-use Rattle.ev_worked.specs.SmallNets.{in_phase}
+use Rattle.ev_worked.specs.SmallNets.{in_phase, withdrawn_pair}
 
 module _ (theory : Theory) where
   -- a net on one tree, which all its phases have
@@ -87,3 +89,17 @@ subscriber_publishes = record {
   clients = line_clients;
   script = λ client. cond (client == 1) (in_phase 0 (Subscribe Any) ∷ in_phase 1 (Publish 1) ∷ []) [];
 }
+
+-- the pair of servers as a net with trees by phase, and its walk
+abbrev pub withdrawn_on_tree : PhasedNet ranges
+withdrawn_on_tree = on_one_tree ranges withdrawn_pair
+
+abbrev pub withdrawn_walk : List JournalEntry
+withdrawn_walk = phased_walk ranges withdrawn_on_tree 2
+
+-- in a run of this net with this journal a publication is settled wherever it passes on its way to a client
+pub record IsSettledIn (net : PhasedNet ranges) (journal : List JournalEntry) (publication : Publication ranges) (client : ℕ) : Type 0 where
+  pub run : PhasedRun ranges
+  pub of_net : run.net ≡ net
+  pub of_journal : run.journal ≡ journal
+  pub settled : IsSettledTo ranges run publication client

@@ -74,6 +74,20 @@ equal_ranges = record {
       (cond (client == 2) (in_phase 0 (Subscribe (AtLeast 2)) ∷ []) []);
 }
 
+-- a pair of servers: client 1 at the one subscribes to all and withdraws that in the next phase, in which client 2 at the other publishes
+abbrev pub withdrawn_pair : Net ranges
+withdrawn_pair = record {
+  adverts = false;
+  servers = 1 ∷ 2 ∷ [];
+  links = pair_links;
+  hop = λ server other. other;
+  home = λ client. cond (client == 2) 2 1;
+  clients = λ server. cond (server == 1) (1 ∷ []) (cond (server == 2) (2 ∷ []) []);
+  script = λ client.
+      cond (client == 1) (in_phase 0 (Subscribe Any) ∷ in_phase 1 (Unsubscribe Any) ∷ [])
+      (cond (client == 2) (in_phase 1 (Publish 9) ∷ []) []);
+}
+
 -- a pair of servers under advertisement semantics: client 1 advertises small numbers, and client 2 subscribes to large ones and then to some that are both
 abbrev pub advertised_small : Net ranges
 advertised_small = record {

@@ -19,7 +19,9 @@ ghost use Rattle.ev_phases.specs.Trees.{off, entry_off, PhasedNetLaws};
 ghost use Rattle.ev_phases.specs.Moments.{opening_moment};
 ghost use Rattle.ev_phases.specs.Runs.{IsRunTo};
 ghost use Rattle.ev_phases.specs.AtMoments.{DrainsBy};
+ghost use Rattle.ev_phases.specs.Owing.{IsOwedByScripts};
 ghost use Rattle.ev_worked.specs.Phased.{on_one_tree, phased_trace, phased_walk, phased_given, phased_held, line_becomes_star, subscriber_publishes};
+ghost use Rattle.ev_worked.specs.Phased.{withdrawn_on_tree, withdrawn_walk, IsSettledIn};
 ghost use Rattle.ev_worked.specs.SmallNets.{ranges_publication, wide_travels, wide_and_narrow, withdrawn_wide, all_know, both_set_out, notice_arrives};
 ghost use Rattle.ev_worked.specs.SmallNets.{withdrawal_known, equal_ranges, advertised_small, subscribed_again};
 
@@ -133,6 +135,27 @@ pub fn withdrawn_and_owed()
     ensures allowed { IsAllowed ranges withdrawn_wide 1 9 1 }
     ensures not_owed { IsOwed ranges withdrawn_wide 3 1 9 1 → ⊥ }
     ensures owed { IsOwed ranges withdrawn_wide 3 1 9 2 }
+{}
+
+/// Client 1 withdraws its range in the phase of the notice, so it is not owed it. But the withdrawal is still on its way when the notice sets out, and no
+/// version tells of it before the notice comes: the notice is settled wherever it passes, and is delivered once.
+pub fn settled_and_not_owed()
+    ensures lawful { PhasedNetLaws ranges withdrawn_on_tree }
+    ensures drains { DrainsBy ranges withdrawn_on_tree withdrawn_walk }
+    ensures trace { phased_trace ranges withdrawn_on_tree withdrawn_walk ≡
+        line ranges 1 1 (Did (NextCommand 1)) ((2, Subs [] (Any ∷ [])) ∷ []) ∷
+        line ranges 2 1 (Did Version) [] ∷
+        line ranges 2 2 (Took 1) [] ∷
+        line ranges 3 2 (Did Version) [] ∷
+        line ranges 4 1 (Did (NextCommand 1)) ((2, Subs (Any ∷ []) []) ∷ []) ∷
+        line ranges 4 2 (Did (NextCommand 2)) ((1, Noticed 2 1 9) ∷ []) ∷
+        line ranges 5 1 (Took 2) [] ∷
+        line ranges 6 1 (Did Version) [] ∷
+        line ranges 5 2 (Took 1) [] ∷
+        line ranges 6 2 (Did Version) [] ∷ [] }
+    ensures settled { IsSettledIn withdrawn_on_tree withdrawn_walk (ranges_publication 2 1 9) 1 }
+    ensures not_owed { IsOwedByScripts ranges withdrawn_on_tree (ranges_publication 2 1 9) 1 → ⊥ }
+    ensures given { phased_given ranges withdrawn_on_tree withdrawn_walk 1 ≡ ranges_publication 2 1 9 ∷ [] }
 {}
 
 /// A withdrawal and the range that it uncovers are one message.

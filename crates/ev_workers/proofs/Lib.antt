@@ -7,3 +7,4 @@ pub mod Pairs
 pub mod Passes
 pub mod Rows
 pub mod Sends
+pub mod Back

@@ -362,7 +362,8 @@ pub frame_send : IsSend Frame.the_row
 frame_send = let a = text_send in search (sendable, crosses) depth 20
 
 pub in_send : (F : RattleType) → IsSend F → IsSend (LaneIn.the_field F).row
-in_send F f = struct_send (shape (LaneIn.the_type F)) (search ours depth 20, (search ours depth 20, (search ours depth 20, (search ours depth 20, (search ours depth 20, tt)))))
+in_send F f = struct_send (shape (LaneIn.the_type F))
+    (search ours depth 20, (search ours depth 20, (search ours depth 20, (search (sendable, crosses) depth 20, (search ours depth 20, (search ours depth 20, tt))))))
 
 pub out_send : (F : RattleType) → IsSend F → IsSend (LaneOut.the_field F).row
 out_send F f = struct_send (shape (LaneOut.the_type F)) (search ours depth 20, (search ours depth 20, (search ours depth 20, (search ours depth 20, (search ours depth 20, tt)))))

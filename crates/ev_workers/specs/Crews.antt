@@ -1,7 +1,8 @@
 -- The workers of a phase: a crew for each lock.
 use Rattle.std.specs.Prelude.{◌≡◌, ◌≤◌, ℕ, suc, false, List, [], ◌∷◌, All, length, Some, slice_get, vec_capacity}
+use Rattle.ev_outside.specs.declared.gate.Worker.TheVariants.{Commands}
 use Rattle.ev_turnlock.specs.declared.lock.Pass.{Pass}
-use Rattle.ev_turnlock.specs.Passes.{IsPassOf, has_in_hand, pass_count}
+use Rattle.ev_turnlock.specs.Passes.{IsPassOf, first_value, has_in_hand, pass_count, seen_by}
 use Rattle.ev_model.specs.Parts.{NetParts, EntryParts}
 use Rattle.ev_versions.specs.Ends.{IsSameViewer}
 use Rattle.ev_node.specs.declared.held.Root.{Root}
@@ -11,7 +12,8 @@ use Rattle.ev_workers.specs.declared.crew.Spare.{Spare}
 use Rattle.ev_workers.specs.declared.crew.Eyes.{Eyes}
 use Rattle.ev_workers.specs.declared.ended.Ended.{Ended}
 use Rattle.ev_workers.specs.declared.jobs.Both.{Both}
-use Rattle.ev_workers.specs.Hands.{CellLock, AreFreeHands, IsLockFor}
+use Rattle.ev_workers.specs.Hands.{CellLock, AreFreeHands, IsLockFor, lock_root}
+use Rattle.ev_workers.specs.Work.{EndsWith}
 
 -- lists of one length whose members fit, each the one at its place
 abbrev pub Pairwise : {A B : Type 0} → (A → B → Type 0) → List A → List B → Type 0
@@ -24,6 +26,10 @@ Pairwise R (x ∷ xs) (y ∷ ys) = R x y × Pairwise R xs ys
 abbrev pub IsFreePass : CellLock → Pass EntryParts Root → Type 0
 IsFreePass lock pass = IsPassOf (λ (c : CellParts). c.root) lock pass × (has_in_hand pass ≡ false)
 
+-- a pass that has seen just the journal with which the lock was made
+abbrev pub HasSeenFirst : CellLock → Pass EntryParts Root → Type 0
+HasSeenFirst lock pass = seen_by pass ≡ (first_value lock).journal
+
 -- what stays of the three passes of the lock of a server in a phase of the net: one with nothing in hand, with room for all
 pub record IsSpareOf (net : NetParts) (phase : ℕ) (lock : CellLock) (spare : Spare) : Type 0 where
   pub lock_for : IsLockFor net spare.server phase lock
@@ -31,6 +37,7 @@ pub record IsSpareOf (net : NetParts) (phase : ℕ) (lock : CellLock) (spare : S
   pub one : length spare.passes.items ≡ 1
   pub room : 3 ≤ vec_capacity spare.passes
   pub own : All (IsFreePass lock) spare.passes.items
+  pub seen : All (HasSeenFirst lock) spare.passes.items
 
 -- the crew of a lock: each worker has a pass with nothing in hand, and a viewer of its cell's publisher
 pub record IsCrewOf (net : NetParts) (phase : ℕ) (lock : CellLock) (crew : Crew) : Type 0 where
@@ -41,9 +48,10 @@ pub record IsCrewOf (net : NetParts) (phase : ℕ) (lock : CellLock) (crew : Cre
 abbrev pub AreCrews : NetParts → ℕ → List CellLock → List Crew → Type 0
 AreCrews net phase locks crews = Pairwise (IsCrewOf net phase) locks crews
 
--- what both workers of a lock gave back
+-- what both workers of a lock gave back, of which the one for commands ended as it may
 abbrev pub AreBackAt : CellLock → Both Ended → Type 0
 AreBackAt lock done = AreFreeHands lock done.commands.pass done.commands.viewer × AreFreeHands lock done.links.pass done.links.viewer
+    × EndsWith Commands (lock_root lock) (seen_by done.commands.pass) done.commands.fault
 
 -- both workers of a server keep what their jobs do
 abbrev pub BothKeep : {Job : Type 0} → (Job → Ended → Type 0) → Both Job → Both Ended → Type 0

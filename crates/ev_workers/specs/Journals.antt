@@ -1,5 +1,6 @@
 -- What the journal of a cell tells of the commands that were taken, and of the clock.
-use Rattle.std.specs.Prelude.{◌≡◌, ℕ, suc, ◌+◌, ◌≤◌, ◌==◌, Bool, false, List, [], ◌∷◌, map, drop}
+use Rattle.std.specs.Prelude.{◌≡◌, ◌⊎◌, ℕ, suc, ◌+◌, ◌≤◌, ◌==◌, Bool, false, List, [], ◌∷◌, map, drop}
+use mathlib.Core.List.{IsPrefix}
 use Rattle.ev_sets.specs.Sets.{Has}
 use Rattle.ev_sets.specs.Numbers.{sum_over, count}
 use Rattle.ev_routing.specs.Clients.{commands_below}
@@ -12,6 +13,7 @@ use Rattle.ev_model.specs.Nets.{clients_of}
 use Rattle.ev_session.specs.Session.{SessionParts}
 use Rattle.ev_server.specs.Step.{last_stamp}
 use Rattle.ev_node.specs.declared.held.Root.{Root}
+use Rattle.ev_node.specs.Cell.{CellParts}
 
 -- whether an act is a command of this client
 abbrev pub is_command_of : ℕ → Act → Bool
@@ -45,3 +47,8 @@ clock_by root journal = last_or root.core.value.clock (entries_since root journa
 -- no stamp is left: this one, which is the clock by the journal, is the last
 abbrev pub IsWornBy : ℕ → Root → List EntryParts → Type 0
 IsWornBy stamp root journal = (stamp ≡ last_stamp) × (clock_by root journal ≡ stamp)
+
+-- HOW FAR A CELL IS once its workers are back: its journal has every command of its phase and those before, or a pass saw by it that no stamp is left
+abbrev pub HasTaken : CellParts → Type 0
+HasTaken cell = HasCommands cell.root.phase cell.root cell.journal
+    ⊎ ((seen : List EntryParts) × IsPrefix seen cell.journal × IsWornBy last_stamp cell.root seen)

@@ -56,7 +56,8 @@ fn hire_one<'l, 'a, R: Wait, G: Gate>(
 ) -> Hire<'l, 'a, R, G>
     requires lock { IsLockFor site.now.net.now server site.now.phase lock.now }
     requires free { AreFreeHands lock.now seat.pass seat.viewer }
-    ensures { result.seat ≡ seat }
+    ensures seat { result.seat ≡ seat }
+    ensures worker { result.desk.worker ≡ worker }
 {
     Hire {
         desk: Desk {
@@ -86,7 +87,7 @@ pub(crate) fn hire_all<'l, 'a, R: Wait, G: Gate>(
     requires empty { (jobs.old.items ≡ []) × (spares.old.items ≡ []) }
     requires room { (length locks.now ≤ vec_capacity jobs.old) × (length locks.now ≤ vec_capacity spares.old) }
     ensures hired { Pairwise (λ lock both. AreFreeHands lock both.commands.seat.pass both.commands.seat.viewer
-        × AreFreeHands lock both.links.seat.pass both.links.seat.viewer) locks.now jobs.new.items }
+        × AreFreeHands lock both.links.seat.pass both.links.seat.viewer × (both.commands.desk.worker ≡ Worker.Commands)) locks.now jobs.new.items }
     ensures spares { Pairwise (IsSpareOf site.now.net.now site.now.phase) locks.now spares.new.items }
     ensures capacity { (vec_capacity jobs.new ≡ vec_capacity jobs.old) × (vec_capacity spares.new ≡ vec_capacity spares.old) }
 {

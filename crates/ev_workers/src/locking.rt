@@ -1,9 +1,12 @@
 //! Cells in their locks, and out of them.
-ghost use Rattle.std.specs.Prelude.{◌≡◌, ◌≤◌, ◌<◌, [], All, length, map, MatchBool, vec_capacity, ◌^◌};
-ghost use Rattle.ev_turnlock.specs.Passes.{pass_count};
-ghost use Rattle.ev_node.specs.Together.{cell_roots};
-ghost use Rattle.ev_workers.specs.Crews.{AreBackAt, AreCrews, AreEyesOf, AreInPlace, IsCrewOf, IsFreePass, IsSpareOf, Pairwise};
+ghost use Rattle.std.specs.Prelude.{◌≡◌, ◌≤◌, ◌<◌, [], All, IsTrue, length, map, MatchBool, vec_capacity, ◌^◌};
+ghost use mathlib.Core.List.{IsPrefix};
+ghost use Rattle.ev_turnlock.specs.Passes.{first_value, pass_count};
+ghost use Rattle.ev_wire.specs.MessageText.{Each};
+ghost use Rattle.ev_node.specs.Together.{cell_roots, HaveGrown};
+ghost use Rattle.ev_workers.specs.Crews.{AreBackAt, AreCrews, AreEyesOf, AreInPlace, HasSeenFirst, IsCrewOf, IsFreePass, IsSpareOf, Pairwise};
 ghost use Rattle.ev_workers.specs.Hands.{IsLockFor, lock_root};
+ghost use Rattle.ev_workers.specs.Journals.{HasTaken};
 
 use crate::crew::{Crew, Eyes, Seat, Spare};
 use crate::ended::Ended;
@@ -25,6 +28,7 @@ fn crew_of(
 ) -> Crew
     requires lock { IsLockFor net.now server phase lock.now }
     requires passes { All (IsFreePass lock.now) passes.items }
+    requires seen { All (HasSeenFirst lock.now) passes.items }
     requires three { (length passes.items ≡ 3) × (pass_count lock.now ≡ 3) }
     requires eyes { AreEyesOf (lock_root lock.now) eyes }
     ensures { IsCrewOf net.now phase lock.now result }
@@ -60,6 +64,8 @@ fn unlock<'a>(
     requires spare { IsSpareOf net.now phase lock spare }
     requires back { AreBackAt lock done }
     ensures root { result.0.root ≡ lock_root lock.entry }
+    ensures grown { IsPrefix (first_value lock.entry).journal result.0.journal }
+    ensures taken { (done.commands.fault ≡ Some StepFault.NoMemory → ⊥) → HasTaken result.0 }
     ensures eyes { AreEyesOf (lock_root lock.entry) result.1 }
 {
     let (_net, _phase) = (net, phase);
@@ -78,11 +84,21 @@ fn unlock<'a>(
 }
 
 /// Whether a worker met no want of memory.
-fn had_memory(ended: &Ended) -> bool {
-    match &ended.fault {
+fn had_memory(ended: &Ended) -> bool
+    ensures { IsTrue result → ended.now.fault ≡ Some StepFault.NoMemory → ⊥ }
+{
+    match ended.fault {
+        None => true,
         Some(StepFault::NoMemory) => false,
-        _ => true,
+        Some(StepFault::Worn(_)) => true,
     }
+}
+
+/// Whether neither worker of a server met want of memory.
+fn had_both(done: &Both<Ended>) -> bool
+    ensures { IsTrue result → done.now.commands.fault ≡ Some StepFault.NoMemory → ⊥ }
+{
+    had_memory(&done.commands) && had_memory(&done.links)
 }
 
 /// Puts the last cells into locks first, each with a crew, and answers whether there was memory. Where there was none all
@@ -105,6 +121,7 @@ pub(crate) fn lock_all<'a>(
         ((locks.new.items ≡ []) × (crews.new.items ≡ [])) }
     ensures cells { MatchBool result ((cells.new.items ≡ []) × (eyes.new.items ≡ []))
         ((cell_roots cells.new.items ≡ cell_roots cells.old.items) × Pairwise AreEyesOf (cell_roots cells.old.items) eyes.new.items) }
+    ensures values { MatchBool result (map first_value locks.new.items ≡ cells.old.items) (HaveGrown cells.old.items cells.new.items) }
     ensures capacity { (vec_capacity cells.new ≡ vec_capacity cells.old) × (vec_capacity eyes.new ≡ vec_capacity eyes.old) }
     ensures room { (vec_capacity locks.new ≡ vec_capacity locks.old) × (vec_capacity crews.new ≡ vec_capacity crews.old) }
 {
@@ -147,6 +164,8 @@ pub(crate) fn unlock_all<'a>(
     requires room { (length locks.old.items ≤ vec_capacity cells.old) × (length locks.old.items ≤ vec_capacity eyes.old) }
     ensures empty { locks.new.items ≡ [] }
     ensures roots { cell_roots cells.new.items ≡ map lock_root locks.old.items }
+    ensures grown { HaveGrown (map first_value locks.old.items) cells.new.items }
+    ensures taken { IsTrue result → Each HasTaken cells.new.items }
     ensures eyes { Pairwise AreEyesOf (cell_roots cells.new.items) eyes.new.items }
     ensures capacity { (vec_capacity cells.new ≡ vec_capacity cells.old) × (vec_capacity eyes.new ≡ vec_capacity eyes.old) }
 {
@@ -157,7 +176,7 @@ pub(crate) fn unlock_all<'a>(
     let Some(both) = done.pop() else {
         unreachable!()
     };
-    let here = had_memory(&both.commands) && had_memory(&both.links);
+    let here = had_both(&both);
     let (cell, viewers) = unlock(net, phase, lock, spare, both);
     let rest = unlock_all(net, phase, locks, spares, done, cells, eyes);
     cells.push_reserved(cell);

@@ -1,7 +1,9 @@
 //! The workers of all servers in one phase.
-ghost use Rattle.std.specs.Prelude.{◌≡◌, ◌<◌, ◌^◌, length};
-ghost use Rattle.ev_node.specs.Together.{cell_roots};
+ghost use Rattle.std.specs.Prelude.{◌≡◌, ◌<◌, ◌^◌, length, OnOk};
+ghost use Rattle.ev_wire.specs.MessageText.{Each};
+ghost use Rattle.ev_node.specs.Together.{cell_roots, HaveGrown};
 ghost use Rattle.ev_workers.specs.Crews.{AreEyesOf, AreInPlace, Pairwise};
+ghost use Rattle.ev_workers.specs.Journals.{HasTaken};
 
 use crate::crew::Eyes;
 use crate::hire::{Site, hire_all};
@@ -17,7 +19,8 @@ use std::sync::Wait;
 use std::thread::Threads;
 
 /// The workers of all servers in the phase that the cells are in: two at each cell, in threads of a scope. Where no thread can
-/// be had a worker is run here. After the joins all cells are back, with their roots as before, whatever a worker met.
+/// be had a worker is run here. After the joins all cells are back, with their roots as before and journals that went on, whatever
+/// a worker met; and where none met want of memory, each has the commands of the phase, or a pass saw that no stamp is left.
 pub fn run_phase<'a, R: Threads + Wait + Sync, G: Gate + Sync>(
     alloc: Global,
     rt: &R,
@@ -31,6 +34,8 @@ pub fn run_phase<'a, R: Threads + Wait + Sync, G: Gate + Sync>(
     requires few { length cells.old.items < 2 ^ 32 }
     requires eyes { Pairwise AreEyesOf (cell_roots cells.old.items) eyes.old.items }
     ensures roots { cell_roots cells.new.items ≡ cell_roots cells.old.items }
+    ensures grown { HaveGrown cells.old.items cells.new.items }
+    ensures taken { OnOk result (Each HasTaken cells.new.items) }
     ensures eyes { Pairwise AreEyesOf (cell_roots cells.new.items) eyes.new.items }
 {
     let count = cells.len();

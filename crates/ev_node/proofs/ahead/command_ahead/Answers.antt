@@ -4,6 +4,7 @@ use Rattle.ev_routing.specs.Step.{NextCommand}
 use Rattle.ev_node.proofs.Unmoved.{all-unmoved}
 use Rattle.ev_node.proofs.Turning.{still}
 use Rattle.ev_node.proofs.Phased.{left-all}
+use Rattle.ev_node.proofs.Aheads.{right-next}
 use Rattle.ev_node.proofs.Asking.{not-both}
 use Rattle.ev_node.proofs.ahead.command_ahead.Goals as goal
 
@@ -26,7 +27,7 @@ pub returns-in_ok-turn_command-in-Agreed-clause-answers : goal.returns-in_ok-tur
 returns-in_ok-turn_command-in-Agreed-clause-answers c =
     let due = c.is_of_phase.ensures.0 c.if-not-is_of_phase.false in (
       record { input = Does (NextCommand c.args.client); turn = c.in_ok-turn_command-in-Agreed.ensures.made c.args.phase due; busy = due },
-      λ routes. c.in-Agreed.ensures.choice.0,
+      right-next c.args.held.now.core c.args.held.now.publisher c.args.ahead.now c.args.client c.in-Agreed.route.now c.in-Agreed.ensures.choice.0 c.in-Agreed.ensures.choice.1 c.in-Agreed.ensures.choice.2,
     )
 
 pub returns-in_ok-turn_command-in-Other-clause-answers : goal.returns-in_ok-turn_command-in-Other-clause-answers

@@ -1,6 +1,7 @@
 use Rattle.std.proofs.Common.{arith, refl}
 use Rattle.std.proofs.lemmas.Grind.{common_steps}
 use Rattle.ev_node.specs.Turns.{message_seen}
+use Rattle.ev_node.proofs.Aheads.{right-of}
 use Rattle.ev_node.proofs.Sooner.{looked-some, looked-seen, still-before, taking-before}
 use Rattle.ev_node.proofs.Turning.{held-still, long-left, on_err}
 use Rattle.ev_node.proofs.ahead.take_place_ahead.Goals as goal
@@ -33,7 +34,7 @@ returns-in_ok-take_seen-in-Agreed-clause-taken g c phase = (
   c.in-Some.seen,
   taking-before c.args.held.now _ _ _ _ refl c.look_at.ensures.unmoved refl phase c.args.place (message_seen c.in-Some.seen)
       (looked-seen c.args.place _ _ c.in_ok-seen.field-0 c.in-Some.seen c.in_ok-seen.ensures.looked c.in-Some.is) (c.in_ok-take_seen-in-Agreed.ensures.made phase),
-  λ is. c.in-Agreed.ensures.choice.0,
+  right-of c.args.held.now.core c.args.held.now.publisher c.args.ahead.now c.in-Some.seen.1 c.in-Agreed.route.now c.in-Agreed.ensures.choice.0 c.in-Agreed.ensures.choice.1 c.in-Agreed.ensures.choice.2,
 )
 
 pub take_seen-requires-in-Other-clause-place : goal.take_seen-requires-in-Other-clause-place

@@ -1,9 +1,8 @@
 use Rattle.std.specs.Prelude.{IfSome}
-use Rattle.std.proofs.Common.{◌≡◌, ◌<◌, ◌≤◌, suc, ℕ, length, Some, slice_get, sym, ap, subst, ◌∙◌, arith}
+use Rattle.std.proofs.Common.{◌≡◌, ◌<◌, ℕ, Some, slice_get, subst, arith}
 use Rattle.ev_node.specs.Cell.{CellParts}
 use Rattle.ev_node.specs.Coming.{AreFrom, HaveCommand}
 use Rattle.ev_node.proofs.Comings.{servers-more, none-all}
-use Rattle.ev_node.proofs.Housed.{index-at}
 use Rattle.ev_node.proofs.Places.{below-found, placed}
 use Rattle.ev_node.proofs.coming.next_phase.Goals as goal
 

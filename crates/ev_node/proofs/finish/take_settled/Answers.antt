@@ -6,6 +6,7 @@ use Rattle.ev_node.proofs.Splits.{map-set}
 use Rattle.ev_node.specs.Cell.{CellParts}
 use Rattle.ev_node.proofs.Emptied.{same-roots, same-count, roots-count, lane-by-roots, take-idle, takes-now, place-now}
 use Rattle.ev_node.proofs.Worn.{worn-taken}
+use Rattle.ev_node.proofs.Growing.{grown-on, grown-sights, grown-set}
 use Rattle.ev_node.proofs.finish.take_settled.Goals as goal
 
 pub returns-in_err-settle_at-clause-roots : goal.returns-in_err-settle_at-clause-roots
@@ -66,3 +67,34 @@ returns-in_ok-settle_at-in-Err-Worn-clause-worn g c s e =
     worn-taken (set c.settle_at.new.cells c.args.taker c.take_from_place.new.self) c.settle_at-in-Err-Worn.new.cells c.giver_of-giver.result.0 c.giver_of-giver.result.1 c.args.taker c.args.from s c.take_from_place.new.self (get_or c.settle_at-in-Err-Worn.new.cells c.giver_of-giver.result.0 c.index-cells-giver-in-Err-Worn.result)
     c.settle_at-in-Err-Worn.ensures.sights (set-found c.settle_at.new.cells c.args.taker c.take_from_place.new.self lt) w.1 c.in_ok-settle_at-in-Err-Worn.ensures.settled c.settle_at-in-Err-Worn.ensures.next
     (found c.settle_at-in-Err-Worn.new.cells c.giver_of-giver.result.0 c.index-cells-giver-in-Err-Worn.result within) c.tells-in-Err-Worn.ensures
+
+pub returns-in_err-settle_at-clause-grown : goal.returns-in_err-settle_at-clause-grown
+returns-in_err-settle_at-clause-grown g c = grown-sights c.args.cells.now c.settle_at.new.cells c.settle_at.ensures.sights
+
+pub returns-in_default-clause-grown : goal.returns-in_default-clause-grown
+returns-in_default-clause-grown g c =
+    let n = same-count _ _ c.settle_at.ensures.sights in
+    grown-on c.args.cells.now c.settle_at.new.cells (set c.settle_at.new.cells c.args.taker c.take_from_place.new.self) (grown-sights c.args.cells.now c.settle_at.new.cells c.settle_at.ensures.sights)
+    (grown-set c.settle_at.new.cells c.args.taker c.index-cells-taker-2.result c.take_from_place.new.self (omega (arith, n, c.requires.taker)) c.take_from_place.ensures.grown)
+
+pub returns-in_default-2-clause-grown : goal.returns-in_default-2-clause-grown
+returns-in_default-2-clause-grown g c =
+    let n = same-count _ _ c.settle_at.ensures.sights in
+    grown-on c.args.cells.now c.settle_at.new.cells (set c.settle_at.new.cells c.args.taker c.take_from_place.new.self) (grown-sights c.args.cells.now c.settle_at.new.cells c.settle_at.ensures.sights)
+    (grown-set c.settle_at.new.cells c.args.taker c.index-cells-taker-2.result c.take_from_place.new.self (omega (arith, n, c.requires.taker)) c.take_from_place.ensures.grown)
+
+pub returns-in_err-settle_at-in-Err-Worn-clause-grown : goal.returns-in_err-settle_at-in-Err-Worn-clause-grown
+returns-in_err-settle_at-in-Err-Worn-clause-grown g c =
+    let n = same-count _ _ c.settle_at.ensures.sights in
+    grown-on c.args.cells.now (set c.settle_at.new.cells c.args.taker c.take_from_place.new.self) c.settle_at-in-Err-Worn.new.cells
+    (grown-on c.args.cells.now c.settle_at.new.cells (set c.settle_at.new.cells c.args.taker c.take_from_place.new.self) (grown-sights c.args.cells.now c.settle_at.new.cells c.settle_at.ensures.sights)
+    (grown-set c.settle_at.new.cells c.args.taker c.index-cells-taker-2.result c.take_from_place.new.self (omega (arith, n, c.requires.taker)) c.take_from_place.ensures.grown))
+    (grown-sights (set c.settle_at.new.cells c.args.taker c.take_from_place.new.self) c.settle_at-in-Err-Worn.new.cells c.settle_at-in-Err-Worn.ensures.sights)
+
+pub returns-in_ok-settle_at-in-Err-Worn-clause-grown : goal.returns-in_ok-settle_at-in-Err-Worn-clause-grown
+returns-in_ok-settle_at-in-Err-Worn-clause-grown g c =
+    let n = same-count _ _ c.settle_at.ensures.sights in
+    grown-on c.args.cells.now (set c.settle_at.new.cells c.args.taker c.take_from_place.new.self) c.settle_at-in-Err-Worn.new.cells
+    (grown-on c.args.cells.now c.settle_at.new.cells (set c.settle_at.new.cells c.args.taker c.take_from_place.new.self) (grown-sights c.args.cells.now c.settle_at.new.cells c.settle_at.ensures.sights)
+    (grown-set c.settle_at.new.cells c.args.taker c.index-cells-taker-2.result c.take_from_place.new.self (omega (arith, n, c.requires.taker)) c.take_from_place.ensures.grown))
+    (grown-sights (set c.settle_at.new.cells c.args.taker c.take_from_place.new.self) c.settle_at-in-Err-Worn.new.cells c.settle_at-in-Err-Worn.ensures.sights)

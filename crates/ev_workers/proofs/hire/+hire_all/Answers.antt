@@ -57,6 +57,7 @@ pub returns-clause-hired : goal.returns-clause-hired
 returns-clause-hired g t c =
     let q = beside-last (IsCrewOf c.args.site.now.net.now c.args.site.now.phase) c.args.locks.now c.in-Some.others.now c.in-Some.lock.now c.args.crews.items c.pop.new.self.items c.in-Some-pop.crew c.in-Some.ensures.cases.0 c.in-Some-pop.ensures.items c.requires.crews in
     beside-back _ c.args.locks.now c.in-Some.others.now c.in-Some.lock.now c.hire_all.new.jobs.items _ (record { commands = c.hire_one-commands.result; links = c.hire_one-links.result }) c.in-Some.ensures.cases.0 c.push_reserved.ensures.items c.hire_all.ensures.hired (
-      subst (λ (z : Seat). AreFreeHands c.in-Some.lock.now z.pass z.viewer) (sym c.hire_one-commands.ensures) q.1.commands,
-      subst (λ (z : Seat). AreFreeHands c.in-Some.lock.now z.pass z.viewer) (sym c.hire_one-links.ensures) q.1.links,
+      subst (λ (z : Seat). AreFreeHands c.in-Some.lock.now z.pass z.viewer) (sym c.hire_one-commands.ensures.seat) q.1.commands,
+      subst (λ (z : Seat). AreFreeHands c.in-Some.lock.now z.pass z.viewer) (sym c.hire_one-links.ensures.seat) q.1.links,
+      c.hire_one-commands.ensures.worker,
     )

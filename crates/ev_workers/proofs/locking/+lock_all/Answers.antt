@@ -3,6 +3,12 @@ use Rattle.ev_node.specs.Cell.{CellParts}
 use Rattle.ev_workers.specs.Crews.{IsCrewOf}
 use Rattle.ev_workers.proofs.Pairs.{pairs-long}
 use Rattle.ev_workers.proofs.Rows.{eyes-last, place-less, roots-back, eyes-back, lock-for, lock-eyes, locked-back, same-long, eyes-long, locks-long}
+use Rattle.std.proofs.Common.{◌++◌, ◌∷◌, [], map, sym, subst}
+use mathlib.Core.List.{IsPrefix}
+use Rattle.ev_turnlock.specs.Passes.{first_value, seen_by}
+use Rattle.ev_node.specs.Together.{HaveGrown}
+use Rattle.ev_node.proofs.Growing.{grown-same}
+use Rattle.ev_workers.proofs.Back.{firsts-more, grown-more, seen-grown}
 use Rattle.ev_workers.proofs.locking.+lock_all.Goals as goal
 
 pub lock_all-requires : goal.lock_all-requires
@@ -54,3 +60,27 @@ pub returns-clause-locked : goal.returns-clause-locked
 returns-clause-locked t c =
     locked-back c.args.cells.now.items c.pop.new.self.items c.in-Some.cell c.in-Some.ensures.items c.args.net.now c.args.phase c.lock_all.new.locks.items _ c.lock_all.new.crews.items _ c.in-Ok.made.0 c.crew_of.result c.push_reserved-3.ensures.items
     c.push_reserved-2.ensures.items c.if-not-lock_all.ensures.locked.0 c.crew_of.ensures c.if-not-lock_all.ensures.locked.1 c.in-Ok.ensures.lock.0
+
+pub crew_of-requires-clause-seen : goal.crew_of-requires-clause-seen
+crew_of-requires-clause-seen t c k d lt = (c.in-Ok.ensures.passes k d lt).1.0 ∙ ap (λ (z : CellParts). z.journal) (sym c.in-Ok.ensures.lock.0)
+
+pub returns-clause-values : goal.returns-clause-values
+returns-clause-values t c =
+    firsts-more c.push_reserved-3.new.self.items c.lock_all.new.locks.items c.in-Ok.made.0 c.push_reserved-3.ensures.items
+    ∙ ap (λ l. l ++ first_value c.in-Ok.made.0 ∷ []) c.if-not-lock_all.ensures.values
+    ∙ ap (λ (z : CellParts). c.pop.new.self.items ++ z ∷ []) c.in-Ok.ensures.lock.0
+    ∙ sym c.in-Some.ensures.items
+
+pub returns-then-not-lock_all-clause-values : goal.returns-then-not-lock_all-clause-values
+returns-then-not-lock_all-clause-values t c =
+    subst (λ l. HaveGrown l c.push_reserved-then-not-lock_all.new.self.items) (sym c.in-Some.ensures.items)
+    (subst (λ l. HaveGrown (c.pop.new.self.items ++ c.in-Some.cell ∷ []) l) (sym c.push_reserved-then-not-lock_all.ensures.items)
+    (grown-more c.pop.new.self.items c.lock_all.new.cells.items c.in-Some.cell c.close.result c.if-not-lock_all.ensures.values
+    (subst (λ (z : CellParts). IsPrefix z.journal c.close.result.journal) c.in-Ok.ensures.lock.0
+    (seen-grown c.in-Ok.made.0 c.close.result c.in-Ok.made.1.items 2 (omega (arith, c.in-Ok.ensures.numbers.0, c.in-Ok.made.1.ok.0))
+    (λ k d lt. (c.in-Ok.ensures.passes k d lt).1.0 ∙ ap (λ (z : CellParts). z.journal) (sym c.in-Ok.ensures.lock.0)) c.close.ensures.list))))
+
+pub returns-in-Err-clause-values : goal.returns-in-Err-clause-values
+returns-in-Err-clause-values t c =
+    subst (λ l. HaveGrown c.args.cells.now.items l)
+    (sym (c.push_reserved.ensures.items ∙ ap (λ (z : CellParts). c.pop.new.self.items ++ z ∷ []) c.in-Err.ensures.back ∙ sym c.in-Some.ensures.items)) (grown-same c.args.cells.now.items)

@@ -2,6 +2,12 @@ use Rattle.std.proofs.Common.{◌<◌, length, sym, subst, arith}
 use Rattle.ev_node.specs.declared.held.Root.{Root}
 use Rattle.ev_workers.specs.Crews.{AreBackAt, AreEyesOf, IsSpareOf}
 use Rattle.ev_workers.proofs.Rows.{beside-last, eyes-back, eyes-long, locks-long}
+use Rattle.std.proofs.Common.{◌++◌, ◌∷◌, [], map}
+use Rattle.ev_turnlock.specs.Passes.{first_value}
+use Rattle.ev_wire.specs.MessageText.{Each}
+use Rattle.ev_node.specs.Together.{HaveGrown}
+use Rattle.ev_workers.specs.Journals.{HasTaken}
+use Rattle.ev_workers.proofs.Back.{firsts-more, grown-more, each-more}
 use Rattle.ev_workers.proofs.locking.+unlock_all.Goals as goal
 
 pub unlock-cell-requires-clause-spare : goal.unlock-cell-requires-clause-spare
@@ -39,3 +45,20 @@ pub returns-else-rest-clause-eyes : goal.returns-else-rest-clause-eyes
 returns-else-rest-clause-eyes t c =
     eyes-back c.push_reserved.new.self.items c.unlock_all-rest.new.cells.items c.unlock-cell.result.0 c.push_reserved.ensures.items c.unlock_all-rest.new.eyes.items _ c.unlock-cell.result.1 c.push_reserved-2.ensures.items c.unlock_all-rest.ensures.eyes
     (subst (λ (z : Root). AreEyesOf z c.unlock-cell.result.1) (sym c.unlock-cell.ensures.root) c.unlock-cell.ensures.eyes)
+
+pub returns-then-rest-clause-grown : goal.returns-then-rest-clause-grown
+returns-then-rest-clause-grown t c =
+    subst (λ l. HaveGrown l c.push_reserved.new.self.items) (sym (firsts-more c.args.locks.now.items c.pop.new.self.items c.in-Some.lock c.in-Some.ensures.items))
+    (subst (λ l. HaveGrown (map first_value c.pop.new.self.items ++ first_value c.in-Some.lock ∷ []) l) (sym c.push_reserved.ensures.items)
+    (grown-more (map first_value c.pop.new.self.items) c.unlock_all-rest.new.cells.items (first_value c.in-Some.lock) c.unlock-cell.result.0 c.unlock_all-rest.ensures.grown c.unlock-cell.ensures.grown))
+
+pub returns-else-rest-clause-grown : goal.returns-else-rest-clause-grown
+returns-else-rest-clause-grown t c =
+    subst (λ l. HaveGrown l c.push_reserved.new.self.items) (sym (firsts-more c.args.locks.now.items c.pop.new.self.items c.in-Some.lock c.in-Some.ensures.items))
+    (subst (λ l. HaveGrown (map first_value c.pop.new.self.items ++ first_value c.in-Some.lock ∷ []) l) (sym c.push_reserved.ensures.items)
+    (grown-more (map first_value c.pop.new.self.items) c.unlock_all-rest.new.cells.items (first_value c.in-Some.lock) c.unlock-cell.result.0 c.unlock_all-rest.ensures.grown c.unlock-cell.ensures.grown))
+
+pub returns-then-rest-clause-taken : goal.returns-then-rest-clause-taken
+returns-then-rest-clause-taken t c here =
+    subst (λ l. Each HasTaken l) (sym c.push_reserved.ensures.items)
+    (each-more HasTaken c.unlock_all-rest.new.cells.items c.unlock-cell.result.0 (c.unlock_all-rest.ensures.taken c.if-rest.true) (c.unlock-cell.ensures.taken (c.had_both-here.ensures here)))

@@ -1,5 +1,5 @@
 use Rattle.std.proofs.Common.{arith}
-use Rattle.ev_workers.specs.Crews.{IsFreePass}
+use Rattle.ev_workers.specs.Crews.{HasSeenFirst, IsFreePass}
 use Rattle.ev_workers.proofs.Passes.{all-less, one-left}
 use Rattle.ev_workers.proofs.locking.crew_of.Goals as goal
 
@@ -14,6 +14,8 @@ returns c =
         one = one-left c.args.passes.items c.pop.new.self.items c.pop-2.new.self.items c.in-Some.links c.in-Some-pop.commands c.in-Some.ensures.items c.in-Some-pop.ensures.items c.requires.three.0;
         room = omega (arith, c.pop.ensures.capacity, c.pop-2.ensures.capacity, c.requires.three.0, c.args.passes.ok.0, c.args.passes.ok.1);
         own = b.0;
+        seen = (all-less (HasSeenFirst c.args.lock.now) c.pop.new.self.items c.pop-2.new.self.items c.in-Some-pop.commands c.in-Some-pop.ensures.items
+            (all-less (HasSeenFirst c.args.lock.now) c.args.passes.items c.pop.new.self.items c.in-Some.links c.in-Some.ensures.items c.requires.seen).0).0;
       };
       commands = record { own = b.1.0; free = b.1.1; viewer_is = c.requires.eyes.0 };
       links = record { own = a.1.0; free = a.1.1; viewer_is = c.requires.eyes.1 };

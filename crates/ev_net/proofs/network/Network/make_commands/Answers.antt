@@ -3,11 +3,13 @@ use Rattle.ev_routing.specs.Walk.{command_turns}
 use Rattle.ev_phases.specs.Trees.{net_at}
 use Rattle.ev_theory.specs.Real.{real}
 use Rattle.ev_model.specs.Nets.{phased_net, first_tree, servers_in}
-use Rattle.ev_net.specs.Trying.{server_turns, commands_turns, Tries}
+use Rattle.ev_net.specs.Trying.{server_turns, commands_turns, Tries, Begins}
 use Rattle.ev_net.proofs.Later.{later-same, later-on, later-net}
 use Rattle.ev_net.proofs.Ranges.{servers-past}
 use Rattle.ev_net.proofs.Homes.{servers-left, server-there}
 use Rattle.ev_net.proofs.Tries.{going-starts, going-on, going-ends}
+use Rattle.ev_net.proofs.Walks.{on-err}
+use Rattle.ev_net.proofs.Begun.{going-breaks}
 use Rattle.ev_net.proofs.network.Network.make_commands.Goals as goal
 
 pub loop-server-init : goal.loop-server-init
@@ -49,3 +51,13 @@ returns-in_ok-make_commands_at-clause-tried c =
     (server_turns net c.args.phase c.loop-server.server) (command_turns real (net_at real (phased_net net) c.args.phase) (drop (c.loop-server.server + 1 - 1) (servers_in net))) c.args.self.now c.loop-server.self c.make_commands_at.new.self
     (servers-left net c.args.phase c.args.servers c.loop-server.server c.requires (omega arith) (omega arith)) c.loop-server.invariant.way
     (subst (λ n. Tries c.args.phase (server_turns n c.args.phase c.loop-server.server) c.loop-server.self c.make_commands_at.new.self) net-same c.in_ok-make_commands_at.ensures.tried))
+
+pub returns-in_err-make_commands_at-clause-begun : goal.returns-in_err-make_commands_at-clause-begun
+returns-in_err-make_commands_at-clause-begun c =
+    let net = c.args.self.now.net in
+    let net-same = later-net c.args.self.now c.loop-server.self c.loop-server.invariant.later in
+    on-err c.from_residual.result
+    (going-breaks c.args.phase (commands_turns net c.args.phase) (command_turns real (net_at real (phased_net net) c.args.phase) (drop (c.loop-server.server - 1) (servers_in net)))
+    (server_turns net c.args.phase c.loop-server.server) (command_turns real (net_at real (phased_net net) c.args.phase) (drop (c.loop-server.server + 1 - 1) (servers_in net))) c.args.self.now c.loop-server.self c.make_commands_at.new.self
+    (servers-left net c.args.phase c.args.servers c.loop-server.server c.requires (omega arith) (omega arith)) c.loop-server.invariant.way
+    (subst (λ n. Begins c.args.phase (server_turns n c.args.phase c.loop-server.server) c.loop-server.self c.make_commands_at.new.self) net-same c.in_err-make_commands_at.ensures.begun))

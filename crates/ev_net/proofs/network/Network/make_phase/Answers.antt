@@ -1,11 +1,13 @@
 use Rattle.std.proofs.Common.{sym, ap, subst, ◌∙◌}
 use Rattle.ev_tree.specs.Tree.{Topology}
 use Rattle.ev_model.specs.Nets.{topology_at}
-use Rattle.ev_net.specs.Trying.{Tries, commands_turns, rounds_turns}
+use Rattle.ev_net.specs.Trying.{Tries, Begins, commands_turns, rounds_turns}
 use Rattle.ev_net.proofs.Later.{later-on, later-net}
 use Rattle.ev_net.proofs.Rounds.{count-same}
 use Rattle.ev_net.proofs.Tries.{both-tried}
-use Rattle.ev_net.proofs.Walks.{on-ok}
+use Rattle.ev_net.proofs.Walks.{on-ok, on-err}
+use Rattle.ev_net.proofs.Begun.{first-begun, second-begun}
+use Rattle.ev_net.proofs.Begun.{on-err as begun-on}
 use Rattle.ev_net.proofs.network.Network.make_phase.Goals as goal
 
 pub make_commands-requires : goal.make_commands-requires
@@ -22,5 +24,13 @@ returns c =
           (λ settled. both-tried c.args.phase (commands_turns c.args.self.now.net c.args.phase) (rounds_turns c.args.self.now.net c.args.phase) c.args.self.now c.make_commands.new.self c.settle.new.self c.in_ok-make_commands.ensures.tried
           (subst (λ n. Tries c.args.phase (rounds_turns n c.args.phase) c.make_commands.new.self c.settle.new.self) net-same (settled c.args.phase tree-is)))
           c.settle.ensures.tried;
+      begun = begun-on c.settle.result
+          (λ settled. second-begun c.args.phase (commands_turns c.args.self.now.net c.args.phase) (rounds_turns c.args.self.now.net c.args.phase) c.args.self.now c.make_commands.new.self c.settle.new.self c.in_ok-make_commands.ensures.tried
+          (subst (λ n. Begins c.args.phase (rounds_turns n c.args.phase) c.make_commands.new.self c.settle.new.self) net-same (settled c.args.phase tree-is)))
+          c.settle.ensures.begun;
       later = later-on c.args.self.now c.make_commands.new.self c.settle.new.self c.in_ok-make_commands.ensures.later c.settle.ensures.later;
     }
+
+pub returns-in_err-make_commands-clause-begun : goal.returns-in_err-make_commands-clause-begun
+returns-in_err-make_commands-clause-begun c = on-err c.from_residual.result
+    (first-begun c.args.phase (commands_turns c.args.self.now.net c.args.phase) (rounds_turns c.args.self.now.net c.args.phase) c.args.self.now c.make_commands.new.self c.in_err-make_commands.ensures.begun)

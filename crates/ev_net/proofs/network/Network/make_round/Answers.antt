@@ -1,13 +1,17 @@
-use Rattle.std.proofs.Common.{ℕ, ◌+◌, ◌-◌, drop, refl, sym, subst, arith}
+use Rattle.std.proofs.Common.{ℕ, ◌+◌, ◌-◌, ◌∷◌, ◌++◌, drop, refl, sym, ap, subst, ◌∙◌, arith}
+use Rattle.ev_run.specs.Machine.{Did}
+use Rattle.ev_routing.specs.Step.{Version}
 use Rattle.ev_routing.specs.Walk.{round_at}
 use Rattle.ev_phases.specs.Trees.{net_at}
 use Rattle.ev_theory.specs.Real.{real}
 use Rattle.ev_model.specs.Nets.{phased_net, servers_in}
 use Rattle.ev_net.specs.Network.{IsLater}
-use Rattle.ev_net.specs.Trying.{round_turns, Tries}
+use Rattle.ev_net.specs.Trying.{takings, round_turns, Tries}
 use Rattle.ev_net.proofs.Later.{later-same, later-on, later-turn}
-use Rattle.ev_net.proofs.Rounds.{round-goes, round-past, fewer-entries}
-use Rattle.ev_net.proofs.Tries.{going-starts, going-ends}
+use Rattle.ev_net.proofs.Rounds.{round-left, round-goes, round-past, fewer-entries}
+use Rattle.ev_net.proofs.Tries.{going-starts, going-on, going-ends}
+use Rattle.ev_net.proofs.Walks.{on-err}
+use Rattle.ev_net.proofs.Begun.{going-breaks, going-stops}
 use Rattle.ev_net.proofs.network.Network.make_round.Goals as goal
 use Rattle.ev_net.proofs.network.Network.make_round.Goals.{else-loop-server-test, then-loop-server-test+in_ok-take_each+in_ok-turn+else-server-server-end}
 use Rattle.ev_model.specs.declared.turn.Turn.TheVariants as turns
@@ -55,3 +59,28 @@ returns-clause-later c =
           (later-on c.args.self.now c.loop-server.self w.turn.new.self c.loop-server.invariant.later
           (later-on c.loop-server.self w.take_each.new.self w.turn.new.self w.in_ok-take_each.ensures.later (later-turn w.in_ok-turn.field-0 (turns.Version c.loop-server.server) w.take_each.new.self w.turn.new.self w.in_ok-turn.ensures.turn)))
     ]
+
+pub returns-in_err-take_each-clause-begun : goal.returns-in_err-take_each-clause-begun
+returns-in_err-take_each-clause-begun c = on-err c.from_residual.result (λ phase e. (
+    let net = c.args.self.now.net in
+    let server = c.loop-server.server in
+    let more = round_at real (net_at real (phased_net net) phase) (drop (server + 1 - 1) (servers_in net)) in
+    going-breaks phase (round_turns net phase) (round_at real (net_at real (phased_net net) phase) (drop (server - 1) (servers_in net))) (takings server c.neighbours.result.now) ((server, Did Version) ∷ more) c.args.self.now c.loop-server.self c.take_each.new.self
+    (round-left net c.journal-before.ensures.sound phase c.args.tree.now server e (omega arith) (omega arith) ∙ ap (λ z. takings server z ++ ((server, Did Version) ∷ more)) (sym c.neighbours.ensures.value))
+    (c.loop-server.invariant.way phase e) (c.in_err-take_each.ensures.begun phase)))
+
+pub returns-in_err-turn-clause-begun : goal.returns-in_err-turn-clause-begun
+returns-in_err-turn-clause-begun c = on-err c.from_residual-in_err-turn.result (λ phase e. (
+    let net = c.args.self.now.net in
+    let server = c.loop-server.server in
+    let more = round_at real (net_at real (phased_net net) phase) (drop (server + 1 - 1) (servers_in net)) in
+    going-stops phase (round_turns net phase) ((server, Did Version) ∷ more) c.args.self.now c.take_each.new.self c.turn.new.self
+    (going-on phase (round_turns net phase) (round_at real (net_at real (phased_net net) phase) (drop (server - 1) (servers_in net))) (takings server c.neighbours.result.now) ((server, Did Version) ∷ more) c.args.self.now c.loop-server.self c.take_each.new.self
+    (round-left net c.journal-before.ensures.sound phase c.args.tree.now server e (omega arith) (omega arith) ∙ ap (λ z. takings server z ++ ((server, Did Version) ∷ more)) (sym c.neighbours.ensures.value))
+    (c.loop-server.invariant.way phase e) (c.in_ok-take_each.ensures.tried phase)) c.in_err-turn.ensures.err))
+
+pub returns-in_err-take_each-clause-bounded : goal.returns-in_err-take_each-clause-bounded
+returns-in_err-take_each-clause-bounded c = λ phase. fewer-entries c.args.self.now.net c.args.self.now.journal c.journal-before.ensures.sound c.journal-before.ensures.legal phase
+
+pub returns-in_err-turn-clause-bounded : goal.returns-in_err-turn-clause-bounded
+returns-in_err-turn-clause-bounded c = λ phase. fewer-entries c.args.self.now.net c.args.self.now.journal c.journal-before.ensures.sound c.journal-before.ensures.legal phase

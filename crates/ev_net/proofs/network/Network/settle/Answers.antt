@@ -6,6 +6,8 @@ use Rattle.ev_model.specs.Nets.{phased_net, topology_at}
 use Rattle.ev_net.proofs.Later.{later-same, later-on, later-net}
 use Rattle.ev_net.proofs.Ranges.{less-left}
 use Rattle.ev_net.proofs.Rounds.{settling-starts, settling-on, settling-ends}
+use Rattle.ev_net.proofs.Walks.{on-err}
+use Rattle.ev_net.proofs.Begun.{settling-breaks}
 use Rattle.ev_net.proofs.network.Network.settle.Goals as goal
 
 pub loop-init : goal.loop-init
@@ -35,3 +37,8 @@ returns-clause-tried c = λ phase e. settling-ends phase c.args.self.now c.loop.
 
 pub returns-clause-later : goal.returns-clause-later
 returns-clause-later c = later-on c.args.self.now c.loop.self c.make_round.new.self c.loop.invariant.later c.make_round.ensures.later
+
+pub returns-in_err-make_round-clause-begun : goal.returns-in_err-make_round-clause-begun
+returns-in_err-make_round-clause-begun c = on-err c.from_residual.result
+    (λ phase e. settling-breaks phase c.args.self.now c.loop.self c.make_round.new.self c.loop.invariant.later (c.loop.invariant.way phase e) (c.make_round.ensures.bounded phase)
+    (c.in_err-make_round.ensures.begun phase (e ∙ ap (λ n. topology_at n phase) (sym (later-net c.args.self.now c.loop.self c.loop.invariant.later)))))

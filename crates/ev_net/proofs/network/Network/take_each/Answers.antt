@@ -6,6 +6,8 @@ use Rattle.ev_net.specs.Trying.{takings}
 use Rattle.ev_net.proofs.Later.{later-same, later-on, later-turn}
 use Rattle.ev_net.proofs.Ranges.{drop-next}
 use Rattle.ev_net.proofs.Tries.{going-starts, going-on, going-ends, turn-tries}
+use Rattle.ev_net.proofs.Walks.{on-err}
+use Rattle.ev_net.proofs.Begun.{going-stops}
 use Rattle.ev_net.proofs.network.Network.take_each.Goals as goal
 
 pub loop-from-init : goal.loop-from-init
@@ -29,3 +31,7 @@ loop-from-preserved c =
 pub returns-clause-tried : goal.returns-clause-tried
 returns-clause-tried c = λ phase. going-ends phase (takings c.args.server c.args.neighbours.now) (takings c.args.server (drop c.loop-from.from-index c.args.neighbours.now)) c.args.self.now c.loop-from.self
     (ap (takings c.args.server) (drop-end c.args.neighbours.now c.loop-from.from-index (omega arith))) (c.loop-from.invariant.way phase)
+
+pub returns-in_err-turn-clause-begun : goal.returns-in_err-turn-clause-begun
+returns-in_err-turn-clause-begun c = on-err c.from_residual.result (λ phase. going-stops phase (takings c.args.server c.args.neighbours.now) (takings c.args.server (drop c.loop-from.from-index c.args.neighbours.now)) c.args.self.now c.loop-from.self c.turn.new.self
+    (c.loop-from.invariant.way phase) c.in_err-turn.ensures.err)

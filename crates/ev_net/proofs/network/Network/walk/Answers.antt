@@ -2,6 +2,7 @@ use Rattle.std.proofs.Common.{◌≡◌, ◌<◌, ◌≤◌, sym, ap, ◌∙◌,
 use Rattle.ev_model.specs.Nets.{phases_of}
 use Rattle.ev_net.proofs.Later.{later-on, later-net}
 use Rattle.ev_net.proofs.Walks.{walk-starts, walk-on, walk-ends, walked-later, on-err}
+use Rattle.ev_net.proofs.Begun.{walk-begun}
 use Rattle.ev_net.proofs.network.Network.walk.Goals as goal
 
 pub loop-phase-init : goal.loop-phase-init
@@ -22,3 +23,10 @@ returns-clause-walked c =
 
 pub returns-in_err-make_phase-clause-err : goal.returns-in_err-make_phase-clause-err
 returns-in_err-make_phase-clause-err c = on-err c.from_residual.result (later-on c.args.self.now c.loop-phase.self c.make_phase.new.self (walked-later c.loop-phase.phase c.args.self.now c.loop-phase.self c.loop-phase.invariant) c.make_phase.ensures.later)
+
+pub returns-in_err-make_phase-clause-begun : goal.returns-in_err-make_phase-clause-begun
+returns-in_err-make_phase-clause-begun c =
+    let later = walked-later c.loop-phase.phase c.args.self.now c.loop-phase.self c.loop-phase.invariant in
+    let count : c.phases-phase-end.result ≡ phases_of c.loop-phase.self.net = c.phases-phase-end.ensures ∙ ap phases_of (c.net.ensures.net ∙ sym (later-net c.args.self.now c.loop-phase.self later)) in
+    let less : c.loop-phase.phase < phases_of c.loop-phase.self.net = omega (arith, count, c.loop-phase-test.true) in
+    on-err c.from_residual.result (walk-begun c.loop-phase.phase c.args.self.now c.loop-phase.self c.make_phase.new.self c.loop-phase.invariant less c.in_err-make_phase.ensures.begun)

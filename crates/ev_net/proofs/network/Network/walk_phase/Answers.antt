@@ -2,7 +2,8 @@ use Rattle.std.proofs.Common.{◌≡◌, ◌<◌, ◌≤◌, length, refl, sym, 
 use Rattle.ev_model.specs.Nets.{phases_of}
 use Rattle.ev_net.specs.Network.{NetworkParts, moment_by, IsDrainedBy}
 use Rattle.ev_net.proofs.Later.{later-net, later-none}
-use Rattle.ev_net.proofs.Walks.{walk-starts, walk-can, walk-on, walk-drained, walked-later, empty-none, empty-more, phase-walked}
+use Rattle.ev_net.proofs.Walks.{on-err, walk-starts, walk-can, walk-on, walk-drained, walked-later, empty-none, empty-more, phase-walked}
+use Rattle.ev_net.proofs.Begun.{phase-begun}
 use Rattle.ev_net.proofs.network.Network.walk_phase.Goals as goal
 
 pub loop-phase-init : goal.loop-phase-init
@@ -43,3 +44,13 @@ returns-clause-walked c =
       c.loop-phase.invariant.same,
       subst (λ (z : NetworkParts). IsDrainedBy z.net z.journal) c.loop-phase.invariant.same (walk-drained c.loop-phase.phase c.args.self.now c.loop-phase.self c.loop-phase.invariant.walked past),
     )
+
+pub returns-in_err-make_phase-clause-begun : goal.returns-in_err-make_phase-clause-begun
+returns-in_err-make_phase-clause-begun c =
+    let walked = c.loop-phase.invariant.walked in
+    let later = walked-later c.loop-phase.phase c.args.self.now c.loop-phase.self walked in
+    let count : c.phases-phase-end.result ≡ phases_of c.loop-phase.self.net = c.phases-phase-end.ensures ∙ ap phases_of (c.net.ensures.net ∙ sym (later-net c.args.self.now c.loop-phase.self later)) in
+    let less : c.loop-phase.phase < phases_of c.loop-phase.self.net = omega (arith, count, c.loop-phase-test.true) in
+    let from : (moment_by c.args.self.now.net c.args.self.now.journal).phase ≤ c.loop-phase.phase = omega (arith, c.phase-phase.ensures, c.loop-phase.auto.phase) in
+    on-err c.from_residual.result (phase-begun c.loop-phase.phase c.args.self.now c.loop-phase.self c.make_phase.new.self from c.loop-phase.invariant.empty c.loop-phase.invariant.same
+    (c.in_err-make_phase.ensures.begun (walk-can c.loop-phase.phase c.args.self.now c.loop-phase.self walked less)))

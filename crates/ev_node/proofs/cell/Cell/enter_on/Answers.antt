@@ -1,4 +1,4 @@
-use Rattle.std.proofs.Common.{◌≡◌, refl, sym, ap, subst, ◌∙◌}
+use Rattle.std.proofs.Common.{refl, sym, ap, subst, ◌∙◌}
 use Rattle.ev_node.specs.Cell.{CellParts}
 use Rattle.ev_node.specs.Relinking.{CanMove}
 use Rattle.ev_node.proofs.Keeping.{some-server, kept-still}

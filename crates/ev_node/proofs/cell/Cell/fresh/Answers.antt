@@ -1,4 +1,4 @@
-use Rattle.std.proofs.Common.{refl, sym, ap, subst, ◌≡◌, ◌∙◌}
+use Rattle.std.proofs.Common.{refl, sym, ap, subst, ◌∙◌}
 use Rattle.ev_versions.specs.Ends.{IsViewerOf}
 use Rattle.ev_node.proofs.Fresh.{kept-fresh, opening-stands}
 use Rattle.ev_node.proofs.cell.Cell.fresh.Goals as goal

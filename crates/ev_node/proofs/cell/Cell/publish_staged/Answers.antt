@@ -4,6 +4,10 @@ use Rattle.ev_node.specs.declared.what.What.TheVariants.{Version}
 use Rattle.ev_node.specs.Together.{sight}
 use Rattle.ev_node.proofs.Keeping.{some-server, kept-asked}
 use Rattle.ev_node.proofs.Walkers.{sight-still, idle-is}
+use Rattle.std.proofs.Common.{subst}
+use mathlib.Core.List.{IsPrefix}
+use Rattle.ev_node.specs.Cell.{CellParts}
+use Rattle.ev_node.proofs.Growing.{asked-grows}
 use Rattle.ev_node.proofs.cell.Cell.publish_staged.Goals as goal
 
 pub version_asked-requires-clause-stands : goal.version_asked-requires-clause-stands
@@ -21,3 +25,11 @@ returns-clause-idle g c q =
       sight-still c.self.inside.root c.self.inside.journal.items _ c.self.inside.held c.version_asked.new.held i.0 ∙ ap sight c.self.view_is,
       ap (λ (k : CoreParts). k.staged) i.0.core ∙ i.1,
     )
+
+pub returns-clause-grown : goal.returns-clause-grown
+returns-clause-grown g c = subst (λ (z : CellParts). IsPrefix z.journal c.version_asked.new.journal.items) c.self.view_is
+    (asked-grows c.self.inside.held c.version_asked.new.held c.self.inside.journal.items c.version_asked.new.journal.items c.self.inside.root.phase Version c.version_asked.result c.version_asked.ensures.answers c.version_asked.ensures.still)
+
+pub returns-in_err-turned-clause-grown : goal.returns-in_err-turned-clause-grown
+returns-in_err-turned-clause-grown g c = subst (λ (z : CellParts). IsPrefix z.journal c.version_asked.new.journal.items) c.self.view_is
+    (asked-grows c.self.inside.held c.version_asked.new.held c.self.inside.journal.items c.version_asked.new.journal.items c.self.inside.root.phase Version c.version_asked.result c.version_asked.ensures.answers c.version_asked.ensures.still)

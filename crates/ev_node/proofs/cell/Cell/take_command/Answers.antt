@@ -7,6 +7,8 @@ use Rattle.ev_node.specs.Turns.{HasCommand}
 use Rattle.ev_node.specs.Together.{sight}
 use Rattle.ev_node.proofs.Keeping.{some-server, suits-held, kept-asked}
 use Rattle.ev_node.proofs.Walkers.{sight-still, idle-is}
+use mathlib.Core.List.{IsPrefix}
+use Rattle.ev_node.proofs.Growing.{asked-grows}
 use Rattle.ev_node.proofs.cell.Cell.take_command.Goals as goal
 
 pub command_asked-requires-clause-stands : goal.command_asked-requires-clause-stands
@@ -27,3 +29,11 @@ returns-clause-idle c q =
       sight-still c.self.inside.root c.self.inside.journal.items _ c.self.inside.held c.command_asked.new.held i.0 ∙ ap sight c.self.view_is,
       λ h. i.1 (subst (λ (k : CoreParts). HasCommand k c.args.client c.self.inside.root.phase) i.0.core h),
     )
+
+pub returns-clause-grown : goal.returns-clause-grown
+returns-clause-grown c = subst (λ (z : CellParts). IsPrefix z.journal c.command_asked.new.journal.items) c.self.view_is
+    (asked-grows c.self.inside.held c.command_asked.new.held c.self.inside.journal.items c.command_asked.new.journal.items c.self.inside.root.phase (Command c.args.client) c.command_asked.result c.command_asked.ensures.answers c.command_asked.ensures.still)
+
+pub returns-in_err-turned-clause-grown : goal.returns-in_err-turned-clause-grown
+returns-in_err-turned-clause-grown c = subst (λ (z : CellParts). IsPrefix z.journal c.command_asked.new.journal.items) c.self.view_is
+    (asked-grows c.self.inside.held c.command_asked.new.held c.self.inside.journal.items c.command_asked.new.journal.items c.self.inside.root.phase (Command c.args.client) c.command_asked.result c.command_asked.ensures.answers c.command_asked.ensures.still)

@@ -5,6 +5,7 @@ use Rattle.ev_model.specs.Nets.{clients_of}
 use Rattle.ev_node.specs.declared.held.Root.{Root}
 use Rattle.ev_node.specs.Turns.{HasCommand}
 use Rattle.ev_node.specs.Together.{Sight, HasNoCommand}
+use Rattle.ev_versions.proofs.Fronts.{prefix_trans}
 use Rattle.ev_node.proofs.Leftover.{none-left, place-more}
 use Rattle.ev_node.proofs.cell.Cell.take_commands.Goals.{then-branch, else-branch}
 use Rattle.ev_node.proofs.cell.Cell.take_commands.Goals as goal
@@ -12,6 +13,7 @@ use Rattle.ev_node.proofs.cell.Cell.take_commands.Goals as goal
 pub loop-place-preserved : goal.loop-place-preserved
 loop-place-preserved c = record {
   root = c.take_home.ensures.root ∙ c.loop-place.invariant.root;
+  grown = prefix_trans _ _ _ c.loop-place.invariant.grown c.take_home.ensures.grown;
   idle = elim c.if-branch.branch [
     | then-branch w ↦ λ e. (let no-way = sym w.made-is ∙ e in cc)
     | else-branch w ↦ λ e. (
@@ -34,3 +36,6 @@ returns-clause-idle c e =
       subst (λ (s : Sight). HasNoCommand s.core s.root.phase) (sym b.0)
           (none-left c.args.self.now.root.net.value c.args.self.now.root c.args.self.now.journal c.args.self.now.held c.loop-place.place c.tells.ensures (omega (arith, n, c.len-place-end.ensures, c.loop-place-test.false)) b.1),
     )
+
+pub returns-in_err-take_home-clause-grown : goal.returns-in_err-take_home-clause-grown
+returns-in_err-take_home-clause-grown c = prefix_trans _ _ _ c.loop-place.invariant.grown c.take_home.ensures.grown

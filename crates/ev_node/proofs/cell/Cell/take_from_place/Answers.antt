@@ -5,6 +5,8 @@ use Rattle.ev_node.specs.Links.{Both, IsSameLink, HasMissed}
 use Rattle.ev_node.specs.Together.{sight}
 use Rattle.ev_node.proofs.Keeping.{some-server}
 use Rattle.ev_node.proofs.Walkers.{kept-taking, taking-idle, taking-worn}
+use mathlib.Core.List.{IsPrefix}
+use Rattle.ev_node.proofs.Growing.{taking-grows}
 use Rattle.ev_node.proofs.cell.Cell.take_from_place.Goals as goal
 
 pub turn_take-requires-clause-stands : goal.turn_take-requires-clause-stands
@@ -22,3 +24,7 @@ pub returns-clause-worn : goal.returns-clause-worn
 returns-clause-worn g c s e =
     let w = taking-worn c.self.inside.net.now c.self.inside.root c.self.inside.journal.items c.self.inside.held c.self.invariant c.args.place c.turn_take.new.held c.turn_take.new.journal.items c.turn_take.result s c.turn_take.ensures.still (c.turn_take.ensures.worn s) e in
     (w.0 ∙ ap sight c.self.view_is, w.1)
+
+pub returns-clause-grown : goal.returns-clause-grown
+returns-clause-grown g c = subst (λ (z : CellParts). IsPrefix z.journal c.turn_take.new.journal.items) c.self.view_is
+    (taking-grows c.self.inside.held c.turn_take.new.held c.self.inside.journal.items c.turn_take.new.journal.items c.self.inside.root.phase c.args.place c.turn_take.result (c.turn_take.ensures.made c.self.inside.root.phase) c.turn_take.ensures.still)

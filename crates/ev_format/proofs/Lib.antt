@@ -1,0 +1,15 @@
+pub mod EdgeLaws
+pub mod LineLaws
+pub mod WordLaws
+pub mod Stands
+pub mod ScriptStands
+pub mod TreeStands
+pub mod ClientStands
+pub mod StepStands
+pub mod TurnStands
+pub mod Shown
+pub mod ReadLaws
+pub mod Kept
+pub mod Writable
+pub mod Chain
+pub mod SameText

@@ -1,0 +1,16 @@
+use Rattle.std.proofs.Common.{subst}
+use Rattle.ev_outside.specs.Pending.{outlet, Went}
+use Rattle.ev_outside.proofs.Outlets.{went-then, went-nothing}
+use Rattle.ev_format.proofs.Chain.{first_attribute, no_attribute}
+use Rattle.ev_format.proofs.value.put_attributes.Goals as goal
+
+pub returns-in-empty : goal.returns-in-empty
+returns-in-empty g c =
+    let old = outlet (g.K.Sink.taken c.args.sink.now) (g.K.Sink.faults c.args.sink.now) c.args.out.now in
+    subst (Went old old) (no_attribute c.args.attributes.now c.in-empty.len_below) (went-nothing old)
+
+pub returns-in-len1-up : goal.returns-in-len1-up
+returns-in-len1-up g c =
+    let new = outlet (g.K.Sink.taken c.put_later_attributes.new.sink) (g.K.Sink.faults c.put_later_attributes.new.sink) c.put_later_attributes.new.out in
+    subst (Went (outlet (g.K.Sink.taken c.args.sink.now) (g.K.Sink.faults c.args.sink.now) c.args.out.now) new) (first_attribute c.args.attributes.now c.first-item.result c.in-len1-up.len_at_least)
+    (went-then _ _ _ _ _ (rw c.first-item.is at c.put_attribute.ensures) c.put_later_attributes.ensures)

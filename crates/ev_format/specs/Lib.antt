@@ -1,0 +1,4 @@
+pub mod Edges
+pub mod DocumentText
+pub mod Limits
+pub mod Writing

@@ -1,0 +1,188 @@
+//! Wire texts of values, constraints and attributes, on their way to a sink. No call takes memory.
+ghost use Rattle.std.specs.Prelude.{◌≡◌};
+ghost use Rattle.std.specs.List.{flat_map};
+ghost use Rattle.std.specs.Fmt.{signed_decimal};
+ghost use Rattle.std.specs.Option.{option_copied};
+ghost use Rattle.ev_outside.specs.Pending.{outlet, Went};
+ghost use Rattle.ev_wire.specs.ValueText.{escape, kind_word, op_word, string_text, value_text};
+ghost use Rattle.ev_wire.specs.NoticeText.{attribute_text, later, notice_text};
+ghost use Rattle.ev_wire.specs.FilterText.{constraint_text, constraints_text, test_text};
+
+use crate::line::put_number;
+use ev_constraint::{Constraint, Op};
+use ev_outside::{Pending, Sink};
+use ev_values::{Kind, Name, Text, Value};
+use itoa::Buffer;
+
+// An int in decimal.
+fn put_int<K: Sink>(out: &mut Pending, sink: &mut K, number: i64)
+    ensures { Went (outlet (K.taken sink.old) (K.faults sink.old) out.old) (outlet (K.taken sink.new) (K.faults sink.new) out.new) (signed_decimal number) }
+{
+    let mut buffer = Buffer::new();
+    out.put(sink, buffer.format(number).as_bytes())
+}
+
+// A byte of a str value.
+fn put_escaped<K: Sink>(out: &mut Pending, sink: &mut K, b: u8)
+    ensures { Went (outlet (K.taken sink.old) (K.faults sink.old) out.old) (outlet (K.taken sink.new) (K.faults sink.new) out.new) (escape b) }
+{
+    match b {
+        b'"' => out.put(sink, b"\\\""),
+        b'\\' => out.put(sink, b"\\\\"),
+        b'\n' => out.put(sink, b"\\n"),
+        b'\t' => out.put(sink, b"\\t"),
+        _ => out.put(sink, &[b]),
+    }
+}
+
+// The bytes of a str value.
+fn put_bytes<K: Sink>(out: &mut Pending, sink: &mut K, bytes: &[u8])
+    ensures { Went (outlet (K.taken sink.old) (K.faults sink.old) out.old) (outlet (K.taken sink.new) (K.faults sink.new) out.new)
+        (flat_map escape bytes.now) }
+{
+    for b in bytes {
+        put_escaped(out, sink, *b);
+    }
+}
+
+// A str value.
+fn put_text<K: Sink>(out: &mut Pending, sink: &mut K, text: &Text)
+    ensures { Went (outlet (K.taken sink.old) (K.faults sink.old) out.old) (outlet (K.taken sink.new) (K.faults sink.new) out.new) (string_text text.now) }
+{
+    out.put(sink, b"\"");
+    put_bytes(out, sink, text.bytes());
+    out.put(sink, b"\"")
+}
+
+// A value.
+fn put_value<K: Sink>(out: &mut Pending, sink: &mut K, value: &Value)
+    ensures { Went (outlet (K.taken sink.old) (K.faults sink.old) out.old) (outlet (K.taken sink.new) (K.faults sink.new) out.new) (value_text value.now) }
+{
+    match value {
+        Value::Bool(true) => out.put(sink, b"true"),
+        Value::Bool(false) => out.put(sink, b"false"),
+        Value::Int(n) => put_int(out, sink, *n),
+        Value::Str(text) => put_text(out, sink, text),
+        Value::Time(seconds) => put_number(out, sink, *seconds),
+    }
+}
+
+// The word of a kind.
+fn kind_word(kind: Kind) -> &'static [u8]
+    ensures { result.now ≡ kind_word kind }
+{
+    match kind {
+        Kind::Bool => b"bool",
+        Kind::Int => b"int",
+        Kind::Str => b"str",
+        Kind::Time => b"time",
+    }
+}
+
+// The word of an operator.
+fn op_word(op: Op) -> &'static [u8]
+    ensures { result.now ≡ op_word op }
+{
+    match op {
+        Op::Any => b"any",
+        Op::Eq => b"=",
+        Op::Ne => b"!=",
+        Op::Lt => b"<",
+        Op::Le => b"<=",
+        Op::Gt => b">",
+        Op::Ge => b">=",
+        Op::Prefix => b"prefix",
+        Op::Suffix => b"suffix",
+        Op::Contains => b"contains",
+    }
+}
+
+// An operator, and behind a space its operand if it has one.
+fn put_test<K: Sink>(out: &mut Pending, sink: &mut K, op: Op, operand: Option<&Value>)
+    ensures { Went (outlet (K.taken sink.old) (K.faults sink.old) out.old) (outlet (K.taken sink.new) (K.faults sink.new) out.new)
+        (test_text op (option_copied operand.entry)) }
+{
+    out.put(sink, op_word(op));
+    match operand {
+        Some(value) => {
+            out.put(sink, b" ");
+            put_value(out, sink, value)
+        }
+        None => {}
+    }
+}
+
+// A constraint.
+fn put_constraint<K: Sink>(out: &mut Pending, sink: &mut K, constraint: &Constraint)
+    ensures { Went (outlet (K.taken sink.old) (K.faults sink.old) out.old) (outlet (K.taken sink.new) (K.faults sink.new) out.new)
+        (constraint_text constraint.now) }
+{
+    out.put(sink, constraint.name().bytes());
+    out.put(sink, b" ");
+    out.put(sink, kind_word(constraint.kind()));
+    out.put(sink, b" ");
+    put_test(out, sink, constraint.op(), constraint.operand())
+}
+
+// Constraints, each behind `; `.
+fn put_later_constraints<K: Sink>(out: &mut Pending, sink: &mut K, constraints: &[Constraint])
+    ensures { Went (outlet (K.taken sink.old) (K.faults sink.old) out.old) (outlet (K.taken sink.new) (K.faults sink.new) out.new)
+        (later constraint_text constraints.now) }
+{
+    for constraint in constraints {
+        out.put(sink, b"; ");
+        put_constraint(out, sink, constraint);
+    }
+}
+
+/// The constraints of a filter or an advertisement.
+pub(crate) fn put_constraints<K: Sink>(out: &mut Pending, sink: &mut K, constraints: &[Constraint])
+    ensures { Went (outlet (K.taken sink.old) (K.faults sink.old) out.old) (outlet (K.taken sink.new) (K.faults sink.new) out.new)
+        (constraints_text constraints.now) }
+{
+    match constraints {
+        [first, later @ ..] => {
+            put_constraint(out, sink, first);
+            put_later_constraints(out, sink, later)
+        }
+        [] => {}
+    }
+}
+
+// An attribute.
+fn put_attribute<K: Sink>(out: &mut Pending, sink: &mut K, attribute: &(Name, Value))
+    ensures { Went (outlet (K.taken sink.old) (K.faults sink.old) out.old) (outlet (K.taken sink.new) (K.faults sink.new) out.new)
+        (attribute_text attribute.now) }
+{
+    let (name, value) = attribute;
+    out.put(sink, name.bytes());
+    out.put(sink, b" ");
+    out.put(sink, kind_word(value.kind()));
+    out.put(sink, b" ");
+    put_value(out, sink, value)
+}
+
+// Attributes, each behind `; `.
+fn put_later_attributes<K: Sink>(out: &mut Pending, sink: &mut K, attributes: &[(Name, Value)])
+    ensures { Went (outlet (K.taken sink.old) (K.faults sink.old) out.old) (outlet (K.taken sink.new) (K.faults sink.new) out.new)
+        (later attribute_text attributes.now) }
+{
+    for attribute in attributes {
+        out.put(sink, b"; ");
+        put_attribute(out, sink, attribute);
+    }
+}
+
+/// The attributes of a notice.
+pub(crate) fn put_attributes<K: Sink>(out: &mut Pending, sink: &mut K, attributes: &[(Name, Value)])
+    ensures { Went (outlet (K.taken sink.old) (K.faults sink.old) out.old) (outlet (K.taken sink.new) (K.faults sink.new) out.new)
+        (notice_text attributes.now) }
+{
+    match attributes {
+        [first, later @ ..] => {
+            put_attribute(out, sink, first);
+            put_later_attributes(out, sink, later)
+        }
+        [] => {}
+    }
+}

@@ -1,0 +1,2 @@
+mod Wanted
+mod Sent

@@ -1,0 +1,89 @@
+//! The filters that are wanted where some advertisements are held.
+ghost use Rattle.std.specs.Prelude.{◌≡◌, ◌≢◌, ◌<◌, ℕ, [], length, filter, slice_get, Some};
+ghost use Rattle.ev_sets.specs.Sets.{Has, roots};
+ghost use Rattle.ev_notice.specs.Cover.{filter_covers};
+ghost use Rattle.ev_notice.specs.Before.{list_before};
+ghost use Rattle.ev_order.specs.Order.{picked};
+ghost use Rattle.ev_wire.specs.declared.semantics.Semantics.TheVariants.{Advertisement};
+ghost use Rattle.ev_wire.specs.Messages.{Lists};
+ghost use Rattle.ev_stock.specs.Sides.{Told};
+ghost use Rattle.ev_stock.specs.Stock.{held_from, held_elsewhere, sent, IsTold};
+ghost use Rattle.ev_catalogue.specs.Related.{overlap_rows};
+ghost use Rattle.ev_numcontrol.specs.Control.{is_wanted, Offers};
+ghost use Rattle.ev_numcontrol.specs.Offering.{row_of, IsUnion};
+
+use ev_bits::Row;
+use ev_cover::{Ad, Sub};
+use ev_stock::Stock;
+
+/// Puts the members of each of these rows in whose number is held.
+fn unite(held: &Row, rows: &[Row], row: &mut Row)
+    requires held { held.now.width ≡ length rows.now }
+    requires width { (a : ℕ) → a < length rows.now → (row_of rows.now a).width ≡ row.old.width }
+    requires empty { row.old.members ≡ [] }
+    ensures width { row.new.width ≡ row.old.width }
+    ensures union { IsUnion held.now.members rows.now row.new.members }
+{
+    held.is_a_set();
+    let mut at = 0;
+    while let Some(a) = held.first_from(at) {
+        row.insert_all(&rows[a as usize]);
+        at = a + 1;
+    }
+}
+
+/// Makes a row that of the filters that overlap an advertisement which is held from an interface.
+fn find_offered<'a>(
+    filters: &Stock<'a, Sub>,
+    adverts: &Stock<'a, Ad>,
+    overlaps: &[Row],
+    interface: u32,
+    row: &mut Row,
+)
+    requires rows { overlaps.now ≡ overlap_rows filters.now.items adverts.now.items }
+    requires interface { Has interface adverts.now.interfaces }
+    requires width { row.old.width ≡ length filters.now.items }
+    ensures width { row.new.width ≡ row.old.width }
+    ensures offered { Offers Advertisement (held_from list_before interface adverts.now.holdings) filters.now.items
+        (picked filters.now.items row.new.members) }
+{
+    filters.is_known();
+    row.clear();
+    if let Some(held) = adverts.held(interface) {
+        unite(held, overlaps, row);
+    }
+}
+
+/// Offers on the link of an interface, if it is one, what is wanted there now.
+pub(crate) fn offer_wanted<'a>(
+    filters: &mut Stock<'a, Sub>,
+    adverts: &Stock<'a, Ad>,
+    overlaps: &[Row],
+    interface: u32,
+    row: &mut Row,
+)
+    requires rows { overlaps.now ≡ overlap_rows filters.old.items adverts.now.items }
+    requires interface { Has interface adverts.now.interfaces }
+    requires width { row.old.width ≡ length filters.old.items }
+    requires others { (p link : ℕ) (offered : Lists) → slice_get filters.old.interfaces p ≡ Some link → link ≢ interface
+        → slice_get filters.old.offered p ≡ Some offered
+        → Offers Advertisement (held_from list_before link adverts.now.holdings) filters.old.items offered }
+    ensures width { row.new.width ≡ row.old.width }
+    ensures items { filters.new.items ≡ filters.old.items }
+    ensures interfaces { filters.new.interfaces ≡ filters.old.interfaces }
+    ensures holdings { filters.new.holdings ≡ filters.old.holdings }
+    ensures links { length filters.new.told ≡ length filters.old.told }
+    ensures wanted { (p link : ℕ) (offered : Lists) → slice_get filters.old.interfaces p ≡ Some link → slice_get filters.new.offered p ≡ Some offered
+        → Offers Advertisement (held_from list_before link adverts.now.holdings) filters.old.items offered }
+    ensures told { (p : ℕ) (before : Lists) → p < length filters.old.told → slice_get filters.old.interfaces p ≡ Some interface
+        → slice_get filters.old.offered p ≡ Some before → (t : Told) × (slice_get filters.new.told p ≡ Some t) × IsTold list_before filters.old.items
+        (sent filter_covers list_before before interface filters.old.holdings)
+        (roots filter_covers list_before (filter (is_wanted Advertisement (held_from list_before interface adverts.now.holdings))
+        (held_elsewhere list_before interface filters.old.holdings))) t }
+{
+    filters.is_known();
+    if let Some(place) = filters.link_place(interface) {
+        find_offered(filters, adverts, overlaps, interface, row);
+        filters.offer(place, row);
+    }
+}

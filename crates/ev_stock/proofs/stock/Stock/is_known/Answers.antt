@@ -1,0 +1,16 @@
+use Rattle.std.proofs.Common.{subst}
+use Rattle.ev_sets.specs.Sets.{Has}
+use Rattle.ev_order.proofs.Picked.{has-get}
+use Rattle.ev_stock.specs.Held.{row_at}
+use Rattle.ev_stock.specs.Stock.{Stocked, Holding}
+use Rattle.ev_stock.proofs.Shown.{pairs-at, picked-has}
+use Rattle.ev_stock.proofs.stock.Stock.is_known.Goals as goal
+
+pub returns-clause-held : goal.returns-clause-held
+returns-clause-held g c =
+    let t = c.self.inside.table in
+    subst (λ (z : Stocked g.row.T.Denot). (h : Holding g.row.T.Denot) → Has h z.holdings → Has h.item z.items) c.self.view_is
+    (λ h m.
+    let a = pairs-at t.items c.self.inside.interfaces.items t.rows h m in
+    let k = picked-has t.items (row_at t.rows a.0).members h.item a.2 in
+    has-get t.items k.0 h.item k.2)
