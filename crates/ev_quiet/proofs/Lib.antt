@@ -10,3 +10,4 @@ pub mod Sources
 pub mod Statuses
 pub mod Heard
 pub mod Searched
+pub mod Confirmed

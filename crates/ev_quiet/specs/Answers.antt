@@ -7,11 +7,13 @@ use Rattle.ev_generate.specs.Document.{generated}
 use Rattle.ev_quiet.specs.declared.words.Query.{Query}
 use Rattle.ev_quiet.specs.declared.words.Query.TheVariants.{Run, Flood, Check, Format}
 use Rattle.ev_quiet.specs.declared.words.Wanted.{Wanted}
-use Rattle.ev_quiet.specs.declared.words.Wanted.TheVariants.{Document, Generate, Patterns}
+use Rattle.ev_quiet.specs.declared.words.Wanted.TheVariants.{Audit, Document, Generate, Patterns}
 use Rattle.ev_quiet.specs.Printed.{IsFloodOf, IsCheckOf, IsFormatOf, IsSummaryOf}
 use Rattle.ev_quiet.specs.Headline.{Headline}
 use Rattle.ev_watch.specs.declared.fault.PatternKind.{PatternKind}
 use Rattle.ev_quiet.specs.Faults.{IsAtFault, MustBeRefused, CanBeDone}
+use Rattle.ev_audited.specs.declared.fault.AuditKind.{AuditKind}
+use Rattle.ev_quiet.specs.Audits.{CanConfirm, IsAuditOf, IsAuditAtFault, IsAuditRefuted, MustRefute}
 use Rattle.ev_quiet.specs.Patterns.{IsPatternsOf, IsInputAtFault, IsPatternAtFault, HasPatterns}
 
 -- the text and the journal that a document gives
@@ -30,6 +32,21 @@ IsGenerated seed true text journal = IsSummaryOf (generated seed) text journal
 abbrev pub GaveDocument : List ℕ → List ℕ → Bool → List ℕ → Type 0
 GaveDocument given now ended input = (now ≡ given ++ input) × ((ended ≡ true) ⊎ (4194304 < length input))
 
+-- it gave what is to be audited, which may be longer
+abbrev pub GaveOutput : List ℕ → List ℕ → Bool → List ℕ → Type 0
+GaveOutput given now ended input = (now ≡ given ++ input) × ((ended ≡ true) ⊎ (268435456 < length input))
+
+-- how many bytes are read at the most, and one more
+abbrev pub most_for : Wanted → ℕ
+most_for (Document query) = 4194305
+most_for (Generate seed summary) = 4194305
+most_for Patterns = 4194305
+most_for Audit = 268435457
+
+abbrev pub most_read : Option Wanted → ℕ
+most_read None = 4194305
+most_read (Some wanted) = most_for wanted
+
 -- what is wanted of the document that the source gave, at whose end it stands; or what a seed gives
 abbrev pub IsPrintedBy : Wanted → List ℕ → List ℕ → Bool → List ℕ → List EntryParts → Type 0
 IsPrintedBy (Document query) given now ended text journal =
@@ -37,6 +54,8 @@ IsPrintedBy (Document query) given now ended text journal =
 IsPrintedBy (Generate seed summary) given now ended text journal = IsGenerated seed summary text journal
 IsPrintedBy Patterns given now ended text journal =
     (input : List ℕ) × (now ≡ given ++ input) × (ended ≡ true) × IsPatternsOf input text journal
+IsPrintedBy Audit given now ended text journal =
+    (input : List ℕ) × (now ≡ given ++ input) × (ended ≡ true) × IsAuditOf input text journal
 
 -- what words ask for
 abbrev pub IsPrinted : Option Wanted → List ℕ → List ℕ → Bool → List ℕ → List EntryParts → Type 0
@@ -57,6 +76,7 @@ abbrev pub reads_document : Wanted → Bool
 reads_document (Document query) = true
 reads_document (Generate seed summary) = false
 reads_document Patterns = true
+reads_document Audit = true
 
 abbrev pub reads : Option Wanted → Bool
 reads None = false
@@ -67,6 +87,7 @@ abbrev pub HasFaultFor : Wanted → List ℕ → List ℕ → Bool → ℕ → F
 HasFaultFor (Document query) given now ended line kind = (input : List ℕ) × GaveDocument given now ended input × IsAtFault query input line kind
 HasFaultFor (Generate seed summary) given now ended line kind = ⊥
 HasFaultFor Patterns given now ended line kind = (input : List ℕ) × GaveDocument given now ended input × IsInputAtFault input line kind
+HasFaultFor Audit given now ended line kind = (input : List ℕ) × GaveOutput given now ended input × IsAuditAtFault input line kind
 
 abbrev pub HasFault : Option Wanted → List ℕ → List ℕ → Bool → ℕ → Fault → Type 0
 HasFault None given now ended line kind = ⊥
@@ -77,6 +98,7 @@ abbrev pub GaveRefusedFor : Wanted → List ℕ → List ℕ → Bool → ℕ �
 GaveRefusedFor (Document query) given now ended line kind = (input : List ℕ) × GaveDocument given now ended input × MustBeRefused query input line kind
 GaveRefusedFor (Generate seed summary) given now ended line kind = ⊥
 GaveRefusedFor Patterns given now ended line kind = (input : List ℕ) × GaveDocument given now ended input × IsInputAtFault input line kind
+GaveRefusedFor Audit given now ended line kind = (input : List ℕ) × GaveOutput given now ended input × IsAuditAtFault input line kind
 
 abbrev pub GaveRefused : Option Wanted → List ℕ → List ℕ → Bool → ℕ → Fault → Type 0
 GaveRefused None given now ended line kind = ⊥
@@ -87,16 +109,40 @@ abbrev pub GaveBadPatternFor : Wanted → List ℕ → List ℕ → Bool → ℕ
 GaveBadPatternFor (Document query) given now ended line kind = ⊥
 GaveBadPatternFor (Generate seed summary) given now ended line kind = ⊥
 GaveBadPatternFor Patterns given now ended line kind = (input : List ℕ) × GaveDocument given now ended input × IsPatternAtFault input line kind
+GaveBadPatternFor Audit given now ended line kind = ⊥
 
 abbrev pub GaveBadPattern : Option Wanted → List ℕ → List ℕ → Bool → ℕ → PatternKind → Type 0
 GaveBadPattern None given now ended line kind = ⊥
 GaveBadPattern (Some wanted) given now ended line kind = GaveBadPatternFor wanted given now ended line kind
+
+-- an audit is asked for, and what the source gave is refuted
+abbrev pub GaveRefutedFor : Wanted → List ℕ → List ℕ → Bool → ℕ → AuditKind → Type 0
+GaveRefutedFor Audit given now ended line kind = (input : List ℕ) × GaveOutput given now ended input × IsAuditRefuted input line kind
+GaveRefutedFor (Document query) given now ended line kind = ⊥
+GaveRefutedFor (Generate seed summary) given now ended line kind = ⊥
+GaveRefutedFor Patterns given now ended line kind = ⊥
+
+abbrev pub GaveRefuted : Option Wanted → List ℕ → List ℕ → Bool → ℕ → AuditKind → Type 0
+GaveRefuted None given now ended line kind = ⊥
+GaveRefuted (Some wanted) given now ended line kind = GaveRefutedFor wanted given now ended line kind
+
+-- and it must be refuted
+abbrev pub GaveWrongFor : Wanted → List ℕ → List ℕ → Bool → ℕ → AuditKind → Type 0
+GaveWrongFor Audit given now ended line kind = (input : List ℕ) × GaveOutput given now ended input × MustRefute input line kind
+GaveWrongFor (Document query) given now ended line kind = ⊥
+GaveWrongFor (Generate seed summary) given now ended line kind = ⊥
+GaveWrongFor Patterns given now ended line kind = ⊥
+
+abbrev pub GaveWrong : Option Wanted → List ℕ → List ℕ → Bool → ℕ → AuditKind → Type 0
+GaveWrong None given now ended line kind = ⊥
+GaveWrong (Some wanted) given now ended line kind = GaveWrongFor wanted given now ended line kind
 
 -- words ask for something, and the source gave a document of which that can be done
 abbrev pub CanAnswerFor : Wanted → List ℕ → List ℕ → Bool → Type 0
 CanAnswerFor (Document query) given now ended = (input : List ℕ) × GaveDocument given now ended input × CanBeDone query input
 CanAnswerFor (Generate seed summary) given now ended = Unit {0}
 CanAnswerFor Patterns given now ended = (input : List ℕ) × GaveDocument given now ended input × HasPatterns input
+CanAnswerFor Audit given now ended = (input : List ℕ) × GaveOutput given now ended input × CanConfirm input
 
 abbrev pub CanAnswer : Option Wanted → List ℕ → List ℕ → Bool → Type 0
 CanAnswer None given now ended = ⊥

@@ -8,7 +8,9 @@ pub mod Headline
 pub mod Faults
 pub mod Ran
 pub mod Patterns
+pub mod Audits
 pub mod Answers
 pub mod Refusals
 pub mod Showing
 pub mod Searching
+pub mod Auditing

@@ -63,21 +63,25 @@ abbrev pub GivesSettledOnce : PhasedRun real → ClientLists → Type 0
 GivesSettledOnce run lists = (publication : Publication real) (client : ℕ) → IsSettledOn run publication client
     → times (id_of publication) (lists.received client) ≡ 1
 
--- WHAT THE NETWORK IS PROMISED TO HAVE DONE: its journal is legal and drained, goes by the schedule and gives these lists and this trace; a link carries
--- only what a filter held beyond it, as last published, matches; a settled publication was delivered exactly once; what an entry delivers goes by the
--- filters in force; and the entries are bounded by the commands and the servers, the stamps by the entries
-pub record NetworkPromise (schedule : Schedule) (shown : Shown) (net : NetParts) (journal : List EntryParts) (lists : ClientLists) (trace : List ℕ)
-    : Type 0 where
+-- WHAT THE NETWORK IS PROMISED TO HAVE DONE: its journal is legal and drained and gives these lists and this trace; a link carries only what a filter held
+-- beyond it, as last published, matches; a settled publication was delivered exactly once; what an entry delivers goes by the filters in force; and the
+-- entries are bounded by the commands and the servers, the stamps by the entries
+pub record RunPromise (shown : Shown) (net : NetParts) (journal : List EntryParts) (lists : ClientLists) (trace : List ℕ) : Type 0 where
   pub laws : PhasedNetLaws real (phased_net net)
   pub legal : IsLegal net journal
   pub drained : IsDrainedBy net journal
-  pub goes_by : GoesBy schedule net journal
   pub gives : lists ≡ lists_by net journal
   pub traced : trace ≡ trace_of shown.trace net journal
   pub carries_wanted : CarriesWanted (run_of net laws journal legal)
   pub settled_once : GivesSettledOnce (run_of net laws journal legal) lists
   pub in_force : DeliversByVersion (run_of net laws journal legal)
   pub bounded : KeepsBounds real (run_of net laws journal legal)
+
+-- and by a schedule: its journal goes by it besides
+pub record NetworkPromise (schedule : Schedule) (shown : Shown) (net : NetParts) (journal : List EntryParts) (lists : ClientLists) (trace : List ℕ)
+    : Type 0 where
+  pub goes_by : GoesBy schedule net journal
+  pub run : RunPromise shown net journal lists trace
 
 -- a journal is a whole run: legal, of a sound net that publishes notices, and all is drained at its end
 pub record IsWholeRun (net : NetParts) (journal : List EntryParts) : Type 0 where

@@ -5,6 +5,8 @@ use Rattle.ev_input.specs.declared.fault.Fault.{Fault}
 use Rattle.ev_input.specs.declared.fault.Fault.TheVariants as faults
 use Rattle.ev_watch.specs.declared.fault.PatternKind.{PatternKind}
 use Rattle.ev_watch.specs.declared.fault.PatternKind.TheVariants as patterns
+use Rattle.ev_audited.specs.declared.fault.AuditKind.{AuditKind}
+use Rattle.ev_audited.specs.declared.fault.AuditKind.TheVariants as audits
 use Rattle.ev_quiet.specs.declared.status.Status.{Status}
 use Rattle.ev_quiet.specs.declared.status.Status.TheVariants as statuses
 
@@ -40,12 +42,19 @@ pattern_text patterns.Syntax = codes "syntax"
 pattern_text patterns.Value = codes "value"
 pattern_text patterns.Operand = codes "operand"
 
+abbrev pub audit_text : AuditKind → List ℕ
+audit_text audits.Form = codes "form"
+audit_text audits.BadTurn = codes "badturn"
+audit_text audits.Differs = codes "differs"
+audit_text audits.Open = codes "open"
+
 -- what goes to standard error
 unfoldable pub status_text : Status → List ℕ
 status_text statuses.Done = []
 status_text statuses.Usage = codes "siena: usage: walk, run or replay [--sorted] [--trace]; flood; check; format; gen --seed N [--summary]" ++ 10 ∷ []
 status_text (statuses.BadInput line kind) = codes "siena: line " ++ decimal line ++ codes ": " ++ kind_text kind ++ 10 ∷ []
 status_text (statuses.BadPattern line kind) = codes "siena: line " ++ decimal line ++ codes ": " ++ pattern_text kind ++ 10 ∷ []
+status_text (statuses.Refuted line kind) = codes "siena: audit: line " ++ decimal line ++ codes ": " ++ audit_text kind ++ 10 ∷ []
 status_text statuses.ReadFault = codes "siena: the input could not be read" ++ 10 ∷ []
 status_text statuses.WriteFault = codes "siena: the output could not be written" ++ 10 ∷ []
 status_text statuses.NoMemory = codes "siena: out of memory" ++ 10 ∷ []
@@ -56,6 +65,7 @@ status_number statuses.Done = 0
 status_number statuses.Usage = 2
 status_number (statuses.BadInput line kind) = 3
 status_number (statuses.BadPattern line kind) = 8
+status_number (statuses.Refuted line kind) = 9
 status_number statuses.ReadFault = 4
 status_number statuses.WriteFault = 5
 status_number statuses.NoMemory = 6

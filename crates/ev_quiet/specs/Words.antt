@@ -10,7 +10,7 @@ use Rattle.ev_quiet.specs.declared.words.Shown.{Shown}
 use Rattle.ev_quiet.specs.declared.words.Query.{Query}
 use Rattle.ev_quiet.specs.declared.words.Query.TheVariants.{Run, Flood, Check, Format}
 use Rattle.ev_quiet.specs.declared.words.Wanted.{Wanted}
-use Rattle.ev_quiet.specs.declared.words.Wanted.TheVariants.{Document, Generate, Patterns}
+use Rattle.ev_quiet.specs.declared.words.Wanted.TheVariants.{Audit, Document, Generate, Patterns}
 
 -- a run without an option
 abbrev pub plain : Shown
@@ -79,6 +79,11 @@ abbrev pub patterns_by : List (List ℕ) → Option Wanted
 patterns_by [] = Some Patterns
 patterns_by (word ∷ words) = None
 
+-- an audit takes no further words
+abbrev pub audit_by : List (List ℕ) → Option Wanted
+audit_by [] = Some Audit
+audit_by (word ∷ words) = None
+
 -- WHAT THE WORDS ASK FOR, where they ask for something
 abbrev pub wanted_by : List (List ℕ) → Option Wanted
 wanted_by [] = None
@@ -91,6 +96,7 @@ wanted_by (word ∷ words) =
     else if bytes_eq word (codes "format") then alone Format words
     else if bytes_eq word (codes "gen") then generate_by words
     else if bytes_eq word (codes "patterns") then patterns_by words
+    else if bytes_eq word (codes "audit") then audit_by words
     else None
 
 -- whether the runs of a schedule are made on one thread
@@ -110,12 +116,14 @@ abbrev pub IsQuietWish : Wanted → Type 0
 IsQuietWish (Document query) = IsQuietQuery query
 IsQuietWish (Generate seed summary) = Unit {0}
 IsQuietWish Patterns = Unit {0}
+IsQuietWish Audit = Unit {0}
 
--- no patterns are asked for either
+-- no patterns and no audit are asked for either
 abbrev pub IsPlainWish : Wanted → Type 0
 IsPlainWish (Document query) = IsQuietQuery query
 IsPlainWish (Generate seed summary) = Unit {0}
 IsPlainWish Patterns = ⊥
+IsPlainWish Audit = ⊥
 
 abbrev pub AreNoneOfRun : Option Wanted → Type 0
 AreNoneOfRun None = Unit {0}

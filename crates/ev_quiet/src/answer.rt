@@ -56,6 +56,6 @@ pub fn answer<S: Source>(alloc: Global, wanted: Wanted, source: &mut S) -> Resul
     match wanted {
         Wanted::Document(query) => of_source(alloc, query, source),
         Wanted::Generate { seed, summary } => Ok(of_seed(alloc, seed, summary)?),
-        Wanted::Patterns => unreachable!(),
+        Wanted::Patterns | Wanted::Audit => unreachable!(),
     }
 }

@@ -7,7 +7,7 @@ ghost use Rattle.ev_quiet.specs.declared.words.Shown.{Shown};
 ghost use Rattle.ev_quiet.specs.Runs.{GoesBy};
 ghost use Rattle.ev_quiet.specs.Printed.{run_text, trace_of};
 ghost use Rattle.ev_quiet.specs.Promise.{ClientPromise};
-ghost use Rattle.ev_quiet.specs.Network.{lists_by, NetworkPromise, IsWholeRun};
+ghost use Rattle.ev_quiet.specs.Network.{lists_by, NetworkPromise, RunPromise, IsWholeRun};
 
 use ev_theory::Real;
 
@@ -18,6 +18,8 @@ use ev_theory::Real;
 pub fn promise()
     ensures clients { (shown : Shown) (input : List ℕ) (net : NetParts) (journal : List EntryParts) → IsNetOf input net → IsWholeRun net journal
         → ClientPromise shown input (run_text shown net journal) net (lists_by net journal) (trace_of shown.trace net journal) }
+    ensures run { (shown : Shown) (net : NetParts) (journal : List EntryParts) → IsWholeRun net journal
+        → RunPromise shown net journal (lists_by net journal) (trace_of shown.trace net journal) }
     ensures network { (schedule : Schedule) (shown : Shown) (net : NetParts) (journal : List EntryParts) → IsWholeRun net journal
         → GoesBy schedule net journal
         → NetworkPromise schedule shown net journal (lists_by net journal) (trace_of shown.trace net journal) }

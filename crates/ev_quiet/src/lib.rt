@@ -2,6 +2,7 @@
 #![tactic(auto)]
 
 mod answer;
+mod audits;
 mod body;
 mod generated;
 mod given;

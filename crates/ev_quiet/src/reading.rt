@@ -1,5 +1,5 @@
 //! Documents from sources.
-ghost use Rattle.std.specs.Prelude.{◌≡◌, ◌≤◌, ◌⊎◌, ◌++◌, ◌↔◌, ℕ, List, true, length, IfOk, OnOk, IsOk, IsErrOf};
+ghost use Rattle.std.specs.Prelude.{◌≡◌, ◌≤◌, ◌+◌, ◌⊎◌, ◌++◌, ◌↔◌, ℕ, List, true, length, IfOk, OnOk, IsOk, IsErrOf};
 ghost use Rattle.std.specs.Io.KnownBytes.{Consumes, IsAtEnd};
 ghost use Rattle.ev_outside.specs.Cause.{Rose};
 ghost use Rattle.ev_outside.specs.Whole.{Gave};
@@ -18,6 +18,35 @@ use std::alloc::Global;
 
 const MOST_BYTES: usize = 4_194_304;
 
+/// All bytes of a source, of which there are at most so many.
+pub(crate) fn all_bytes<S: Source>(
+    alloc: Global,
+    source: &mut S,
+    most: usize,
+) -> Result<Vec<u8>, Refusal>
+    ensures all { IfOk result (λ bytes. S.given source.new ≡ S.given source.old ++ bytes.items) }
+    ensures ended { IsOk result ↔ (S.ended source.new ≡ true) }
+    ensures within { IfOk result (λ bytes. length bytes.items ≤ most) }
+    ensures sure { OnOk result (S.faults source.new ≡ S.faults source.old) }
+    ensures long { (line : ℕ) (kind : Fault) → IsErrOf result (Refusal.BadInput line kind)
+        → (line ≡ 0) × (kind ≡ Fault.TooLong) × Gave (S.given source.old) (S.given source.new) (λ given. length given ≡ most + 1) }
+    ensures failed { IsErrOf result Refusal.ReadFault → Rose (S.faults source.old) (S.faults source.new) }
+    ensures failed_within { IsErrOf result Refusal.ReadFault → Gave (S.given source.old) (S.given source.new) (λ given. length given ≤ most) }
+    ensures at_most { Gave (S.given source.old) (S.given source.new) (λ given. length given ≤ most + 1) }
+    ensures told { (given : List ℕ) → S.given source.new ≡ S.given source.old ++ given → Consumes (S.left source.old) (S.left source.new) given }
+    ensures end { S.ended source.new ≡ true → IsAtEnd (S.left source.new) }
+{
+    match read_all(alloc, source, most) {
+        Ok(bytes) => Ok(bytes),
+        Err(ReadAll::TooLong) => Err(Refusal::BadInput {
+            line: 0,
+            kind: Fault::TooLong,
+        }),
+        Err(ReadAll::Failed) => Err(Refusal::ReadFault),
+        Err(ReadAll::NoMemory) => Err(Refusal::NoMemory),
+    }
+}
+
 /// All bytes of a source, of which there are at most 4,194,304.
 pub fn document<S: Source>(alloc: Global, source: &mut S) -> Result<Vec<u8>, Refusal>
     ensures all { IfOk result (λ bytes. S.given source.new ≡ S.given source.old ++ bytes.items) }
@@ -31,15 +60,7 @@ pub fn document<S: Source>(alloc: Global, source: &mut S) -> Result<Vec<u8>, Ref
     ensures told { (given : List ℕ) → S.given source.new ≡ S.given source.old ++ given → Consumes (S.left source.old) (S.left source.new) given }
     ensures end { S.ended source.new ≡ true → IsAtEnd (S.left source.new) }
 {
-    match read_all(alloc, source, MOST_BYTES) {
-        Ok(bytes) => Ok(bytes),
-        Err(ReadAll::TooLong) => Err(Refusal::BadInput {
-            line: 0,
-            kind: Fault::TooLong,
-        }),
-        Err(ReadAll::Failed) => Err(Refusal::ReadFault),
-        Err(ReadAll::NoMemory) => Err(Refusal::NoMemory),
-    }
+    all_bytes(alloc, source, MOST_BYTES)
 }
 
 /// The net of a document.

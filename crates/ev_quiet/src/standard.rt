@@ -2,10 +2,11 @@
 ghost use Rattle.std.specs.Prelude.{◌≡◌, ◌≢◌, ◌≤◌, ◌<◌, ◌⊎◌, ◌↔◌, ℕ, [], true, false, None, length};
 ghost use Rattle.std.specs.Io.KnownBytes.{Consumes, IsAtEnd};
 ghost use Rattle.ev_quiet.specs.Words.{wanted_by, AreNoneOfRun};
-ghost use Rattle.ev_quiet.specs.Answers.{Prints, PrintsPart, reads, HasFault, GaveRefused, GaveBadPattern, CanAnswer};
+ghost use Rattle.ev_quiet.specs.Answers.{Prints, PrintsPart, reads, most_read, HasFault, GaveRefused, GaveBadPattern, GaveRefuted, GaveWrong, CanAnswer};
 
 use crate::status::Status;
 use crate::top::{Outcome, quiet};
+use ev_audited::AuditKind;
 use ev_input::Fault;
 use ev_outside::{StdSink, StdSource, Word};
 use ev_watch::PatternKind;
@@ -37,7 +38,7 @@ pub fn quiet_with_devices<R: Read, W: Write>(
         result.outcome.journal.items [] result.sink.taken.bytes }
     ensures sure { result.outcome.status ≡ Status.Done → (result.source.faults ≡ 0) × (result.sink.faults ≡ 0) }
     ensures unread { reads (wanted_by words.now) ≡ false → result.source.given.bytes ≡ [] }
-    ensures at_most { length result.source.given.bytes ≤ 4194305 }
+    ensures at_most { length result.source.given.bytes ≤ most_read (wanted_by words.now) }
     ensures told { reads (wanted_by words.now) ≡ true
         → Consumes (R.remaining input) (R.remaining result.source.input) result.source.given.bytes }
     ensures end { reads (wanted_by words.now) ≡ true → result.source.ended ≡ true → IsAtEnd (R.remaining result.source.input) }
@@ -48,6 +49,8 @@ pub fn quiet_with_devices<R: Read, W: Write>(
         → HasFault (wanted_by words.now) [] result.source.given.bytes result.source.ended line kind }
     ensures bad_pattern { (line : ℕ) (kind : PatternKind) → result.outcome.status ≡ Status.BadPattern line kind
         → GaveBadPattern (wanted_by words.now) [] result.source.given.bytes result.source.ended line kind }
+    ensures refuted { (line : ℕ) (kind : AuditKind) → result.outcome.status ≡ Status.Refuted line kind
+        → GaveRefuted (wanted_by words.now) [] result.source.given.bytes result.source.ended line kind }
     ensures read_fault { result.outcome.status ≡ Status.ReadFault → 0 < result.source.faults }
     ensures write_fault { result.outcome.status ≡ Status.WriteFault → 0 < result.sink.faults }
     ensures part { result.outcome.status ≡ Status.WriteFault
@@ -58,6 +61,9 @@ pub fn quiet_with_devices<R: Read, W: Write>(
     ensures refused_pattern { (line : ℕ) (kind : PatternKind)
         → GaveBadPattern (wanted_by words.now) [] result.source.given.bytes result.source.ended line kind
         → (result.outcome.status ≡ Status.BadPattern line kind) ⊎ (result.outcome.status ≡ Status.NoMemory) }
+    ensures wrong { (line : ℕ) (kind : AuditKind)
+        → GaveWrong (wanted_by words.now) [] result.source.given.bytes result.source.ended line kind
+        → (result.outcome.status ≡ Status.Refuted line kind) ⊎ (result.outcome.status ≡ Status.NoMemory) }
     ensures complete { CanAnswer (wanted_by words.now) [] result.source.given.bytes result.source.ended → result.sink.faults ≡ 0
         → (result.outcome.status ≡ Status.Done) ⊎ (result.outcome.status ≡ Status.NoMemory) }
 {

@@ -1,8 +1,9 @@
 //! How a run ends, and what it says of a fault.
 ghost use Rattle.std.specs.Prelude.{◌≡◌, ◌++◌, ◌∷◌, [], IfOk, OnOk, codes};
 ghost use Rattle.std.specs.Fmt.{decimal};
-ghost use Rattle.ev_quiet.specs.Status.{kind_text, pattern_text, status_number, status_text};
+ghost use Rattle.ev_quiet.specs.Status.{audit_text, kind_text, pattern_text, status_number, status_text};
 
+use ev_audited::AuditKind;
 use ev_decimal::push_number;
 use ev_input::Fault;
 use ev_memory::NoMemory;
@@ -31,6 +32,13 @@ pub enum Status {
         /// Its fault.
         kind: PatternKind,
     },
+    /// What is audited is no output of a whole run.
+    Refuted {
+        /// The first line at which that shows.
+        line: u32,
+        /// What shows there.
+        kind: AuditKind,
+    },
     /// The input could not be read.
     ReadFault,
     /// The output could not be written.
@@ -49,6 +57,7 @@ impl Status {
             Status::Usage => 2,
             Status::BadInput { line: _, kind: _ } => 3,
             Status::BadPattern { line: _, kind: _ } => 8,
+            Status::Refuted { line: _, kind: _ } => 9,
             Status::ReadFault => 4,
             Status::WriteFault => 5,
             Status::NoMemory => 6,
@@ -98,11 +107,22 @@ fn pattern_text(kind: PatternKind) -> &'static [u8]
     }
 }
 
-// The line of a fault, by its word.
-fn push_fault(out: &mut Vec<u8>, line: u32, word: &[u8]) -> Result<(), NoMemory>
-    ensures { OnOk result (out.new.items ≡ out.old.items ++ codes "siena: line " ++ decimal line ++ codes ": " ++ word.now ++ 10 ∷ []) }
+fn audit_text(kind: AuditKind) -> &'static [u8]
+    ensures { result.now ≡ audit_text kind }
 {
-    out.extend_from_slice(b"siena: line ")?;
+    match kind {
+        AuditKind::Form => b"form",
+        AuditKind::BadTurn => b"badturn",
+        AuditKind::Differs => b"differs",
+        AuditKind::Open => b"open",
+    }
+}
+
+// The line of a fault, by what stands before its number, and its word.
+fn push_fault(out: &mut Vec<u8>, before: &[u8], line: u32, word: &[u8]) -> Result<(), NoMemory>
+    ensures { OnOk result (out.new.items ≡ out.old.items ++ before.now ++ decimal line ++ codes ": " ++ word.now ++ 10 ∷ []) }
+{
+    out.extend_from_slice(before)?;
     push_number(out, u64::from(line))?;
     out.extend_from_slice(b": ")?;
     out.extend_from_slice(word)?;
@@ -122,8 +142,24 @@ pub fn fault_text(alloc: Global, status: &Status) -> Result<Vec<u8>, NoMemory>
     match status {
         Status::Done => {}
         Status::Usage => out.extend_from_slice(USAGE)?,
-        Status::BadInput { line, kind } => push_fault(&mut out, *line, kind_text(*kind))?,
-        Status::BadPattern { line, kind } => push_fault(&mut out, *line, pattern_text(*kind))?,
+        Status::BadInput { line, kind } => push_fault(
+            &mut out,
+            b"siena: line ",
+            *line,
+            kind_text(*kind),
+        )?,
+        Status::BadPattern { line, kind } => push_fault(
+            &mut out,
+            b"siena: line ",
+            *line,
+            pattern_text(*kind),
+        )?,
+        Status::Refuted { line, kind } => push_fault(
+            &mut out,
+            b"siena: audit: line ",
+            *line,
+            audit_text(*kind),
+        )?,
         Status::ReadFault => out.extend_from_slice(b"siena: the input could not be read\n")?,
         Status::WriteFault => out.extend_from_slice(b"siena: the output could not be written\n")?,
         Status::NoMemory => out.extend_from_slice(b"siena: out of memory\n")?,

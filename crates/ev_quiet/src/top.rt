@@ -4,13 +4,15 @@ ghost use Rattle.std.specs.Io.KnownBytes.{Consumes, IsAtEnd};
 ghost use Rattle.ev_outside.specs.Cause.{Rose};
 ghost use Rattle.ev_outside.specs.Whole.{Gave, TookPart};
 ghost use Rattle.ev_quiet.specs.Words.{wanted_by, AreNoneOfRun, IsPlainWish, IsQuietWish};
-ghost use Rattle.ev_quiet.specs.Answers.{Prints, PrintsPart, reads, HasFault, GaveRefused, GaveBadPattern, CanAnswer};
+ghost use Rattle.ev_quiet.specs.Answers.{Prints, PrintsPart, reads, most_read, HasFault, GaveRefused, GaveBadPattern, GaveRefuted, GaveWrong, CanAnswer};
 
 use crate::answer::answer;
+use crate::audits::of_audit;
 use crate::patterns::of_patterns;
 use crate::printed::Printed;
 use crate::status::Status;
 use crate::words::{Wanted, read_words};
+use ev_audited::AuditKind;
 use ev_input::Fault;
 use ev_model::Entry;
 use ev_outside::{Sink, Source, Word};
@@ -63,7 +65,7 @@ impl Outcome {
     }
 }
 
-// Does what is wanted, which is none of patterns.
+// Does what is wanted, which is none of patterns and no audit.
 fn answered<S: Source, K: Sink>(
     alloc: Global,
     wanted: Wanted,
@@ -86,6 +88,8 @@ fn answered<S: Source, K: Sink>(
         → HasFault (Some wanted) (S.given source.old) (S.given source.new) (S.ended source.new) line kind }
     ensures bad_pattern { (line : ℕ) (kind : PatternKind) → result.status ≡ Status.BadPattern line kind
         → GaveBadPattern (Some wanted) (S.given source.old) (S.given source.new) (S.ended source.new) line kind }
+    ensures refuted { (line : ℕ) (kind : AuditKind) → result.status ≡ Status.Refuted line kind
+        → GaveRefuted (Some wanted) (S.given source.old) (S.given source.new) (S.ended source.new) line kind }
     ensures read_fault { result.status ≡ Status.ReadFault → Rose (S.faults source.old) (S.faults source.new) }
     ensures write_fault { result.status ≡ Status.WriteFault → Rose (K.faults sink.old) (K.faults sink.new) }
     ensures part { result.status ≡ Status.WriteFault
@@ -95,6 +99,9 @@ fn answered<S: Source, K: Sink>(
     ensures refused_pattern { (line : ℕ) (kind : PatternKind)
         → GaveBadPattern (Some wanted) (S.given source.old) (S.given source.new) (S.ended source.new) line kind
         → (result.status ≡ Status.BadPattern line kind) ⊎ (result.status ≡ Status.NoMemory) }
+    ensures wrong { (line : ℕ) (kind : AuditKind)
+        → GaveWrong (Some wanted) (S.given source.old) (S.given source.new) (S.ended source.new) line kind
+        → (result.status ≡ Status.Refuted line kind) ⊎ (result.status ≡ Status.NoMemory) }
     ensures complete { CanAnswer (Some wanted) (S.given source.old) (S.given source.new) (S.ended source.new)
         → (Rose (K.faults sink.old) (K.faults sink.new) → ⊥)
         → (result.status ≡ Status.Done) ⊎ (result.status ≡ Status.NoMemory) }
@@ -122,6 +129,8 @@ fn search<S: Source, K: Sink>(alloc: Global, source: &mut S, sink: &mut K) -> Ou
         → HasFault (Some Wanted.Patterns) (S.given source.old) (S.given source.new) (S.ended source.new) line kind }
     ensures bad_pattern { (line : ℕ) (kind : PatternKind) → result.status ≡ Status.BadPattern line kind
         → GaveBadPattern (Some Wanted.Patterns) (S.given source.old) (S.given source.new) (S.ended source.new) line kind }
+    ensures refuted { (line : ℕ) (kind : AuditKind) → result.status ≡ Status.Refuted line kind
+        → GaveRefuted (Some Wanted.Patterns) (S.given source.old) (S.given source.new) (S.ended source.new) line kind }
     ensures read_fault { result.status ≡ Status.ReadFault → Rose (S.faults source.old) (S.faults source.new) }
     ensures write_fault { result.status ≡ Status.WriteFault → Rose (K.faults sink.old) (K.faults sink.new) }
     ensures part { result.status ≡ Status.WriteFault
@@ -131,11 +140,55 @@ fn search<S: Source, K: Sink>(alloc: Global, source: &mut S, sink: &mut K) -> Ou
     ensures refused_pattern { (line : ℕ) (kind : PatternKind)
         → GaveBadPattern (Some Wanted.Patterns) (S.given source.old) (S.given source.new) (S.ended source.new) line kind
         → (result.status ≡ Status.BadPattern line kind) ⊎ (result.status ≡ Status.NoMemory) }
+    ensures wrong { (line : ℕ) (kind : AuditKind)
+        → GaveWrong (Some Wanted.Patterns) (S.given source.old) (S.given source.new) (S.ended source.new) line kind
+        → (result.status ≡ Status.Refuted line kind) ⊎ (result.status ≡ Status.NoMemory) }
     ensures complete { CanAnswer (Some Wanted.Patterns) (S.given source.old) (S.given source.new) (S.ended source.new)
         → (Rose (K.faults sink.old) (K.faults sink.new) → ⊥)
         → (result.status ≡ Status.Done) ⊎ (result.status ≡ Status.NoMemory) }
 {
     match of_patterns(alloc, source) {
+        Ok(printed) => Outcome::written(alloc, printed, sink),
+        Err(why) => Outcome::ended(alloc, why.status()),
+    }
+}
+
+// Audits an output.
+fn confirm<S: Source, K: Sink>(alloc: Global, source: &mut S, sink: &mut K) -> Outcome
+    ensures printed { result.status ≡ Status.Done
+        → Prints (Some Wanted.Audit) (S.given source.old) (S.given source.new) (S.ended source.new)
+        result.journal.items (K.taken sink.old) (K.taken sink.new) }
+    ensures sure { result.status ≡ Status.Done → (S.faults source.new ≡ S.faults source.old) × (K.faults sink.new ≡ K.faults sink.old) }
+    ensures at_most { Gave (S.given source.old) (S.given source.new) (λ given. length given ≤ 268435457) }
+    ensures told { (given : List ℕ) → S.given source.new ≡ S.given source.old ++ given
+        → Consumes (S.left source.old) (S.left source.new) given }
+    ensures end { S.ended source.new ≡ true → IsAtEnd (S.left source.new) }
+    ensures unwritten { result.status ≢ Status.Done → result.status ≢ Status.WriteFault → sink.new ≡ sink.old }
+    ensures journal { result.status ≢ Status.Done → result.journal.items ≡ [] }
+    ensures usage { result.status ≢ Status.Usage }
+    ensures bad_input { (line : ℕ) (kind : Fault) → result.status ≡ Status.BadInput line kind
+        → HasFault (Some Wanted.Audit) (S.given source.old) (S.given source.new) (S.ended source.new) line kind }
+    ensures bad_pattern { (line : ℕ) (kind : PatternKind) → result.status ≡ Status.BadPattern line kind
+        → GaveBadPattern (Some Wanted.Audit) (S.given source.old) (S.given source.new) (S.ended source.new) line kind }
+    ensures refuted { (line : ℕ) (kind : AuditKind) → result.status ≡ Status.Refuted line kind
+        → GaveRefuted (Some Wanted.Audit) (S.given source.old) (S.given source.new) (S.ended source.new) line kind }
+    ensures read_fault { result.status ≡ Status.ReadFault → Rose (S.faults source.old) (S.faults source.new) }
+    ensures write_fault { result.status ≡ Status.WriteFault → Rose (K.faults sink.old) (K.faults sink.new) }
+    ensures part { result.status ≡ Status.WriteFault
+        → PrintsPart (Some Wanted.Audit) (S.given source.old) (S.given source.new) (S.ended source.new) (K.taken sink.old) (K.taken sink.new) }
+    ensures refused { (line : ℕ) (kind : Fault) → GaveRefused (Some Wanted.Audit) (S.given source.old) (S.given source.new) (S.ended source.new) line kind
+        → (result.status ≡ Status.BadInput line kind) ⊎ (result.status ≡ Status.NoMemory) }
+    ensures refused_pattern { (line : ℕ) (kind : PatternKind)
+        → GaveBadPattern (Some Wanted.Audit) (S.given source.old) (S.given source.new) (S.ended source.new) line kind
+        → (result.status ≡ Status.BadPattern line kind) ⊎ (result.status ≡ Status.NoMemory) }
+    ensures wrong { (line : ℕ) (kind : AuditKind)
+        → GaveWrong (Some Wanted.Audit) (S.given source.old) (S.given source.new) (S.ended source.new) line kind
+        → (result.status ≡ Status.Refuted line kind) ⊎ (result.status ≡ Status.NoMemory) }
+    ensures complete { CanAnswer (Some Wanted.Audit) (S.given source.old) (S.given source.new) (S.ended source.new)
+        → (Rose (K.faults sink.old) (K.faults sink.new) → ⊥)
+        → (result.status ≡ Status.Done) ⊎ (result.status ≡ Status.NoMemory) }
+{
+    match of_audit(alloc, source) {
         Ok(printed) => Outcome::written(alloc, printed, sink),
         Err(why) => Outcome::ended(alloc, why.status()),
     }
@@ -153,7 +206,7 @@ fn carry_out<S: Source, K: Sink>(
         → Prints (Some wanted) (S.given source.old) (S.given source.new) (S.ended source.new) result.journal.items (K.taken sink.old) (K.taken sink.new) }
     ensures sure { result.status ≡ Status.Done → (S.faults source.new ≡ S.faults source.old) × (K.faults sink.new ≡ K.faults sink.old) }
     ensures unread { reads (Some wanted) ≡ false → source.new ≡ source.old }
-    ensures at_most { reads (Some wanted) ≡ true → Gave (S.given source.old) (S.given source.new) (λ given. length given ≤ 4194305) }
+    ensures at_most { reads (Some wanted) ≡ true → Gave (S.given source.old) (S.given source.new) (λ given. length given ≤ most_read (Some wanted)) }
     ensures told { reads (Some wanted) ≡ true → (given : List ℕ) → S.given source.new ≡ S.given source.old ++ given
         → Consumes (S.left source.old) (S.left source.new) given }
     ensures end { reads (Some wanted) ≡ true → S.ended source.new ≡ true → IsAtEnd (S.left source.new) }
@@ -164,6 +217,8 @@ fn carry_out<S: Source, K: Sink>(
         → HasFault (Some wanted) (S.given source.old) (S.given source.new) (S.ended source.new) line kind }
     ensures bad_pattern { (line : ℕ) (kind : PatternKind) → result.status ≡ Status.BadPattern line kind
         → GaveBadPattern (Some wanted) (S.given source.old) (S.given source.new) (S.ended source.new) line kind }
+    ensures refuted { (line : ℕ) (kind : AuditKind) → result.status ≡ Status.Refuted line kind
+        → GaveRefuted (Some wanted) (S.given source.old) (S.given source.new) (S.ended source.new) line kind }
     ensures read_fault { result.status ≡ Status.ReadFault → Rose (S.faults source.old) (S.faults source.new) }
     ensures write_fault { result.status ≡ Status.WriteFault → Rose (K.faults sink.old) (K.faults sink.new) }
     ensures part { result.status ≡ Status.WriteFault
@@ -173,12 +228,16 @@ fn carry_out<S: Source, K: Sink>(
     ensures refused_pattern { (line : ℕ) (kind : PatternKind)
         → GaveBadPattern (Some wanted) (S.given source.old) (S.given source.new) (S.ended source.new) line kind
         → (result.status ≡ Status.BadPattern line kind) ⊎ (result.status ≡ Status.NoMemory) }
+    ensures wrong { (line : ℕ) (kind : AuditKind)
+        → GaveWrong (Some wanted) (S.given source.old) (S.given source.new) (S.ended source.new) line kind
+        → (result.status ≡ Status.Refuted line kind) ⊎ (result.status ≡ Status.NoMemory) }
     ensures complete { CanAnswer (Some wanted) (S.given source.old) (S.given source.new) (S.ended source.new)
         → (Rose (K.faults sink.old) (K.faults sink.new) → ⊥)
         → (result.status ≡ Status.Done) ⊎ (result.status ≡ Status.NoMemory) }
 {
     match wanted {
         Wanted::Patterns => search(alloc, source, sink),
+        Wanted::Audit => confirm(alloc, source, sink),
         Wanted::Document(query) => answered(alloc, Wanted::Document(query), source, sink),
         Wanted::Generate { seed, summary } => answered(
             alloc,
@@ -195,7 +254,8 @@ fn carry_out<S: Source, K: Sink>(
 ///
 /// `walk` and `replay` print what each client receives in a run of the network, `flood` what flooding owes and allows it,
 /// `check` how much the document has, `format` its canonical text, and `gen` the document of a seed, or the summary of its walk. `patterns` prints where
-/// the patterns behind a document occur in what the clients receive in its walk.
+/// the patterns behind a document occur in what the clients receive in its walk. `audit` prints how much a run has whose output
+/// stands behind a document, with its trace, where that is the output of a whole run.
 pub fn quiet<S: Source, K: Sink>(
     alloc: Global,
     words: &[Word],
@@ -208,7 +268,7 @@ pub fn quiet<S: Source, K: Sink>(
         result.journal.items (K.taken sink.old) (K.taken sink.new) }
     ensures sure { result.status ≡ Status.Done → (S.faults source.new ≡ S.faults source.old) × (K.faults sink.new ≡ K.faults sink.old) }
     ensures unread { reads (wanted_by words.now) ≡ false → source.new ≡ source.old }
-    ensures at_most { reads (wanted_by words.now) ≡ true → Gave (S.given source.old) (S.given source.new) (λ given. length given ≤ 4194305) }
+    ensures at_most { reads (wanted_by words.now) ≡ true → Gave (S.given source.old) (S.given source.new) (λ given. length given ≤ most_read (wanted_by words.now)) }
     ensures told { reads (wanted_by words.now) ≡ true → (given : List ℕ) → S.given source.new ≡ S.given source.old ++ given
         → Consumes (S.left source.old) (S.left source.new) given }
     ensures end { reads (wanted_by words.now) ≡ true → S.ended source.new ≡ true → IsAtEnd (S.left source.new) }
@@ -219,6 +279,8 @@ pub fn quiet<S: Source, K: Sink>(
         → HasFault (wanted_by words.now) (S.given source.old) (S.given source.new) (S.ended source.new) line kind }
     ensures bad_pattern { (line : ℕ) (kind : PatternKind) → result.status ≡ Status.BadPattern line kind
         → GaveBadPattern (wanted_by words.now) (S.given source.old) (S.given source.new) (S.ended source.new) line kind }
+    ensures refuted { (line : ℕ) (kind : AuditKind) → result.status ≡ Status.Refuted line kind
+        → GaveRefuted (wanted_by words.now) (S.given source.old) (S.given source.new) (S.ended source.new) line kind }
     ensures read_fault { result.status ≡ Status.ReadFault → Rose (S.faults source.old) (S.faults source.new) }
     ensures write_fault { result.status ≡ Status.WriteFault → Rose (K.faults sink.old) (K.faults sink.new) }
     ensures part { result.status ≡ Status.WriteFault
@@ -228,6 +290,9 @@ pub fn quiet<S: Source, K: Sink>(
     ensures refused_pattern { (line : ℕ) (kind : PatternKind)
         → GaveBadPattern (wanted_by words.now) (S.given source.old) (S.given source.new) (S.ended source.new) line kind
         → (result.status ≡ Status.BadPattern line kind) ⊎ (result.status ≡ Status.NoMemory) }
+    ensures wrong { (line : ℕ) (kind : AuditKind)
+        → GaveWrong (wanted_by words.now) (S.given source.old) (S.given source.new) (S.ended source.new) line kind
+        → (result.status ≡ Status.Refuted line kind) ⊎ (result.status ≡ Status.NoMemory) }
     ensures complete { CanAnswer (wanted_by words.now) (S.given source.old) (S.given source.new) (S.ended source.new)
         → (Rose (K.faults sink.old) (K.faults sink.new) → ⊥)
         → (result.status ≡ Status.Done) ⊎ (result.status ≡ Status.NoMemory) }

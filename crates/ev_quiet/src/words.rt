@@ -1,7 +1,7 @@
 //! What the words of the command line ask for.
 ghost use Rattle.std.specs.Prelude.{◌≡◌, ◌↔◌, IsTrue};
 ghost use Rattle.std.specs.Str.{bytes_eq};
-ghost use Rattle.ev_quiet.specs.Words.{AreNoneOfRun, alone, asked, generate_by, is_summary, joined_seed, options, parted_seed, patterns_by};
+ghost use Rattle.ev_quiet.specs.Words.{AreNoneOfRun, alone, asked, audit_by, generate_by, is_summary, joined_seed, options, parted_seed, patterns_by};
 ghost use Rattle.ev_quiet.specs.Words.{plain, run_by, wanted_by, with_option};
 
 use crate::seed::seed;
@@ -54,6 +54,8 @@ pub enum Wanted {
     },
     /// Where the patterns behind the document that the source gives occur in what its walk brings.
     Patterns,
+    /// Whether the output behind the document that the source gives is that of a whole run.
+    Audit,
 }
 
 // Whether it is this word.
@@ -184,6 +186,17 @@ fn patterns(words: &[Word]) -> Option<Wanted>
     }
 }
 
+// An audit, which takes no further words.
+fn audit(words: &[Word]) -> Option<Wanted>
+    ensures { result ≡ audit_by words.now }
+{
+    if words.is_empty() {
+        Some(Wanted::Audit)
+    } else {
+        None
+    }
+}
+
 /// What the words ask for, where they ask for something.
 pub fn read_words(words: &[Word]) -> Option<Wanted>
     ensures { result ≡ wanted_by words.now }
@@ -207,6 +220,8 @@ pub fn read_words(words: &[Word]) -> Option<Wanted>
         generate(rest)
     } else if is_word(word, b"patterns") {
         patterns(rest)
+    } else if is_word(word, b"audit") {
+        audit(rest)
     } else {
         None
     }

@@ -2,6 +2,7 @@
 //! and wrote is as wanted.
 #![tactic(auto)]
 
+mod audits;
 mod devices;
 mod failure;
 mod faults;
@@ -24,6 +25,8 @@ fn main(rt: HostRuntime) -> Result<(), Failure> {
     tried::print_rows(&rt, alloc, &replays::FLOODS)?;
     tried::print_rows(&rt, alloc, &faults::FAULTS)?;
     tried::print_rows(&rt, alloc, &patterns::PATTERNS)?;
+    tried::print_rows(&rt, alloc, &audits::AUDITS)?;
+    audits::print_changed(&rt, alloc)?;
     tried::print_rows(&rt, alloc, &formats::FORMATS)?;
     tried::print_rows(&rt, alloc, &usage::USAGE)?;
     devices::print_devices(&rt, alloc)?;

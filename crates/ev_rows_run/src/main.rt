@@ -1,7 +1,6 @@
 //! Runs documents with two workers a server, free and held at gates, and prints of each whether what it wrote is as wanted.
 #![tactic(auto)]
 
-mod audit;
 mod documents;
 mod failure;
 mod generated;

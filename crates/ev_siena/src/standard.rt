@@ -2,9 +2,10 @@
 ghost use Rattle.std.specs.Prelude.{◌≡◌, ◌≢◌, ◌≤◌, ◌<◌, ◌⊎◌, ◌↔◌, ℕ, [], true, false, None, length};
 ghost use Rattle.std.specs.Io.KnownBytes.{Consumes, IsAtEnd};
 ghost use Rattle.ev_quiet.specs.Words.{wanted_by};
-ghost use Rattle.ev_quiet.specs.Answers.{Prints, PrintsPart, reads, HasFault, GaveRefused, GaveBadPattern, CanAnswer};
+ghost use Rattle.ev_quiet.specs.Answers.{Prints, PrintsPart, reads, most_read, HasFault, GaveRefused, GaveBadPattern, GaveRefuted, GaveWrong, CanAnswer};
 
 use crate::top::siena;
+use ev_audited::AuditKind;
 use ev_input::Fault;
 use ev_outside::{Gate, StdSink, StdSource, Word};
 use ev_quiet::{Over, Status};
@@ -29,7 +30,7 @@ pub fn with_devices<E: Threads + Wait + Sync, R: Read, W: Write, G: Gate + Sync>
         result.outcome.journal.items [] result.sink.taken.bytes }
     ensures sure { result.outcome.status ≡ Status.Done → (result.source.faults ≡ 0) × (result.sink.faults ≡ 0) }
     ensures unread { reads (wanted_by words.now) ≡ false → result.source.given.bytes ≡ [] }
-    ensures at_most { length result.source.given.bytes ≤ 4194305 }
+    ensures at_most { length result.source.given.bytes ≤ most_read (wanted_by words.now) }
     ensures told { reads (wanted_by words.now) ≡ true
         → Consumes (R.remaining input) (R.remaining result.source.input) result.source.given.bytes }
     ensures end { reads (wanted_by words.now) ≡ true → result.source.ended ≡ true → IsAtEnd (R.remaining result.source.input) }
@@ -40,6 +41,8 @@ pub fn with_devices<E: Threads + Wait + Sync, R: Read, W: Write, G: Gate + Sync>
         → HasFault (wanted_by words.now) [] result.source.given.bytes result.source.ended line kind }
     ensures bad_pattern { (line : ℕ) (kind : PatternKind) → result.outcome.status ≡ Status.BadPattern line kind
         → GaveBadPattern (wanted_by words.now) [] result.source.given.bytes result.source.ended line kind }
+    ensures refuted { (line : ℕ) (kind : AuditKind) → result.outcome.status ≡ Status.Refuted line kind
+        → GaveRefuted (wanted_by words.now) [] result.source.given.bytes result.source.ended line kind }
     ensures read_fault { result.outcome.status ≡ Status.ReadFault → 0 < result.source.faults }
     ensures write_fault { result.outcome.status ≡ Status.WriteFault → 0 < result.sink.faults }
     ensures part { result.outcome.status ≡ Status.WriteFault
@@ -50,6 +53,9 @@ pub fn with_devices<E: Threads + Wait + Sync, R: Read, W: Write, G: Gate + Sync>
     ensures refused_pattern { (line : ℕ) (kind : PatternKind)
         → GaveBadPattern (wanted_by words.now) [] result.source.given.bytes result.source.ended line kind
         → (result.outcome.status ≡ Status.BadPattern line kind) ⊎ (result.outcome.status ≡ Status.NoMemory) }
+    ensures wrong { (line : ℕ) (kind : AuditKind)
+        → GaveWrong (wanted_by words.now) [] result.source.given.bytes result.source.ended line kind
+        → (result.outcome.status ≡ Status.Refuted line kind) ⊎ (result.outcome.status ≡ Status.NoMemory) }
     ensures complete { CanAnswer (wanted_by words.now) [] result.source.given.bytes result.source.ended → result.sink.faults ≡ 0
         → (result.outcome.status ≡ Status.Done) ⊎ (result.outcome.status ≡ Status.NoMemory) }
 {

@@ -4,10 +4,11 @@ ghost use Rattle.std.specs.Io.KnownBytes.{Consumes, IsAtEnd};
 ghost use Rattle.ev_outside.specs.Cause.{Rose};
 ghost use Rattle.ev_outside.specs.Whole.{Gave};
 ghost use Rattle.ev_quiet.specs.Words.{wanted_by, AreNoneOfRun};
-ghost use Rattle.ev_quiet.specs.Answers.{Prints, PrintsPart, reads, HasFault, GaveRefused, GaveBadPattern, CanAnswer};
+ghost use Rattle.ev_quiet.specs.Answers.{Prints, PrintsPart, reads, most_read, HasFault, GaveRefused, GaveBadPattern, GaveRefuted, GaveWrong, CanAnswer};
 ghost use Rattle.ev_siena.specs.Wishes.{with_threads};
 
 use crate::threaded::of_source;
+use ev_audited::AuditKind;
 use ev_input::Fault;
 use ev_outside::{Gate, Sink, Source, Word};
 use ev_quiet::{Outcome, Query, Schedule, Shown, Status, Wanted, quiet, read_words};
@@ -51,6 +52,8 @@ fn run<R: Threads + Wait + Sync, S: Source, K: Sink, G: Gate + Sync>(
         → HasFault (Some (with_threads shown)) (S.given source.old) (S.given source.new) (S.ended source.new) line kind }
     ensures bad_pattern { (line : ℕ) (kind : PatternKind) → result.status ≡ Status.BadPattern line kind
         → GaveBadPattern (Some (with_threads shown)) (S.given source.old) (S.given source.new) (S.ended source.new) line kind }
+    ensures refuted { (line : ℕ) (kind : AuditKind) → result.status ≡ Status.Refuted line kind
+        → GaveRefuted (Some (with_threads shown)) (S.given source.old) (S.given source.new) (S.ended source.new) line kind }
     ensures read_fault { result.status ≡ Status.ReadFault → Rose (S.faults source.old) (S.faults source.new) }
     ensures write_fault { result.status ≡ Status.WriteFault → Rose (K.faults sink.old) (K.faults sink.new) }
     ensures part { result.status ≡ Status.WriteFault
@@ -61,6 +64,9 @@ fn run<R: Threads + Wait + Sync, S: Source, K: Sink, G: Gate + Sync>(
     ensures refused_pattern { (line : ℕ) (kind : PatternKind)
         → GaveBadPattern (Some (with_threads shown)) (S.given source.old) (S.given source.new) (S.ended source.new) line kind
         → (result.status ≡ Status.BadPattern line kind) ⊎ (result.status ≡ Status.NoMemory) }
+    ensures wrong { (line : ℕ) (kind : AuditKind)
+        → GaveWrong (Some (with_threads shown)) (S.given source.old) (S.given source.new) (S.ended source.new) line kind
+        → (result.status ≡ Status.Refuted line kind) ⊎ (result.status ≡ Status.NoMemory) }
     ensures complete { CanAnswer (Some (with_threads shown)) (S.given source.old) (S.given source.new) (S.ended source.new)
         → (Rose (K.faults sink.old) (K.faults sink.new) → ⊥)
         → (result.status ≡ Status.Done) ⊎ (result.status ≡ Status.NoMemory) }
@@ -91,7 +97,7 @@ pub fn siena<R: Threads + Wait + Sync, S: Source, K: Sink, G: Gate + Sync>(
         result.journal.items (K.taken sink.old) (K.taken sink.new) }
     ensures sure { result.status ≡ Status.Done → (S.faults source.new ≡ S.faults source.old) × (K.faults sink.new ≡ K.faults sink.old) }
     ensures unread { reads (wanted_by words.now) ≡ false → source.new ≡ source.old }
-    ensures at_most { reads (wanted_by words.now) ≡ true → Gave (S.given source.old) (S.given source.new) (λ given. length given ≤ 4194305) }
+    ensures at_most { reads (wanted_by words.now) ≡ true → Gave (S.given source.old) (S.given source.new) (λ given. length given ≤ most_read (wanted_by words.now)) }
     ensures told { reads (wanted_by words.now) ≡ true → (given : List ℕ) → S.given source.new ≡ S.given source.old ++ given
         → Consumes (S.left source.old) (S.left source.new) given }
     ensures end { reads (wanted_by words.now) ≡ true → S.ended source.new ≡ true → IsAtEnd (S.left source.new) }
@@ -102,6 +108,8 @@ pub fn siena<R: Threads + Wait + Sync, S: Source, K: Sink, G: Gate + Sync>(
         → HasFault (wanted_by words.now) (S.given source.old) (S.given source.new) (S.ended source.new) line kind }
     ensures bad_pattern { (line : ℕ) (kind : PatternKind) → result.status ≡ Status.BadPattern line kind
         → GaveBadPattern (wanted_by words.now) (S.given source.old) (S.given source.new) (S.ended source.new) line kind }
+    ensures refuted { (line : ℕ) (kind : AuditKind) → result.status ≡ Status.Refuted line kind
+        → GaveRefuted (wanted_by words.now) (S.given source.old) (S.given source.new) (S.ended source.new) line kind }
     ensures read_fault { result.status ≡ Status.ReadFault → Rose (S.faults source.old) (S.faults source.new) }
     ensures write_fault { result.status ≡ Status.WriteFault → Rose (K.faults sink.old) (K.faults sink.new) }
     ensures part { result.status ≡ Status.WriteFault
@@ -111,6 +119,9 @@ pub fn siena<R: Threads + Wait + Sync, S: Source, K: Sink, G: Gate + Sync>(
     ensures refused_pattern { (line : ℕ) (kind : PatternKind)
         → GaveBadPattern (wanted_by words.now) (S.given source.old) (S.given source.new) (S.ended source.new) line kind
         → (result.status ≡ Status.BadPattern line kind) ⊎ (result.status ≡ Status.NoMemory) }
+    ensures wrong { (line : ℕ) (kind : AuditKind)
+        → GaveWrong (wanted_by words.now) (S.given source.old) (S.given source.new) (S.ended source.new) line kind
+        → (result.status ≡ Status.Refuted line kind) ⊎ (result.status ≡ Status.NoMemory) }
     ensures complete { CanAnswer (wanted_by words.now) (S.given source.old) (S.given source.new) (S.ended source.new)
         → (Rose (K.faults sink.old) (K.faults sink.new) → ⊥)
         → (result.status ≡ Status.Done) ⊎ (result.status ≡ Status.NoMemory) }

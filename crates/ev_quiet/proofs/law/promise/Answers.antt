@@ -46,14 +46,13 @@ returns-clause-clients c = λ shown input net journal of whole.
           (λ flooding. c.flood_as_delivered.ensures.whole net whole.sound flood.rows flood.refused flooding owed run refl whole.drained);
     }
 
-pub returns-clause-network : goal.returns-clause-network
-returns-clause-network c = λ schedule shown net journal whole goes.
+pub returns-clause-run : goal.returns-clause-run
+returns-clause-run c = λ shown net journal whole.
     let laws = c.sound_net.ensures.laws net whole.sound in
     let run = run_of net laws journal whole.legal in record {
       laws = laws;
       legal = whole.legal;
       drained = whole.drained;
-      goes_by = goes;
       gives = refl;
       traced = refl;
       carries_wanted = c.pruning.ensures run;
@@ -63,3 +62,6 @@ returns-clause-network c = λ schedule shown net journal whole goes.
       in_force = c.in_force.ensures run;
       bounded = c.bounded.ensures run;
     }
+
+pub returns-clause-network : goal.returns-clause-network
+returns-clause-network c = λ schedule shown net journal whole goes. record { goes_by = goes; run = returns-clause-run c shown net journal whole }

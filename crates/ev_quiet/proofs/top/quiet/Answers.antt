@@ -1,6 +1,7 @@
-use Rattle.std.proofs.Common.{◌≡◌, true, false, Option, Some, None, sym, ap, ◌∙◌, subst}
+use Rattle.std.proofs.Common.{◌≡◌, ◌≤◌, length, true, false, Option, Some, None, sym, ap, ◌∙◌, subst}
+use Rattle.ev_outside.specs.Whole.{Gave}
 use Rattle.ev_quiet.specs.declared.words.Wanted.{Wanted}
-use Rattle.ev_quiet.specs.Answers.{Prints, PrintsPart, reads, HasFault, GaveRefused, CanAnswer}
+use Rattle.ev_quiet.specs.Answers.{Prints, PrintsPart, reads, most_read, HasFault, GaveRefused, CanAnswer}
 use Rattle.ev_quiet.proofs.top.quiet.Goals as goal
 
 none-some : (w : Wanted) → ◌≡◌ {A = Option Wanted} (Some w) None → ⊥
@@ -15,7 +16,9 @@ pub returns-in-Some-clause-unread : goal.returns-in-Some-clause-unread
 returns-in-Some-clause-unread g c = λ e. c.carry_out.ensures.unread (sym (ap reads (sym c.read_words.ensures ∙ c.in-Some.is)) ∙ e)
 
 pub returns-in-Some-clause-at_most : goal.returns-in-Some-clause-at_most
-returns-in-Some-clause-at_most g c = λ e. c.carry_out.ensures.at_most (sym (ap reads (sym c.read_words.ensures ∙ c.in-Some.is)) ∙ e)
+returns-in-Some-clause-at_most g c = λ e.
+    subst (λ (w : Option Wanted). Gave (g.S.Source.given c.args.source.now) (g.S.Source.given c.carry_out.new.source) (λ given. length given ≤ most_read w)) (sym (sym c.read_words.ensures ∙ c.in-Some.is))
+    (c.carry_out.ensures.at_most (sym (ap reads (sym c.read_words.ensures ∙ c.in-Some.is)) ∙ e))
 
 pub returns-in-Some-clause-told : goal.returns-in-Some-clause-told
 returns-in-Some-clause-told g c = λ e. c.carry_out.ensures.told (sym (ap reads (sym c.read_words.ensures ∙ c.in-Some.is)) ∙ e)

@@ -1,6 +1,7 @@
-use Rattle.std.proofs.Common.{◌≡◌, true, false, Option, Some, None, sym, ap, ◌∙◌, subst}
+use Rattle.std.proofs.Common.{◌≡◌, ◌≤◌, length, true, false, Option, Some, None, sym, ap, ◌∙◌, subst}
+use Rattle.ev_outside.specs.Whole.{Gave}
 use Rattle.ev_quiet.specs.declared.words.Wanted.{Wanted}
-use Rattle.ev_quiet.specs.Answers.{Prints, PrintsPart, reads, HasFault, GaveRefused, GaveBadPattern, CanAnswer}
+use Rattle.ev_quiet.specs.Answers.{Prints, PrintsPart, reads, most_read, HasFault, GaveRefused, GaveBadPattern, GaveRefuted, GaveWrong, CanAnswer}
 use Rattle.ev_siena.proofs.top.siena.Goals as goal
 
 none-some : (w : Wanted) → ◌≡◌ {A = Option Wanted} (Some w) None → ⊥
@@ -15,7 +16,9 @@ pub returns-in-Some-clause-unread : goal.returns-in-Some-clause-unread
 returns-in-Some-clause-unread g c = λ e. (let h : true ≡ false = sym (ap reads (c.threads_by.ensures.some c.in-Some.shown c.in-Some.is)) ∙ e in absurd cc)
 
 pub returns-in-Some-clause-at_most : goal.returns-in-Some-clause-at_most
-returns-in-Some-clause-at_most g c = λ e. c.run.ensures.at_most
+returns-in-Some-clause-at_most g c = λ e.
+    subst (λ (w : Option Wanted). Gave (g.S.Source.given c.args.source.now) (g.S.Source.given c.run.new.source) (λ given. length given ≤ most_read w)) (sym (c.threads_by.ensures.some c.in-Some.shown c.in-Some.is))
+    c.run.ensures.at_most
 
 pub returns-in-Some-clause-told : goal.returns-in-Some-clause-told
 returns-in-Some-clause-told g c = λ e. c.run.ensures.told
@@ -54,3 +57,13 @@ pub returns-in-Some-clause-refused_pattern : goal.returns-in-Some-clause-refused
 returns-in-Some-clause-refused_pattern g c = λ line kind t.
     c.run.ensures.refused_pattern line kind
     (subst (λ (w : Option Wanted). GaveBadPattern w (g.S.Source.given c.args.source.now) (g.S.Source.given c.run.new.source) (g.S.Source.ended c.run.new.source) line kind) (c.threads_by.ensures.some c.in-Some.shown c.in-Some.is) t)
+
+pub returns-in-Some-clause-refuted : goal.returns-in-Some-clause-refuted
+returns-in-Some-clause-refuted g c = λ line kind e.
+    subst (λ (w : Option Wanted). GaveRefuted w (g.S.Source.given c.args.source.now) (g.S.Source.given c.run.new.source) (g.S.Source.ended c.run.new.source) line kind) (sym (c.threads_by.ensures.some c.in-Some.shown c.in-Some.is))
+    (c.run.ensures.refuted line kind e)
+
+pub returns-in-Some-clause-wrong : goal.returns-in-Some-clause-wrong
+returns-in-Some-clause-wrong g c = λ line kind t.
+    c.run.ensures.wrong line kind
+    (subst (λ (w : Option Wanted). GaveWrong w (g.S.Source.given c.args.source.now) (g.S.Source.given c.run.new.source) (g.S.Source.ended c.run.new.source) line kind) (c.threads_by.ensures.some c.in-Some.shown c.in-Some.is) t)

@@ -1,0 +1,21 @@
+use Rattle.ev_audited.specs.declared.auditing.Audited.{Audited}
+use Rattle.ev_audited.proofs.Verdicts.{audited_told, document_told, done_told, must_told, refused_document_told, refuted_told}
+use Rattle.ev_audited.proofs.auditing.audit.Goals as goal
+
+pub returns-clause-audited : goal.returns-clause-audited
+returns-clause-audited c = audited_told (λ (a : Audited). a.net) (λ (a : Audited). a.journal.items) (λ (a : Audited). a.owed) (λ (a : Audited). a.deliveries) c.args.bytes.now c.answered.result c.answered.ensures
+
+pub returns-clause-done : goal.returns-clause-done
+returns-clause-done c = done_told (λ (a : Audited). a.net) (λ (a : Audited). a.journal.items) (λ (a : Audited). a.owed) (λ (a : Audited). a.deliveries) c.args.bytes.now c.answered.result c.answered.ensures
+
+pub returns-clause-document : goal.returns-clause-document
+returns-clause-document c = document_told (λ (a : Audited). a.net) (λ (a : Audited). a.journal.items) (λ (a : Audited). a.owed) (λ (a : Audited). a.deliveries) c.args.bytes.now c.answered.result c.answered.ensures
+
+pub returns-clause-refuted : goal.returns-clause-refuted
+returns-clause-refuted c = refuted_told (λ (a : Audited). a.net) (λ (a : Audited). a.journal.items) (λ (a : Audited). a.owed) (λ (a : Audited). a.deliveries) c.args.bytes.now c.answered.result c.answered.ensures
+
+pub returns-clause-refused_document : goal.returns-clause-refused_document
+returns-clause-refused_document c = refused_document_told (λ (a : Audited). a.net) (λ (a : Audited). a.journal.items) (λ (a : Audited). a.owed) (λ (a : Audited). a.deliveries) c.args.bytes.now c.answered.result c.answered.ensures
+
+pub returns-clause-must : goal.returns-clause-must
+returns-clause-must c = must_told (λ (a : Audited). a.net) (λ (a : Audited). a.journal.items) (λ (a : Audited). a.owed) (λ (a : Audited). a.deliveries) c.args.bytes.now c.answered.result c.answered.ensures

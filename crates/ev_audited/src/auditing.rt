@@ -1,0 +1,214 @@
+//! Audits.
+ghost use Rattle.std.specs.Prelude.{◌≡◌, ◌≤◌, ◌⊎◌, ℕ, length, IfOk, IsOk, IsErrOf, OnOk};
+ghost use Rattle.ev_model.specs.Nets.{of_clients};
+ghost use Rattle.ev_model.specs.Sound.{IsSound};
+ghost use Rattle.ev_net.specs.Network.{IsLegal, received_by};
+ghost use Rattle.ev_input.specs.declared.fault.Fault.{Fault as DocumentFault};
+ghost use Rattle.ev_report.specs.Counts.{total};
+ghost use Rattle.ev_audit.specs.Claim.{IsBadDocument};
+ghost use Rattle.ev_audited.specs.Comparing.{GoesOn};
+ghost use Rattle.ev_audited.specs.Answers.{AnswersAudit, Concludes, TellsAudited, TellsDrained, TellsMade, TellsRun};
+ghost use Rattle.ev_audited.specs.Verdict.{CanAudit, IsAudited, IsRefuted, MustBeRefuted, delivered_in, traced_text};
+ghost use Rattle.ev_audited.specs.declared.fault.AuditKind.{AuditKind as Kind};
+ghost use Rattle.ev_audited.specs.declared.fault.AuditFault.TheVariants.{Document, NoMemory as OutOfMemory, Refuted};
+
+use crate::compared::compare_deliveries;
+use crate::comparing::Comparing;
+use crate::counts::owed;
+use crate::fault::{AuditFault, AuditKind, stopped, unclaimed};
+use crate::place::line_at;
+use crate::traced::compare_trace;
+use ev_audit::{Claim, read_claim};
+use ev_input::law::net_is_sound;
+use ev_memory::NoMemory;
+use ev_model::{Entry, Net, Turn};
+use ev_net::Network;
+use ev_report::total;
+use std::alloc::Global;
+
+/// A run that is what was claimed.
+#[derive(Drop)]
+pub struct Audited {
+    /// The net of its document.
+    pub net: Net,
+    /// Its journal, in the order of the turns.
+    pub journal: Vec<Entry>,
+    /// How many publications flooding owes, over all clients.
+    pub owed: u64,
+    /// How many deliveries there were, over all clients.
+    pub deliveries: u64,
+}
+
+// The network after turns.
+fn replayed<'a>(
+    alloc: Global,
+    net: &'a Net,
+    turns: &[(u32, Turn)],
+) -> Result<Network<'a>, AuditFault>
+    requires { IsSound net.now }
+    ensures { TellsMade (λ network. network) net.now turns.now result }
+{
+    let mut network = Network::start(alloc, net)?;
+    match network.replay(turns) {
+        Ok(()) => Ok(network),
+        Err(fault) => Err(stopped(fault)),
+    }
+}
+
+// The journal of a network, and how many deliveries there were.
+fn left(network: Network<'_>) -> Result<(Vec<Entry>, u64), NoMemory>
+    ensures journal { IfOk result (λ p. p.0.items ≡ network.entry.journal) }
+    ensures deliveries { IfOk result (λ p. p.1 ≡ total (of_clients network.entry.net (received_by network.entry.net network.entry.journal))) }
+{
+    let (journal, received) = network.into_parts()?;
+    Ok((journal, total(&received)?))
+}
+
+// What is left of a network, whose run is compared.
+#[derive(Drop)]
+struct Compared {
+    journal: Vec<Entry>,
+    deliveries: u64,
+    drained: bool,
+}
+
+// Compares the text of the run of a network.
+fn compare(
+    alloc: Global,
+    net: &Net,
+    network: Network<'_>,
+    text: &mut Comparing<'_>,
+) -> Result<Compared, NoMemory>
+    requires sound { IsSound net.now }
+    requires same { network.net ≡ net.now }
+    ensures journal { IfOk result (λ l. l.journal.items ≡ network.entry.journal) }
+    ensures legal { OnOk result (IsLegal net.now network.entry.journal) }
+    ensures deliveries { IfOk result (λ l. l.deliveries ≡ delivered_in net.now network.entry.journal) }
+    ensures drained { IfOk result (λ l. TellsDrained l.drained net.now network.entry.journal) }
+    ensures compared { OnOk result (GoesOn text.old text.new (traced_text net.now network.entry.journal)) }
+{
+    network.journal();
+    compare_deliveries(alloc, text, net, &network)?;
+    let (journal, deliveries) = left(network)?;
+    let drained = compare_trace(alloc, text, net, &journal)?;
+    Ok(Compared {
+        journal,
+        deliveries,
+        drained,
+    })
+}
+
+// Whether the text that was compared, of a run that is drained or not, is what is claimed.
+fn concluded(
+    text: &Comparing<'_>,
+    first: u32,
+    end: u32,
+    output: &[u8],
+    drained: bool,
+) -> Result<(), AuditFault>
+    requires first { first ≤ 268435458 }
+    requires short { length output.now ≤ 268435456 }
+    requires claimed { text.now.claimed ≡ output.now }
+    ensures { Concludes text.now first end output.now drained result }
+{
+    if let Some(place) = text.place() {
+        return Err(AuditFault::Refuted {
+            line: line_at(first, end, output, place),
+            kind: AuditKind::Differs,
+        });
+    }
+    if drained {
+        Ok(())
+    } else {
+        Err(AuditFault::Refuted {
+            line: end,
+            kind: AuditKind::Open,
+        })
+    }
+}
+
+// The journal of the run that turns make, and how many deliveries there were, where the output is its text.
+fn run(
+    alloc: Global,
+    net: &Net,
+    turns: &[(u32, Turn)],
+    first: u32,
+    end: u32,
+    output: &[u8],
+) -> Result<(Vec<Entry>, u64), AuditFault>
+    requires sound { IsSound net.now }
+    requires first { first ≤ 268435458 }
+    requires short { length output.now ≤ 268435456 }
+    ensures { TellsRun (λ p. p.0.items) (λ p. p.1) net.now first end output.now turns.now result }
+{
+    let network = match replayed(alloc, net, turns) {
+        Ok(network) => network,
+        Err(fault) => return Err(fault),
+    };
+    let mut text = Comparing::new(output);
+    let Compared {
+        journal,
+        deliveries,
+        drained,
+    } = compare(alloc, net, network, &mut text)?;
+    match concluded(&text, first, end, output, drained) {
+        Ok(()) => Ok((journal, deliveries)),
+        Err(fault) => Err(fault),
+    }
+}
+
+// The answer to what is claimed.
+fn of_claim(alloc: Global, claim: Claim, output: &[u8]) -> Result<Audited, AuditFault>
+    requires sound { IsSound claim.net }
+    requires first { claim.line ≤ 268435458 }
+    requires short { length output.now ≤ 268435456 }
+    ensures { TellsAudited (λ a. a.net) (λ a. a.journal.items) (λ a. a.owed) (λ a. a.deliveries) claim.net claim.line claim.end output.now claim.turns.items result }
+{
+    let Claim {
+        net,
+        line,
+        end,
+        turns,
+        ..
+    } = claim;
+    let (journal, deliveries) = match run(alloc, &net, &turns, line, end, output) {
+        Ok(left) => left,
+        Err(fault) => return Err(fault),
+    };
+    let owed = owed(alloc, &net)?;
+    Ok(Audited {
+        net,
+        journal,
+        owed,
+        deliveries,
+    })
+}
+
+fn answered(alloc: Global, bytes: &[u8]) -> Result<Audited, AuditFault>
+    requires { length bytes.now ≤ 268435456 }
+    ensures { AnswersAudit (λ a. a.net) (λ a. a.journal.items) (λ a. a.owed) (λ a. a.deliveries) bytes.now result }
+{
+    net_is_sound();
+    let claim = match read_claim(alloc, bytes) {
+        Ok(claim) => claim,
+        Err(fault) => return Err(unclaimed(fault)),
+    };
+    let (_, output) = bytes.split_at(claim.from);
+    of_claim(alloc, claim, output)
+}
+
+/// Audits an input of at most 268,435,456 bytes: a document, a line that is exactly `output`, and the bytes that a run of the document is said to have written,
+/// with its trace and in the order received. It makes the turns that the trace shows itself, and compares the text of that run with the output, piece by
+/// piece: the text is never whole in memory. It takes the time of two walks, and of flooding.
+pub fn audit(alloc: Global, bytes: &[u8]) -> Result<Audited, AuditFault>
+    requires { length bytes.now ≤ 268435456 }
+    ensures audited { IfOk result (λ a. IsAudited bytes.now a.net a.journal.items a.owed a.deliveries) }
+    ensures done { CanAudit bytes.now → IsOk result ⊎ IsErrOf result OutOfMemory }
+    ensures document { (line : ℕ) (kind : DocumentFault) → IsErrOf result (Document line kind) → IsBadDocument bytes.now line kind }
+    ensures refuted { (line : ℕ) (kind : Kind) → IsErrOf result (Refuted line kind) → IsRefuted bytes.now line kind }
+    ensures refused_document { (line : ℕ) (kind : DocumentFault) → IsBadDocument bytes.now line kind
+        → IsErrOf result (Document line kind) ⊎ IsErrOf result OutOfMemory }
+    ensures must { (line : ℕ) (kind : Kind) → MustBeRefuted bytes.now line kind → IsErrOf result (Refuted line kind) ⊎ IsErrOf result OutOfMemory }
+{
+    answered(alloc, bytes)
+}

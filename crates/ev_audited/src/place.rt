@@ -1,0 +1,32 @@
+//! The line of a place.
+ghost use Rattle.std.specs.Prelude.{◌≡◌, ◌≤◌, ◌+◌, length, filter, nat_eq, take};
+ghost use Rattle.ev_audited.specs.Verdict.{line_at};
+
+// How many newlines these bytes have.
+fn newlines(bytes: &[u8]) -> u32
+    requires { length bytes.now ≤ 268435456 }
+    ensures value { result ≡ length (filter (nat_eq 10) bytes.now) }
+    ensures most { result ≤ length bytes.now }
+{
+    let mut count = 0;
+    for byte in bytes {
+        if *byte == b'\n' {
+            count += 1;
+        }
+    }
+    count
+}
+
+/// The number of the line of an output at which a place stands; the first line has this number, and so has the end.
+pub fn line_at(first: u32, end: u32, output: &[u8], place: usize) -> u32
+    requires first { first ≤ 268435458 }
+    requires short { length output.now ≤ 268435456 }
+    requires within { place ≤ length output.now }
+    ensures { result ≡ line_at first end output.now place }
+{
+    if place == output.len() {
+        return end;
+    }
+    let (before, _) = output.split_at(place);
+    first + newlines(before)
+}

@@ -1,0 +1,173 @@
+-- The answer to `audit`, and what it tells of the input.
+use Rattle.std.proofs.Common.{◌≡◌, ◌⊎◌, inl, inr, ℕ, ◌<◌, ◌≤◌, Bool, true, List, [], ◌++◌, length, Result, Ok, Err, refl, sym, ap, ◌∙◌, subst, arith}
+use Rattle.std.specs.Result.{IsOk, IsErrOf}
+use Rattle.ev_outside.specs.Whole.{Gave}
+use Rattle.ev_model.specs.Parts.{NetParts, EntryParts}
+use Rattle.ev_model.specs.Sound.{IsSound}
+use Rattle.ev_input.specs.Net.{IsNetOf}
+use Rattle.ev_input.specs.declared.fault.Fault.{Fault}
+use Rattle.ev_input.specs.declared.fault.Fault.TheVariants.{TooLong}
+use Rattle.ev_audit.specs.Claim.{IsBadDocument}
+use Rattle.ev_audit.proofs.Claiming.{one_bad}
+use Rattle.ev_audited.specs.Verdict.{CanAudit, IsAudited, IsRefuted, MustBeRefuted}
+use Rattle.ev_audited.specs.declared.fault.AuditFault.{AuditFault}
+use Rattle.ev_audited.specs.declared.fault.AuditFault.TheVariants as faults
+use Rattle.ev_audited.specs.declared.fault.AuditKind.{AuditKind}
+use Rattle.ev_audited.proofs.Verdicts.{audited_or_bad, audited_or_must, can_or_bad, can_or_refuted, must_or_bad, refuted_once, refuted_or_bad}
+use Rattle.ev_quiet.specs.declared.audits.Unaudited.{Unaudited}
+use Rattle.ev_quiet.specs.declared.audits.Unaudited.TheVariants as whys
+use Rattle.ev_quiet.specs.declared.refusal.Refusal.{Refusal}
+use Rattle.ev_quiet.specs.declared.refusal.Refusal.TheVariants as refusals
+use Rattle.ev_quiet.specs.declared.status.Status.{Status}
+use Rattle.ev_quiet.specs.declared.status.Status.TheVariants as statuses
+use Rattle.ev_quiet.specs.declared.words.Wanted.TheVariants.{Audit}
+use Rattle.ev_quiet.specs.Printed.{run_text, trace_of}
+use Rattle.ev_quiet.specs.Promise.{ClientPromise, AreOfNotices}
+use Rattle.ev_quiet.specs.Network.{lists_by, RunPromise, IsWholeRun}
+use Rattle.ev_quiet.specs.Audits.{IsAuditOf, IsAuditAtFault, IsAuditRefuted, MustRefute, CanConfirm, audit_text, traced}
+use Rattle.ev_quiet.specs.Answers.{GaveOutput, GaveRefusedFor, GaveRefutedFor, GaveWrongFor, CanAnswerFor, HasFaultFor}
+use Rattle.ev_quiet.specs.Showing.{PrintedParts}
+use Rattle.ev_quiet.specs.Auditing.{AuditsInput, AuditsSource, audit_status, why_not, why_unread}
+use Rattle.ev_quiet.proofs.Sources.{same-given}
+
+-- what is printed of a confirmed run
+pub confirmed-of : (input text : List ℕ) (net : NetParts) (journal : List EntryParts) (owed deliveries : ℕ) → length input ≤ 268435456 → (a : IsAudited input net journal owed deliveries)
+    → IsSound net → AreOfNotices net.clients
+    → (IsWholeRun net journal → ClientPromise traced a.document (run_text traced net journal) net (lists_by net journal) (trace_of true net journal))
+    → (IsWholeRun net journal → RunPromise traced net journal (lists_by net journal) (trace_of true net journal))
+    → text ≡ audit_text (length journal) owed deliveries → IsAuditOf input text journal
+confirmed-of input text net journal owed deliveries few a sound notices clients run printed =
+    let whole : IsWholeRun net journal = record { sound = sound; notices = notices; legal = a.run.legal; drained = a.run.drained } in record {
+      few = few;
+      owed = owed;
+      deliveries = deliveries;
+      net = net;
+      audited = a;
+      clients = subst (λ z. ClientPromise traced a.document z net (lists_by net journal) (trace_of true net journal)) (sym a.run.text) (clients whole);
+      network = run whole;
+      printed = printed;
+    }
+
+-- An input says one thing.
+
+said-refused : (input text : List ℕ) (journal : List EntryParts) (line : ℕ) (kind : Fault) → IsAuditOf input text journal → IsAuditAtFault input line kind → ⊥
+said-refused input text journal line kind p (inl long) = omega (arith, p.few, long.0)
+said-refused input text journal line kind p (inr bad) = audited_or_bad input p.net journal p.owed p.deliveries line kind p.audited bad.1
+
+one-refused : (input : List ℕ) (l line : ℕ) (k kind : Fault) → IsAuditAtFault input l k → IsAuditAtFault input line kind → (l ≡ line) × (k ≡ kind)
+one-refused input l line k kind (inl a) (inl b) = (a.1 ∙ sym b.1, a.2 ∙ sym b.2)
+one-refused input l line k kind (inl a) (inr b) = absurd (omega (arith, a.0, b.0))
+one-refused input l line k kind (inr a) (inl b) = absurd (omega (arith, a.0, b.0))
+one-refused input l line k kind (inr a) (inr b) = one_bad input l line k kind a.1 b.1
+
+refused-refuted : (input : List ℕ) (line n : ℕ) (kind : Fault) (k : AuditKind) → IsAuditAtFault input line kind → IsAuditRefuted input n k → ⊥
+refused-refuted input line n kind k (inl long) bad = omega (arith, long.0, bad.0)
+refused-refuted input line n kind k (inr r) bad = refuted_or_bad input n k line kind bad.1 r.1
+
+refused-wrong : (input : List ℕ) (line n : ℕ) (kind : Fault) (k : AuditKind) → IsAuditAtFault input line kind → MustRefute input n k → ⊥
+refused-wrong input line n kind k (inl long) bad = omega (arith, long.0, bad.0)
+refused-wrong input line n kind k (inr r) bad = must_or_bad input line kind n k r.1 bad.1
+
+has-refused : (input : List ℕ) (line : ℕ) (kind : Fault) → CanConfirm input → IsAuditAtFault input line kind → ⊥
+has-refused input line kind h (inl long) = omega (arith, h.0, long.0)
+has-refused input line kind h (inr bad) = can_or_bad input line kind h.1 bad.1
+
+-- A source gave one input.
+
+module _ (a b : List ℕ) (ended : Bool) where
+  same : (x y : List ℕ) → b ≡ a ++ x → b ≡ a ++ y → x ≡ y
+  same x y p q = same-given a b x y p q
+
+  unread : (x : List ℕ) → GaveOutput a b ended x → (ended ≡ true → ⊥) × Gave a b (λ bytes. length bytes ≤ 268435456) → ⊥
+  unread x (is, inl e) h = h.0 e
+  unread x (is, inr big) h = omega (arith, big, subst (λ (z : List ℕ). length z ≤ 268435456) (same h.1.0 x h.1.1 is) h.1.2)
+
+  pub audit-refused : (r : Result PrintedParts Unaudited) (line : ℕ) (kind : Fault) → AuditsSource a b ended r → GaveRefusedFor Audit a b ended line kind
+      → (r ≡ Err (whys.BadInput line kind)) ⊎ (r ≡ Err whys.NoMemory)
+  audit-refused (Ok p) line kind h t = absurd (said-refused t.0 p.text p.journal line kind (subst (λ z. IsAuditOf z p.text p.journal) (same h.0 t.0 h.1 t.1.0) h.3) t.2)
+  audit-refused (Err (whys.BadInput l k)) line kind h t =
+      let w = one-refused t.0 l line k kind (subst (λ z. IsAuditAtFault z l k) (same h.0 t.0 h.1.0 t.1.0) h.2) t.2 in
+      inl (rw (w.0, w.1) refl)
+  audit-refused (Err (whys.Refuted l k)) line kind h t = absurd (refused-refuted t.0 line l kind k t.2 (subst (λ z. IsAuditRefuted z l k) (same h.0 t.0 h.1.0 t.1.0) h.2))
+  audit-refused (Err whys.ReadFault) line kind h t = absurd (unread t.0 t.1 h)
+  audit-refused (Err whys.NoMemory) line kind h t = inr refl
+
+  pub audit-wrong : (r : Result PrintedParts Unaudited) (line : ℕ) (kind : AuditKind) → AuditsSource a b ended r → GaveWrongFor Audit a b ended line kind
+      → (r ≡ Err (whys.Refuted line kind)) ⊎ (r ≡ Err whys.NoMemory)
+  audit-wrong (Ok p) line kind h t =
+      let is : IsAuditOf t.0 p.text p.journal = subst (λ z. IsAuditOf z p.text p.journal) (same h.0 t.0 h.1 t.1.0) h.3 in
+      absurd (audited_or_must t.0 is.net p.journal is.owed is.deliveries line kind is.audited t.2.1)
+  audit-wrong (Err (whys.BadInput l k)) line kind h t = absurd (refused-wrong t.0 l line k kind (subst (λ z. IsAuditAtFault z l k) (same h.0 t.0 h.1.0 t.1.0) h.2) t.2)
+  audit-wrong (Err (whys.Refuted l k)) line kind h t =
+      let w = refuted_once t.0 l line k kind (subst (λ z. IsAuditRefuted z l k) (same h.0 t.0 h.1.0 t.1.0) h.2).1 t.2.1 in
+      inl (rw (w.0, w.1) refl)
+  audit-wrong (Err whys.ReadFault) line kind h t = absurd (unread t.0 t.1 h)
+  audit-wrong (Err whys.NoMemory) line kind h t = inr refl
+
+  pub audit-done : (r : Result PrintedParts Unaudited) → AuditsSource a b ended r → CanAnswerFor Audit a b ended → IsOk r ⊎ (r ≡ Err whys.NoMemory)
+  audit-done (Ok p) h t = inl refl
+  audit-done (Err (whys.BadInput l k)) h t = absurd (has-refused t.0 l k t.2 (subst (λ z. IsAuditAtFault z l k) (same h.0 t.0 h.1.0 t.1.0) h.2))
+  audit-done (Err (whys.Refuted l k)) h t = absurd (can_or_refuted t.0 l k t.2.1 (subst (λ z. IsAuditRefuted z l k) (same h.0 t.0 h.1.0 t.1.0) h.2).1)
+  audit-done (Err whys.ReadFault) h t = absurd (unread t.0 t.1 h)
+  audit-done (Err whys.NoMemory) h t = inr refl
+
+  pub audit-answer : (input : List ℕ) (r : Result PrintedParts Unaudited) → b ≡ a ++ input → ended ≡ true → AuditsInput input r → AuditsSource a b ended r
+  audit-answer input (Ok p) is e h = (input, is, e, h)
+  audit-answer input (Err (whys.BadInput l k)) is e h = (input, (is, inl e), h)
+  audit-answer input (Err (whys.Refuted l k)) is e h = (input, (is, inl e), h)
+  audit-answer input (Err whys.ReadFault) is e h = absurd h
+  audit-answer input (Err whys.NoMemory) is e h = tt
+
+  pub unread-audit : (e : Refusal)
+      → ((l : ℕ) (k : Fault) → e ≡ refusals.BadInput l k → (l ≡ 0) × (k ≡ TooLong) × Gave a b (λ given. length given ≡ 268435457))
+      → (e ≡ refusals.ReadFault → Gave a b (λ given. length given ≤ 268435456)) → (ended ≡ true → ⊥) → AuditsSource a b ended (Err (why_unread e))
+  unread-audit (refusals.BadInput l k) long within never =
+      let t = long l k refl in
+      let big : 268435456 < length t.2.0 = omega (arith, t.2.2) in
+      (t.2.0, (t.2.1, inr big), inl (big, t.0, t.1))
+  unread-audit refusals.ReadFault long within never = (never, within refl)
+  unread-audit refusals.NoMemory long within never = tt
+
+  pub bad-audit : (why : Unaudited) (line : ℕ) (kind : Fault) → AuditsSource a b ended (Err why) → audit_status why ≡ statuses.BadInput line kind → HasFaultFor Audit a b ended line kind
+  bad-audit (whys.BadInput l k) line kind h e =
+      let x : l ≡ line = cc in
+      let y : k ≡ kind = cc in
+      (h.0, h.1, subst (λ z. IsAuditAtFault h.0 z kind) x (subst (λ z. IsAuditAtFault h.0 l z) y h.2))
+  bad-audit (whys.Refuted l k) line kind h e = absurd cc
+  bad-audit whys.ReadFault line kind h e = absurd cc
+  bad-audit whys.NoMemory line kind h e = absurd cc
+
+  pub refuted-audit : (why : Unaudited) (line : ℕ) (kind : AuditKind) → AuditsSource a b ended (Err why) → audit_status why ≡ statuses.Refuted line kind → GaveRefutedFor Audit a b ended line kind
+  refuted-audit (whys.BadInput l k) line kind h e = absurd cc
+  refuted-audit (whys.Refuted l k) line kind h e =
+      let x : l ≡ line = cc in
+      let y : k ≡ kind = cc in
+      (h.0, h.1, subst (λ z. IsAuditRefuted h.0 z kind) x (subst (λ z. IsAuditRefuted h.0 l z) y h.2))
+  refuted-audit whys.ReadFault line kind h e = absurd cc
+  refuted-audit whys.NoMemory line kind h e = absurd cc
+
+-- what is not confirmed
+pub not-confirmed : (input : List ℕ) → length input ≤ 268435456 → (fault : AuditFault) → ((line : ℕ) (kind : Fault) → fault ≡ faults.Document line kind → IsBadDocument input line kind)
+    → ((line : ℕ) (kind : AuditKind) → fault ≡ faults.Refuted line kind → IsRefuted input line kind) → AuditsInput input (Err (why_not fault))
+not-confirmed input few (faults.Document line kind) bad refuted = inr (few, bad line kind refl)
+not-confirmed input few (faults.Refuted line kind) bad refuted = (few, refuted line kind refl)
+not-confirmed input few faults.NoMemory bad refuted = tt
+
+-- Statuses.
+
+unerr : {A : Type 0} {a b : Unaudited} → ◌≡◌ {A = Result A Unaudited} (Err a) (Err b) → a ≡ b
+unerr e = cc
+
+pub refused-audit : {A : Type 0} (why : Unaudited) (s : Status) (line : ℕ) (kind : Fault) → s ≡ audit_status why
+    → IsErrOf {T = A} (Err why) (whys.BadInput line kind) ⊎ IsErrOf {T = A} (Err why) whys.NoMemory → (s ≡ statuses.BadInput line kind) ⊎ (s ≡ statuses.NoMemory)
+refused-audit why s line kind is (inl e) = inl (is ∙ ap audit_status (unerr e))
+refused-audit why s line kind is (inr e) = inr (is ∙ ap audit_status (unerr e))
+
+pub wrong-audit : {A : Type 0} (why : Unaudited) (s : Status) (line : ℕ) (kind : AuditKind) → s ≡ audit_status why
+    → IsErrOf {T = A} (Err why) (whys.Refuted line kind) ⊎ IsErrOf {T = A} (Err why) whys.NoMemory → (s ≡ statuses.Refuted line kind) ⊎ (s ≡ statuses.NoMemory)
+wrong-audit why s line kind is (inl e) = inl (is ∙ ap audit_status (unerr e))
+wrong-audit why s line kind is (inr e) = inr (is ∙ ap audit_status (unerr e))
+
+pub no-audit-why : {A : Type 0} (p : A) (x y : Unaudited) → IsErrOf (Ok p) x ⊎ IsErrOf (Ok p) y → ⊥
+no-audit-why p x y (inl e) = cc
+no-audit-why p x y (inr e) = cc
