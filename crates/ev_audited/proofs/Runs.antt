@@ -1,14 +1,12 @@
 -- The runs that turns make, and their texts.
-use Rattle.std.proofs.Common.{◌≡◌, ◌⊎◌, inl, inr, ℕ, zero, suc, ◌+◌, ◌<◌, ◌≤◌, Bool, true, false, List, [], ◌∷◌, ◌++◌, length, take, drop, get_or, Result, Ok, Err, Option, Some, None, refl, sym, ap, subst, ◌∙◌, arith, append_assoc, length-append}
+use Rattle.std.proofs.Common.{◌≡◌, ℕ, zero, suc, ◌+◌, ◌<◌, Bool, true, false, List, [], ◌∷◌, ◌++◌, length, take, drop, get_or, refl, sym, ap, ◌∙◌, arith, append_assoc}
 use Rattle.std.specs.Prelude.{not}
-use Rattle.std.proofs.lemmas.List.{length-take-le, take_more}
+use Rattle.std.proofs.lemmas.List.{take_more}
 use Rattle.ev_sets.specs.Numbers.{sum_over}
 use Rattle.ev_wire.specs.declared.sent.Sent.{Sent}
-use Rattle.ev_model.specs.declared.turn.Turn.{Turn}
 use Rattle.ev_model.specs.Parts.{ClientParts, NetParts, EntryParts}
-use Rattle.ev_net.specs.Network.{NetworkParts, IsLegal, IsDrainedBy}
+use Rattle.ev_net.specs.Network.{NetworkParts, IsLegal}
 use Rattle.ev_net.specs.Told.{told_from}
-use Rattle.ev_net.specs.Turns.{AreMade}
 use Rattle.ev_net.specs.Walked.{IsPhaseOf}
 use Rattle.ev_net.proofs.Again.{IsRetoldTo}
 use Rattle.ev_net.proofs.Drained.{walked-open}

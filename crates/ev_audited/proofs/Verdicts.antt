@@ -1,21 +1,17 @@
 -- Verdicts: there is one of each output, and what the code tells of them.
-use Rattle.std.proofs.Common.{◌≡◌, ◌⊎◌, inl, inr, ℕ, ◌≤◌, Bool, true, false, List, [], ◌∷◌, ◌++◌, length, take, drop, Result, Ok, Err, Option, Some, None, refl, sym, ap, subst, ◌∙◌, arith}
+use Rattle.std.proofs.Common.{◌≡◌, ◌⊎◌, inl, inr, ℕ, Bool, true, false, List, [], drop, Result, Ok, Err, Option, Some, None, refl, sym, ap, subst, ◌∙◌, arith}
 use Rattle.std.specs.Prelude.{IfOk, IsOk}
 use Rattle.ev_model.specs.declared.turn.Turn.{Turn}
 use Rattle.ev_model.specs.Parts.{NetParts, EntryParts}
-use Rattle.ev_model.specs.Nets.{of_clients}
 use Rattle.ev_net.specs.declared.replaying.ReplayFault.{ReplayFault}
 use Rattle.ev_net.specs.declared.replaying.ReplayFault.TheVariants as replays
-use Rattle.ev_net.specs.Network.{NetworkParts, IsLegal, IsDrainedBy, received_by, refused_by}
+use Rattle.ev_net.specs.Network.{NetworkParts, IsLegal}
 use Rattle.ev_net.specs.Stopping.{StopsAtLine}
-use Rattle.ev_net.specs.Told.{told_by}
 use Rattle.ev_net.specs.Turns.{AreMade}
 use Rattle.ev_net.proofs.Stopping.{never-stops, one-journal, one-line}
 use Rattle.ev_input.specs.declared.fault.Fault.{Fault}
-use Rattle.ev_report.specs.Deliveries.{deliveries_text}
-use Rattle.ev_report.specs.Trace.{trace_text}
 use Rattle.ev_cut.specs.Cut.{first_number}
-use Rattle.ev_audit.specs.Claim.{AllInputs, HasInput, IsBadDocument, IsClaimOf, IsDocumentAlone, IsFormless, IsInput, output_shows}
+use Rattle.ev_audit.specs.Claim.{IsBadDocument, IsClaimOf, IsFormless, output_shows}
 use Rattle.ev_audit.specs.Difference.{difference}
 use Rattle.ev_audit.specs.declared.fault.ClaimFault.{ClaimFault}
 use Rattle.ev_audit.specs.declared.fault.ClaimFault.TheVariants as claims
@@ -23,8 +19,8 @@ use Rattle.ev_audit.proofs.Apart.{none_equal}
 use Rattle.ev_audit.proofs.Claiming.{formless_or_bad, input_or_bad, not_alone, one_bad}
 use Rattle.ev_audited.specs.Answers.{AnswersAudit, ConcludesAt, TellsAudited, TellsDrained, TellsMade, TellsRun, fault_of_claim, fault_of_turn}
 use Rattle.ev_audited.specs.Comparing.{ComparingParts, GoesOn, IsComparedTo, comparing}
-use Rattle.ev_audited.specs.Verdict.{CanAudit, ComparesRun, EndsRun, IsAudited, IsOutputOf, IsRefuted, IsVerdict, MakesRun, MustBeRefuted, Owes, ShowsRun}
-use Rattle.ev_audited.specs.Verdict.{delivered_in, line_at, traced_text}
+use Rattle.ev_audited.specs.Verdict.{CanAudit, ComparesRun, EndsRun, IsAudited, IsOutputOf, IsRefuted, IsVerdict, MakesRun, MustBeRefuted, ShowsRun}
+use Rattle.ev_audited.specs.Verdict.{line_at, traced_text}
 use Rattle.ev_audited.specs.declared.fault.AuditKind.{AuditKind}
 use Rattle.ev_audited.specs.declared.fault.AuditKind.TheVariants as is
 use Rattle.ev_audited.specs.declared.fault.AuditFault.{AuditFault}

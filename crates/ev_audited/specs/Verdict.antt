@@ -1,5 +1,5 @@
 -- What an audit says of an input.
-use Rattle.std.specs.Prelude.{◌≡◌, ◌⊎◌, ℕ, ◌+◌, Bool, false, List, [], ◌++◌, length, take, filter, nat_eq, if◌then◌else◌, Option, Some, None, Result, Ok, Err}
+use Rattle.std.specs.Prelude.{◌≡◌, ◌⊎◌, ℕ, ◌+◌, false, List, [], ◌++◌, length, take, filter, nat_eq, if◌then◌else◌, Option, Some, None, Result, Ok, Err}
 use Rattle.ev_sets.specs.Numbers.{sum_over, count}
 use Rattle.ev_model.specs.declared.turn.Turn.{Turn}
 use Rattle.ev_model.specs.Parts.{NetParts, EntryParts}

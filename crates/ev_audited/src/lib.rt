@@ -6,7 +6,6 @@ mod compared;
 mod comparing;
 mod counts;
 mod fault;
-pub mod law;
 mod place;
 mod traced;
 

@@ -1,4 +1,4 @@
-use Rattle.std.proofs.Common.{◌≡◌, Err, refl, sym, ap, subst, ◌∙◌}
+use Rattle.std.proofs.Common.{Err, sym, ap, subst}
 use Rattle.ev_audited.specs.declared.auditing.Audited.{Audited}
 use Rattle.ev_audited.specs.Answers.{AnswersAudit}
 use Rattle.ev_audited.proofs.Verdicts.{claim_tells, unclaimed_tells}

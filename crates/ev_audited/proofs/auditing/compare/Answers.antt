@@ -1,13 +1,11 @@
-use Rattle.std.proofs.Common.{◌≡◌, ◌++◌, false, List, ℕ, ap, sym, subst, ◌∙◌}
-use Rattle.ev_model.specs.Parts.{NetParts, EntryParts}
+use Rattle.std.proofs.Common.{◌≡◌, false, List, subst, ◌∙◌}
+use Rattle.ev_model.specs.Parts.{EntryParts}
 use Rattle.ev_model.specs.Nets.{of_clients}
-use Rattle.ev_net.specs.Network.{IsLegal, received_by, refused_by}
+use Rattle.ev_net.specs.Network.{received_by, refused_by}
 use Rattle.ev_net.specs.Told.{told_by}
 use Rattle.ev_report.specs.Deliveries.{deliveries_text}
 use Rattle.ev_report.specs.Trace.{trace_text}
-use Rattle.ev_audited.specs.Answers.{TellsDrained}
 use Rattle.ev_audited.specs.Comparing.{GoesOn}
-use Rattle.ev_audited.specs.Verdict.{delivered_in}
 use Rattle.ev_audited.proofs.Pieces.{goes_then}
 use Rattle.ev_audited.proofs.auditing.compare.Goals as goal
 

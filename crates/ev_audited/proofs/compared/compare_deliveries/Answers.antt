@@ -1,11 +1,10 @@
-use Rattle.std.proofs.Common.{◌≡◌, ◌+◌, ◌<◌, false, List, ℕ, [], ◌++◌, drop, get_or, length, refl, sym, ap, subst, ◌∙◌, append_assoc, arith}
+use Rattle.std.proofs.Common.{◌≡◌, ◌+◌, ◌<◌, false, List, ℕ, [], ◌++◌, drop, get_or, length, refl, sym, ap, ◌∙◌, append_assoc, arith}
 use Rattle.std.proofs.lemmas.List.FromFn.{get_or-map-range_with_len, length-map-range_with_len}
 use Rattle.ev_wire.specs.declared.delivery.Delivery.{Delivery}
 use Rattle.ev_model.specs.Nets.{of_clients}
 use Rattle.ev_net.specs.Network.{received_by, refused_by}
 use Rattle.ev_report.specs.Deliveries.{delivery_section, delivery_sections}
 use Rattle.ev_report.proofs.Sections.{sections-next}
-use Rattle.ev_audited.specs.Comparing.{GoesOn}
 use Rattle.ev_audited.proofs.Pieces.{goes_nowhere, goes_then}
 use Rattle.ev_audited.proofs.compared.compare_deliveries.Goals as goal
 

@@ -1,5 +1,5 @@
-use Rattle.std.proofs.Common.{◌≡◌, ◌+◌, sym, ap, ◌∙◌, arith, drop}
-use Rattle.ev_audited.specs.Verdict.{owed_in, owed_of}
+use Rattle.std.proofs.Common.{◌≡◌, ap, ◌∙◌, arith}
+use Rattle.ev_audited.specs.Verdict.{owed_of}
 use Rattle.ev_audited.proofs.Runs.{sum_next}
 use Rattle.ev_audited.proofs.counts.owed_in.Goals as goal
 
