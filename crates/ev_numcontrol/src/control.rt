@@ -172,6 +172,7 @@ impl<'a> Control<'a> {
         ensures others { (i : ℕ) → i ≢ interface → advs self.new i ≡ advs self.old i }
         ensures filter_items { self.new.filters.items ≡ self.old.filters.items }
         ensures filter_interfaces { self.new.filters.interfaces ≡ self.old.filters.interfaces }
+        ensures filter_links { length self.new.filters.told ≡ length self.old.filters.told }
         ensures filters { self.new.filters.holdings ≡ self.old.filters.holdings }
         ensures told { (p link : ℕ) → p < length self.old.adverts.told → slice_get self.old.adverts.interfaces p ≡ Some link
             → (t : Told) × (slice_get self.new.adverts.told p ≡ Some t)

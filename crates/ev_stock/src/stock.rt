@@ -94,7 +94,7 @@ impl<'a, T: Cover> Stock<'a, T> {
     }
 
     /// Does nothing; its contract tells what each stock keeps: items and interfaces rise, the links are the first interfaces, and
-    /// what is held or offered is among the items.
+    /// what is held is among the items, from one of the interfaces.
     pub fn is_known(&self)
         ensures items { IsRising T.order self.now.items }
         ensures few { length self.now.items < 2 ^ 32 }
@@ -102,6 +102,7 @@ impl<'a, T: Cover> Stock<'a, T> {
         ensures links { length self.now.told ≤ length self.now.interfaces }
         ensures offered { length self.now.offered ≡ length self.now.told }
         ensures held { (h : Holding T) → Has h self.now.holdings → Has h.item self.now.items }
+        ensures held_from { (h : Holding T) → Has h self.now.holdings → Has h.interface self.now.interfaces }
     {
         self.table.is_a_set();
         self.table.is_placed();
@@ -201,7 +202,8 @@ impl<'a, T: Cover> Stock<'a, T> {
     /// The numbers that the last change withdrew on the link at a place.
     pub fn withdrawn(&self, place: usize) -> &Row
         requires { place < length self.now.told }
-        ensures { (t : Told) → slice_get self.now.told place ≡ Some t → result.now.members ≡ t.withdrawn }
+        ensures members { (t : Told) → slice_get self.now.told place ≡ Some t → result.now.members ≡ t.withdrawn }
+        ensures width { result.now.width ≡ length self.now.items }
     {
         self.table.withdrawn(place)
     }
@@ -209,7 +211,8 @@ impl<'a, T: Cover> Stock<'a, T> {
     /// The numbers that the last change added on the link at a place.
     pub fn added(&self, place: usize) -> &Row
         requires { place < length self.now.told }
-        ensures { (t : Told) → slice_get self.now.told place ≡ Some t → result.now.members ≡ t.added }
+        ensures members { (t : Told) → slice_get self.now.told place ≡ Some t → result.now.members ≡ t.added }
+        ensures width { result.now.width ≡ length self.now.items }
     {
         self.table.added(place)
     }

@@ -189,7 +189,8 @@ impl<'a, T: Cover> Table<'a, T> {
     /// The numbers that the last change withdrew from a link.
     pub(crate) fn withdrawn(&self, place: usize) -> &Row
         requires { place < length self.now.told }
-        ensures { (t : Told) → slice_get self.now.told place ≡ Some t → result.now.members ≡ t.withdrawn }
+        ensures members { (t : Told) → slice_get self.now.told place ≡ Some t → result.now.members ≡ t.withdrawn }
+        ensures width { result.now.width ≡ length self.now.items }
     {
         &self.sides[place].withdrawn
     }
@@ -197,7 +198,8 @@ impl<'a, T: Cover> Table<'a, T> {
     /// The numbers that the last change added on a link.
     pub(crate) fn added(&self, place: usize) -> &Row
         requires { place < length self.now.told }
-        ensures { (t : Told) → slice_get self.now.told place ≡ Some t → result.now.members ≡ t.added }
+        ensures members { (t : Told) → slice_get self.now.told place ≡ Some t → result.now.members ≡ t.added }
+        ensures width { result.now.width ≡ length self.now.items }
     {
         &self.sides[place].added
     }

@@ -14,3 +14,11 @@ returns-clause-held g c =
     let a = pairs-at t.items c.self.inside.interfaces.items t.rows h m in
     let k = picked-has t.items (row_at t.rows a.0).members h.item a.2 in
     has-get t.items k.0 h.item k.2)
+
+pub returns-clause-held_from : goal.returns-clause-held_from
+returns-clause-held_from g c =
+    let t = c.self.inside.table in
+    subst (λ (z : Stocked g.row.T.Denot). (h : Holding g.row.T.Denot) → Has h z.holdings → Has h.interface z.interfaces) c.self.view_is
+    (λ h m.
+    let a = pairs-at t.items c.self.inside.interfaces.items t.rows h m in
+    has-get c.self.inside.interfaces.items a.0 h.interface a.1)
