@@ -1,0 +1,4 @@
+pub mod Moving
+pub mod Steps
+pub mod Keeping
+pub mod Starting

@@ -1,0 +1,97 @@
+//! The catalogue of a net with its rows.
+ghost use Rattle.std.specs.Prelude.{◌≡◌, IfOk};
+ghost use Rattle.ev_model.specs.Sound.{IsSound};
+ghost use Rattle.ev_catalogue.specs.Known.{known_filters, known_adverts};
+ghost use Rattle.ev_catalogue.specs.Related.{overlap_rows};
+
+use ev_bits::Row;
+use ev_catalogue::Catalogue;
+use ev_cover::{Ad, Sub};
+use ev_memory::NoMemory;
+use ev_model::Net;
+use ev_order::Order;
+use ev_wire::Semantics;
+use std::alloc::Global;
+use std::marker::Model;
+
+/// The catalogue of a net, and for its filters and advertisements the rows that tell which covers which and which overlap.
+/// Contracts see the net, of which all is a function.
+#[derive(Drop)]
+pub struct Tables<'a> {
+    catalogue: Catalogue<'a>,
+    filters: Order<Sub>,
+    adverts: Order<Ad>,
+    overlaps: Vec<Row>,
+}
+
+impl<'a> Model for Tables<'a> {
+    ghost use Rattle.ev_model.specs.Parts.{NetParts};
+    ghost use Rattle.ev_tables.specs.Tables.{AreTables};
+
+    ghost Value = { NetParts };
+
+    ghost view = { λ t. t.catalogue };
+
+    ghost invariant = { λ t. AreTables t.catalogue t.filters t.adverts t.overlaps.items };
+}
+
+impl<'a> Tables<'a> {
+    /// The tables of a net. All their memory is taken here.
+    pub fn of(alloc: Global, net: &'a Net) -> Result<Tables<'a>, NoMemory>
+        requires { IsSound net.now }
+        ensures { IfOk result (λ tables. tables ≡ net.now) }
+    {
+        let catalogue = Catalogue::of(alloc, net)?;
+        let filters = catalogue.filter_order(alloc)?;
+        let adverts = catalogue.advert_order(alloc)?;
+        let overlaps = catalogue.overlaps(alloc)?;
+        Ok(Tables {
+            catalogue,
+            filters,
+            adverts,
+            overlaps,
+        })
+    }
+
+    /// The net.
+    pub fn net(&self) -> &'a Net
+        ensures { result.now ≡ self.now }
+    {
+        self.catalogue.net()
+    }
+
+    /// The catalogue.
+    pub fn catalogue(&self) -> &Catalogue<'a>
+        ensures { result.now ≡ self.now }
+    {
+        &self.catalogue
+    }
+
+    /// Whether advertisements steer the filters.
+    pub fn semantics(&self) -> Semantics
+        ensures { result ≡ self.now.semantics }
+    {
+        self.catalogue.net().semantics
+    }
+
+    /// The filters by their numbers.
+    pub fn filters(&self) -> &Order<Sub>
+        ensures { result.now ≡ known_filters self.now.clients }
+    {
+        &self.filters
+    }
+
+    /// The advertisements by their numbers.
+    pub fn adverts(&self) -> &Order<Ad>
+        ensures { result.now ≡ known_adverts self.now.clients }
+    {
+        &self.adverts
+    }
+
+    /// For each advertisement the row of the filters that overlap it.
+    pub fn overlaps(&self) -> &[Row]
+        ensures { result.now ≡ overlap_rows (known_filters self.now.clients) (known_adverts self.now.clients) }
+    {
+        &self.overlaps
+    }
+}
