@@ -44,7 +44,7 @@ returns-then-accepts-clause-counted c =
     let q = known-publication _ _ c.args.publication n in
     let all = c.publications.ensures ∙ ap (λ (z : NetParts). known_publications 1 z.clients) c.catalogue.ensures in
     let same =
-        ap (λ (z : PublicationParts). z.id) (c.known.view_is ∙ known-read c.publications.result.now (known_publications 1 c.self.inside.tables.now.clients) c.args.publication
-        c.index-publications-publication.result q.0 all q.2 c.index-publications-publication.is q.1) ∙ q.3 in
+    ap (λ (z : PublicationParts). z.id) (c.known.view_is ∙ known-read c.publications.result.now (known_publications 1 c.self.inside.tables.now.clients) c.args.publication
+    c.index-publications-publication.result q.0 all q.2 c.index-publications-publication.is q.1) ∙ q.3 in
     let counted = counted-publication _ _ _ _ _ _ _ c.self.invariant.0 c.args.publication n in
     (ap (λ (z : Id). z.publisher) same ∙ ap (λ (z : NetSession). z.session.client) v, subst (λ (z : Id). IsInRange 1 100000 z.ordinal) (sym same) counted)
