@@ -1,8 +1,8 @@
 -- Lines of a trace as they are written, and what they are read as.
-use Rattle.std.proofs.Common.{◌≡◌, ℕ, zero, suc, ◌+◌, ◌-◌, ◌*◌, ◌<◌, ◌≤◌, ◌^◌, Bool, true, false, ◌&&◌, List, [], ◌∷◌, ◌++◌, length, get_or, Some, refl, ap, ◌∙◌, arith, nat_le, nat_lt}
-use Rattle.std.specs.Prelude.{codes, nat_eq, slice_get}
+use Rattle.std.proofs.Common.{◌≡◌, ℕ, zero, suc, ◌+◌, ◌-◌, ◌*◌, ◌/◌, ◌%◌, ◌==◌, ◌<◌, ◌≤◌, ◌^◌, Bool, true, false, ◌&&◌, List, [], ◌∷◌, ◌++◌, length, get_or, Some, refl, ap, ◌∙◌, arith, nat_le, nat_lt}
+use Rattle.std.specs.Prelude.{codes, nat_eq, slice_get, if◌then◌else◌}
 use Rattle.std.specs.Char.{digit_value}
-use Rattle.std.specs.Fmt.{decimal}
+use Rattle.std.specs.Fmt.{decimal, digit_glyph, digits, digits_onto}
 use Rattle.std.specs.List.{list_all, position_or_len}
 use Rattle.std.specs.Option.{option_map}
 use Rattle.std.specs.Str.{bytes_eq}
@@ -75,9 +75,6 @@ digit_range d h = grind arith
 digit_is : (d : ℕ) → digit_value d < 10 → is_digit d ≡ true
 digit_is d h = let r = digit_range d h in let lo : 48 ≤ d = r.0 in let hi : d ≤ 57 = r.1 in grind (arith, nat_tests)
 
-digit_dense : (d : ℕ) → digit_value d < 10 → nat_lt 32 d ≡ true
-digit_dense d h = let r = digit_range d h in let lo : 48 ≤ d = r.0 in grind (arith, nat_tests)
-
 digit_minus : (d : ℕ) → digit_value d < 10 → digit_value d ≡ d - 48
 digit_minus d h =
     let r = digit_range d h in
@@ -86,10 +83,6 @@ digit_minus d h =
     let p : nat_lt d 48 ≡ false = grind (arith, nat_tests) in
     let q : nat_lt d 58 ≡ true = grind (arith, nat_tests) in
     simp (p, q)
-
-digits_dense : (ds : List ℕ) → AllDigits 10 ds → are_dense ds ≡ true
-digits_dense [] h = refl
-digits_dense (d ∷ ds) h = rw (digit_dense d h.0, digits_dense ds h.1) refl
 
 digits_are : (ds : List ℕ) → AllDigits 10 ds → list_all is_digit ds ≡ true
 digits_are [] h = refl
@@ -111,8 +104,25 @@ decimal-leads : (n : ℕ) → n < 2 ^ 64 → leads (decimal n) ≡ true
 decimal-leads zero l = ap leads (decimal_digit 0 (omega arith))
 decimal-leads (suc n) l = leads-by (decimal (suc n)) (decimal_nonempty (suc n) l) (first_decimal (suc n) (omega arith) l)
 
-pub decimal-dense : (n : ℕ) → n < 2 ^ 64 → are_dense (decimal n) ≡ true
-decimal-dense n l = digits_dense (decimal n) (decimal_is_IsNumeral n l).0.1
+glyph-dense : (d : ℕ) → nat_lt 32 (digit_glyph false d) ≡ true
+glyph-dense d = go (nat_lt d 10)
+  where
+    go : (b : Bool) → nat_lt 32 (if b then 48 + d else 87 + d) ≡ true
+    go true = grind (arith, nat_tests)
+    go false = grind (arith, nat_tests)
+
+onto-dense : (k n : ℕ) (acc : List ℕ) → are_dense acc ≡ true → are_dense (digits_onto k 10 false n acc) ≡ true
+onto-dense zero n acc e = e
+onto-dense (suc k) n acc e = go (n / 10 == 0) (onto-dense k (n / 10) (digit_glyph false (n % 10) ∷ acc) (rw (glyph-dense (n % 10)) e))
+  where
+    go : (b : Bool) → are_dense (digits_onto k 10 false (n / 10) (digit_glyph false (n % 10) ∷ acc)) ≡ true
+        → are_dense (if b then digit_glyph false (n % 10) ∷ acc else digits_onto k 10 false (n / 10) (digit_glyph false (n % 10) ∷ acc)) ≡ true
+    go true more = rw (glyph-dense (n % 10)) e
+    go false more = more
+
+pub decimal-dense : (n : ℕ) → are_dense (decimal n) ≡ true
+unfolding digits
+decimal-dense n = onto-dense 64 n [] refl
 
 pub decimal-is : (n : ℕ) → n < 2 ^ 64 → is_decimal (decimal n) ≡ true
 unfolding is_decimal
@@ -165,10 +175,10 @@ unfolding entry_turn
 entry-parts net stamp server act low small there =
     let less : nat_lt stamp (2 ^ 62) ≡ true = grind (arith, nat_tests) in
     rw (
-      word-apart (decimal stamp) (decimal server ++ 32 ∷ act) (decimal-dense stamp (omega (arith, low))),
+      word-apart (decimal stamp) (decimal server ++ 32 ∷ act) (decimal-dense stamp),
       decimal-again stamp (omega (arith, low)),
       less,
-      word-apart (decimal server) act (decimal-dense server (omega (arith, small))),
+      word-apart (decimal server) act (decimal-dense server),
       decimal-again server small,
       there,
     ) refl
