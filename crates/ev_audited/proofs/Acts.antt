@@ -3,13 +3,10 @@ use Rattle.std.proofs.Common.{◌≡◌, ℕ, ◌&&◌, Bool, true, false, cond,
 use Rattle.std.specs.Prelude.{slice_get}
 use Rattle.ev_sets.specs.Sets.{Has}
 use Rattle.ev_run.specs.Machine.{Input, Does, Takes, Outcome, Act, Did, Took, Entry, Stamped, unstamped, act_of}
-use Rattle.ev_run.specs.Network.{IsStep}
-use Rattle.ev_tree.proofs.Truths.{both-left, both-right}
 use Rattle.ev_routing.proofs.Laws.{one-has}
 use Rattle.ev_routing.specs.Theory.{Theory}
 use Rattle.ev_routing.specs.Server.{Message, ServerState, is_among}
 use Rattle.ev_routing.specs.Step.{Task, NextCommand, Version, ShowsVersion, command_outcome, effect, message_work, local_step}
-use Rattle.ev_routing.specs.Routing.{routing_machine}
 use Rattle.ev_phases.specs.Trees.{JournalEntry, State, PhasedNet, net_at, machine_at, tree_at}
 use Rattle.ev_phases.specs.Runs.{IsStepOn, IsPhasedRun}
 

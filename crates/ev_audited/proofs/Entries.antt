@@ -1,20 +1,16 @@
 -- The entries of a legal run of a document's net, as a trace tells them.
-use Rattle.std.proofs.Common.{◌≡◌, ℕ, zero, suc, ◌==◌, ◌<◌, ◌≤◌, ◌^◌, ◌&&◌, Bool, true, false, cond, inl, inr, List, [], ◌∷◌, ◌++◌, length, map, Option, Some, None, refl, sym, ap, subst, ◌∙◌, arith, eqb-true, nat_le}
+use Rattle.std.proofs.Common.{◌≡◌, ℕ, zero, suc, ◌==◌, ◌<◌, ◌≤◌, ◌^◌, ◌&&◌, Bool, true, false, cond, inl, inr, List, [], ◌∷◌, ◌++◌, length, map, Some, refl, sym, ap, subst, ◌∙◌, arith, eqb-true, nat_le}
 use Rattle.std.specs.Prelude.{◌||◌, codes, nat_eq, slice_get}
-use Rattle.std.specs.Fmt.{decimal}
 use Rattle.std.specs.List.{list_any}
-use Rattle.std.specs.Str.{bytes_eq}
 use Rattle.std.proofs.lemmas.Bool.Decides.{nat_tests}
 use Rattle.std.proofs.lemmas.Grind.{common_steps}
-use Rattle.std.proofs.lemmas.Option.{same_Some}
 use Rattle.std.proofs.lemmas.List.{length-map}
 use Rattle.ev_sets.specs.Sets.{Has}
 use Rattle.ev_sets.proofs.Roots.{filter-Has}
-use Rattle.ev_constraint.proofs.BytesLemmas.{bytes_eq-self, bytes_eq-tells}
 use Rattle.ev_tree.specs.Tree.{Topology, TreeLaws, links_of, servers_of}
 use Rattle.ev_tree.specs.Graph.{servers_to}
 use Rattle.ev_tree.proofs.Servers.{server-in}
-use Rattle.ev_phases.specs.Trees.{Tree, JournalEntry, tree_after, tree_at}
+use Rattle.ev_phases.specs.Trees.{Tree, tree_after, tree_at}
 use Rattle.ev_phases.specs.Moments.{Moment, opening_moment}
 use Rattle.ev_phases.specs.Runs.{IsRunTo, PhasedRun}
 use Rattle.ev_theory.specs.Real.{real}
@@ -23,13 +19,13 @@ use Rattle.ev_model.specs.declared.turn.Act.TheVariants as acts
 use Rattle.ev_model.specs.declared.turn.Turn.TheVariants as turns
 use Rattle.ev_model.specs.Parts.{ClientParts, NetParts, EntryParts}
 use Rattle.ev_model.specs.Meaning.{act_of, entry_of, journal_of}
-use Rattle.ev_model.specs.Nets.{client_at, clients_of, first_tree, home_in, home_of, later_trees, phased_net, phased_tree, tree_of}
-use Rattle.ev_model.specs.Sound.{AreTrees, HasTrees, IsSound}
+use Rattle.ev_model.specs.Nets.{clients_of, first_tree, home_in, home_of, later_trees, phased_net, phased_tree, tree_of}
+use Rattle.ev_model.specs.Sound.{HasTrees, IsSound}
 use Rattle.ev_model.specs.Limits.{StaysLow}
 use Rattle.ev_model.proofs.Counted.{stays-low}
 use Rattle.ev_model.proofs.SoundNets.{net-laws}
 use Rattle.ev_report.specs.Lines.{client_name, name_in}
-use Rattle.ev_report.specs.Trace.{act_text, entry_line}
+use Rattle.ev_report.specs.Trace.{act_text}
 use Rattle.ev_audit.specs.Trace.{act_turn, are_joined, is_server, joins}
 use Rattle.ev_audit.proofs.Spelled.{AreApart, command-read, take-read, version-read}
 use Rattle.ev_audited.proofs.Acts.{IsActOf, IsThere, all-there}

@@ -1,21 +1,21 @@
 -- What all filters, advertisements and notices of the scripts keep, all of them keep that a run holds, sends and delivers.
-use Rattle.std.proofs.Common.{◌≡◌, ℕ, zero, suc, ◌==◌, ◌&&◌, Bool, true, false, cond, not, ◌⊎◌, inl, inr, List, [], ◌∷◌, ◌++◌, length, map, filter, take, Option, Some, None, refl, sym, ap, subst, ◌∙◌}
+use Rattle.std.proofs.Common.{◌≡◌, ℕ, zero, suc, ◌==◌, ◌&&◌, Bool, true, false, cond, not, inl, inr, List, [], ◌∷◌, ◌++◌, length, map, filter, take, Option, Some, None, refl, sym, subst}
 use Rattle.std.specs.Prelude.{◌||◌, nat_lt, slice_get}
 use Rattle.std.proofs.lemmas.Option.{same_Some}
-use Rattle.ev_sets.specs.Sets.{Has, roots, union, minus, put_in, same_list, is_root, member}
+use Rattle.ev_sets.specs.Sets.{Has, union, minus, put_in, same_list, is_root, member}
 use Rattle.ev_sets.proofs.Roots.{filter-Has}
 use Rattle.ev_run.specs.Machine.{Input, Does, Takes, Outcome, Stamped, Act, Did, Took, at, unstamped, stamped, next_stamp}
-use Rattle.ev_run.specs.Network.{IsAvailable, network_after, messages_of, input_of, outcome_of, outcome_at, outs_of, taking_of, turn, after_input, after_outcome}
+use Rattle.ev_run.specs.Network.{IsAvailable, network_after, messages_of, outcome_of, outcome_at, outs_of, taking_of, turn, after_input, after_outcome}
 use Rattle.ev_run.proofs.Lists.{has-append}
 use Rattle.ev_routing.specs.Theory.{Theory}
 use Rattle.ev_routing.specs.Net.{Net, PhasedCommand, Command, Subscribe, Unsubscribe, Advertise, Unadvertise, Publish}
 use Rattle.ev_routing.specs.Clients.{some_pass, filters_step, filters_after, adverts_step, adverts_after, accepts, ordinal}
 use Rattle.ev_routing.specs.Server.{Message, Subs, Advs, Noticed, Publication, ServerState, is_among, union_except, interfaces, needed, sent, needed_adverts, sent_adverts, filter_change, advert_change, messages_to, client_interface}
-use Rattle.ev_routing.specs.Step.{Task, NextCommand, Version, Work, SetsFilters, SetsAdverts, Routes, ShowsVersion, Nothing, full_effect, effect, command_work, message_work, command_outcome, with_command_taken, local_step, with_deliveries}
-use Rattle.ev_routing.specs.Flow.{flowing, holds, server_of, make_ad, make_sub, flow_ad, flow, relinked}
-use Rattle.ev_routing.specs.Change.{on_tree, client_sets}
+use Rattle.ev_routing.specs.Step.{Task, NextCommand, Version, Work, SetsFilters, SetsAdverts, Routes, ShowsVersion, Nothing, full_effect, effect, command_work, message_work, command_outcome, with_command_taken, local_step}
+use Rattle.ev_routing.specs.Flow.{flowing, holds, server_of, make_ad, make_sub, flow_ad, flow}
+use Rattle.ev_routing.specs.Change.{client_sets}
 use Rattle.ev_routing.specs.Routing.{routing_machine}
-use Rattle.ev_phases.specs.Trees.{Tree, JournalEntry, State, on, off, entry_on, PhasedNet, net_at, machine_at, at_phase, is_one_tree, tree_at}
+use Rattle.ev_phases.specs.Trees.{JournalEntry, State, on, off, entry_on, PhasedNet, net_at, machine_at, at_phase, is_one_tree, tree_at}
 use Rattle.ev_phases.specs.Moments.{Moment, with_clocks_raised, with_tree_changed, begun, as_found, command_phase, found_by, acted, moment_after, found_after, opening_moment}
 
 -- each of a list

@@ -9,3 +9,6 @@ pub mod ShownTexts
 pub mod Entries
 pub mod Retraced
 pub mod Remade
+pub mod SameOutputs
+pub mod ShownRuns
+pub mod Complete

@@ -6,9 +6,8 @@ use Rattle.ev_sets.proofs.Roots.{filter-Has}
 use Rattle.ev_tree.specs.Graph.{servers_to}
 use Rattle.ev_run.specs.Machine.{Did}
 use Rattle.ev_routing.specs.Step.{NextCommand}
-use Rattle.ev_phases.specs.Trees.{JournalEntry, State}
 use Rattle.ev_phases.specs.Moments.{Moment, opening_moment}
-use Rattle.ev_phases.specs.Runs.{IsPhasedRun, IsPhasedStep, IsRunTo, Turn}
+use Rattle.ev_phases.specs.Runs.{IsPhasedStep, IsRunTo, Turn}
 use Rattle.ev_phases.specs.Turns.{IsPermittedTurn}
 use Rattle.ev_phases.proofs.Moments.{run-ends}
 use Rattle.ev_phases.proofs.Turned.{happens-permitted, run-grows}
@@ -18,11 +17,11 @@ use Rattle.ev_model.specs.declared.turn.Act.TheVariants as acts
 use Rattle.ev_model.specs.declared.turn.Turn.{Turn as NetTurn}
 use Rattle.ev_model.specs.Parts.{NetParts, EntryParts}
 use Rattle.ev_model.specs.Meaning.{act_of, entry_of, journal_of}
-use Rattle.ev_model.specs.Nets.{home_of, clients_of, phased_net, turn_of}
+use Rattle.ev_model.specs.Nets.{home_of, phased_net, turn_of}
 use Rattle.ev_net.specs.Network.{IsLegal, moment_by}
 use Rattle.ev_net.specs.Retold.{turn_by, turn_of_entry}
 use Rattle.ev_net.specs.Turns.{AreMade}
-use Rattle.ev_audited.proofs.Acts.{IsActOf, IsThere, all-there}
+use Rattle.ev_audited.proofs.Acts.{IsActOf, IsThere}
 
 -- a command is a turn of its client's home
 at-home : (net : NetParts) (server : ℕ) (act : Act) → IsActOf real (phased_net net) server (act_of act) → turn_of net (turn_by server act) ≡ (server, act_of act)

@@ -1,17 +1,15 @@
 -- The text of a run with its trace, read as the turns of its entries.
-use Rattle.std.proofs.Common.{◌≡◌, ℕ, zero, suc, ◌+◌, ◌<◌, ◌^◌, Bool, true, false, inl, inr, List, [], ◌∷◌, ◌++◌, length, map, Option, Some, None, Result, Ok, Err, refl, sym, ap, subst, ◌∙◌, arith, append_assoc, append-nil}
+use Rattle.std.proofs.Common.{◌≡◌, ℕ, zero, suc, ◌+◌, ◌<◌, ◌^◌, Bool, true, false, inl, inr, List, [], ◌∷◌, ◌++◌, length, map, Some, Ok, Err, refl, sym, ap, subst, ◌∙◌, arith, append_assoc, append-nil}
 use Rattle.std.specs.Prelude.{codes, slice_get, if◌then◌else◌}
 use Rattle.std.specs.Fmt.{decimal}
 use Rattle.std.specs.List.{flat_map}
 use Rattle.std.proofs.lemmas.List.{map-append}
-use Rattle.ev_sets.specs.Sets.{Has}
 use Rattle.ev_wire.specs.declared.sent.Sent.{Sent}
 use Rattle.ev_wire.specs.declared.delivery.Delivery.{Delivery}
 use Rattle.ev_model.specs.declared.turn.Act.{Act}
 use Rattle.ev_model.specs.declared.turn.Act.TheVariants as acts
 use Rattle.ev_model.specs.declared.turn.Turn.{Turn}
 use Rattle.ev_model.specs.Parts.{ClientParts, NetParts, EntryParts}
-use Rattle.ev_model.specs.Nets.{client_at}
 use Rattle.ev_report.specs.Lines.{client_line, client_name, name_in, publication_line, refused_line}
 use Rattle.ev_report.specs.Deliveries.{deliveries_text, delivery_line, delivery_section, delivery_sections}
 use Rattle.ev_report.specs.Trace.{act_text, entries_text, entry_line, entry_text, sent_line, trace_head, trace_text}

@@ -1,13 +1,12 @@
 -- Nets that differ in nothing but the tables of their trees have the same runs.
-use Rattle.std.proofs.Common.{◌≡◌, ℕ, zero, suc, ◌==◌, ◌≤◌, Bool, true, false, cond, inl, inr, List, [], ◌∷◌, ◌++◌, length, map, refl, sym, ap, subst, ◌∙◌}
+use Rattle.std.proofs.Common.{◌≡◌, ℕ, suc, Bool, true, false, cond, List, [], ◌∷◌, length, map, refl, ap, subst, ◌∙◌}
 use Rattle.std.specs.Prelude.{nat_le}
-use Rattle.ev_sets.specs.Sets.{Has}
-use Rattle.ev_tree.specs.Tree.{Topology, links_of, servers_of, topology}
+use Rattle.ev_tree.specs.Tree.{Topology, links_of}
 use Rattle.ev_tree.specs.Graph.{servers_to}
 use Rattle.ev_run.specs.Network.{messages_of}
 use Rattle.ev_routing.specs.Rest.{IsDrained}
 use Rattle.ev_routing.specs.Server.{Message}
-use Rattle.ev_phases.specs.Trees.{Tree, JournalEntry, State, PhasedNet, tree_after, trees_by, net_at, machine_at, at_phase, entry_on}
+use Rattle.ev_phases.specs.Trees.{Tree, JournalEntry, PhasedNet, tree_after, trees_by, net_at, machine_at, at_phase, entry_on}
 use Rattle.ev_phases.specs.Moments.{Moment, opening_moment, moment_of, found_of}
 use Rattle.ev_phases.specs.Runs.{IsRunTo}
 use Rattle.ev_theory.specs.Real.{real}

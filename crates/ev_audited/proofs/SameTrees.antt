@@ -1,7 +1,6 @@
 -- Runs depend on the neighbours of servers alone: nets over trees with the same neighbours have the same runs, however their trees tell the way.
-use Rattle.std.proofs.Common.{◌≡◌, ℕ, zero, suc, ◌==◌, ◌&&◌, Bool, true, false, cond, ◌⊎◌, inl, inr, List, [], ◌∷◌, length, Option, Some, None, refl, sym, ap, subst, ◌∙◌}
+use Rattle.std.proofs.Common.{◌≡◌, ℕ, zero, suc, ◌==◌, ◌&&◌, Bool, true, false, cond, inl, inr, List, [], ◌∷◌, Option, Some, None, refl, sym, ap, subst, ◌∙◌}
 use Rattle.std.specs.Prelude.{slice_get}
-use Rattle.ev_sets.specs.Sets.{Has}
 use Rattle.ev_run.specs.Machine.{Machine, Input, Does, Takes, Outcome, Act, act_phase}
 use Rattle.ev_run.specs.Network.{IsStep, turn, messages_of}
 use Rattle.ev_run.specs.Runs.{IsQuiet, IsThrough, raised}
@@ -10,12 +9,12 @@ use Rattle.ev_routing.specs.Net.{Net, PhasedCommand, Command, Subscribe, Unsubsc
 use Rattle.ev_routing.specs.Server.{Message, ServerState, is_among}
 use Rattle.ev_routing.specs.Step.{Task, NextCommand, Version, Work, SetsFilters, SetsAdverts, Routes, ShowsVersion, Nothing, effect, command_work, message_work, command_outcome, with_command_taken, local_step}
 use Rattle.ev_routing.specs.Server.{Subs, Advs, Noticed}
-use Rattle.ev_routing.specs.Routing.{routing_machine, task_phase, all_through, phase_of, not_below}
+use Rattle.ev_routing.specs.Routing.{task_phase, all_through, phase_of, not_below}
 use Rattle.ev_routing.specs.Change.{on_tree}
 use Rattle.ev_routing.specs.Rest.{IsDrained}
-use Rattle.ev_phases.specs.Trees.{Tree, JournalEntry, State, on, off, entry_on, PhasedNet, tree_after, trees_by, net_at, machine_at, at_phase, is_one_tree, IsQuietOn, IsThroughOn}
+use Rattle.ev_phases.specs.Trees.{Tree, JournalEntry, State, off, entry_on, PhasedNet, tree_after, trees_by, net_at, machine_at, at_phase, IsQuietOn, IsThroughOn}
 use Rattle.ev_phases.specs.Moments.{Moment, with_clocks_raised, with_tree_changed, begun, opening_moment, command_phase, as_found, found_by, acted, moment_after, found_after}
-use Rattle.ev_phases.specs.Runs.{ActFinds, IsStepOn, IsPhasedRun, IsRunTo}
+use Rattle.ev_phases.specs.Runs.{ActFinds, IsStepOn, IsPhasedRun}
 
 -- a net but for its tree
 module _ (th : Theory) (adverts : Bool) (servers : List ℕ) (home : ℕ → ℕ) (clients : ℕ → List ℕ) (script : ℕ → List (PhasedCommand th)) where

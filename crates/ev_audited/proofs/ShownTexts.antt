@@ -1,9 +1,8 @@
 -- No byte of what a run tells is below a space, where none of its scripts' filters, advertisements and notices is.
-use Rattle.std.proofs.Common.{◌≡◌, ℕ, Bool, true, false, ◌&&◌, inl, inr, List, [], ◌∷◌, ◌++◌, map, refl, sym, ap, subst, ◌∙◌}
+use Rattle.std.proofs.Common.{◌≡◌, ℕ, true, inl, inr, List, [], ◌∷◌, ◌++◌, map, refl}
 use Rattle.std.specs.Prelude.{codes}
 use Rattle.std.specs.Fmt.{decimal}
 use Rattle.std.specs.List.{flat_map}
-use Rattle.ev_sets.specs.Sets.{Has}
 use Rattle.ev_constraint.specs.Constraint.{ConstraintParts}
 use Rattle.ev_notice.specs.Notice.{Attribute}
 use Rattle.ev_routing.specs.Server.{Message, Subs, Advs, Noticed, Publication}

@@ -1,5 +1,6 @@
 //! Audits.
-ghost use Rattle.std.specs.Prelude.{◌≡◌, ◌≤◌, ◌⊎◌, ℕ, length, IfOk, IsOk, IsErrOf, OnOk};
+ghost use Rattle.std.specs.Prelude.{◌≡◌, ◌≤◌, ◌⊎◌, ℕ, List, length, IfOk, IsOkAnd, IsErrOf, OnOk};
+ghost use Rattle.ev_model.specs.Parts.{NetParts, EntryParts};
 ghost use Rattle.ev_model.specs.Nets.{of_clients};
 ghost use Rattle.ev_model.specs.Sound.{IsSound};
 ghost use Rattle.ev_net.specs.Network.{IsLegal, received_by};
@@ -8,7 +9,7 @@ ghost use Rattle.ev_report.specs.Counts.{total};
 ghost use Rattle.ev_audit.specs.Claim.{IsBadDocument};
 ghost use Rattle.ev_audited.specs.Comparing.{GoesOn};
 ghost use Rattle.ev_audited.specs.Answers.{AnswersAudit, Concludes, TellsAudited, TellsDrained, TellsMade, TellsRun};
-ghost use Rattle.ev_audited.specs.Verdict.{CanAudit, IsAudited, IsRefuted, MustBeRefuted, delivered_in, traced_text};
+ghost use Rattle.ev_audited.specs.Verdict.{IsAudited, IsInputOfRun, IsRefuted, IsWrittenByRun, MustBeRefuted, delivered_in, traced_text};
 ghost use Rattle.ev_audited.specs.declared.fault.AuditKind.{AuditKind as Kind};
 ghost use Rattle.ev_audited.specs.declared.fault.AuditFault.TheVariants.{Document, NoMemory as OutOfMemory, Refuted};
 
@@ -162,7 +163,8 @@ fn of_claim(alloc: Global, claim: Claim, output: &[u8]) -> Result<Audited, Audit
     requires sound { IsSound claim.net }
     requires first { claim.line ≤ 268435458 }
     requires short { length output.now ≤ 268435456 }
-    ensures { TellsAudited (λ a. a.net) (λ a. a.journal.items) (λ a. a.owed) (λ a. a.deliveries) claim.net claim.line claim.end output.now claim.turns.items result }
+    ensures { TellsAudited (λ a. a.net) (λ a. a.journal.items) (λ a. a.owed) (λ a. a.deliveries)
+        claim.net claim.line claim.end output.now claim.turns.items result }
 {
     let Claim {
         net,
@@ -199,11 +201,15 @@ fn answered(alloc: Global, bytes: &[u8]) -> Result<Audited, AuditFault>
 
 /// Audits an input of at most 268,435,456 bytes: a document, a line that is exactly `output`, and the bytes that a run of the document is said to have written,
 /// with its trace and in the order received. It makes the turns that the trace shows itself, and compares the text of that run with the output, piece by
-/// piece: the text is never whole in memory. It takes the time of two walks, and of flooding.
+/// piece: the text is never whole in memory. It takes the time of two walks, and of flooding. It says yes exactly where the document has a net and the output
+/// is the text of a legal and drained run of it, want of memory aside; there is one such run, whose journal it gives.
 pub fn audit(alloc: Global, bytes: &[u8]) -> Result<Audited, AuditFault>
     requires { length bytes.now ≤ 268435456 }
     ensures audited { IfOk result (λ a. IsAudited bytes.now a.net a.journal.items a.owed a.deliveries) }
-    ensures done { CanAudit bytes.now → IsOk result ⊎ IsErrOf result OutOfMemory }
+    ensures complete { (net : NetParts) (journal : List EntryParts) → IsInputOfRun bytes.now net journal
+        → IsOkAnd result (λ a. a.journal.items ≡ journal) ⊎ IsErrOf result OutOfMemory }
+    ensures written { (net : NetParts) (journal : List EntryParts) → IsWrittenByRun bytes.now net journal
+        → IsOkAnd result (λ a. a.journal.items ≡ journal) ⊎ IsErrOf result OutOfMemory }
     ensures document { (line : ℕ) (kind : DocumentFault) → IsErrOf result (Document line kind) → IsBadDocument bytes.now line kind }
     ensures refuted { (line : ℕ) (kind : Kind) → IsErrOf result (Refuted line kind) → IsRefuted bytes.now line kind }
     ensures refused_document { (line : ℕ) (kind : DocumentFault) → IsBadDocument bytes.now line kind
