@@ -12,3 +12,4 @@ pub mod Remade
 pub mod SameOutputs
 pub mod ShownRuns
 pub mod Complete
+pub mod Making

@@ -3,8 +3,6 @@ use Rattle.std.proofs.Common.{◌≡◌, ◌⊎◌, inl, inr, ℕ, Bool, true, f
 use Rattle.std.specs.Prelude.{IfOk, IsOkAnd, codes}
 use Rattle.ev_model.specs.declared.turn.Turn.{Turn}
 use Rattle.ev_model.specs.Parts.{NetParts, EntryParts}
-use Rattle.ev_net.specs.declared.replaying.ReplayFault.{ReplayFault}
-use Rattle.ev_net.specs.declared.replaying.ReplayFault.TheVariants as replays
 use Rattle.ev_net.specs.Network.{NetworkParts, IsLegal}
 use Rattle.ev_net.specs.Stopping.{StopsAtLine}
 use Rattle.ev_net.specs.Turns.{AreMade}
@@ -20,7 +18,7 @@ use Rattle.ev_audit.specs.declared.fault.ClaimFault.TheVariants as claims
 use Rattle.ev_audit.proofs.Apart.{none_equal}
 use Rattle.ev_audit.proofs.Inputs.{written_input}
 use Rattle.ev_audit.proofs.Claiming.{formless_or_bad, input_or_bad, not_alone, one_bad}
-use Rattle.ev_audited.specs.Answers.{AnswersAudit, ConcludesAt, TellsAudited, TellsDrained, TellsMade, TellsRun, fault_of_claim, fault_of_turn}
+use Rattle.ev_audited.specs.Answers.{AnswersAudit, ConcludesAt, TellsAudited, TellsDrained, TellsMade, TellsRun, fault_of_claim}
 use Rattle.ev_audited.specs.Comparing.{ComparingParts, GoesOn, IsComparedTo, comparing}
 use Rattle.ev_audited.specs.Verdict.{CanAudit, ComparesRun, EndsRun, IsAudited, IsInputOfRun, IsOutputOf, IsRefuted, IsVerdict, MakesRun, IsWrittenByRun, MustBeRefuted, ShowsRun}
 use Rattle.ev_audited.specs.Verdict.{line_at, traced_text}
@@ -90,12 +88,6 @@ written_of_run bytes net journal w = record {
 pub compared_all : (claimed text : List ℕ) (a c : ComparingParts) → a ≡ comparing claimed 0 false → GoesOn a c text → IsComparedTo c text
 compared_all claimed text a c e p = p.compared [] (subst (λ z. IsComparedTo z []) (sym e) (omega arith, refl))
 
--- turns that stop
-pub stopped_tells : {A : Type 0} (view : A → NetworkParts) (net : NetParts) (turns : List (ℕ × Turn)) (fault : ReplayFault) → ((line : ℕ) → fault ≡ replays.BadTurn line → StopsAtLine net [] turns line)
-    → TellsMade view net turns (Err (fault_of_turn fault))
-stopped_tells view net turns (replays.BadTurn line) stops = (refl, stops line refl)
-stopped_tells view net turns replays.NoMemory stops = tt
-
 pub made_tells : {A B : Type 0} (view : A → NetworkParts) (j : B → List EntryParts) (n : B → ℕ) (net : NetParts) (first end : ℕ) (output : List ℕ) (turns : List (ℕ × Turn)) (e : AuditFault)
     → TellsMade view net turns (Err e) → TellsRun j n net first end output turns (Err e)
 made_tells view j n net first end output turns faults.NoMemory h = tt
@@ -129,6 +121,12 @@ module _ {A : Type 0} (j : A → List EntryParts) (n : A → ℕ) (net : NetPart
     where
       never : {z : AuditFault} → r ≡ Ok u → r ≡ Err z → ⊥
       never p q = cc
+
+-- a run that is what is claimed is drained
+pub concludes_drained : (first end : ℕ) (output : List ℕ) (drained : Bool) (r : Result (Unit {0}) AuditFault) (u : Unit {0}) → r ≡ Ok u → (d : Option ℕ) → ConcludesAt first end output drained r d → drained ≡ true
+concludes_drained first end output true r u e d c = refl
+concludes_drained first end output false r u e (Some place) c = cc
+concludes_drained first end output false r u e None c = cc
 
 -- What is told of an input.
 
