@@ -4,7 +4,6 @@ use Rattle.std.proofs.lemmas.List.{length-map, map-append}
 use Rattle.ev_phases.specs.Moments.{found_of, opening_moment}
 use Rattle.ev_phases.proofs.Moments.{found-left}
 use Rattle.ev_theory.specs.Real.{real}
-use Rattle.ev_wire.specs.declared.sent.Sent.{Sent}
 use Rattle.ev_model.specs.declared.turn.Turn.{Turn}
 use Rattle.ev_model.specs.Parts.{NetParts, EntryParts}
 use Rattle.ev_model.specs.Meaning.{entry_of, journal_of}

@@ -4,7 +4,6 @@ use Rattle.std.specs.Prelude.{IfOk, IsOkAnd, codes}
 use Rattle.ev_model.specs.declared.turn.Turn.{Turn}
 use Rattle.ev_model.specs.Parts.{NetParts, EntryParts}
 use Rattle.ev_net.specs.Network.{NetworkParts, IsLegal}
-use Rattle.ev_net.specs.Stopping.{StopsAtLine}
 use Rattle.ev_net.specs.Turns.{AreMade}
 use Rattle.ev_net.proofs.Stopping.{never-stops, one-journal, one-line}
 use Rattle.ev_input.specs.declared.fault.Fault.{Fault}

@@ -2,7 +2,6 @@ use Rattle.std.proofs.Common.{◌≡◌, ◌++◌, ◌∷◌, [], List, take, ge
 use Rattle.std.proofs.Math.Seq.{take-length}
 use Rattle.ev_wire.specs.declared.sent.Sent.{Sent}
 use Rattle.ev_net.specs.Turns.{IsTurn}
-use Rattle.ev_net.specs.Network.{network_parts}
 use Rattle.ev_net.specs.Retold.{turn_of_entry}
 use Rattle.ev_net.specs.Told.{told_by}
 use Rattle.ev_net.proofs.Again.{retold-all, retold-more, retold-none}

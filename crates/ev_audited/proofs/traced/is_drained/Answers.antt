@@ -1,7 +1,3 @@
-use Rattle.std.proofs.Common.{◌≡◌, Bool, true, false}
-use Rattle.std.specs.Prelude.{not}
-use Rattle.ev_net.specs.Network.{NetworkParts}
-use Rattle.ev_net.specs.Walked.{IsPhaseOf}
 use Rattle.ev_audited.proofs.Runs.{stays_drained, tells_drained}
 use Rattle.ev_audited.proofs.traced.is_drained.Goals as goal
 
