@@ -197,8 +197,9 @@ fn answered(alloc: Global, bytes: &[u8]) -> Result<Audited, AuditFault>
 
 /// Audits an input of at most 268,435,456 bytes: a document, a line that is exactly `output`, and the bytes that a run of the document is said to have written,
 /// with its trace and in the order received. It makes the turns that the trace shows itself, and compares the text of that run with the output, piece by
-/// piece: the text is never whole in memory. It takes the time of a walk, and of flooding; where the deliveries are not those of the run it takes that of two. It says yes exactly where the document has a net and the output
-/// is the text of a legal and drained run of it, want of memory aside; there is one such run, whose journal it gives.
+/// piece: the text is never whole in memory. It says yes exactly where the document has a net and the output is the text of a legal and drained run of it,
+/// want of memory aside; there is one such run, whose journal it gives. It takes the time of a walk, and of flooding; where the deliveries are not those of
+/// the run, that of two walks.
 pub fn audit(alloc: Global, bytes: &[u8]) -> Result<Audited, AuditFault>
     requires { length bytes.now ≤ 268435456 }
     ensures audited { IfOk result (λ a. IsAudited bytes.now a.net a.journal.items a.owed a.deliveries) }
