@@ -1,15 +1,15 @@
 -- What a reader's answer tells of the input.
-use Rattle.std.proofs.Common.{◌≡◌, ◌⊎◌, inl, inr, ℕ, List, ◌∷◌, refl, sym, ap, subst, ◌∙◌, Result, Ok, Err}
+use Rattle.std.proofs.Common.{◌≡◌, ◌⊎◌, inl, inr, ℕ, List, refl, sym, ap, subst, ◌∙◌, Result, Ok, Err}
 use Rattle.std.specs.Prelude.{IfOk, IsOk, codes}
 use Rattle.ev_model.specs.declared.turn.Turn.{Turn}
 use Rattle.ev_model.specs.Parts.{NetParts}
 use Rattle.ev_input.specs.Lines.{lines}
-use Rattle.ev_input.specs.Net.{IsBadAt, IsNetOf}
+use Rattle.ev_input.specs.Net.{IsNetOf}
 use Rattle.ev_input.specs.Places.{document_of}
 use Rattle.ev_input.specs.declared.fault.Fault.{Fault}
 use Rattle.ev_cut.specs.Cut.{IsCutAt}
-use Rattle.ev_cut.proofs.Parting.{no_such, one_after, one_before}
-use Rattle.ev_audit.specs.Claim.{CanClaim, HasInput, HasNoOutput, IsBadDocument, IsClaimOf, IsDocumentAlone, IsFormless, IsInput, MustBeFormless, output_shows}
+use Rattle.ev_cut.proofs.Parting.{no_such, one_before}
+use Rattle.ev_audit.specs.Claim.{CanClaim, HasNoOutput, IsBadDocument, IsClaimOf, IsFormless, IsInput, MustBeFormless, output_shows}
 use Rattle.ev_audit.specs.Reading.{AnswersClaim}
 use Rattle.ev_audit.specs.declared.fault.ClaimFault.{ClaimFault}
 use Rattle.ev_audit.specs.declared.fault.ClaimFault.TheVariants as faults

@@ -3,3 +3,5 @@ pub mod Pieces
 pub mod Apart
 pub mod Digits
 pub mod Claiming
+pub mod Spelled
+pub mod Inputs

@@ -1,5 +1,5 @@
 -- What an input claims: a document, the line `output`, and an output with a trace.
-use Rattle.std.specs.Prelude.{◌≡◌, ◌⊎◌, ℕ, ◌+◌, List, drop, length, codes, Result, Ok, Err}
+use Rattle.std.specs.Prelude.{◌≡◌, ◌⊎◌, ℕ, ◌+◌, List, [], ◌∷◌, ◌++◌, drop, length, codes, Result, Ok, Err}
 use Rattle.ev_model.specs.declared.turn.Turn.{Turn}
 use Rattle.ev_model.specs.Parts.{NetParts}
 use Rattle.ev_input.specs.Lines.{lines}
@@ -13,6 +13,14 @@ use Rattle.ev_audit.specs.Trace.{shown_by}
 pub record IsInput (bytes document output : List ℕ) (net : NetParts) : Type 0 where
   pub cut : IsCutAt (codes "output") bytes document output
   pub well_formed : IsNetOf document net
+
+-- the last line is ended by a newline (10)
+abbrev pub EndsLine : List ℕ → Type 0
+EndsLine bytes = (front : List ℕ) × (bytes ≡ front ++ 10 ∷ [])
+
+-- a document, the line `output` behind it, and an output
+abbrev pub with_output : List ℕ → List ℕ → List ℕ
+with_output document output = document ++ codes "output\n" ++ output
 
 -- it has no line `output`, and all of it is the document
 abbrev pub HasNoOutput : List ℕ → Type 0

@@ -5,6 +5,7 @@
 mod claim;
 mod differing;
 mod fault;
+pub mod law;
 mod line;
 mod number;
 mod output;

@@ -1,3 +1,15 @@
 pub mod Pieces
 pub mod Runs
 pub mod Verdicts
+pub mod SameTrees
+pub mod SameRuns
+pub mod Kept
+pub mod Acts
+pub mod ShownTexts
+pub mod Entries
+pub mod Retraced
+pub mod Remade
+pub mod SameOutputs
+pub mod ShownRuns
+pub mod Complete
+pub mod Making

@@ -94,3 +94,32 @@ placed_some c claimed at true same ne text h =
 placed_some c claimed at false same (inl e) text h = cc
 placed_some c claimed at false same (inr ne) text h =
     subst (λ (z : ComparingParts). Some at ≡ difference z.claimed text) same (placed_before claimed text at ne (subst (λ z. IsComparedTo z text) (sym same) h))
+
+-- A comparison that was made apart.
+
+joins_at : (claimed rest piece text : List ℕ) (at more : ℕ) (b : Bool) → rest ≡ drop at claimed → IsComparedAt b rest more piece → IsComparedAt false claimed at text → IsComparedAt b claimed (at + more) (text ++ piece)
+joins_at claimed rest piece text at more true is part h = λ tail.
+    let whole : take at claimed ++ drop at claimed ≡ claimed = take-append-drop at claimed in
+    let apart : difference (drop at claimed) (piece ++ tail) ≡ Some more = subst (λ z. difference z (piece ++ tail) ≡ Some more) is (part tail) in
+    ap (λ z. difference claimed ((z ++ piece) ++ tail)) h.1
+    ∙ (ap (λ z. difference claimed z) (append_assoc (take at claimed) piece tail)
+    ∙ (ap (λ z. difference z (take at claimed ++ (piece ++ tail))) (sym whole)
+    ∙ (behind_alike (take at claimed) (drop at claimed) (piece ++ tail)
+    ∙ (ap (option_map (λ p. length (take at claimed) + p)) apart
+    ∙ ap (λ n. Some (n + more)) (length-take-le at claimed h.0)))))
+joins_at claimed rest piece text at more false is part h =
+    let part' : (more ≤ length (drop at claimed)) × (piece ≡ take more (drop at claimed)) = subst (λ z. (more ≤ length z) × (piece ≡ take more z)) is part in (
+      omega (arith, part'.0, drop_length claimed at h.0),
+      (λ i. h.1 i ++ part'.1 i) ∙ take_both claimed at more h.0,
+    )
+
+pub follows_at : (old : ComparingParts) (claimed : List ℕ) (at : ℕ) (part : ComparingParts) (piece : List ℕ) → comparing claimed at false ≡ old → part.claimed ≡ drop at claimed → IsComparedTo part piece
+    → GoesOn old (comparing claimed (at + part.at) part.apart) piece
+follows_at old claimed at part piece same is h =
+    subst (λ z. GoesOn z (comparing claimed (at + part.at) part.apart) piece) same
+    (record { claimed = refl; compared = λ text t. joins_at claimed part.claimed piece text at part.at part.apart is h t })
+
+pub goes_any : (c : ComparingParts) (claimed : List ℕ) (at : ℕ) (piece : List ℕ) → comparing claimed at true ≡ c → GoesOn c c piece
+goes_any c claimed at piece same =
+    subst (λ z. GoesOn z z piece) same
+    (record { claimed = refl; compared = λ text h more. ap (difference claimed) (append_assoc text piece more) ∙ h (piece ++ more) })

@@ -29,13 +29,17 @@ pub tells_drained : (more : Bool) (old new : NetworkParts) → IsPhaseOf more ol
 tells_drained true old new w legal = walked-open old new w legal
 tells_drained false old new w legal = w.1
 
+pub stays_drained : (more : Bool) (old new : NetworkParts) → IsPhaseOf more old new → not more ≡ true → new ≡ old
+stays_drained true old new w e = cc
+stays_drained false old new w e = w.0
+
 -- each entry has its messages
 told_length : (net : NetParts) (journal : List EntryParts) (n : ℕ) (entries : List EntryParts) → length (told_from net journal n entries) ≡ length entries
 told_length net journal n [] = refl
 told_length net journal n (entry ∷ entries) = ap suc (told_length net journal (suc n) entries)
 
 -- the text of one entry more
-text_more : (clients : List ClientParts) (es : List EntryParts) (os : List (List Sent)) (e : EntryParts) (o : List Sent) → length os ≡ length es
+pub text_more : (clients : List ClientParts) (es : List EntryParts) (os : List (List Sent)) (e : EntryParts) (o : List Sent) → length os ≡ length es
     → entries_text clients es os ++ entry_text clients e o ≡ entries_text clients (es ++ e ∷ []) (os ++ o ∷ [])
 text_more clients [] [] e o l = sym (nothing_more (entry_text clients e o))
   where

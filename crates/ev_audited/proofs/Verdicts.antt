@@ -1,26 +1,28 @@
 -- Verdicts: there is one of each output, and what the code tells of them.
 use Rattle.std.proofs.Common.{◌≡◌, ◌⊎◌, inl, inr, ℕ, Bool, true, false, List, [], drop, Result, Ok, Err, Option, Some, None, refl, sym, ap, subst, ◌∙◌, arith}
-use Rattle.std.specs.Prelude.{IfOk, IsOk}
+use Rattle.std.specs.Prelude.{IfOk, IsOkAnd, codes}
 use Rattle.ev_model.specs.declared.turn.Turn.{Turn}
 use Rattle.ev_model.specs.Parts.{NetParts, EntryParts}
-use Rattle.ev_net.specs.declared.replaying.ReplayFault.{ReplayFault}
-use Rattle.ev_net.specs.declared.replaying.ReplayFault.TheVariants as replays
 use Rattle.ev_net.specs.Network.{NetworkParts, IsLegal}
-use Rattle.ev_net.specs.Stopping.{StopsAtLine}
 use Rattle.ev_net.specs.Turns.{AreMade}
 use Rattle.ev_net.proofs.Stopping.{never-stops, one-journal, one-line}
 use Rattle.ev_input.specs.declared.fault.Fault.{Fault}
+use Rattle.ev_input.specs.Net.{IsNetOf}
 use Rattle.ev_cut.specs.Cut.{first_number}
-use Rattle.ev_audit.specs.Claim.{IsBadDocument, IsClaimOf, IsFormless, output_shows}
+use Rattle.ev_cut.proofs.Parting.{one_after, one_before}
+use Rattle.ev_audit.specs.Claim.{IsBadDocument, IsClaimOf, IsFormless, IsInput, output_shows}
 use Rattle.ev_audit.specs.Difference.{difference}
 use Rattle.ev_audit.specs.declared.fault.ClaimFault.{ClaimFault}
 use Rattle.ev_audit.specs.declared.fault.ClaimFault.TheVariants as claims
 use Rattle.ev_audit.proofs.Apart.{none_equal}
+use Rattle.ev_audit.proofs.Inputs.{written_input}
 use Rattle.ev_audit.proofs.Claiming.{formless_or_bad, input_or_bad, not_alone, one_bad}
-use Rattle.ev_audited.specs.Answers.{AnswersAudit, ConcludesAt, TellsAudited, TellsDrained, TellsMade, TellsRun, fault_of_claim, fault_of_turn}
+use Rattle.ev_audited.specs.Answers.{AnswersAudit, ConcludesAt, TellsAudited, TellsDrained, TellsMade, TellsRun, fault_of_claim}
 use Rattle.ev_audited.specs.Comparing.{ComparingParts, GoesOn, IsComparedTo, comparing}
-use Rattle.ev_audited.specs.Verdict.{CanAudit, ComparesRun, EndsRun, IsAudited, IsOutputOf, IsRefuted, IsVerdict, MakesRun, MustBeRefuted, ShowsRun}
+use Rattle.ev_audited.specs.Verdict.{CanAudit, ComparesRun, EndsRun, IsAudited, IsInputOfRun, IsOutputOf, IsRefuted, IsVerdict, MakesRun, IsWrittenByRun, MustBeRefuted, ShowsRun}
 use Rattle.ev_audited.specs.Verdict.{line_at, traced_text}
+use Rattle.ev_audited.proofs.Complete.{run-verdict}
+use Rattle.ev_audited.proofs.SameOutputs.{same-output}
 use Rattle.ev_audited.specs.declared.fault.AuditKind.{AuditKind}
 use Rattle.ev_audited.specs.declared.fault.AuditKind.TheVariants as is
 use Rattle.ev_audited.specs.declared.fault.AuditFault.{AuditFault}
@@ -58,17 +60,32 @@ module _ (net : NetParts) where
   pub one_verdict : (document output : List ℕ) (v w : Verdict) → IsVerdict net document output v → IsVerdict net document output w → v ≡ w
   one_verdict document output v w h k = one_shown (first_number document) output v w (output_shows net document output) h k
 
+-- THE INPUT OF A WHOLE RUN has the verdict that it is.
+
+the_verdict : (bytes document output : List ℕ) (net other : NetParts) (run : List EntryParts) → IsInput bytes document output net → IsInputOfRun bytes other run
+    → IsVerdict net document output (Ok run)
+the_verdict bytes document output net other run i r =
+    let same : r.document ≡ document = one_before (codes "output") bytes r.document document r.output output r.input.cut i.cut in
+    let behind : r.output ≡ output = one_after (codes "output") bytes r.document document r.output output r.input.cut i.cut in
+    run-verdict document output net run i.well_formed
+    (subst (IsOutputOf net run) behind (same-output document other net run r.output (subst (λ z. IsNetOf z other) same r.input.well_formed) i.well_formed r.run))
+
+one_journal : (a b : List EntryParts) → ◌≡◌ {A = Verdict} (Ok a) (Ok b) → a ≡ b
+one_journal a b e = cc
+
+pub written_of_run : (bytes : List ℕ) (net : NetParts) (journal : List EntryParts) → IsWrittenByRun bytes net journal → IsInputOfRun bytes net journal
+written_of_run bytes net journal w = record {
+  document = w.document;
+  output = traced_text net journal;
+  input = subst (λ z. IsInput z w.document (traced_text net journal) net) (sym w.text) (written_input w.document (traced_text net journal) net w.well_formed w.ends);
+  run = record { legal = w.legal; drained = w.drained; text = refl };
+}
+
 -- What is told of a run.
 
 -- the text of a run was compared from its beginning
 pub compared_all : (claimed text : List ℕ) (a c : ComparingParts) → a ≡ comparing claimed 0 false → GoesOn a c text → IsComparedTo c text
 compared_all claimed text a c e p = p.compared [] (subst (λ z. IsComparedTo z []) (sym e) (omega arith, refl))
-
--- turns that stop
-pub stopped_tells : {A : Type 0} (view : A → NetworkParts) (net : NetParts) (turns : List (ℕ × Turn)) (fault : ReplayFault) → ((line : ℕ) → fault ≡ replays.BadTurn line → StopsAtLine net [] turns line)
-    → TellsMade view net turns (Err (fault_of_turn fault))
-stopped_tells view net turns (replays.BadTurn line) stops = (refl, stops line refl)
-stopped_tells view net turns replays.NoMemory stops = tt
 
 pub made_tells : {A B : Type 0} (view : A → NetworkParts) (j : B → List EntryParts) (n : B → ℕ) (net : NetParts) (first end : ℕ) (output : List ℕ) (turns : List (ℕ × Turn)) (e : AuditFault)
     → TellsMade view net turns (Err e) → TellsRun j n net first end output turns (Err e)
@@ -104,6 +121,12 @@ module _ {A : Type 0} (j : A → List EntryParts) (n : A → ℕ) (net : NetPart
       never : {z : AuditFault} → r ≡ Ok u → r ≡ Err z → ⊥
       never p q = cc
 
+-- a run that is what is claimed is drained
+pub concludes_drained : (first end : ℕ) (output : List ℕ) (drained : Bool) (r : Result (Unit {0}) AuditFault) (u : Unit {0}) → r ≡ Ok u → (d : Option ℕ) → ConcludesAt first end output drained r d → drained ≡ true
+concludes_drained first end output true r u e d c = refl
+concludes_drained first end output false r u e (Some place) c = cc
+concludes_drained first end output false r u e None c = cc
+
 -- What is told of an input.
 
 pub unclaimed_tells : {A : Type 0} (g : A → NetParts) (j : A → List EntryParts) (o n : A → ℕ) (bytes : List ℕ) (fault : ClaimFault) → ((line : ℕ) (kind : Fault) → fault ≡ claims.Document line kind → IsBadDocument bytes line kind)
@@ -131,6 +154,7 @@ module _ {A : Type 0} (g : A → NetParts) (j : A → List EntryParts) (o n : A 
         input = c.input;
         run = subst (IsOutputOf net (j a)) (behind ∙ sym c.begins) run;
         verdict = verdict_of (Ok (j a)) m;
+        only = λ other run r. one_journal run (j a) (one_verdict net c.document c.output (Ok run) (Ok (j a)) (the_verdict bytes c.document c.output net other run c.input r) (verdict_of (Ok (j a)) m));
         owes = owes;
         delivers = delivers;
       })
@@ -170,27 +194,27 @@ audited_or_must bytes net journal owed deliveries line kind a (inl (h, all)) =
 audited_or_must bytes net journal owed deliveries line kind a (inr (alone, e)) = not_alone bytes a.document a.output a.input.cut alone.0
 
 pub can_or_refuted : (bytes : List ℕ) (l : ℕ) (k : AuditKind) → CanAudit bytes → IsRefuted bytes l k → ⊥
-can_or_refuted bytes l k (h, all) (inl (d, out, net, i, v)) =
-    let t = all d out net i in
-    never_both t.0 (l, k) (one_verdict net d out (Ok t.0) (Err (l, k)) t.1 v)
-can_or_refuted bytes l k ((d, out, net, i), all) (inr (alone, e)) = not_alone bytes d out i.cut alone.0
+can_or_refuted bytes l k (other, run, r) (inl (d, out, net, i, v)) =
+    never_both run (l, k) (one_verdict net d out (Ok run) (Err (l, k)) (the_verdict bytes d out net other run i r) v)
+can_or_refuted bytes l k (other, run, r) (inr (alone, e)) = not_alone bytes r.document r.output r.input.cut alone.0
 
 pub audited_or_bad : (bytes : List ℕ) (net : NetParts) (journal : List EntryParts) (owed deliveries line : ℕ) (kind : Fault) → IsAudited bytes net journal owed deliveries → IsBadDocument bytes line kind → ⊥
 audited_or_bad bytes net journal owed deliveries line kind a b = input_or_bad bytes a.document a.output net line kind a.input b
 
 pub can_or_bad : (bytes : List ℕ) (line : ℕ) (kind : Fault) → CanAudit bytes → IsBadDocument bytes line kind → ⊥
-can_or_bad bytes line kind ((d, out, net, i), all) b = input_or_bad bytes d out net line kind i b
+can_or_bad bytes line kind (net, run, r) b = input_or_bad bytes r.document r.output net line kind r.input b
 
 module _ {A : Type 0} (g : A → NetParts) (j : A → List EntryParts) (o n : A → ℕ) (bytes : List ℕ) where
   pub audited_told : (r : Result A AuditFault) → AnswersAudit g j o n bytes r → IfOk r (λ a. IsAudited bytes (g a) (j a) (o a) (n a))
   audited_told (Ok a) h = h
   audited_told (Err e) h = tt
 
-  pub done_told : (r : Result A AuditFault) → AnswersAudit g j o n bytes r → CanAudit bytes → IsOk r ⊎ (r ≡ Err faults.NoMemory)
-  done_told (Ok a) h k = inl refl
-  done_told (Err faults.NoMemory) h k = inr refl
-  done_told (Err (faults.Document line kind)) h ((d, out, net, i), all) = absurd (input_or_bad bytes d out net line kind i h)
-  done_told (Err (faults.Refuted line kind)) h k = absurd (can_or_refuted bytes line kind k h)
+  pub complete_told : (r : Result A AuditFault) → AnswersAudit g j o n bytes r → (net : NetParts) (run : List EntryParts) → IsInputOfRun bytes net run
+      → IsOkAnd r (λ a. j a ≡ run) ⊎ (r ≡ Err faults.NoMemory)
+  complete_told (Ok a) h net run k = inl (sym (h.only net run k))
+  complete_told (Err faults.NoMemory) h net run k = inr refl
+  complete_told (Err (faults.Document line kind)) h net run k = absurd (can_or_bad bytes line kind (net, run, k) h)
+  complete_told (Err (faults.Refuted line kind)) h net run k = absurd (can_or_refuted bytes line kind (net, run, k) h)
 
   pub document_told : (r : Result A AuditFault) → AnswersAudit g j o n bytes r → (line : ℕ) (kind : Fault) → r ≡ Err (faults.Document line kind) → IsBadDocument bytes line kind
   document_told (Ok a) h line kind e = cc

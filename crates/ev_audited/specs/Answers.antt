@@ -5,8 +5,6 @@ use Rattle.ev_model.specs.Parts.{NetParts, EntryParts}
 use Rattle.ev_net.specs.Network.{NetworkParts, IsDrainedBy}
 use Rattle.ev_net.specs.Stopping.{StopsAtLine}
 use Rattle.ev_net.specs.Turns.{AreMade}
-use Rattle.ev_net.specs.declared.replaying.ReplayFault.{ReplayFault}
-use Rattle.ev_net.specs.declared.replaying.ReplayFault.TheVariants as turns
 use Rattle.ev_audit.specs.Claim.{IsBadDocument}
 use Rattle.ev_audit.specs.Difference.{difference}
 use Rattle.ev_audit.specs.declared.fault.ClaimFault.{ClaimFault}
@@ -22,11 +20,6 @@ abbrev pub fault_of_claim : ClaimFault → AuditFault
 fault_of_claim (claims.Document line kind) = faults.Document line kind
 fault_of_claim (claims.Form line) = faults.Refuted line Form
 fault_of_claim claims.NoMemory = faults.NoMemory
-
--- of turns that stop
-abbrev pub fault_of_turn : ReplayFault → AuditFault
-fault_of_turn (turns.BadTurn line) = faults.Refuted line BadTurn
-fault_of_turn turns.NoMemory = faults.NoMemory
 
 -- whether a run is drained
 abbrev pub TellsDrained : Bool → NetParts → List EntryParts → Type 0

@@ -1,5 +1,13 @@
 -- A text that is compared with what is claimed, as it is written; no promise to a caller speaks of it.
-use Rattle.std.specs.Prelude.{◌≡◌, ◌≤◌, ℕ, Bool, true, false, List, ◌++◌, length, take, Some}
+use Rattle.std.specs.Prelude.{◌≡◌, ◌≤◌, ℕ, Bool, true, false, List, [], ◌∷◌, ◌++◌, length, take, Some}
+use Rattle.ev_phases.specs.Moments.{found_of}
+use Rattle.ev_theory.specs.Real.{real}
+use Rattle.ev_model.specs.Parts.{EntryParts}
+use Rattle.ev_model.specs.Meaning.{journal_of}
+use Rattle.ev_model.specs.Nets.{phased_net}
+use Rattle.ev_net.specs.Network.{NetworkParts}
+use Rattle.ev_net.specs.Told.{told_of}
+use Rattle.ev_report.specs.Trace.{entry_text}
 use Rattle.ev_audit.specs.Difference.{difference}
 
 -- what is claimed, how much of it is as the text so far, and whether the two part there
@@ -24,3 +32,19 @@ IsComparedTo c text = IsComparedAt c.apart c.claimed c.at text
 pub record GoesOn (old new : ComparingParts) (piece : List ℕ) : Type 0 where
   pub claimed : new.claimed ≡ old.claimed
   pub compared : (text : List ℕ) → IsComparedTo old text → IsComparedTo new (text ++ piece)
+
+-- the text went on by a piece whose comparison with what is left was taken over; or nothing changed
+abbrev pub Follows : Bool → ComparingParts → ComparingParts → List ℕ → Type 0
+Follows true old new piece = GoesOn old new piece
+Follows false old new piece = new ≡ old
+
+-- the text of the last entry of a network's run, with its messages, was compared
+abbrev pub ComparesLast : NetworkParts → ComparingParts → ComparingParts → Type 0
+ComparesLast network old new = (before : List EntryParts) (entry : EntryParts) → network.journal ≡ before ++ entry ∷ []
+    → GoesOn old new (entry_text network.net.clients entry
+    (told_of network.net (found_of real (phased_net network.net) (journal_of network.journal) (length before)) entry))
+
+-- that of a turn, where it was made
+abbrev pub ComparesTurn : Bool → NetworkParts → ComparingParts → ComparingParts → Type 0
+ComparesTurn true network old new = ComparesLast network old new
+ComparesTurn false network old new = Unit {0}

@@ -13,8 +13,9 @@ use Rattle.ev_flood.specs.Flooding.{IsFlooding}
 use Rattle.ev_report.specs.Counts.{total}
 use Rattle.ev_report.specs.Deliveries.{deliveries_text}
 use Rattle.ev_report.specs.Trace.{trace_text}
+use Rattle.ev_input.specs.Net.{IsNetOf}
 use Rattle.ev_cut.specs.Cut.{first_number}
-use Rattle.ev_audit.specs.Claim.{AllInputs, IsDocumentAlone, IsInput, output_shows}
+use Rattle.ev_audit.specs.Claim.{AllInputs, EndsLine, IsDocumentAlone, IsInput, output_shows, with_output}
 use Rattle.ev_audit.specs.Difference.{difference}
 use Rattle.ev_audited.specs.declared.fault.AuditKind.{AuditKind}
 use Rattle.ev_audited.specs.declared.fault.AuditKind.TheVariants as is
@@ -74,9 +75,25 @@ MustBeRefuted bytes line kind =
     AllInputs bytes (λ net document output. IsVerdict net document output (Err (line, kind)))
     ⊎ (IsDocumentAlone bytes line × (kind ≡ is.Form))
 
--- its output is that of a whole run, however it is read
+-- THE INPUT OF A WHOLE RUN: a document with this net, the line `output`, and the output of this run, which is legal and drained
+pub record IsInputOfRun (bytes : List ℕ) (net : NetParts) (journal : List EntryParts) : Type 0 where
+  pub document : List ℕ
+  pub output : List ℕ
+  pub input : IsInput bytes document output net
+  pub run : IsOutputOf net journal output
+
+-- there is such a run
 abbrev pub CanAudit : List ℕ → Type 0
-CanAudit bytes = AllInputs bytes (λ net document output. (journal : List EntryParts) × IsVerdict net document output (Ok journal))
+CanAudit bytes = (net : NetParts) × (journal : List EntryParts) × IsInputOfRun bytes net journal
+
+-- AS IT IS WRITTEN: a document with this net, whose last line is ended, the line `output` behind it, and the text of this run, which is legal and drained
+pub record IsWrittenByRun (bytes : List ℕ) (net : NetParts) (journal : List EntryParts) : Type 0 where
+  pub document : List ℕ
+  pub well_formed : IsNetOf document net
+  pub ends : EndsLine document
+  pub legal : IsLegal net journal
+  pub drained : IsDrainedBy net journal
+  pub text : bytes ≡ with_output document (traced_text net journal)
 
 -- how many rows are owed
 abbrev pub owed_of : List OwedRow → ℕ
@@ -92,12 +109,13 @@ Owes net owed = (rows : List (List OwedRow)) × (refused : List (List ℕ)) × I
 abbrev pub delivered_in : NetParts → List EntryParts → ℕ
 delivered_in net journal = total (of_clients net (received_by net journal))
 
--- THE OUTPUT OF AN INPUT IS THAT OF THIS RUN, which is legal and drained, with its counts
+-- THE OUTPUT OF AN INPUT IS THAT OF THIS RUN, which is legal and drained, and of no other, with its counts
 pub record IsAudited (bytes : List ℕ) (net : NetParts) (journal : List EntryParts) (owed deliveries : ℕ) : Type 0 where
   pub document : List ℕ
   pub output : List ℕ
   pub input : IsInput bytes document output net
   pub run : IsOutputOf net journal output
   pub verdict : IsVerdict net document output (Ok journal)
+  pub only : (other : NetParts) (run : List EntryParts) → IsInputOfRun bytes other run → run ≡ journal
   pub owes : Owes net owed
   pub delivers : deliveries ≡ delivered_in net journal

@@ -1,23 +1,26 @@
 //! Audits.
-ghost use Rattle.std.specs.Prelude.{◌≡◌, ◌≤◌, ◌⊎◌, ℕ, length, IfOk, IsOk, IsErrOf, OnOk};
+ghost use Rattle.std.specs.Prelude.{◌≡◌, ◌≤◌, ◌⊎◌, ℕ, List, drop, length, IfOk, IsOkAnd, IsErrOf, OnOk};
+ghost use Rattle.ev_model.specs.Parts.{NetParts, EntryParts};
 ghost use Rattle.ev_model.specs.Nets.{of_clients};
 ghost use Rattle.ev_model.specs.Sound.{IsSound};
-ghost use Rattle.ev_net.specs.Network.{IsLegal, received_by};
+ghost use Rattle.ev_net.specs.Network.{received_by};
 ghost use Rattle.ev_input.specs.declared.fault.Fault.{Fault as DocumentFault};
+ghost use Rattle.ev_net.specs.Told.{told_by};
 ghost use Rattle.ev_report.specs.Counts.{total};
+ghost use Rattle.ev_report.specs.Trace.{trace_text};
 ghost use Rattle.ev_audit.specs.Claim.{IsBadDocument};
-ghost use Rattle.ev_audited.specs.Comparing.{GoesOn};
-ghost use Rattle.ev_audited.specs.Answers.{AnswersAudit, Concludes, TellsAudited, TellsDrained, TellsMade, TellsRun};
-ghost use Rattle.ev_audited.specs.Verdict.{CanAudit, IsAudited, IsRefuted, MustBeRefuted, delivered_in, traced_text};
+ghost use Rattle.ev_audited.specs.Comparing.{GoesOn, IsComparedTo};
+ghost use Rattle.ev_audited.specs.Answers.{AnswersAudit, Concludes, TellsAudited, TellsMade, TellsRun};
+ghost use Rattle.ev_audited.specs.Verdict.{IsAudited, IsInputOfRun, IsRefuted, IsWrittenByRun, MustBeRefuted, traced_text};
 ghost use Rattle.ev_audited.specs.declared.fault.AuditKind.{AuditKind as Kind};
 ghost use Rattle.ev_audited.specs.declared.fault.AuditFault.TheVariants.{Document, NoMemory as OutOfMemory, Refuted};
 
 use crate::compared::compare_deliveries;
 use crate::comparing::Comparing;
 use crate::counts::owed;
-use crate::fault::{AuditFault, AuditKind, stopped, unclaimed};
-use crate::place::line_at;
-use crate::traced::compare_trace;
+use crate::fault::{AuditFault, AuditKind, unclaimed};
+use crate::place::{line_at, trace_at};
+use crate::traced::{compare_trace, is_drained, make_compared};
 use ev_audit::{Claim, read_claim};
 use ev_input::law::net_is_sound;
 use ev_memory::NoMemory;
@@ -39,22 +42,6 @@ pub struct Audited {
     pub deliveries: u64,
 }
 
-// The network after turns.
-fn replayed<'a>(
-    alloc: Global,
-    net: &'a Net,
-    turns: &[(u32, Turn)],
-) -> Result<Network<'a>, AuditFault>
-    requires { IsSound net.now }
-    ensures { TellsMade (λ network. network) net.now turns.now result }
-{
-    let mut network = Network::start(alloc, net)?;
-    match network.replay(turns) {
-        Ok(()) => Ok(network),
-        Err(fault) => Err(stopped(fault)),
-    }
-}
-
 // The journal of a network, and how many deliveries there were.
 fn left(network: Network<'_>) -> Result<(Vec<Entry>, u64), NoMemory>
     ensures journal { IfOk result (λ p. p.0.items ≡ network.entry.journal) }
@@ -64,38 +51,52 @@ fn left(network: Network<'_>) -> Result<(Vec<Entry>, u64), NoMemory>
     Ok((journal, total(&received)?))
 }
 
-// What is left of a network, whose run is compared.
-#[derive(Drop)]
-struct Compared {
-    journal: Vec<Entry>,
-    deliveries: u64,
-    drained: bool,
-}
-
-// Compares the text of the run of a network.
+// Compares the text of the run of a network with an output, whose trace was compared with what stands behind a place of it. Where the deliveries do not end
+// at that place the turns are made again.
 fn compare(
     alloc: Global,
     net: &Net,
-    network: Network<'_>,
+    network: &Network<'_>,
     text: &mut Comparing<'_>,
-) -> Result<Compared, NoMemory>
+    traced: &Comparing<'_>,
+    at: usize,
+) -> Result<(), NoMemory>
     requires sound { IsSound net.now }
-    requires same { network.net ≡ net.now }
-    ensures journal { IfOk result (λ l. l.journal.items ≡ network.entry.journal) }
-    ensures legal { OnOk result (IsLegal net.now network.entry.journal) }
-    ensures deliveries { IfOk result (λ l. l.deliveries ≡ delivered_in net.now network.entry.journal) }
-    ensures drained { IfOk result (λ l. TellsDrained l.drained net.now network.entry.journal) }
-    ensures compared { OnOk result (GoesOn text.old text.new (traced_text net.now network.entry.journal)) }
+    requires same { network.now.net ≡ net.now }
+    requires part { traced.now.claimed ≡ drop at text.old.claimed }
+    requires within { at ≤ length text.old.claimed }
+    requires compared { IsComparedTo traced.now (trace_text net.now network.now.journal (told_by net.now network.now.journal)) }
+    ensures { OnOk result (GoesOn text.old text.new (traced_text net.now network.now.journal)) }
 {
-    network.journal();
-    compare_deliveries(alloc, text, net, &network)?;
-    let (journal, deliveries) = left(network)?;
-    let drained = compare_trace(alloc, text, net, &journal)?;
-    Ok(Compared {
-        journal,
-        deliveries,
-        drained,
-    })
+    compare_deliveries(alloc, text, net, network)?;
+    if text.follow(traced, at) {
+        return Ok(());
+    }
+    compare_trace(alloc, text, net, network.journal())
+}
+
+// The network after turns, whose text was compared with an output.
+fn made<'a, 'b>(
+    alloc: Global,
+    net: &'a Net,
+    turns: &[(u32, Turn)],
+    output: &'b [u8],
+) -> Result<(Network<'a>, Comparing<'b>), AuditFault>
+    requires { IsSound net.now }
+    ensures made { TellsMade (λ p. p.0) net.now turns.now result }
+    ensures claimed { IfOk result (λ p. p.1.claimed ≡ output.now) }
+    ensures compared { IfOk result (λ p. IsComparedTo p.1 (traced_text net.now p.0.journal)) }
+{
+    let at = trace_at(output);
+    let (_, trace) = output.split_at(at);
+    let mut traced = Comparing::new(trace);
+    let network = match make_compared(alloc, &mut traced, net, turns) {
+        Ok(network) => network,
+        Err(fault) => return Err(fault),
+    };
+    let mut text = Comparing::new(output);
+    compare(alloc, net, &network, &mut text, &traced, at)?;
+    Ok((network, text))
 }
 
 // Whether the text that was compared, of a run that is drained or not, is what is claimed.
@@ -141,18 +142,14 @@ fn run(
     requires short { length output.now ≤ 268435456 }
     ensures { TellsRun (λ p. p.0.items) (λ p. p.1) net.now first end output.now turns.now result }
 {
-    let network = match replayed(alloc, net, turns) {
-        Ok(network) => network,
+    let (mut network, text) = match made(alloc, net, turns, output) {
+        Ok(made) => made,
         Err(fault) => return Err(fault),
     };
-    let mut text = Comparing::new(output);
-    let Compared {
-        journal,
-        deliveries,
-        drained,
-    } = compare(alloc, net, network, &mut text)?;
+    network.journal();
+    let drained = is_drained(&mut network)?;
     match concluded(&text, first, end, output, drained) {
-        Ok(()) => Ok((journal, deliveries)),
+        Ok(()) => Ok(left(network)?),
         Err(fault) => Err(fault),
     }
 }
@@ -162,7 +159,8 @@ fn of_claim(alloc: Global, claim: Claim, output: &[u8]) -> Result<Audited, Audit
     requires sound { IsSound claim.net }
     requires first { claim.line ≤ 268435458 }
     requires short { length output.now ≤ 268435456 }
-    ensures { TellsAudited (λ a. a.net) (λ a. a.journal.items) (λ a. a.owed) (λ a. a.deliveries) claim.net claim.line claim.end output.now claim.turns.items result }
+    ensures { TellsAudited (λ a. a.net) (λ a. a.journal.items) (λ a. a.owed) (λ a. a.deliveries)
+        claim.net claim.line claim.end output.now claim.turns.items result }
 {
     let Claim {
         net,
@@ -199,11 +197,16 @@ fn answered(alloc: Global, bytes: &[u8]) -> Result<Audited, AuditFault>
 
 /// Audits an input of at most 268,435,456 bytes: a document, a line that is exactly `output`, and the bytes that a run of the document is said to have written,
 /// with its trace and in the order received. It makes the turns that the trace shows itself, and compares the text of that run with the output, piece by
-/// piece: the text is never whole in memory. It takes the time of two walks, and of flooding.
+/// piece: the text is never whole in memory. It says yes exactly where the document has a net and the output is the text of a legal and drained run of it,
+/// want of memory aside; there is one such run, whose journal it gives. It takes the time of a walk, and of flooding; where the deliveries are not those of
+/// the run, that of two walks.
 pub fn audit(alloc: Global, bytes: &[u8]) -> Result<Audited, AuditFault>
     requires { length bytes.now ≤ 268435456 }
     ensures audited { IfOk result (λ a. IsAudited bytes.now a.net a.journal.items a.owed a.deliveries) }
-    ensures done { CanAudit bytes.now → IsOk result ⊎ IsErrOf result OutOfMemory }
+    ensures complete { (net : NetParts) (journal : List EntryParts) → IsInputOfRun bytes.now net journal
+        → IsOkAnd result (λ a. a.journal.items ≡ journal) ⊎ IsErrOf result OutOfMemory }
+    ensures written { (net : NetParts) (journal : List EntryParts) → IsWrittenByRun bytes.now net journal
+        → IsOkAnd result (λ a. a.journal.items ≡ journal) ⊎ IsErrOf result OutOfMemory }
     ensures document { (line : ℕ) (kind : DocumentFault) → IsErrOf result (Document line kind) → IsBadDocument bytes.now line kind }
     ensures refuted { (line : ℕ) (kind : Kind) → IsErrOf result (Refuted line kind) → IsRefuted bytes.now line kind }
     ensures refused_document { (line : ℕ) (kind : DocumentFault) → IsBadDocument bytes.now line kind

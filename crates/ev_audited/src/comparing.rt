@@ -1,7 +1,7 @@
 //! A text compared with what is claimed, as it is written.
-ghost use Rattle.std.specs.Prelude.{◌≡◌, ◌≤◌, List, ℕ, false, length, IfSome};
+ghost use Rattle.std.specs.Prelude.{◌≡◌, ◌≤◌, List, ℕ, false, drop, length, IfSome};
 ghost use Rattle.ev_audit.specs.Difference.{difference};
-ghost use Rattle.ev_audited.specs.Comparing.{GoesOn, IsComparedTo, comparing};
+ghost use Rattle.ev_audited.specs.Comparing.{Follows, GoesOn, IsComparedTo, comparing};
 
 use ev_audit::difference;
 use std::marker::Model;
@@ -52,6 +52,24 @@ impl<'a> Comparing<'a> {
                 self.apart = place < piece.len();
             }
         }
+    }
+
+    /// Goes on by a text whose comparison with what is claimed from this place on was made apart, where that is the place that the text has come to, and
+    /// answers whether it went on; where the text has parted before, it goes on by any.
+    pub fn follow(&mut self, part: &Comparing<'_>, from: usize) -> bool
+        requires part { part.now.claimed ≡ drop from self.old.claimed }
+        requires within { from ≤ length self.old.claimed }
+        ensures { (piece : List ℕ) → IsComparedTo part.now piece → Follows result self.old self.new piece }
+    {
+        if self.apart {
+            return true;
+        }
+        if self.at != from {
+            return false;
+        }
+        self.at += part.at;
+        self.apart = part.apart;
+        true
     }
 
     /// The first place at which what is claimed is not the text that was compared.

@@ -1,12 +1,11 @@
 //! Why a claimed run is refuted.
 ghost use Rattle.std.specs.Prelude.{◌≡◌};
-ghost use Rattle.ev_audited.specs.Answers.{fault_of_claim, fault_of_turn};
+ghost use Rattle.ev_audited.specs.Answers.{fault_of_claim};
 ghost use Rattle.ev_audited.specs.declared.fault.AuditFault.TheVariants as faults;
 
 use ev_audit::ClaimFault;
 use ev_input::Fault;
 use ev_memory::NoMemory;
-use ev_net::ReplayFault;
 use std::alloc::{AllocError, AllocFailed};
 
 /// What is wrong with a claimed run. These are tried in this order.
@@ -54,19 +53,6 @@ pub(crate) fn unclaimed(fault: ClaimFault) -> AuditFault
             kind: AuditKind::Form,
         },
         ClaimFault::NoMemory => AuditFault::NoMemory,
-    }
-}
-
-/// Of turns that stop.
-pub(crate) fn stopped(fault: ReplayFault) -> AuditFault
-    ensures { result ≡ fault_of_turn fault }
-{
-    match fault {
-        ReplayFault::BadTurn(line) => AuditFault::Refuted {
-            line,
-            kind: AuditKind::BadTurn,
-        },
-        ReplayFault::NoMemory => AuditFault::NoMemory,
     }
 }
 

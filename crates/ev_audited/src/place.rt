@@ -30,3 +30,15 @@ pub fn line_at(first: u32, end: u32, output: &[u8], place: usize) -> u32
     let (before, _) = output.split_at(place);
     first + newlines(before)
 }
+
+/// Where the trace of an output seems to begin: at the first line with the first word `trace`, or else at the beginning.
+pub fn trace_at(output: &[u8]) -> usize
+    ensures { result ≤ length output.now }
+{
+    for (i, byte) in output.iter().enumerate() {
+        if *byte == b'\n' && output[i + 1..].starts_with(b"trace ") {
+            return i + 1;
+        }
+    }
+    0
+}

@@ -1,15 +1,17 @@
 //! The trace of a run, compared with what is claimed.
-ghost use Rattle.std.specs.Prelude.{◌≡◌, IfOk, OnOk, length};
+ghost use Rattle.std.specs.Prelude.{◌≡◌, true, IfOk, OnOk, length};
 ghost use Rattle.ev_model.specs.Sound.{IsSound};
-ghost use Rattle.ev_net.specs.Network.{IsLegal, network_parts};
+ghost use Rattle.ev_net.specs.Network.{IsLegal};
 ghost use Rattle.ev_net.specs.Told.{told_by};
+ghost use Rattle.ev_net.specs.Turns.{IsTurn};
 ghost use Rattle.ev_report.specs.Trace.{entries_text, entry_text, trace_head, trace_text};
-ghost use Rattle.ev_audited.specs.Comparing.{GoesOn};
-ghost use Rattle.ev_audited.specs.Answers.{TellsDrained};
+ghost use Rattle.ev_audited.specs.Comparing.{ComparesLast, ComparesTurn, GoesOn};
+ghost use Rattle.ev_audited.specs.Answers.{TellsDrained, TellsMade};
 
 use crate::comparing::Comparing;
+use crate::fault::{AuditFault, AuditKind};
 use ev_memory::NoMemory;
-use ev_model::{Client, Entry, Net, Sent};
+use ev_model::{Client, Entry, Net, Sent, Turn};
 use ev_net::{Network, turn_of};
 use ev_report::{push_trace_entry, push_trace_head};
 use std::alloc::Global;
@@ -41,16 +43,15 @@ fn compare_head(alloc: Global, text: &mut Comparing<'_>, entries: usize) -> Resu
 }
 
 // Makes the turns of a run again, and compares each entry with its messages.
-fn compare_entries<'a>(
+fn compare_entries(
     alloc: Global,
     text: &mut Comparing<'_>,
-    net: &'a Net,
+    net: &Net,
     journal: &[Entry],
-) -> Result<Network<'a>, NoMemory>
+) -> Result<(), NoMemory>
     requires sound { IsSound net.now }
     requires legal { IsLegal net.now journal.now }
-    ensures again { IfOk result (λ network. network ≡ network_parts net.now journal.now) }
-    ensures compared { OnOk result (GoesOn text.old text.new (entries_text net.now.clients journal.now (told_by net.now journal.now))) }
+    ensures { OnOk result (GoesOn text.old text.new (entries_text net.now.clients journal.now (told_by net.now journal.now))) }
 {
     let mut lines = Vec::new(alloc);
     let mut network = Network::start(alloc, net)?;
@@ -59,12 +60,13 @@ fn compare_entries<'a>(
         let told = network.last_told()?;
         compare_entry(text, &mut lines, &net.clients, entry, told.as_slice())?;
     }
-    Ok(network)
+    Ok(())
 }
 
-// Whether the run of a network is drained.
-fn is_drained(network: &mut Network<'_>) -> Result<bool, NoMemory>
-    ensures { IfOk result (λ drained. TellsDrained drained network.old.net network.old.journal) }
+/// Whether the run of a network is drained; where it is the network is as before.
+pub fn is_drained(network: &mut Network<'_>) -> Result<bool, NoMemory>
+    ensures drained { IfOk result (λ drained. TellsDrained drained network.old.net network.old.journal) }
+    ensures same { IfOk result (λ drained. drained ≡ true → network.new ≡ network.old) }
 {
     match network.walk_phase() {
         Ok(more) => {
@@ -75,19 +77,78 @@ fn is_drained(network: &mut Network<'_>) -> Result<bool, NoMemory>
     }
 }
 
-/// Compares the trace of a legal run, whose turns it makes again for the messages, and says whether the run is drained.
+/// Compares the trace of a legal run, whose turns it makes again for the messages.
 pub fn compare_trace(
     alloc: Global,
     text: &mut Comparing<'_>,
     net: &Net,
     journal: &[Entry],
-) -> Result<bool, NoMemory>
+) -> Result<(), NoMemory>
     requires sound { IsSound net.now }
     requires legal { IsLegal net.now journal.now }
-    ensures compared { OnOk result (GoesOn text.old text.new (trace_text net.now journal.now (told_by net.now journal.now))) }
-    ensures drained { IfOk result (λ drained. TellsDrained drained net.now journal.now) }
+    ensures { OnOk result (GoesOn text.old text.new (trace_text net.now journal.now (told_by net.now journal.now))) }
 {
     compare_head(alloc, text, journal.len())?;
-    let mut network = compare_entries(alloc, text, net, journal)?;
-    is_drained(&mut network)
+    compare_entries(alloc, text, net, journal)
+}
+
+// The last entry of a run with its messages.
+fn compare_last(
+    text: &mut Comparing<'_>,
+    lines: &mut Vec<u8>,
+    clients: &[Client],
+    network: &Network<'_>,
+) -> Result<(), NoMemory>
+    requires { clients.now ≡ network.now.net.clients }
+    ensures { OnOk result (ComparesLast network.now text.old text.new) }
+{
+    let told = network.last_told()?;
+    match network.journal().last() {
+        Some(entry) => compare_entry(text, lines, clients, entry, told.as_slice()),
+        None => Ok(()),
+    }
+}
+
+// Makes a turn where it is permitted, and compares its entry with its messages.
+fn make_turn(
+    text: &mut Comparing<'_>,
+    lines: &mut Vec<u8>,
+    clients: &[Client],
+    network: &mut Network<'_>,
+    turn: Turn,
+) -> Result<bool, NoMemory>
+    requires { clients.now ≡ network.old.net.clients }
+    ensures turn { IfOk result (λ made. IsTurn made turn network.old network.new) }
+    ensures compared { IfOk result (λ made. ComparesTurn made network.new text.old text.new) }
+{
+    if !network.turn(turn)? {
+        return Ok(false);
+    }
+    compare_last(text, lines, clients, network)?;
+    Ok(true)
+}
+
+/// The network after turns, each with its line, whose run is compared as it is made: the trace of the run, or the first turn that is not permitted.
+pub fn make_compared<'a>(
+    alloc: Global,
+    text: &mut Comparing<'_>,
+    net: &'a Net,
+    turns: &[(u32, Turn)],
+) -> Result<Network<'a>, AuditFault>
+    requires { IsSound net.now }
+    ensures made { TellsMade (λ network. network) net.now turns.now result }
+    ensures compared { IfOk result (λ network. GoesOn text.old text.new (trace_text net.now network.journal (told_by net.now network.journal))) }
+{
+    compare_head(alloc, text, turns.len())?;
+    let mut lines = Vec::new(alloc);
+    let mut network = Network::start(alloc, net)?;
+    for (line, turn) in turns {
+        if !make_turn(text, &mut lines, &net.clients, &mut network, *turn)? {
+            return Err(AuditFault::Refuted {
+                line: *line,
+                kind: AuditKind::BadTurn,
+            });
+        }
+    }
+    Ok(network)
 }

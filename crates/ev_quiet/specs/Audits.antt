@@ -21,8 +21,8 @@ abbrev pub audit_text : ℕ → ℕ → ℕ → List ℕ
 audit_text entries owed deliveries =
     codes "audit yes entries " ++ decimal entries ++ codes " owed " ++ decimal owed ++ codes " deliveries " ++ decimal deliveries ++ 10 ∷ []
 
--- THE TEXT OF AN AUDIT, of an input that is not too long: its output is that of the run of this journal, the clients are promised of that output what they
--- are promised of what is printed of a run, the network is promised to have done what the journal says, and this is the text of its counts
+-- THE TEXT OF AN AUDIT, of an input that is not too long: its output is that of the run of this journal and of no other, the clients are promised of that
+-- output what they are promised of what is printed of a run, the network is promised to have done what the journal says, and this is the text of its counts
 pub record IsAuditOf (input text : List ℕ) (journal : List EntryParts) : Type 0 where
   pub few : length input ≤ 268435456
   pub owed : ℕ
@@ -45,6 +45,6 @@ IsAuditRefuted input line kind = (length input ≤ 268435456) × IsRefuted input
 abbrev pub MustRefute : List ℕ → ℕ → AuditKind → Type 0
 MustRefute input line kind = (length input ≤ 268435456) × MustBeRefuted input line kind
 
--- its output is that of a whole run
+-- it is not too long and its output is that of a whole run: exactly such an input is confirmed, want of memory aside
 abbrev pub CanConfirm : List ℕ → Type 0
 CanConfirm input = (length input ≤ 268435456) × CanAudit input

@@ -2,8 +2,12 @@
 ghost use Rattle.std.specs.Prelude.{◌≡◌, ◌≤◌, ◌⊎◌, ◌++◌, ℕ, List, true, length, IfOk, OnOk, IsOk, IsErrOf};
 ghost use Rattle.std.specs.Io.KnownBytes.{Consumes, IsAtEnd};
 ghost use Rattle.ev_outside.specs.Cause.{Rose};
+ghost use Rattle.ev_model.specs.Parts.{EntryParts};
+ghost use Rattle.ev_audit.specs.Claim.{EndsLine, with_output};
 ghost use Rattle.ev_outside.specs.Whole.{Gave};
-ghost use Rattle.ev_quiet.specs.Audits.{audit_text};
+ghost use Rattle.ev_quiet.specs.declared.words.Schedule.{Schedule};
+ghost use Rattle.ev_quiet.specs.Headline.{Headline};
+ghost use Rattle.ev_quiet.specs.Audits.{CanConfirm, audit_text, traced};
 ghost use Rattle.ev_quiet.specs.Answers.{GaveRefusedFor, GaveWrongFor, CanAnswerFor};
 ghost use Rattle.ev_quiet.specs.Auditing.{AuditsInput, AuditsSource, audit_status, why_not, why_unread};
 
@@ -155,3 +159,10 @@ pub fn of_audit<S: Source>(alloc: Global, source: &mut S) -> Result<Printed, Una
     };
     of_input(alloc, &bytes)
 }
+
+/// What is printed of a document in the order received with its trace is confirmed, whatever the schedule: put behind its document, whose last line is ended,
+/// and the line `output`, where all that is not too long.
+pub fn printed_is_confirmed()
+    ensures { (schedule : Schedule) (input text : List ℕ) (journal : List EntryParts) → Headline schedule traced input text journal → EndsLine input
+        → length (with_output input text) ≤ 268435456 → CanConfirm (with_output input text) }
+{}

@@ -21,6 +21,7 @@ mod text;
 mod top;
 mod words;
 
+pub use audits::printed_is_confirmed;
 pub use law::promise;
 pub use printed::Printed;
 pub use ran::Ran;

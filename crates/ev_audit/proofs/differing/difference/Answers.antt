@@ -1,4 +1,4 @@
-use Rattle.std.proofs.Common.{sym, arith, ap, ◌∙◌, refl}
+use Rattle.std.proofs.Common.{sym, arith, refl}
 use Rattle.ev_audit.proofs.Apart.{alike_whole, differs_at, ends_at, none_equal}
 use Rattle.ev_audit.proofs.differing.difference.Goals as goal
 

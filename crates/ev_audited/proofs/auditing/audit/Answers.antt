@@ -1,12 +1,16 @@
 use Rattle.ev_audited.specs.declared.auditing.Audited.{Audited}
-use Rattle.ev_audited.proofs.Verdicts.{audited_told, document_told, done_told, must_told, refused_document_told, refuted_told}
+use Rattle.ev_audited.proofs.Verdicts.{audited_told, complete_told, document_told, must_told, refused_document_told, refuted_told, written_of_run}
 use Rattle.ev_audited.proofs.auditing.audit.Goals as goal
 
 pub returns-clause-audited : goal.returns-clause-audited
 returns-clause-audited c = audited_told (λ (a : Audited). a.net) (λ (a : Audited). a.journal.items) (λ (a : Audited). a.owed) (λ (a : Audited). a.deliveries) c.args.bytes.now c.answered.result c.answered.ensures
 
-pub returns-clause-done : goal.returns-clause-done
-returns-clause-done c = done_told (λ (a : Audited). a.net) (λ (a : Audited). a.journal.items) (λ (a : Audited). a.owed) (λ (a : Audited). a.deliveries) c.args.bytes.now c.answered.result c.answered.ensures
+pub returns-clause-complete : goal.returns-clause-complete
+returns-clause-complete c = λ net journal r. complete_told (λ (a : Audited). a.net) (λ (a : Audited). a.journal.items) (λ (a : Audited). a.owed) (λ (a : Audited). a.deliveries) c.args.bytes.now c.answered.result c.answered.ensures net journal r
+
+pub returns-clause-written : goal.returns-clause-written
+returns-clause-written c = λ net journal w. complete_told (λ (a : Audited). a.net) (λ (a : Audited). a.journal.items) (λ (a : Audited). a.owed) (λ (a : Audited). a.deliveries) c.args.bytes.now c.answered.result c.answered.ensures net journal
+    (written_of_run c.args.bytes.now net journal w)
 
 pub returns-clause-document : goal.returns-clause-document
 returns-clause-document c = document_told (λ (a : Audited). a.net) (λ (a : Audited). a.journal.items) (λ (a : Audited). a.owed) (λ (a : Audited). a.deliveries) c.args.bytes.now c.answered.result c.answered.ensures

@@ -2,7 +2,6 @@ use Rattle.std.proofs.Common.{◌≡◌, ◌++◌, ◌∷◌, [], List, take, ge
 use Rattle.std.proofs.Math.Seq.{take-length}
 use Rattle.ev_wire.specs.declared.sent.Sent.{Sent}
 use Rattle.ev_net.specs.Turns.{IsTurn}
-use Rattle.ev_net.specs.Network.{network_parts}
 use Rattle.ev_net.specs.Retold.{turn_of_entry}
 use Rattle.ev_net.specs.Told.{told_by}
 use Rattle.ev_net.proofs.Again.{retold-all, retold-more, retold-none}
@@ -36,14 +35,8 @@ loop-entry-preserved c =
           (goes_then c.args.text.now c.loop-entry.text c.compare_entry.new.text (entries_text net.clients (take i journal) told) (entry_text net.clients (get_or journal i entry) last) went text),
     )
 
-pub returns-clause-again : goal.returns-clause-again
-returns-clause-again c =
-    let whole : c.loop-entry.entry-index ≡ length c.args.journal.now = omega (arith, c.loop-entry-test.false, c.loop-entry.auto.entry-index-end) in
-    let (told, again, went) = c.loop-entry.invariant in
-    again.network ∙ ap (network_parts c.args.net.now) (ap (λ n. take n c.args.journal.now) whole ∙ take-length c.args.journal.now)
-
-pub returns-clause-compared : goal.returns-clause-compared
-returns-clause-compared c =
+pub returns : goal.returns
+returns c =
     let whole : c.loop-entry.entry-index ≡ length c.args.journal.now = omega (arith, c.loop-entry-test.false, c.loop-entry.auto.entry-index-end) in
     let (told, again, went) = c.loop-entry.invariant in
     let all : told ≡ told_by c.args.net.now c.args.journal.now = retold-all c.args.net.now c.args.journal.now c.loop-entry.entry-index c.loop-entry.network told whole again in

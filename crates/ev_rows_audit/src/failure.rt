@@ -1,0 +1,59 @@
+//! Why nothing more was printed.
+use ev_memory::NoMemory;
+use std::alloc::{AllocError, AllocFailed};
+use std::io;
+
+/// Why nothing more was printed.
+#[derive(Debug, Drop)]
+pub enum Failure {
+    /// Memory ran out.
+    NoMemory,
+    /// The words ask for threads, which are not here.
+    Threads,
+    /// The input or the output failed.
+    Outside(io::Error),
+}
+
+impl From<NoMemory> for Failure {
+    ghost use Rattle.std.specs.Prelude.{◌≡◌};
+    ghost use Rattle.ev_rows_audit.specs.declared.failure.Failure.TheVariants.{NoMemory};
+
+    ghost from_gives = { λ _ e. e ≡ NoMemory };
+
+    fn from(_: NoMemory) -> Self {
+        Failure::NoMemory
+    }
+}
+
+impl From<AllocError> for Failure {
+    ghost use Rattle.std.specs.Prelude.{◌≡◌};
+    ghost use Rattle.ev_rows_audit.specs.declared.failure.Failure.TheVariants.{NoMemory};
+
+    ghost from_gives = { λ _ e. e ≡ NoMemory };
+
+    fn from(_: AllocError) -> Self {
+        Failure::NoMemory
+    }
+}
+
+impl<T: Drop> From<AllocFailed<T>> for Failure {
+    ghost use Rattle.std.specs.Prelude.{◌≡◌};
+    ghost use Rattle.ev_rows_audit.specs.declared.failure.Failure.TheVariants.{NoMemory};
+
+    ghost from_gives = { λ _ e. e ≡ NoMemory };
+
+    fn from(_: AllocFailed<T>) -> Self {
+        Failure::NoMemory
+    }
+}
+
+impl From<io::Error> for Failure {
+    ghost use Rattle.std.specs.Prelude.{◌≡◌};
+    ghost use Rattle.ev_rows_audit.specs.declared.failure.Failure.TheVariants.{Outside};
+
+    ghost from_gives = { λ error e. e ≡ Outside error };
+
+    fn from(error: io::Error) -> Self {
+        Failure::Outside(error)
+    }
+}

@@ -1,0 +1,16 @@
+//! Audits what the program itself writes, and outputs that were made of that, and prints what the audits say.
+#![tactic(auto)]
+
+mod claims;
+mod examples;
+mod failure;
+mod tried;
+
+use failure::Failure;
+
+fn main(rt: HostRuntime) -> Result<(), Failure> {
+    let alloc = rt.alloc();
+    claims::print_whole(&rt, alloc)?;
+    claims::print_generated(&rt, alloc)?;
+    claims::print_made(&rt, alloc)
+}
