@@ -1,0 +1,5 @@
+pub mod Counts
+pub mod Carried
+pub mod Flood
+pub mod Links
+pub mod Text

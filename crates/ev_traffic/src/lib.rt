@@ -1,0 +1,16 @@
+//! What each link of a net carried in a run, beside what plain flooding would have put there: the definition, its laws, and
+//! the text and the graph of it, written piece by piece.
+#![tactic(auto)]
+
+mod carried;
+mod counts;
+mod flood;
+
+
+mod line;
+mod links;
+
+
+
+pub use carried::Carried;
+
