@@ -1,5 +1,5 @@
 -- The links of a net, one by one.
-use Rattle.std.proofs.Common.{◌≡◌, ℕ, zero, suc, ◌+◌, ◌-◌, ◌<◌, ◌≤◌, ◌&&◌, Bool, true, false, cond, nat_lt, List, [], ◌∷◌, ◌++◌, inl, inr, length, map, filter, get_or, refl, sym, ap, subst, ◌∙◌, arith, append_assoc, append-nil}
+use Rattle.std.proofs.Common.{◌≡◌, ℕ, zero, suc, ◌+◌, ◌-◌, ◌<◌, ◌≤◌, ◌&&◌, Bool, true, false, cond, nat_lt, List, [], ◌∷◌, ◌++◌, inl, inr, length, map, filter, drop, get_or, refl, sym, ap, subst, ◌∙◌, arith, append_assoc, append-nil}
 use Rattle.std.specs.List.{flat_map, range_with_len}
 use Rattle.ev_sets.specs.Sets.{Has}
 use Rattle.ev_tree.specs.Graph.{servers_to}
@@ -13,6 +13,14 @@ pub at-has : {X : Type 0} (xs : List X) (i : ℕ) (x : X) → i < length xs → 
 at-has [] i x l e = absurd (omega arith)
 at-has (y ∷ xs) zero x l e = inl e
 at-has (y ∷ xs) (suc i) x l e = inr (at-has xs i x (omega arith) e)
+
+pub drop-next : {X : Type 0} (xs : List X) (i : ℕ) (d : X) → i < length xs → drop i xs ≡ get_or xs i d ∷ drop (i + 1) xs
+drop-next {X} xs i d l = let e : suc i ≡ i + 1 = omega arith in go xs i l ∙ ap (λ k. get_or xs i d ∷ drop k xs) e
+  where
+    go : (ys : List X) (j : ℕ) → j < length ys → drop j ys ≡ get_or ys j d ∷ drop (suc j) ys
+    go [] j l = absurd (omega (arith, l))
+    go (y ∷ ys) zero l = refl
+    go (y ∷ ys) (suc j) l = go ys j (omega arith)
 
 -- all trees have the servers of the first
 pub same-servers : (trees : List (ℕ × Topology)) → HasTrees trees → (tree : ℕ × Topology) → Has tree trees → tree.1.count ≡ (first_tree trees).count

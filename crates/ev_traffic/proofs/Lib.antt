@@ -1,3 +1,5 @@
 pub mod Cells
 pub mod Edges
 pub mod Away
+pub mod Refusing
+pub mod Clients

@@ -1,5 +1,5 @@
 -- What plain flooding puts on each link: each accepted publication once over each link of the tree in force in its phase, but back to where it came from.
-use Rattle.std.specs.Prelude.{ℕ, Bool, ◌&&◌, cond, List, [], ◌∷◌, length}
+use Rattle.std.specs.Prelude.{ℕ, Bool, false, ◌&&◌, cond, List, [], ◌∷◌, length}
 use Rattle.std.specs.List.{range_with_len}
 use Rattle.ev_sets.specs.Numbers.{sum_over, count}
 use Rattle.ev_tree.specs.Hops.{side}
@@ -15,19 +15,20 @@ use Rattle.ev_model.specs.Nets.{phased_net, script_of}
 use Rattle.ev_model.specs.Lists.{refused_ordinals}
 
 module _ (theory : Theory) where
-  -- a publish that the client's advertisements let it make adds its phase
-  abbrev pub add_accepted : Net theory → List theory.Advert → ℕ → Command theory → List ℕ → List ℕ
-  add_accepted net adverts phase (Subscribe f) phases = phases
-  add_accepted net adverts phase (Unsubscribe f) phases = phases
-  add_accepted net adverts phase (Advertise a) phases = phases
-  add_accepted net adverts phase (Unadvertise a) phases = phases
-  add_accepted net adverts phase (Publish n) phases = cond (accepts theory net adverts n) (phase ∷ phases) phases
+  -- whether a command is a publish that the client's advertisements let it make
+  abbrev pub is_accepted : Net theory → List theory.Advert → Command theory → Bool
+  is_accepted net adverts (Subscribe f) = false
+  is_accepted net adverts (Unsubscribe f) = false
+  is_accepted net adverts (Advertise a) = false
+  is_accepted net adverts (Unadvertise a) = false
+  is_accepted net adverts (Publish n) = accepts theory net adverts n
 
   -- the phases of the accepted publications of a list of commands, before which the client has these advertisements
   abbrev pub accepted_phases : Net theory → List theory.Advert → List (PhasedCommand theory) → List ℕ
   accepted_phases net adverts [] = []
-  accepted_phases net adverts (command ∷ commands) = add_accepted net adverts command.phase command.command
-      (accepted_phases net (adverts_step theory adverts command.command) commands)
+  accepted_phases net adverts (command ∷ commands) =
+      let later = accepted_phases net (adverts_step theory adverts command.command) commands in
+      cond (is_accepted net adverts command.command) (command.phase ∷ later) later
 
   module _ (net : PhasedNet theory) where
     -- whether flooding sends what is published at a server in a phase over the link from one server to another: that is a link of the tree then in

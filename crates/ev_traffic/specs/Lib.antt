@@ -1,5 +1,6 @@
 pub mod Counts
 pub mod Carried
 pub mod Flood
+pub mod Going
 pub mod Links
 pub mod Text
