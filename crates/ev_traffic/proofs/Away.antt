@@ -11,7 +11,7 @@ use Rattle.ev_routing.proofs.Laws.{one-has}
 use Rattle.ev_routing.proofs.Listing.{has-one}
 use Rattle.ev_traffic.specs.Flood.{is_flooded}
 
-both-true : (p q : Bool) → (p && q) ≡ true → (p ≡ true) × (q ≡ true)
+pub both-true : (p q : Bool) → (p && q) ≡ true → (p ≡ true) × (q ≡ true)
 both-true true true e = (refl, refl)
 both-true true false e = absurd cc
 both-true false q e = absurd cc

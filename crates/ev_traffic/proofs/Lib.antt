@@ -3,3 +3,5 @@ pub mod Edges
 pub mod Away
 pub mod Refusing
 pub mod Clients
+pub mod Chain
+pub mod Same

@@ -4,3 +4,4 @@ pub mod Flood
 pub mod Going
 pub mod Links
 pub mod Text
+pub mod Printed

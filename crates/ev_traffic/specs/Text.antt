@@ -6,6 +6,7 @@ use Rattle.ev_sets.specs.Numbers.{sum_over}
 use Rattle.ev_wire.specs.declared.sent.Sent.{Sent}
 use Rattle.ev_model.specs.Parts.{ClientParts, NetParts, EntryParts}
 use Rattle.ev_model.specs.Nets.{servers_in}
+use Rattle.ev_traffic.specs.declared.loads.Direction.{Direction}
 use Rattle.ev_traffic.specs.Carried.{notices_on, changes_on}
 use Rattle.ev_traffic.specs.Flood.{flood_on}
 use Rattle.ev_traffic.specs.Links.{links_in}
@@ -21,17 +22,20 @@ pub record Loads : Type 0 where
 abbrev pub loads_of : NetParts → List EntryParts → List (List Sent) → Loads
 loads_of net journal outs = record { notices = notices_on journal outs; flood = flood_on net; messages = changes_on journal outs }
 
+-- one of them
+abbrev pub direction_of : Loads → ℕ → ℕ → Direction
+direction_of loads from to =
+    record { from = from; to = to; notices = loads.notices from to; flood = loads.flood from to; messages = loads.messages from to }
+
 -- `link FROM TO notices N flood F messages M`
-unfoldable pub direction_line : ℕ → ℕ → ℕ → ℕ → ℕ → List ℕ
-direction_line from to notices flood messages =
-    labelled (codes "link ") from ++ labelled (codes " ") to ++ labelled (codes " notices ") notices ++ labelled (codes " flood ") flood
-    ++ labelled (codes " messages ") messages ++ codes "\n"
+unfoldable pub direction_line : Direction → List ℕ
+direction_line d =
+    labelled (codes "link ") d.from ++ labelled (codes " ") d.to ++ labelled (codes " notices ") d.notices ++ labelled (codes " flood ") d.flood
+    ++ labelled (codes " messages ") d.messages ++ codes "\n"
 
 -- both directions of a link
 abbrev pub link_lines : Loads → ℕ × ℕ → List ℕ
-link_lines loads link =
-    direction_line link.0 link.1 (loads.notices link.0 link.1) (loads.flood link.0 link.1) (loads.messages link.0 link.1)
-    ++ direction_line link.1 link.0 (loads.notices link.1 link.0) (loads.flood link.1 link.0) (loads.messages link.1 link.0)
+link_lines loads link = direction_line (direction_of loads link.0 link.1) ++ direction_line (direction_of loads link.1 link.0)
 
 -- the sum of a quantity over both directions of each link
 abbrev pub in_all : (ℕ → ℕ → ℕ) → List (ℕ × ℕ) → ℕ
@@ -69,16 +73,14 @@ client_nodes number [] = []
 client_nodes number (client ∷ clients) = client_node number client ++ client_nodes (suc number) clients
 
 -- `  FROM -> TO [label="N of F, M", penwidth=W];`
-unfoldable pub direction_arrow : ℕ → ℕ → ℕ → ℕ → ℕ → List ℕ
-direction_arrow from to notices flood messages =
-    labelled (codes "  ") from ++ labelled (codes " -> ") to ++ labelled (codes " [label=\"") notices ++ labelled (codes " of ") flood
-    ++ labelled (codes ", ") messages ++ labelled (codes "\", penwidth=") (width notices flood) ++ codes "];\n"
+unfoldable pub direction_arrow : Direction → List ℕ
+direction_arrow d =
+    labelled (codes "  ") d.from ++ labelled (codes " -> ") d.to ++ labelled (codes " [label=\"") d.notices ++ labelled (codes " of ") d.flood
+    ++ labelled (codes ", ") d.messages ++ labelled (codes "\", penwidth=") (width d.notices d.flood) ++ codes "];\n"
 
 -- both directions of a link
 abbrev pub link_arrows : Loads → ℕ × ℕ → List ℕ
-link_arrows loads link =
-    direction_arrow link.0 link.1 (loads.notices link.0 link.1) (loads.flood link.0 link.1) (loads.messages link.0 link.1)
-    ++ direction_arrow link.1 link.0 (loads.notices link.1 link.0) (loads.flood link.1 link.0) (loads.messages link.1 link.0)
+link_arrows loads link = direction_arrow (direction_of loads link.0 link.1) ++ direction_arrow (direction_of loads link.1 link.0)
 
 -- THE GRAPH OF THE TRAFFIC: its servers, its clients, and an arrow for each direction of each link
 abbrev pub traffic_graph : NetParts → Loads → List ℕ

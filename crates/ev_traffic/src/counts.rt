@@ -65,10 +65,11 @@ impl Counts {
 
     /// The count of a direction.
     pub(crate) fn get(&self, from: u32, to: u32) -> u32
-        requires from { from ≤ 64 }
-        requires to { to ≤ 64 }
         ensures { result ≡ count_at self.now from to }
     {
-        self.cells[(from * 65 + to) as usize]
+        match self.cells.get(from as usize * 65 + to as usize) {
+            Some(count) => *count,
+            None => 0,
+        }
     }
 }

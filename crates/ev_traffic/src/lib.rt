@@ -5,12 +5,12 @@
 mod carried;
 mod counts;
 mod flood;
-
-
+mod graph;
 mod line;
 mod links;
-
-
+mod loads;
+mod text;
+mod traffic;
 
 pub use carried::Carried;
-
+pub use traffic::Traffic;
