@@ -5,3 +5,10 @@ pub mod Refusing
 pub mod Clients
 pub mod Chain
 pub mod Same
+pub mod Entries
+pub mod Ordinals
+pub mod Sizes
+pub mod Carrying
+pub mod Saved
+pub mod Way
+pub mod Owed
