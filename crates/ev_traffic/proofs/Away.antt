@@ -1,10 +1,10 @@
 -- The links of a tree that lead away from a server: one to each other server.
-use Rattle.std.proofs.Common.{◌≡◌, ℕ, suc, ◌+◌, ◌<◌, ◌≤◌, ◌==◌, ◌&&◌, Bool, true, false, cond, nat_le, nat_lt, not, List, refl, sym, ap, subst, ◌∙◌, arith, eqb-true, eq-eqb}
+use Rattle.std.proofs.Common.{◌≡◌, ℕ, ◌+◌, ◌==◌, ◌&&◌, Bool, true, false, nat_le, nat_lt, not, refl, sym, ap, subst, ◌∙◌, arith, eqb-true, eq-eqb}
 use Rattle.std.proofs.lemmas.Bool.Decides.{nat_tests}
 use Rattle.ev_sets.specs.Sets.{Has}
 use Rattle.ev_sets.specs.Numbers.{count}
-use Rattle.ev_tree.specs.Hops.{side, AreHops}
-use Rattle.ev_tree.specs.Tree.{Topology, TreeLaws, IsServer, links_of, hop_of, servers_of}
+use Rattle.ev_tree.specs.Hops.{side}
+use Rattle.ev_tree.specs.Tree.{Topology, TreeLaws, IsServer, links_of, hop_of}
 use Rattle.ev_tree.proofs.Servers.{server-in, in-server}
 use Rattle.ev_routing.specs.Server.{is_among}
 use Rattle.ev_routing.proofs.Laws.{one-has}

@@ -1,33 +1,32 @@
 -- The notifications that the entries of a run put on a link, one publisher's after the other.
-use Rattle.std.proofs.Common.{◌≡◌, ℕ, zero, suc, ◌+◌, ◌<◌, ◌≤◌, ◌==◌, ◌&&◌, Bool, true, false, cond, List, [], ◌∷◌, ◌++◌, ◌⊎◌, inl, inr, length, map, slice_get, Option, Some, None, refl, sym, ap, subst, ◌∙◌, arith, length-append, append-nil, eq-eqb}
+use Rattle.std.proofs.Common.{◌≡◌, ℕ, zero, suc, ◌+◌, ◌<◌, ◌==◌, Bool, true, false, cond, List, [], ◌∷◌, ◌++◌, ◌⊎◌, inl, inr, length, map, slice_get, Option, Some, None, refl, sym, ap, subst, ◌∙◌, arith, length-append, append-nil, eq-eqb}
 use Rattle.std.proofs.lemmas.Option.{same_Some}
 use Rattle.ev_sets.specs.Sets.{Has}
-use Rattle.ev_sets.specs.Numbers.{IsDistinct, sum_over, count}
+use Rattle.ev_sets.specs.Numbers.{IsDistinct, sum_over}
 use Rattle.ev_sets.proofs.Numbers.{Same, Is, Not, compare}
 use Rattle.ev_tree.specs.Hops.{side}
 use Rattle.ev_run.specs.Machine.{Stamped, stamped}
 use Rattle.ev_routing.specs.Theory.{Theory, TheoryLaws}
 use Rattle.ev_routing.specs.Net.{Net}
-use Rattle.ev_routing.specs.Server.{Message, Subs, Advs, Noticed, Publication, is_among}
-use Rattle.ev_routing.specs.Step.{Work, Routes}
+use Rattle.ev_routing.specs.Server.{Message, Subs, Advs, Noticed, Publication}
 use Rattle.ev_routing.specs.Works.{work_at}
-use Rattle.ev_routing.specs.Routing.{routing_machine, Network, NetEntry}
-use Rattle.ev_routing.specs.Order.{IsStrictlyRising, add_ordinal, ordinals_put, ordinals_routed}
+use Rattle.ev_routing.specs.Routing.{routing_machine, Network}
+use Rattle.ev_routing.specs.Order.{IsStrictlyRising, add_ordinal, ordinals_put}
 use Rattle.ev_routing.specs.LegalRun.{LegalRun, states as states_of}
 use Rattle.ev_routing.proofs.Laws.{one-has}
-use Rattle.ev_routing.proofs.Listing.{has-one, has-left, has-right, has-either, up-append}
+use Rattle.ev_routing.proofs.Listing.{has-one, has-either, up-append}
 use Rattle.ev_routing.proofs.Started.{ordered-run}
-use Rattle.ev_phases.specs.Trees.{JournalEntry, on, entry_on, entries_on, net_at, tree_at}
+use Rattle.ev_phases.specs.Trees.{JournalEntry, on, entry_on, tree_at}
 use Rattle.ev_phases.specs.Runs.{PhasedRun}
-use Rattle.ev_phases.specs.AtMoments.{states, phase_seen, net_seen, states_on, messages_at, stamped_at, seen}
+use Rattle.ev_phases.specs.AtMoments.{states, phase_seen, net_seen, states_on, messages_at, seen}
 use Rattle.ev_phases.specs.Owing.{IsPublishedIn}
 use Rattle.ev_phases.specs.Routes.{IsRoutedOn, Routed}
 use Rattle.ev_phases.proofs.Entries.{happens-run, messages-run}
 use Rattle.ev_phases.proofs.Passing.{publication-here, routed-in-order}
 use Rattle.ev_phases.proofs.Routes.{part-run, index, net-here, after-here}
 use Rattle.ev_traffic.specs.Flood.{floods_over}
-use Rattle.ev_traffic.specs.Runs.{is_noticed, noticed, noticed_at, noticed_maybe}
-use Rattle.ev_traffic.proofs.Entries.{notices, ids, Silent, Speaks, speaks, Working, working}
+use Rattle.ev_traffic.specs.Runs.{noticed, noticed_at, noticed_maybe}
+use Rattle.ev_traffic.proofs.Entries.{ids, Silent, Speaks, speaks, Working, working}
 use Rattle.ev_traffic.proofs.Sizes.{sum-both, sum-one, sum-zero, sum-equal}
 
 pub mapped : {X Y : Type 0} (f : X → Y) (xs : List X) (i : ℕ) (x : X) → slice_get xs i ≡ Some x → slice_get (map f xs) i ≡ Some (f x)
@@ -237,8 +236,12 @@ module _ (th : Theory) (laws : TheoryLaws th) (run : PhasedRun th) where
       let ih = by-publishers clients single from to known n in
       let more : noticed_maybe th run n (slice_get run.journal n) from to ≡ sum_over (λ q. length (ords_maybe q n (slice_get run.journal n) from to)) clients = go (slice_get run.journal n) refl in
       omega (
-      arith, ih, more, sum-both (λ q. length (upto q n from to)) (λ q. length (ords_maybe q n (slice_get run.journal n) from to)) clients,
-      sum-equal (λ q. length (upto q (suc n) from to)) (λ q. length (upto q n from to) + length (ords_maybe q n (slice_get run.journal n) from to)) clients (λ q h. length-append (upto q n from to) (ords_maybe q n (slice_get run.journal n) from to)))
+        arith,
+        ih,
+        more,
+        sum-both (λ q. length (upto q n from to)) (λ q. length (ords_maybe q n (slice_get run.journal n) from to)) clients,
+        sum-equal (λ q. length (upto q (suc n) from to)) (λ q. length (upto q n from to) + length (ords_maybe q n (slice_get run.journal n) from to)) clients (λ q h. length-append (upto q n from to) (ords_maybe q n (slice_get run.journal n) from to)),
+      )
     where
       one : (e : JournalEntry) → slice_get run.journal n ≡ Some e → Spares n e from to ⊎ Puts n e from to → noticed_at th run n e from to ≡ sum_over (λ q. length (ords_at q n e from to)) clients
       one e is (inl s) = s.none ∙ (sym (sum-zero clients) ∙ sum-equal (λ q. 0) (λ q. length (ords_at q n e from to)) clients (λ q h. ap length (sym (s.no_ords q))))

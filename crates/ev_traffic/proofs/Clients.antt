@@ -1,5 +1,5 @@
 -- The clients of a net one by one, and the trees of its phases.
-use Rattle.std.proofs.Common.{◌≡◌, ℕ, zero, suc, ◌+◌, ◌<◌, ◌≤◌, ◌&&◌, nat_le, Bool, true, false, cond, List, [], ◌∷◌, inl, inr, length, map, drop, take, get_or, slice_get, Option, Some, None, refl, sym, ap, subst, ◌∙◌, arith}
+use Rattle.std.proofs.Common.{◌≡◌, ℕ, zero, suc, ◌+◌, ◌<◌, ◌&&◌, nat_le, Bool, true, false, cond, List, [], ◌∷◌, inl, inr, length, map, drop, take, get_or, slice_get, Some, refl, sym, ap, ◌∙◌, arith}
 use Rattle.std.specs.List.{range_with_len}
 use Rattle.std.proofs.lemmas.List.FromFn.{length-map-range_with_len, get_or-map-range_with_len}
 use Rattle.ev_sets.specs.Sets.{Has}
@@ -14,8 +14,8 @@ use Rattle.ev_model.specs.Parts.{ClientParts, NetParts}
 use Rattle.ev_model.specs.Meaning.{phased_command}
 use Rattle.ev_model.specs.Nets.{client_at, first_tree, later_trees, of_clients, phased_net, phased_tree, topology_at, tree_of, home_of, script_of}
 use Rattle.ev_model.specs.Sound.{IsSound, IsAmong, HasTrees}
-use Rattle.ev_traffic.specs.Flood.{accepted_phases, clients_in, flood_on, flooded_by, floods_over, is_flooded, refused_of}
-use Rattle.ev_traffic.specs.Going.{client_flood, phases_flood}
+use Rattle.ev_traffic.specs.Flood.{accepted_phases, flood_on, flooded_by, floods_over, is_flooded, refused_of}
+use Rattle.ev_traffic.specs.Going.{client_flood}
 use Rattle.ev_traffic.proofs.Edges.{drop-next, at-has}
 
 -- a sum from a place on
@@ -80,8 +80,11 @@ module _ (net : NetParts) where
       let first : a + 1 ≡ suc a = omega arith in
       let none : a + 0 ≡ a = omega arith in
       omega (
-      arith, ap (flooded_by real (phased_net net) from to) first, by-client a client (ap (slice_get net.clients) (sym none) ∙ at 0 client refl) from to,
-      by-clients from to (a + 1) clients (λ i x e. ap (slice_get net.clients) (shift i) ∙ at (suc i) x e))
+        arith,
+        ap (flooded_by real (phased_net net) from to) first,
+        by-client a client (ap (slice_get net.clients) (sym none) ∙ at 0 client refl) from to,
+        by-clients from to (a + 1) clients (λ i x e. ap (slice_get net.clients) (shift i) ∙ at (suc i) x e),
+      )
     where
       shift : (i : ℕ) → (a + 1) + i ≡ a + suc i
       shift i = omega arith

@@ -1,13 +1,12 @@
 -- The links of a net, one by one.
-use Rattle.std.proofs.Common.{◌≡◌, ℕ, zero, suc, ◌+◌, ◌-◌, ◌<◌, ◌≤◌, ◌&&◌, Bool, true, false, cond, nat_lt, List, [], ◌∷◌, ◌++◌, inl, inr, length, map, filter, drop, get_or, refl, sym, ap, subst, ◌∙◌, arith, append_assoc, append-nil}
+use Rattle.std.proofs.Common.{◌≡◌, ℕ, zero, suc, ◌+◌, ◌-◌, ◌<◌, ◌≤◌, ◌&&◌, Bool, true, false, cond, nat_lt, List, [], ◌∷◌, ◌++◌, inl, inr, length, map, filter, drop, get_or, refl, sym, ap, ◌∙◌, arith, append_assoc, append-nil}
 use Rattle.std.specs.List.{flat_map, range_with_len}
 use Rattle.ev_sets.specs.Sets.{Has}
 use Rattle.ev_tree.specs.Graph.{servers_to}
-use Rattle.ev_tree.specs.Tree.{Topology, IsServer}
-use Rattle.ev_model.specs.Parts.{NetParts}
+use Rattle.ev_tree.specs.Tree.{Topology}
 use Rattle.ev_model.specs.Nets.{first_tree}
-use Rattle.ev_model.specs.Sound.{IsSound, HasTrees}
-use Rattle.ev_traffic.specs.Links.{is_link, links_from, links_in}
+use Rattle.ev_model.specs.Sound.{HasTrees}
+use Rattle.ev_traffic.specs.Links.{is_link, links_from}
 
 pub at-has : {X : Type 0} (xs : List X) (i : ℕ) (x : X) → i < length xs → x ≡ get_or xs i x → Has x xs
 at-has [] i x l e = absurd (omega arith)

@@ -1,8 +1,7 @@
 -- What an entry of a run puts on a link: one notification, of the publication that it routes, or none.
-use Rattle.std.proofs.Common.{◌≡◌, ℕ, zero, suc, ◌+◌, ◌==◌, Bool, true, false, cond, not, ◌&&◌, List, [], ◌∷◌, ◌++◌, ◌⊎◌, inl, inr, slice_get, Option, Some, None, refl, sym, ap, subst, ◌∙◌, arith, eq-eqb}
-use Rattle.ev_sets.specs.Sets.{Has, same_list, minus}
+use Rattle.std.proofs.Common.{◌≡◌, ℕ, ◌==◌, Bool, true, false, cond, not, ◌&&◌, List, [], ◌∷◌, ◌++◌, ◌⊎◌, inl, inr, Some, refl, sym, ap, ◌∙◌}
+use Rattle.ev_sets.specs.Sets.{same_list, minus}
 use Rattle.ev_sets.specs.Numbers.{sum_over, count}
-use Rattle.ev_sets.proofs.Numbers.{Same, Is, Not, compare}
 use Rattle.ev_run.specs.Machine.{at, Input, Does, Takes, Outcome, Stamped, unstamped, act_of}
 use Rattle.ev_run.specs.Network.{IsStep, IsAvailable, messages_of, outcome_at, outcome_of, outs_of, taking_of}
 use Rattle.ev_routing.specs.Theory.{Theory}
@@ -105,7 +104,7 @@ module _ (th : Theory) (net : Net th) where
         is = ap (work_at th net w e.server) act ∙ step-work w e.server d s.work given s.is;
         messages = λ to.
             ap (λ z. outs_of (routing_machine th net) (outcome_at (routing_machine th net) w e.server z) to) act
-                ∙ (ap (λ z. outs_of (routing_machine th net) z to) (step-outcome w e.server d r given made) ∙ ap (λ (z : Outcome (ServerState th) (Message th)). z.outs to) s.made);
+            ∙ (ap (λ z. outs_of (routing_machine th net) z to) (step-outcome w e.server d r given made) ∙ ap (λ (z : Outcome (ServerState th) (Message th)). z.outs to) s.made);
         inbox = s.counts.inbox;
         state = ap (λ z. z.state) (sym after) ∙ ap (λ (z : Outcome (ServerState th) (Message th)). at w.state e.server z.state) s.made;
       }

@@ -12,3 +12,5 @@ pub mod Carrying
 pub mod Saved
 pub mod Way
 pub mod Owed
+pub mod Equal
+pub mod Telling

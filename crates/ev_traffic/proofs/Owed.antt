@@ -1,32 +1,25 @@
 -- Where each publication is owed to some client beyond a link, it carries as many as plain flooding puts there.
-use Rattle.std.proofs.Common.{◌≡◌, ℕ, zero, suc, ◌+◌, ◌<◌, ◌≤◌, ◌==◌, Bool, true, false, cond, List, [], ◌∷◌, ◌++◌, ◌⊎◌, inl, inr, length, take, slice_get, Option, Some, None, refl, sym, ap, subst, ◌∙◌, arith, eq-eqb}
-use Rattle.std.proofs.lemmas.Option.{slice_get_within}
+use Rattle.std.proofs.Common.{◌≡◌, ℕ, zero, suc, ◌<◌, ◌≤◌, ◌==◌, Bool, true, false, cond, List, [], ◌∷◌, ◌⊎◌, inl, inr, slice_get, Option, Some, None, refl, sym, ap, subst, ◌∙◌, arith}
 use Rattle.ev_sets.specs.Sets.{Has}
-use Rattle.ev_sets.specs.Numbers.{sum_over, count}
 use Rattle.ev_sets.proofs.Numbers.{Same, Is, Not, compare}
-use Rattle.ev_tree.specs.Hops.{side}
 use Rattle.ev_links.proofs.Numbers.{climb}
-use Rattle.ev_run.specs.Machine.{Stamped, stamped}
+use Rattle.ev_run.specs.Machine.{Stamped}
 use Rattle.ev_run.specs.Runs.{raised}
 use Rattle.ev_routing.specs.Theory.{Theory, TheoryLaws}
-use Rattle.ev_routing.specs.Net.{Net, NetLaws}
-use Rattle.ev_routing.specs.Server.{Message, Publication, is_among}
-use Rattle.ev_routing.specs.Step.{Work, Routes}
+use Rattle.ev_routing.specs.Net.{Net}
+use Rattle.ev_routing.specs.Server.{Message, Subs, Advs, Noticed, Publication}
+use Rattle.ev_routing.specs.Step.{effect}
 use Rattle.ev_routing.specs.Works.{work_at}
-use Rattle.ev_routing.specs.Routing.{routing_machine, Network, NetEntry}
-use Rattle.ev_routing.specs.AsOf.{IsRoutedAt}
 use Rattle.ev_routing.specs.Change.{on_tree}
-use Rattle.ev_routing.specs.Order.{ordinals_put, ordinals_maybe, ordinals_of_entry, ordinals_routed, add_ordinal}
-use Rattle.ev_routing.specs.LegalRun.{LegalRun, states as states_of}
+use Rattle.ev_routing.specs.Order.{ordinals_put, add_ordinal}
 use Rattle.ev_routing.proofs.Accepted.{gives-routed}
-use Rattle.ev_routing.proofs.Laws.{one-has}
 use Rattle.ev_routing.proofs.Listing.{has-left, has-right}
-use Rattle.ev_routing.proofs.Started.{ordered-run}
-use Rattle.ev_phases.specs.Trees.{JournalEntry, State, on, off, entry_on, entries_on, net_at, tree_at, machine_at, at_phase, is_one_tree}
+use Rattle.ev_phases.specs.Trees.{JournalEntry, State, on, off, entry_on, net_at, tree_at, machine_at, at_phase, is_one_tree}
 use Rattle.ev_phases.specs.Moments.{Moment, begun, as_found, command_phase, opening_moment, moment_after, found_after}
 use Rattle.ev_phases.specs.Runs.{PhasedRun}
 use Rattle.ev_phases.specs.AtMoments.{states, phase_seen, net_seen, states_on, messages_at, seen, inbox_at}
 use Rattle.ev_phases.specs.Routes.{IsRoutedOn}
+use Rattle.ev_phases.proofs.Moments.{next}
 use Rattle.ev_phases.proofs.Nets.{net-laws}
 use Rattle.ev_phases.proofs.Entries.{happens-run, messages-run, keeps-run, still}
 use Rattle.ev_traffic.proofs.Entries.{ids, Working, working}
@@ -55,10 +48,10 @@ module _ (th : Theory) (laws : TheoryLaws th) (run : PhasedRun th) where
       before i = subst (λ z. Has p (z c)) (keeps-run th laws run n u).inbox i
 
       go : Same u e.server → Has p (inbox_at th run n u c) ⊎ RoutesIt n u p
-      go (Not m v) = inl (before (subst (λ b. Has p ((cond b (Rattle.ev_routing.specs.Step.effect th (net_seen th run n) e.server w.from w.work).state ((seen th run n).state u)).inbox c)) v (subst (λ z. Has p ((z u).inbox c)) w.state h)))
+      go (Not m v) = inl (before (subst (λ b. Has p ((cond b (effect th (net_seen th run n) e.server w.from w.work).state ((seen th run n).state u)).inbox c)) v (subst (λ z. Has p ((z u).inbox c)) w.state h)))
       go (Is q v) =
-          let there : Has p ((Rattle.ev_routing.specs.Step.effect th (net_seen th run n) e.server w.from w.work).state.inbox c) =
-          subst (λ b. Has p ((cond b (Rattle.ev_routing.specs.Step.effect th (net_seen th run n) e.server w.from w.work).state ((seen th run n).state u)).inbox c)) v (subst (λ z. Has p ((z u).inbox c)) w.state h) in
+          let there : Has p ((effect th (net_seen th run n) e.server w.from w.work).state.inbox c) =
+          subst (λ b. Has p ((cond b (effect th (net_seen th run n) e.server w.from w.work).state ((seen th run n).state u)).inbox c)) v (subst (λ z. Has p ((z u).inbox c)) w.state h) in
           elim (gives-routed th (net_seen th run n) (net-laws th run.net run.laws (phase_seen th run n)) e.server w.from w.work c p there) [
             | inl i ↦ inl (before (subst (λ z. Has p (((seen th run n).state z).inbox c)) (sym q) (subst (λ z. Has p (z c)) w.inbox i)))
             | inr r ↦ inr (record {
@@ -123,7 +116,7 @@ module _ (th : Theory) (laws : TheoryLaws th) (run : PhasedRun th) where
   seen-put m [] zero a b = inl refl
   seen-put m [] (suc n) a b = inl refl
   seen-put m (e ∷ es) zero a b = found-put m (command_phase th run.net m e) a b
-  seen-put m (e ∷ es) (suc n) a b = seen-put (Rattle.ev_phases.proofs.Moments.next th run.net m e) es n a b
+  seen-put m (e ∷ es) (suc n) a b = seen-put (next th run.net m e) es n a b
 
   module _ (z : Net th) (q o from to : ℕ) where
     found-was : (n : ℕ) → Has o (ordinals_put th z q ((seen th run n).put from to)) → Has o (ordinals_put th z q ((states th run n).put from to))
@@ -140,9 +133,9 @@ module _ (th : Theory) (laws : TheoryLaws th) (run : PhasedRun th) where
     ]
       where
         one : (m : Message th) → Has o (add_ordinal th z q m []) → Has o (add_ordinal th (net_seen th run n) q m [])
-        one (Rattle.ev_routing.specs.Server.Subs out add) h = h
-        one (Rattle.ev_routing.specs.Server.Advs out add) h = h
-        one (Rattle.ev_routing.specs.Server.Noticed p x n) h = h
+        one (Subs out add) h = h
+        one (Advs out add) h = h
+        one (Noticed p x n) h = h
 
     -- what stands on a link was put there by an entry
     pub put-upto : (n : ℕ) → Has o (ordinals_put th z q ((states th run n).put from to)) → Has o (upto th laws run q n from to)

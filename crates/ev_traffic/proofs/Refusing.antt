@@ -1,5 +1,5 @@
 -- A script's publishes against the ordinals of those that are refused.
-use Rattle.std.proofs.Common.{◌≡◌, ℕ, zero, suc, ◌+◌, ◌<◌, ◌≤◌, ◌==◌, Bool, true, false, cond, List, [], ◌∷◌, ◌++◌, inl, inr, drop, append_assoc, refl, sym, ap, subst, ◌∙◌, arith, eqb-true, eq-eqb}
+use Rattle.std.proofs.Common.{◌≡◌, ℕ, zero, suc, ◌+◌, ◌<◌, Bool, true, false, cond, List, [], ◌∷◌, ◌++◌, inl, inr, drop, append_assoc, refl, sym, ap, subst, ◌∙◌, arith, eqb-true}
 use Rattle.ev_sets.specs.Sets.{Has}
 use Rattle.ev_routing.specs.Theory.{Theory}
 use Rattle.ev_routing.specs.Net.{Net, Command, Subscribe, Unsubscribe, Advertise, Unadvertise, Publish, PhasedCommand}

@@ -1,11 +1,10 @@
 -- What is printed goes by the loads of the net's links alone.
-use Rattle.std.proofs.Common.{◌≡◌, ℕ, ◌+◌, ◌≤◌, ◌&&◌, Bool, true, false, nat_lt, List, [], ◌∷◌, ◌++◌, ◌⊎◌, inl, inr, filter, map, refl, sym, ap, subst, ◌∙◌, arith}
+use Rattle.std.proofs.Common.{◌≡◌, ℕ, ◌+◌, ◌≤◌, ◌&&◌, Bool, true, false, nat_lt, List, [], ◌∷◌, ◌++◌, ◌⊎◌, inl, inr, filter, refl, sym, ap, subst, ◌∙◌, arith}
 use Rattle.std.specs.Prelude.{codes}
 use Rattle.std.specs.List.{flat_map}
 use Rattle.ev_sets.specs.Sets.{Has}
 use Rattle.ev_sets.specs.Numbers.{sum_over}
 use Rattle.ev_sets.proofs.Roots.{filter-Has}
-use Rattle.ev_tree.specs.Tree.{Topology}
 use Rattle.ev_tree.proofs.Servers.{server-in}
 use Rattle.ev_routing.proofs.Listing.{has-either, map-has}
 use Rattle.ev_model.specs.Parts.{NetParts}

@@ -1,12 +1,12 @@
 -- A link never carries more notifications than plain flooding puts on it.
-use Rattle.std.proofs.Common.{◌≡◌, ℕ, ◌≤◌, Bool, true, List, [], length, refl, sym, ap, subst, ◌∙◌, arith}
+use Rattle.std.proofs.Common.{◌≡◌, ℕ, suc, ◌+◌, ◌≤◌, List, [], length, take, slice_get, Some, ap, subst, ◌∙◌, arith}
 use Rattle.ev_sets.specs.Sets.{Has}
-use Rattle.ev_sets.specs.Numbers.{sum_over, count}
+use Rattle.ev_sets.specs.Numbers.{sum_over}
 use Rattle.ev_routing.specs.Theory.{Theory, TheoryLaws}
+use Rattle.ev_routing.specs.Clients.{ordinal}
 use Rattle.ev_routing.proofs.Listing.{get-has}
 use Rattle.ev_phases.specs.Trees.{JournalEntry, net_at}
 use Rattle.ev_phases.specs.Runs.{PhasedRun}
-use Rattle.ev_phases.specs.AtMoments.{phase_seen}
 use Rattle.ev_traffic.specs.Flood.{flooded, flooded_by, floods_over}
 use Rattle.ev_traffic.specs.Runs.{AreClients, noticed}
 use Rattle.ev_traffic.proofs.Carrying.{Puts, published, floods, upto, upto-rises, put-by, by-publishers}
@@ -21,7 +21,7 @@ module _ (th : Theory) (laws : TheoryLaws th) (run : PhasedRun th) (clients : Li
   pub flood-many : (q : ℕ) → length (sent_by_flooding q) ≡ flooded_by th run.net from to q
   flood-many q = as-many th (net_at th run.net 0) (floods_over th run.net (run.net.home q) from to) [] 0 (run.net.script q)
 
-  pub publisher-known : (n : ℕ) (e : JournalEntry) (is : Rattle.std.proofs.Common.slice_get run.journal n ≡ Rattle.std.proofs.Common.Some e) (s : Puts th laws run n e from to) → Has s.publisher clients
+  pub publisher-known : (n : ℕ) (e : JournalEntry) (is : slice_get run.journal n ≡ Some e) (s : Puts th laws run n e from to) → Has s.publisher clients
   publisher-known n e is s = let p = published th laws run n e is from to s in known.each s.publisher p.command (get-has (run.net.script s.publisher) p.index p.command p.at)
 
   pub all-noticed : noticed th run (length run.journal) from to ≡ sum_over (λ q. length (upto th laws run q (length run.journal) from to)) clients
@@ -35,10 +35,10 @@ module _ (th : Theory) (laws : TheoryLaws th) (run : PhasedRun th) (clients : Li
       let p = published th laws run a.moment a.entry a.slot from to s in
       let f = floods th laws run a.moment a.entry a.slot from to s in
       let there : Has s.ordinal (sent_by_flooding s.publisher) =
-      is-accepted th (net_at th run.net 0) (floods_over th run.net (run.net.home s.publisher) from to) [] 0 (run.net.script s.publisher) p.index p.command s.notice s.ordinal p.at p.publishes (zero-plus (Rattle.ev_routing.specs.Clients.ordinal th (Rattle.std.proofs.Common.take (Rattle.std.proofs.Common.suc p.index) (run.net.script s.publisher))) ∙ p.ordinal) p.allowed (ap (floods_over th run.net (run.net.home s.publisher) from to) p.phase ∙ f) in
+      is-accepted th (net_at th run.net 0) (floods_over th run.net (run.net.home s.publisher) from to) [] 0 (run.net.script s.publisher) p.index p.command s.notice s.ordinal p.at p.publishes (zero-plus (ordinal th (take (suc p.index) (run.net.script s.publisher))) ∙ p.ordinal) p.allowed (ap (floods_over th run.net (run.net.home s.publisher) from to) p.phase ∙ f) in
       subst (λ z. Has z (sent_by_flooding q)) a.here.ordinal (subst (λ z. Has s.ordinal (sent_by_flooding z)) a.here.publisher there)
     where
-      zero-plus : (n : ℕ) → Rattle.std.proofs.Common.◌+◌ 0 n ≡ n
+      zero-plus : (n : ℕ) → 0 + n ≡ n
       zero-plus n = omega arith
 
   pub never-more : noticed th run (length run.journal) from to ≤ flooded th run.net clients from to

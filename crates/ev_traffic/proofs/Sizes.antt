@@ -1,7 +1,7 @@
 -- Rising lists among others, and sums over distinct numbers.
-use Rattle.std.proofs.Common.{◌≡◌, ℕ, zero, suc, ◌+◌, ◌<◌, ◌≤◌, ◌==◌, Bool, true, false, cond, List, [], ◌∷◌, ◌++◌, inl, inr, length, refl, sym, ap, subst, ◌∙◌, arith, length-append}
+use Rattle.std.proofs.Common.{◌≡◌, ℕ, suc, ◌+◌, ◌≤◌, ◌==◌, cond, List, [], ◌∷◌, inl, inr, length, refl, sym, subst, ◌∙◌, arith}
 use Rattle.ev_sets.specs.Sets.{Has}
-use Rattle.ev_sets.specs.Numbers.{IsDistinct, sum_over, count}
+use Rattle.ev_sets.specs.Numbers.{IsDistinct, sum_over}
 use Rattle.ev_sets.proofs.Numbers.{Same, Is, Not, compare}
 use Rattle.ev_routing.specs.Order.{IsStrictlyRising}
 

@@ -1,5 +1,5 @@
 -- What a server far from a publisher's home routed came to it over each link of the way from there.
-use Rattle.std.proofs.Common.{◌≡◌, ℕ, zero, suc, ◌≤◌, ◌==◌, Bool, true, false, cond, List, [], ◌∷◌, ◌++◌, ◌⊎◌, inl, inr, take, refl, sym, ap, subst, ◌∙◌, eq-eqb}
+use Rattle.std.proofs.Common.{◌≡◌, ℕ, zero, suc, ◌==◌, Bool, true, false, cond, List, [], ◌∷◌, ◌++◌, ◌⊎◌, inl, inr, take, refl, subst}
 use Rattle.ev_sets.specs.Sets.{Has}
 use Rattle.ev_tree.specs.Hops.{side}
 use Rattle.ev_run.specs.Machine.{Stamped, stamped}

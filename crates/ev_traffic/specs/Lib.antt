@@ -6,3 +6,5 @@ pub mod Runs
 pub mod Links
 pub mod Text
 pub mod Printed
+pub mod Told
+pub mod Laws

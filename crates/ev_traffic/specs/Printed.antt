@@ -1,6 +1,5 @@
 -- What the code keeps of the traffic until it is written; no promise to a caller speaks of it.
-use Rattle.std.specs.Prelude.{◌≡◌, ℕ, List}
-use Rattle.ev_model.specs.Parts.{NetParts}
+use Rattle.std.specs.Prelude.{ℕ, List}
 use Rattle.ev_traffic.specs.declared.loads.LoadCounts.{LoadCounts}
 use Rattle.ev_traffic.specs.declared.traffic.Totals.{Totals}
 use Rattle.ev_traffic.specs.Counts.{count_at}

@@ -18,10 +18,7 @@ pub struct Carried {
 fn is_notice(text: &[u8]) -> bool
     ensures { result ≡ is_notice text.now }
 {
-    matches!(
-        text,
-        [b'n', b'o', b't', b'i', b'c', b'e', b' ', ..]
-    )
+    matches!(text, [b'n', b'o', b't', b'i', b'c', b'e', b' ', ..])
 }
 
 impl Carried {

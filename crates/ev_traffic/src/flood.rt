@@ -69,11 +69,7 @@ impl Going {
 }
 
 // The phases of the accepted publications of a script, by the ordinals of those that are refused.
-fn accepted(
-    alloc: Global,
-    script: &[(u32, Command)],
-    refused: &[u32],
-) -> Result<Vec<u32>, NoMemory>
+fn accepted(alloc: Global, script: &[(u32, Command)], refused: &[u32]) -> Result<Vec<u32>, NoMemory>
     ensures { IfOk result (λ phases. (net : OneNet real) → refused.now ≡ refused_from real net [] 0 (map phased_command script.now)
         → phases.items ≡ accepted_phases real net [] (map phased_command script.now)) }
 {
@@ -106,12 +102,7 @@ fn add_publication(counts: &mut Counts, tree: &Tree, home: u32) -> Result<(), No
 }
 
 // The publications of these phases, of a server.
-fn add_phases(
-    counts: &mut Counts,
-    net: &Net,
-    home: u32,
-    phases: &[u32],
-) -> Result<(), NoMemory>
+fn add_phases(counts: &mut Counts, net: &Net, home: u32, phases: &[u32]) -> Result<(), NoMemory>
     requires sound { IsSound net.now }
     requires home { IsAmong (first_tree net.now.trees).count home }
     ensures { OnOk result ((from to : ℕ) → from ≤ 64 → to ≤ 64

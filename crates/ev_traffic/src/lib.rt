@@ -6,6 +6,7 @@ mod carried;
 mod counts;
 mod flood;
 mod graph;
+pub mod law;
 mod line;
 mod links;
 mod loads;

@@ -1,5 +1,5 @@
-use Rattle.std.proofs.Common.{◌≡◌, ℕ, ◌+◌, ◌≤◌, ◌∷◌, ◌++◌, [], List, cond, map, drop, get_or, ap, sym, ◌∙◌, arith}
-use Rattle.ev_routing.specs.Net.{Net, PhasedCommand}
+use Rattle.std.proofs.Common.{◌≡◌, ◌+◌, ◌∷◌, ◌++◌, [], cond, map, drop, ap, sym, ◌∙◌, arith}
+use Rattle.ev_routing.specs.Net.{Net}
 use Rattle.ev_routing.specs.Clients.{adverts_step, refused_from}
 use Rattle.ev_theory.specs.Real.{real}
 use Rattle.ev_model.specs.Meaning.{command_of, phased_command}

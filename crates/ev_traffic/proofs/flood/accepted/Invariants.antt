@@ -14,5 +14,5 @@ invariant-loop-phase l =
       refused : l.going.refused ≤ l.phase-index;
       left : (net : Net real) → l.refused ≡ refused_from real net [] 0 (map phased_command l.script) → (adverts : List real.Advert)
           × (refused_from real net adverts l.going.publishes (map phased_command (drop l.phase-index l.script)) ≡ drop l.going.refused l.refused)
-          × (l.phases.items ++ accepted_phases real net adverts (map phased_command (drop l.phase-index l.script)) ≡ accepted_phases real net [] (map phased_command l.script))
+          × (l.phases.items ++ accepted_phases real net adverts (map phased_command (drop l.phase-index l.script)) ≡ accepted_phases real net [] (map phased_command l.script));
     }

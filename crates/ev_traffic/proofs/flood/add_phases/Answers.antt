@@ -13,5 +13,9 @@ add_publication-requires c =
 pub loop-phase-preserved : goal.loop-phase-preserved
 loop-phase-preserved c from to lf lt =
     omega (
-    arith, c.loop-phase.invariant from to lf lt, c.in_ok-add_publication.ensures from to lf lt, ap (λ t. count (is_flooded t c.args.home from to)) c.tree.ensures,
-    sum-next (λ phase. count (is_flooded (topology_at c.args.net.now phase) c.args.home from to)) c.args.phases.now c.loop-phase.phase-index 0 c.loop-phase-test.true)
+      arith,
+      c.loop-phase.invariant from to lf lt,
+      c.in_ok-add_publication.ensures from to lf lt,
+      ap (λ t. count (is_flooded t c.args.home from to)) c.tree.ensures,
+      sum-next (λ phase. count (is_flooded (topology_at c.args.net.now phase) c.args.home from to)) c.args.phases.now c.loop-phase.phase-index 0 c.loop-phase-test.true,
+    )

@@ -1,4 +1,4 @@
-use Rattle.std.proofs.Common.{◌≡◌, ◌+◌, ◌<◌, ◌≤◌, length, get_or, ap, sym, ◌∙◌, arith}
+use Rattle.std.proofs.Common.{◌<◌, length, get_or, ap, ◌∙◌, arith}
 use Rattle.ev_traffic.proofs.Clients.{flood-is, lives, refused-at, refused-long}
 use Rattle.ev_traffic.proofs.flood.flooding.Goals as goal
 

@@ -1,4 +1,4 @@
-use Rattle.std.specs.Prelude.{◌++◌, codes}
+use Rattle.std.specs.Prelude.{codes}
 use Rattle.std.proofs.Common.{subst}
 use Rattle.ev_decimal.specs.Text.{labelled}
 use Rattle.ev_outside.specs.Pending.{outlet, Went}

@@ -1,4 +1,3 @@
-use Rattle.std.proofs.Common.{◌≡◌}
 use Rattle.ev_traffic.proofs.Edges.{at-has}
 use Rattle.ev_traffic.proofs.links.is_link.Goals as goal
 

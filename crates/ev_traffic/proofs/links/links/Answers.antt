@@ -1,4 +1,4 @@
-use Rattle.std.proofs.Common.{◌≡◌, ◌++◌, ap, ◌∙◌}
+use Rattle.std.proofs.Common.{◌++◌, ap, ◌∙◌}
 use Rattle.ev_tree.specs.Graph.{servers_to}
 use Rattle.ev_traffic.specs.Links.{links_from, links_in}
 use Rattle.ev_traffic.proofs.Edges.{all-next}

@@ -1,6 +1,6 @@
-use Rattle.std.proofs.Common.{◌≡◌, ◌&&◌, ◌++◌, ◌∷◌, [], cond, nat_lt, ap, sym, ◌∙◌}
+use Rattle.std.proofs.Common.{◌++◌, ◌∷◌, [], cond, ap, sym, ◌∙◌}
 use Rattle.ev_tree.specs.Graph.{servers_to}
-use Rattle.ev_traffic.specs.Links.{is_link, links_from}
+use Rattle.ev_traffic.specs.Links.{links_from}
 use Rattle.ev_traffic.proofs.Edges.{up-next}
 use Rattle.ev_traffic.proofs.links.push_links.Goals as goal
 use Rattle.ev_traffic.proofs.links.push_links.Goals.{then-is_link_up+in_ok-push, else-is_link_up}

@@ -1,5 +1,4 @@
-use Rattle.std.proofs.Common.{◌++◌, ◌∙◌, take, ap, sym, subst}
-use Rattle.std.specs.List.{flat_map}
+use Rattle.std.proofs.Common.{sym, subst}
 use Rattle.ev_outside.specs.Pending.{outlet, Went}
 use Rattle.ev_outside.proofs.Outlets.{went-then}
 use Rattle.ev_traffic.specs.Text.{link_lines}

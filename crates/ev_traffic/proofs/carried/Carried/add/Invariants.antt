@@ -10,5 +10,5 @@ invariant-loop-message l =
       notices : (a b : ℕ) → a ≤ 64 → b ≤ 64 → count_at l.self.notices a b + put_on is_notice l.server (drop l.message-index l.sent) a b
           ≡ count_at l.initial.self.notices a b + put_on is_notice l.server l.sent a b;
       changes : (a b : ℕ) → a ≤ 64 → b ≤ 64 → count_at l.self.changes a b + put_on is_change l.server (drop l.message-index l.sent) a b
-          ≡ count_at l.initial.self.changes a b + put_on is_change l.server l.sent a b
+          ≡ count_at l.initial.self.changes a b + put_on is_change l.server l.sent a b;
     }

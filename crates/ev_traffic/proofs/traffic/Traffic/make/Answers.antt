@@ -1,4 +1,3 @@
-use Rattle.std.proofs.Common.{◌≡◌}
 use Rattle.ev_traffic.specs.Text.{loads_of}
 use Rattle.ev_traffic.specs.Printed.{loads_by}
 use Rattle.ev_traffic.proofs.Same.{same-printed}
