@@ -19,4 +19,5 @@ phases_flood net home phases from to = sum_over (λ phase. count (is_flooded (to
 
 -- and of a client's
 abbrev pub client_flood : NetParts → ClientParts → ℕ → ℕ → ℕ
-client_flood net client from to = phases_flood net client.home (accepted_phases real (net_at real (phased_net net) 0) [] (map phased_command client.script)) from to
+client_flood net client from to =
+    phases_flood net client.home (accepted_phases real (net_at real (phased_net net) 0) [] (map phased_command client.script)) from to
