@@ -11,7 +11,8 @@ pub enum Page {
     Version,
 }
 
-const HELP: &[u8] = b"siena: a network of event servers in one process. Most words read a document of servers, clients and their scripts from
+const HELP: &[u8] =
+    b"siena: a network of event servers in one process. Most words read a document of servers, clients and their scripts from
 standard input, and write what happens to standard output; docs/FORMATS.md has all texts, examples/ has documents.
 
 walk [--sorted] [--trace]
@@ -57,7 +58,8 @@ const VERSION: &[u8] = b"siena 1.0
 rattle-kit-13f logic dac8208d650f15bf
 ";
 
-const USAGE: &[u8] = b"siena: usage: walk, run or replay [--sorted] [--trace]; flood; traffic [--dot]; patterns; audit; check; format; gen --seed N [--summary]; help; version\n";
+const USAGE: &[u8] =
+    b"siena: usage: walk, run or replay [--sorted] [--trace]; flood; traffic [--dot]; patterns; audit; check; format; gen --seed N [--summary]; help; version\n";
 
 // What each word does.
 #[tactic(auto, unfolding(crate::specs::Pages::help_text))]

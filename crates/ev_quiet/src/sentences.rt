@@ -5,7 +5,8 @@ ghost use Rattle.ev_quiet.specs.Sentences.{kind_means, pattern_means};
 use ev_input::Fault;
 use ev_watch::PatternKind;
 
-const VALUE: &[u8] = b"an int is from -9223372036854775808 to 9223372036854775807, a time at most 18446744073709551615, a str at most 1024 bytes";
+const VALUE: &[u8] =
+    b"an int is from -9223372036854775808 to 9223372036854775807, a time at most 18446744073709551615, a str at most 1024 bytes";
 
 const OPERAND: &[u8] = b"prefix, suffix and contains have an operand of at least 1 byte";
 

@@ -1,5 +1,6 @@
 //! How a run ends, and what it says of a fault.
-ghost use Rattle.std.specs.Prelude.{◌≡◌, ◌++◌, IfOk, OnOk};
+ghost use Rattle.std.specs.Prelude.{◌≡◌, ◌++◌, IfOk, OnOk, codes};
+ghost use Rattle.std.specs.Fmt.{decimal};
 ghost use Rattle.ev_quiet.specs.Status.{audit_text, kind_text, pattern_text, refusal_text, refuted_text, status_number, status_text};
 
 use crate::sentences::{kind_means, pattern_means};
@@ -119,14 +120,22 @@ fn audit_text(kind: AuditKind) -> &'static [u8]
     }
 }
 
+// The beginning of a fault's line: what stands before the line's number, the number, and the word of the kind.
+fn push_fault(out: &mut Vec<u8>, before: &[u8], line: u32, word: &[u8]) -> Result<(), NoMemory>
+    ensures { OnOk result (out.new.items ≡ out.old.items ++ before.now ++ decimal line ++ codes ": " ++ word.now) }
+{
+    out.extend_from_slice(before)?;
+    push_number(out, u64::from(line))?;
+    out.extend_from_slice(b": ")?;
+    out.extend_from_slice(word)?;
+    Ok(())
+}
+
 // The line of a refusal: the word of its kind, and what this means.
 fn push_refusal(out: &mut Vec<u8>, line: u32, word: &[u8], means: &[u8]) -> Result<(), NoMemory>
     ensures { OnOk result (out.new.items ≡ out.old.items ++ refusal_text line word.now means.now) }
 {
-    out.extend_from_slice(b"siena: line ")?;
-    push_number(out, u64::from(line))?;
-    out.extend_from_slice(b": ")?;
-    out.extend_from_slice(word)?;
+    push_fault(out, b"siena: line ", line, word)?;
     out.extend_from_slice(b": ")?;
     out.extend_from_slice(means)?;
     out.extend_from_slice(b"\n")?;
@@ -137,10 +146,7 @@ fn push_refusal(out: &mut Vec<u8>, line: u32, word: &[u8], means: &[u8]) -> Resu
 fn push_refuted(out: &mut Vec<u8>, line: u32, word: &[u8]) -> Result<(), NoMemory>
     ensures { OnOk result (out.new.items ≡ out.old.items ++ refuted_text line word.now) }
 {
-    out.extend_from_slice(b"siena: audit: line ")?;
-    push_number(out, u64::from(line))?;
-    out.extend_from_slice(b": ")?;
-    out.extend_from_slice(word)?;
+    push_fault(out, b"siena: audit: line ", line, word)?;
     out.extend_from_slice(b"\n")?;
     Ok(())
 }

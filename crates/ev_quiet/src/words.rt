@@ -118,11 +118,7 @@ fn run(schedule: Schedule, words: &[Word]) -> Option<Wanted>
 fn alone(wanted: Wanted, words: &[Word]) -> Option<Wanted>
     ensures { result ≡ alone wanted words.now }
 {
-    if words.is_empty() {
-        Some(wanted)
-    } else {
-        None
-    }
+    if words.is_empty() { Some(wanted) } else { None }
 }
 
 // Whether it is `--summary`.

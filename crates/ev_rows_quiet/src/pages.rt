@@ -5,8 +5,20 @@ use std::alloc::Global;
 
 /// What help must name.
 const WORDS: [&str; 14] = [
-    "walk", "run", "replay", "flood", "traffic", "patterns", "audit", "check", "format", "gen", "help", "--sorted",
-    "--trace", "--summary",
+    "walk",
+    "run",
+    "replay",
+    "flood",
+    "traffic",
+    "patterns",
+    "audit",
+    "check",
+    "format",
+    "gen",
+    "help",
+    "--sorted",
+    "--trace",
+    "--summary",
 ];
 
 /// Whether a line of the text has the word.
@@ -34,11 +46,20 @@ fn unnamed(text: &str) -> u32 {
 pub fn print_pages(rt: &impl Print, alloc: Global) -> Result<(), Failure> {
     let help = failing(alloc, "help", b"", &[1], &[])?;
     let dashed = failing(alloc, "--help", b"", &[1], &[])?;
-    println!(rt; "help leaves out {} of the words", unnamed(shown(&help.text)))?;
+    println!(rt;
+        "help leaves out {} of the words",
+        unnamed(shown(&help.text))
+    )?;
     print_verdict(rt, "--help", &dashed, b"", &help.text)?;
     for words in ["version", "--version"] {
         let came = failing(alloc, words, b"", &[1], &[])?;
-        print_verdict(rt, words, &came, b"", b"siena 1.0\nrattle-kit-13f logic dac8208d650f15bf\n")?;
+        print_verdict(
+            rt,
+            words,
+            &came,
+            b"",
+            b"siena 1.0\nrattle-kit-13f logic dac8208d650f15bf\n",
+        )?;
     }
     Ok(())
 }
