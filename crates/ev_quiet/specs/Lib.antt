@@ -1,4 +1,5 @@
 pub mod Words
+pub mod Sentences
 pub mod Status
 pub mod Runs
 pub mod Printed

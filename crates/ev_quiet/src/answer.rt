@@ -7,6 +7,7 @@ ghost use Rattle.ev_quiet.specs.Words.{IsPlainWish, IsQuietQuery};
 ghost use Rattle.ev_quiet.specs.Answers.{IsPrintedBy, reads_document, HasFaultFor, GaveRefusedFor, CanAnswerFor};
 
 use crate::generated::of_seed;
+use crate::page::of_page;
 use crate::printed::{Printed, of_document};
 use crate::reading::document;
 use crate::refusal::Refusal;
@@ -56,6 +57,7 @@ pub fn answer<S: Source>(alloc: Global, wanted: Wanted, source: &mut S) -> Resul
     match wanted {
         Wanted::Document(query) => of_source(alloc, query, source),
         Wanted::Generate { seed, summary } => Ok(of_seed(alloc, seed, summary)?),
+        Wanted::About(page) => Ok(of_page(alloc, page)?),
         Wanted::Patterns | Wanted::Audit => unreachable!(),
     }
 }

@@ -245,6 +245,7 @@ fn carry_out<S: Source, K: Sink>(
             source,
             sink,
         ),
+        Wanted::About(page) => answered(alloc, Wanted::About(page), source, sink),
     }
 }
 
@@ -255,7 +256,8 @@ fn carry_out<S: Source, K: Sink>(
 /// `walk` and `replay` print what each client receives in a run of the network, `flood` what flooding owes and allows it,
 /// `check` how much the document has, `format` its canonical text, and `gen` the document of a seed, or the summary of its walk. `patterns` prints where
 /// the patterns behind a document occur in what the clients receive in its walk. `audit` prints how much a run has whose output
-/// stands behind a document, with its trace, where that is the output of a whole run.
+/// stands behind a document, with its trace, where that is the output of a whole run. `help` and `version` print what the program
+/// says of itself.
 pub fn quiet<S: Source, K: Sink>(
     alloc: Global,
     words: &[Word],

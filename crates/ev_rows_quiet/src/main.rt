@@ -9,6 +9,7 @@ mod faults;
 mod formats;
 mod generated;
 mod large;
+mod pages;
 mod patterns;
 mod replays;
 mod row;
@@ -29,6 +30,7 @@ fn main(rt: HostRuntime) -> Result<(), Failure> {
     audits::print_changed(&rt, alloc)?;
     tried::print_rows(&rt, alloc, &formats::FORMATS)?;
     tried::print_rows(&rt, alloc, &usage::USAGE)?;
+    pages::print_pages(&rt, alloc)?;
     devices::print_devices(&rt, alloc)?;
     large::print_large(&rt, alloc)?;
     generated::print_generated(&rt, alloc)
