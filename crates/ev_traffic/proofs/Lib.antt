@@ -14,3 +14,4 @@ pub mod Way
 pub mod Owed
 pub mod Equal
 pub mod Telling
+pub mod Tallies

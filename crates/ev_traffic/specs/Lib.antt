@@ -3,6 +3,7 @@ pub mod Carried
 pub mod Flood
 pub mod Going
 pub mod Runs
+pub mod Tallied
 pub mod Links
 pub mod Text
 pub mod Printed

@@ -4,7 +4,7 @@ ghost use Rattle.ev_traffic.specs.Carried.{is_notice};
 
 use crate::counts::Counts;
 use ev_memory::NoMemory;
-use ev_model::Sent;
+use ev_model::{Entry, Sent};
 use std::alloc::Global;
 
 /// How many notifications, and how many messages on filters and advertisements, each link carried, in both directions.
@@ -22,15 +22,17 @@ fn is_notice(text: &[u8]) -> bool
 }
 
 impl Carried {
-    ghost use Rattle.std.specs.Prelude.{◌≡◌, ◌+◌, ◌≤◌, ◌&&◌, ℕ, IfOk, OnOk};
+    ghost use Rattle.std.specs.Prelude.{◌≡◌, ◌+◌, ◌≤◌, ◌&&◌, ◌++◌, ◌∷◌, [], ℕ, List, length, IfOk, OnOk};
     ghost use Rattle.ev_sets.specs.Numbers.{count};
+    ghost use Rattle.ev_wire.specs.declared.sent.Sent.{Sent as SentParts};
+    ghost use Rattle.ev_model.specs.Parts.{EntryParts};
     ghost use Rattle.ev_traffic.specs.Carried.{is_change, is_notice, put_on};
-    ghost use Rattle.ev_traffic.specs.Counts.{AreCounts, count_at, is_direction};
+    ghost use Rattle.ev_traffic.specs.Counts.{count_at, is_direction};
+    ghost use Rattle.ev_traffic.specs.Tallied.{Carries};
 
     /// Nothing is carried.
     pub fn none(alloc: Global) -> Result<Carried, NoMemory>
-        ensures notices { IfOk result (λ c. AreCounts c.notices (λ from to. 0)) }
-        ensures changes { IfOk result (λ c. AreCounts c.changes (λ from to. 0)) }
+        ensures { IfOk result (λ c. Carries c [] []) }
     {
         Ok(Carried {
             notices: Counts::none(alloc)?,
@@ -64,8 +66,8 @@ impl Carried {
         self.add_text(server, message.to, &text)
     }
 
-    /// The messages of one entry more, which a server made.
-    pub fn add(&mut self, alloc: Global, server: u32, sent: &[Sent]) -> Result<(), NoMemory>
+    // The messages of one step more of a server.
+    fn add_messages(&mut self, alloc: Global, server: u32, sent: &[Sent]) -> Result<(), NoMemory>
         ensures notices { OnOk result ((a b : ℕ) → a ≤ 64 → b ≤ 64 → count_at self.new.notices a b
             ≡ count_at self.old.notices a b + put_on is_notice server sent.now a b) }
         ensures changes { OnOk result ((a b : ℕ) → a ≤ 64 → b ≤ 64 → count_at self.new.changes a b
@@ -75,5 +77,13 @@ impl Carried {
             self.add_message(alloc, server, message)?;
         }
         Ok(())
+    }
+
+    /// One entry more of a journal, with its messages.
+    pub fn add(&mut self, alloc: Global, entry: &Entry, sent: &[Sent]) -> Result<(), NoMemory>
+        ensures { OnOk result ((journal : List EntryParts) (outs : List (List SentParts)) → length journal ≡ length outs → Carries self.old journal outs
+            → Carries self.new (journal ++ entry.now ∷ []) (outs ++ sent.now ∷ [])) }
+    {
+        self.add_messages(alloc, entry.server, sent)
     }
 }

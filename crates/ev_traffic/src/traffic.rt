@@ -69,9 +69,8 @@ impl Traffic {
     ghost use Rattle.ev_model.specs.Nets.{of_clients};
     ghost use Rattle.ev_model.specs.Parts.{EntryParts};
     ghost use Rattle.ev_model.specs.Sound.{IsSound};
-    ghost use Rattle.ev_traffic.specs.Carried.{changes_on, notices_on};
-    ghost use Rattle.ev_traffic.specs.Counts.{AreCounts};
     ghost use Rattle.ev_traffic.specs.Flood.{refused_of};
+    ghost use Rattle.ev_traffic.specs.Tallied.{Carries};
     ghost use Rattle.ev_traffic.specs.Text.{loads_of, traffic_printed};
 
     /// The traffic of a run of a net, by what its entries put on each link and by the ordinals of each client's refused
@@ -86,8 +85,7 @@ impl Traffic {
         requires sound { IsSound net }
         requires refused { refused.now ≡ of_clients net (refused_of net) }
         ensures { IfOk result (λ traffic. (journal : List EntryParts) (outs : List (List Sent))
-            → AreCounts carried.notices (notices_on journal outs) → AreCounts carried.changes (changes_on journal outs)
-            → traffic ≡ traffic_printed graph net (loads_of net journal outs)) }
+            → Carries carried journal outs → traffic ≡ traffic_printed graph net (loads_of net journal outs)) }
     {
         let flood = flooding(alloc, &net, refused)?;
         let links = links(alloc, &net)?;

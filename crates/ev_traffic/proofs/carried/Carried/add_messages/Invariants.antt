@@ -1,7 +1,7 @@
 use Rattle.std.proofs.Common.{◌≡◌, ◌+◌, ◌≤◌, ℕ, drop}
 use Rattle.ev_traffic.specs.Carried.{is_notice, is_change, put_on}
 use Rattle.ev_traffic.specs.Counts.{count_at}
-use Rattle.ev_traffic.proofs.carried.Carried.add.Given as goal
+use Rattle.ev_traffic.proofs.carried.Carried.add_messages.Given as goal
 
 -- what is counted and what is left to be counted is all
 abbrev pub invariant-loop-message : goal.invariant-loop-message
