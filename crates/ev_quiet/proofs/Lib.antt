@@ -11,3 +11,4 @@ pub mod Statuses
 pub mod Heard
 pub mod Searched
 pub mod Confirmed
+pub mod Carrying

@@ -6,11 +6,12 @@ use Rattle.ev_input.specs.declared.fault.Fault.{Fault}
 use Rattle.ev_generate.specs.Document.{generated}
 use Rattle.ev_help.specs.Pages.{page_text}
 use Rattle.ev_quiet.specs.declared.words.Query.{Query}
-use Rattle.ev_quiet.specs.declared.words.Query.TheVariants.{Run, Flood, Check, Format}
+use Rattle.ev_quiet.specs.declared.words.Query.TheVariants.{Run, Flood, Check, Format, Traffic}
 use Rattle.ev_quiet.specs.declared.words.Wanted.{Wanted}
 use Rattle.ev_quiet.specs.declared.words.Wanted.TheVariants.{About, Audit, Document, Generate, Patterns}
 use Rattle.ev_quiet.specs.Printed.{IsFloodOf, IsCheckOf, IsFormatOf, IsSummaryOf}
 use Rattle.ev_quiet.specs.Headline.{Headline}
+use Rattle.ev_quiet.specs.Traffic.{IsTrafficOf}
 use Rattle.ev_watch.specs.declared.fault.PatternKind.{PatternKind}
 use Rattle.ev_quiet.specs.Faults.{IsAtFault, MustBeRefused, CanBeDone}
 use Rattle.ev_audited.specs.declared.fault.AuditKind.{AuditKind}
@@ -23,6 +24,7 @@ IsPrintedOf (Run schedule shown) input text journal = Headline schedule shown in
 IsPrintedOf Flood input text journal = IsFloodOf input text × (journal ≡ [])
 IsPrintedOf Check input text journal = IsCheckOf input text × (journal ≡ [])
 IsPrintedOf Format input text journal = IsFormatOf input text × (journal ≡ [])
+IsPrintedOf (Traffic graph) input text journal = IsTrafficOf graph input text journal
 
 -- those that a seed gives: its document, or the summary of its walk
 abbrev pub IsGenerated : ℕ → Bool → List ℕ → List EntryParts → Type 0

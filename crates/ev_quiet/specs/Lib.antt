@@ -6,6 +6,7 @@ pub mod Printed
 pub mod Promise
 pub mod Network
 pub mod Headline
+pub mod Traffic
 pub mod Faults
 pub mod Ran
 pub mod Patterns

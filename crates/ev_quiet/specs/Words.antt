@@ -9,7 +9,7 @@ use Rattle.ev_quiet.specs.declared.words.Schedule.{Schedule}
 use Rattle.ev_quiet.specs.declared.words.Schedule.TheVariants.{Walk, Replay, Threads}
 use Rattle.ev_quiet.specs.declared.words.Shown.{Shown}
 use Rattle.ev_quiet.specs.declared.words.Query.{Query}
-use Rattle.ev_quiet.specs.declared.words.Query.TheVariants.{Run, Flood, Check, Format}
+use Rattle.ev_quiet.specs.declared.words.Query.TheVariants.{Run, Flood, Check, Format, Traffic}
 use Rattle.ev_quiet.specs.declared.words.Wanted.{Wanted}
 use Rattle.ev_quiet.specs.declared.words.Wanted.TheVariants.{About, Audit, Document, Generate, Patterns}
 
@@ -37,6 +37,12 @@ run_by schedule words = option_map (λ shown. Document (Run schedule shown)) (op
 abbrev pub alone : Wanted → List (List ℕ) → Option Wanted
 alone wanted [] = Some wanted
 alone wanted (word ∷ words) = None
+
+-- what each link carries, by the words behind `traffic`: as a text, or with `--dot` as a graph
+abbrev pub traffic_by : List (List ℕ) → Option Wanted
+traffic_by [] = Some (Document (Traffic false))
+traffic_by (word ∷ []) = if bytes_eq word (codes "--dot") then Some (Document (Traffic true)) else None
+traffic_by (word ∷ other ∷ words) = None
 
 -- a number that fits into 64 bits
 abbrev pub in_64_bits : ℕ → Option ℕ
@@ -85,6 +91,7 @@ wanted_by (word ∷ words) =
     else if bytes_eq word (codes "flood") then alone (Document Flood) words
     else if bytes_eq word (codes "check") then alone (Document Check) words
     else if bytes_eq word (codes "format") then alone (Document Format) words
+    else if bytes_eq word (codes "traffic") then traffic_by words
     else if bytes_eq word (codes "gen") then generate_by words
     else if bytes_eq word (codes "patterns") then alone Patterns words
     else if bytes_eq word (codes "audit") then alone Audit words
@@ -104,6 +111,7 @@ IsQuietQuery (Run schedule shown) = is_quiet schedule ≡ true
 IsQuietQuery Flood = Unit {0}
 IsQuietQuery Check = Unit {0}
 IsQuietQuery Format = Unit {0}
+IsQuietQuery (Traffic graph) = Unit {0}
 
 abbrev pub IsQuietWish : Wanted → Type 0
 IsQuietWish (Document query) = IsQuietQuery query

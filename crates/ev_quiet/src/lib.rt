@@ -21,6 +21,7 @@ mod status;
 mod summary;
 mod text;
 mod top;
+mod traffic;
 mod words;
 
 pub use law::promise;

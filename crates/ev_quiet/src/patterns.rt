@@ -7,7 +7,6 @@ ghost use Rattle.ev_model.specs.Sound.{IsSound};
 ghost use Rattle.ev_input.specs.Net.{IsNetOf};
 ghost use Rattle.ev_watch.specs.Watch.{IsSoundPattern};
 ghost use Rattle.ev_quiet.specs.Promise.{AreOfNotices};
-ghost use Rattle.ev_quiet.specs.Ran.{IsRan};
 ghost use Rattle.ev_quiet.specs.Answers.{GaveRefusedFor, GaveBadPatternFor, CanAnswerFor};
 ghost use Rattle.ev_quiet.specs.Searching.{IsSearched, SearchesInput, SearchesSource, search_status, why_refused, why_unread};
 
@@ -15,11 +14,11 @@ use crate::body::Body;
 use crate::law::promise;
 use crate::notices::settle;
 use crate::printed::Printed;
-use crate::ran::{Ran, make_run};
+use crate::ran::{Ran, walked};
 use crate::reading::document;
 use crate::refusal::Refusal;
 use crate::status::Status;
-use crate::words::{Schedule, Wanted};
+use crate::words::Wanted;
 use ev_found::Found;
 use ev_input::Fault;
 use ev_input::law::net_is_sound;
@@ -88,17 +87,6 @@ fn refused(fault: PatternFault) -> Unsearched
         PatternFault::Document { line, kind } => Unsearched::BadInput { line, kind },
         PatternFault::Bad { line, kind } => Unsearched::BadPattern { line, kind },
         PatternFault::NoMemory => Unsearched::NoMemory,
-    }
-}
-
-// The walk of a net.
-fn walked(alloc: Global, net: &Net) -> Result<Ran, NoMemory>
-    requires { IsSound net.now }
-    ensures { IfOk result (λ ran. IsRan Schedule.Walk net.now ran) }
-{
-    match make_run(alloc, net, Schedule::Walk) {
-        Ok(ran) => Ok(ran),
-        Err(_) => Err(NoMemory),
     }
 }
 

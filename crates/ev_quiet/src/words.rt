@@ -2,7 +2,7 @@
 ghost use Rattle.std.specs.Prelude.{◌≡◌, ◌↔◌, IsTrue};
 ghost use Rattle.std.specs.Str.{bytes_eq};
 ghost use Rattle.ev_quiet.specs.Words.{AreNoneOfRun, alone, asked, generate_by, is_summary, joined_seed, options, parted_seed};
-ghost use Rattle.ev_quiet.specs.Words.{plain, run_by, wanted_by, with_option};
+ghost use Rattle.ev_quiet.specs.Words.{plain, run_by, traffic_by, wanted_by, with_option};
 
 use crate::seed::seed;
 use ev_help::Page;
@@ -39,6 +39,11 @@ pub enum Query {
     Check,
     /// Its canonical text.
     Format,
+    /// What each link carries in its walk, beside what plain flooding would have put there.
+    Traffic {
+        /// Whether it is wanted as a graph.
+        graph: bool,
+    },
 }
 
 /// What the words ask for.
@@ -121,6 +126,17 @@ fn alone(wanted: Wanted, words: &[Word]) -> Option<Wanted>
     if words.is_empty() { Some(wanted) } else { None }
 }
 
+// What each link carries, by the words behind `traffic`.
+fn traffic(words: &[Word]) -> Option<Wanted>
+    ensures { result ≡ traffic_by words.now }
+{
+    match words {
+        [] => Some(Wanted::Document(Query::Traffic { graph: false })),
+        [one] if is_word(one, b"--dot") => Some(Wanted::Document(Query::Traffic { graph: true })),
+        _ => None,
+    }
+}
+
 // Whether it is `--summary`.
 fn is_summary(word: &Word) -> bool
     ensures { result ≡ is_summary word.now }
@@ -193,6 +209,8 @@ pub fn read_words(words: &[Word]) -> Option<Wanted>
         alone(Wanted::Document(Query::Check), rest)
     } else if is_word(word, b"format") {
         alone(Wanted::Document(Query::Format), rest)
+    } else if is_word(word, b"traffic") {
+        traffic(rest)
     } else if is_word(word, b"gen") {
         generate(rest)
     } else if is_word(word, b"patterns") {
