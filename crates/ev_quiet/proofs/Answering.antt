@@ -1,6 +1,6 @@
 -- The answer to each thing that is wanted.
-use Rattle.std.proofs.Common.{◌≡◌, ◌⊎◌, inl, inr, ℕ, Bool, true, false, List, Result, Ok, Err, refl, ap}
-use Rattle.std.specs.Result.{IfOk, OnOk, IsOk, IsErrOf}
+use Rattle.std.proofs.Common.{◌⊎◌, inl, inr, ℕ, Bool, List, Result, Ok, Err, refl, ap}
+use Rattle.std.specs.Result.{IfOk, IsOk, IsErrOf}
 use Rattle.ev_input.specs.declared.fault.Fault.{Fault}
 use Rattle.ev_quiet.specs.declared.audits.Unaudited.{Unaudited}
 use Rattle.ev_quiet.specs.declared.audits.Unaudited.TheVariants as audits
@@ -9,10 +9,9 @@ use Rattle.ev_quiet.specs.declared.refusal.Refusal.TheVariants as refusals
 use Rattle.ev_quiet.specs.declared.unanswered.Unanswered.{Unanswered}
 use Rattle.ev_quiet.specs.declared.unanswered.Unanswered.TheVariants as whys
 use Rattle.ev_quiet.specs.declared.words.Query.{Query}
-use Rattle.ev_quiet.specs.declared.words.Wanted.{Wanted}
-use Rattle.ev_quiet.specs.declared.words.Wanted.TheVariants.{About, Audit, Document, Generate, Patterns}
-use Rattle.ev_quiet.specs.Answers.{IsPrintedBy, HasFaultFor, GaveRefusedFor, CanAnswerFor, reads_document}
-use Rattle.ev_quiet.specs.Answering.{IsAnswer, Says, of_refusal, of_unaudited, widened}
+use Rattle.ev_quiet.specs.declared.words.Wanted.TheVariants.{Audit, Document, Patterns}
+use Rattle.ev_quiet.specs.Answers.{IsPrintedBy, HasFaultFor, GaveRefusedFor, CanAnswerFor}
+use Rattle.ev_quiet.specs.Answering.{IsAnswer, Says, of_unaudited, widened}
 use Rattle.ev_quiet.specs.Auditing.{AuditsSource}
 use Rattle.ev_quiet.specs.Searching.{SearchesSource}
 use Rattle.ev_quiet.specs.Showing.{PrintedParts}

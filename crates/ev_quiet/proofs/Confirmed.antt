@@ -1,15 +1,14 @@
 -- The answer to `audit`, and what it tells of the input.
-use Rattle.std.proofs.Common.{◌≡◌, ◌⊎◌, inl, inr, ℕ, ◌<◌, ◌≤◌, Bool, true, List, [], ◌++◌, length, Result, Ok, Err, refl, sym, ap, ◌∙◌, subst, arith}
-use Rattle.std.specs.Result.{IsOk, IsErrOf}
+use Rattle.std.proofs.Common.{◌≡◌, ◌⊎◌, inl, inr, ℕ, ◌<◌, ◌≤◌, Bool, true, List, ◌++◌, length, Result, Ok, Err, refl, sym, ◌∙◌, subst, arith}
+use Rattle.std.specs.Result.{IsOk}
 use Rattle.ev_outside.specs.Whole.{Gave}
 use Rattle.ev_model.specs.Parts.{NetParts, EntryParts}
 use Rattle.ev_model.specs.Sound.{IsSound}
-use Rattle.ev_input.specs.Net.{IsNetOf}
 use Rattle.ev_input.specs.declared.fault.Fault.{Fault}
 use Rattle.ev_input.specs.declared.fault.Fault.TheVariants.{TooLong}
 use Rattle.ev_audit.specs.Claim.{IsBadDocument}
 use Rattle.ev_audit.proofs.Claiming.{one_bad}
-use Rattle.ev_audited.specs.Verdict.{CanAudit, IsAudited, IsRefuted, MustBeRefuted}
+use Rattle.ev_audited.specs.Verdict.{IsAudited, IsRefuted}
 use Rattle.ev_audited.specs.declared.fault.AuditFault.{AuditFault}
 use Rattle.ev_audited.specs.declared.fault.AuditFault.TheVariants as faults
 use Rattle.ev_audited.specs.declared.fault.AuditKind.{AuditKind}
@@ -23,7 +22,7 @@ use Rattle.ev_quiet.specs.Printed.{run_text, trace_of}
 use Rattle.ev_quiet.specs.Promise.{ClientPromise, AreOfNotices}
 use Rattle.ev_quiet.specs.Network.{lists_by, RunPromise, IsWholeRun}
 use Rattle.ev_quiet.specs.Audits.{IsAuditOf, IsAuditAtFault, IsAuditRefuted, MustRefute, CanConfirm, audit_text, traced}
-use Rattle.ev_quiet.specs.Answers.{GaveOutput, GaveRefusedFor, GaveRefutedFor, GaveWrongFor, CanAnswerFor, HasFaultFor}
+use Rattle.ev_quiet.specs.Answers.{GaveOutput, GaveRefusedFor, GaveWrongFor, CanAnswerFor}
 use Rattle.ev_quiet.specs.Showing.{PrintedParts}
 use Rattle.ev_quiet.specs.Auditing.{AuditsInput, AuditsSource, why_not, why_unread}
 use Rattle.ev_quiet.proofs.Sources.{same-given}

@@ -1,6 +1,6 @@
 -- The answer to `patterns`, and what it tells of the input.
 use Rattle.std.proofs.Common.{◌≡◌, ◌⊎◌, inl, inr, ℕ, ◌<◌, ◌≤◌, Bool, true, List, [], ◌++◌, append-nil, length, Result, Ok, Err, refl, sym, ap, ◌∙◌, subst, arith}
-use Rattle.std.specs.Result.{IsOk, IsErrOf}
+use Rattle.std.specs.Result.{IsOk}
 use Rattle.ev_outside.specs.Whole.{Gave}
 use Rattle.ev_model.specs.Parts.{NetParts, EntryParts}
 use Rattle.ev_model.specs.Sound.{IsSound}
@@ -21,7 +21,7 @@ use Rattle.ev_quiet.specs.Printed.{run_text, trace_of}
 use Rattle.ev_quiet.specs.Promise.{ClientPromise, AreOfNotices}
 use Rattle.ev_quiet.specs.Network.{lists_by, NetworkPromise, IsWholeRun}
 use Rattle.ev_quiet.specs.Patterns.{IsPatternsOf, IsInputAtFault, IsPatternAtFault, HasPatterns}
-use Rattle.ev_quiet.specs.Answers.{GaveDocument, GaveRefusedFor, GaveBadPatternFor, CanAnswerFor, HasFaultFor}
+use Rattle.ev_quiet.specs.Answers.{GaveDocument, GaveRefusedFor, GaveBadPatternFor, CanAnswerFor}
 use Rattle.ev_quiet.specs.Showing.{PrintedParts}
 use Rattle.ev_quiet.specs.Answering.{of_refusal}
 use Rattle.ev_quiet.specs.Searching.{IsSearched, SearchesInput, SearchesSource}

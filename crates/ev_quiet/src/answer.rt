@@ -83,7 +83,11 @@ fn unasked(printed: Result<Printed, NoMemory>) -> Result<Printed, Unanswered>
 }
 
 /// What is wanted, or why nothing is written.
-pub fn answer<S: Source>(alloc: Global, wanted: Wanted, source: &mut S) -> Result<Printed, Unanswered>
+pub fn answer<S: Source>(
+    alloc: Global,
+    wanted: Wanted,
+    source: &mut S,
+) -> Result<Printed, Unanswered>
     requires { IsQuietWish wanted }
     ensures answers { IsAnswer wanted (S.given source.old) (S.given source.new) (S.ended source.new) result }
     ensures sure { OnOk result (S.faults source.new ≡ S.faults source.old) }

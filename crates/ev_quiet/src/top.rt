@@ -64,7 +64,11 @@ impl Outcome {
     }
 
     /// Writes what is answered, or tells why nothing is written.
-    pub fn of_answer<K: Sink>(alloc: Global, answer: Result<Printed, Unanswered>, sink: &mut K) -> Outcome
+    pub fn of_answer<K: Sink>(
+        alloc: Global,
+        answer: Result<Printed, Unanswered>,
+        sink: &mut K,
+    ) -> Outcome
         ensures outcome { (wanted : Wanted) (given now : List ℕ) (ended : Bool) → IsAnswer wanted given now ended answer
             → IsOutcomeOf (Some wanted) given now ended (K.taken sink.old) (K.taken sink.new) result.status result.journal.items }
         ensures done { result.status ≡ Status.Done → IsOk answer }
