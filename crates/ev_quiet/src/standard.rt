@@ -3,7 +3,7 @@ ghost use Rattle.std.specs.Prelude.{◌≡◌, ◌≢◌, ◌≤◌, ◌<◌, �
 ghost use Rattle.std.specs.Io.KnownBytes.{Consumes, IsAtEnd};
 ghost use Rattle.ev_quiet.specs.Words.{wanted_by, AreNoneOfRun};
 ghost use Rattle.ev_quiet.specs.Answers.{reads, most_read, CanAnswer};
-ghost use Rattle.ev_quiet.specs.Outcomes.{IsOutcomeOf};
+ghost use Rattle.ev_quiet.specs.Outcomes.{IsOutcome};
 
 use crate::status::Status;
 use crate::top::{Outcome, quiet};
@@ -31,7 +31,7 @@ pub fn quiet_with_devices<R: Read, W: Write>(
     output: W,
 ) -> Over<R, W>
     requires { AreNoneOfRun (wanted_by words.now) }
-    ensures outcome { IsOutcomeOf (wanted_by words.now) [] result.source.given.bytes result.source.ended
+    ensures outcome { IsOutcome (wanted_by words.now) [] result.source.given.bytes result.source.ended
         [] result.sink.taken.bytes result.outcome.status result.outcome.journal.items }
     ensures sure { result.outcome.status ≡ Status.Done → (result.source.faults ≡ 0) × (result.sink.faults ≡ 0) }
     ensures unread { reads (wanted_by words.now) ≡ false → result.source.given.bytes ≡ [] }

@@ -5,7 +5,7 @@ ghost use Rattle.ev_outside.specs.Cause.{Rose};
 ghost use Rattle.ev_outside.specs.Whole.{Gave};
 ghost use Rattle.ev_quiet.specs.Words.{wanted_by, AreNoneOfRun};
 ghost use Rattle.ev_quiet.specs.Answers.{reads, most_read, CanAnswer};
-ghost use Rattle.ev_quiet.specs.Outcomes.{IsOutcomeOf};
+ghost use Rattle.ev_quiet.specs.Outcomes.{IsOutcome};
 
 use crate::answer::answer;
 use crate::printed::Printed;
@@ -31,7 +31,7 @@ impl Outcome {
     ghost use Rattle.ev_outside.specs.Cause.{Rose};
     ghost use Rattle.ev_outside.specs.Whole.{TookPart};
     ghost use Rattle.ev_quiet.specs.Answering.{IsAnswer};
-    ghost use Rattle.ev_quiet.specs.Outcomes.{IsOutcomeOf};
+    ghost use Rattle.ev_quiet.specs.Outcomes.{IsOutcome};
 
     /// The outcome of what is not done.
     pub fn ended(alloc: Global, status: Status) -> Outcome
@@ -70,7 +70,7 @@ impl Outcome {
         sink: &mut K,
     ) -> Outcome
         ensures outcome { (wanted : Wanted) (given now : List ℕ) (ended : Bool) → IsAnswer wanted given now ended answer
-            → IsOutcomeOf (Some wanted) given now ended (K.taken sink.old) (K.taken sink.new) result.status result.journal.items }
+            → IsOutcome (Some wanted) given now ended (K.taken sink.old) (K.taken sink.new) result.status result.journal.items }
         ensures done { result.status ≡ Status.Done → IsOk answer }
         ensures sure { result.status ≡ Status.Done → K.faults sink.new ≡ K.faults sink.old }
         ensures unwritten { result.status ≢ Status.Done → result.status ≢ Status.WriteFault → sink.new ≡ sink.old }
@@ -102,7 +102,7 @@ pub fn quiet<S: Source, K: Sink>(
     sink: &mut K,
 ) -> Outcome
     requires { AreNoneOfRun (wanted_by words.now) }
-    ensures outcome { IsOutcomeOf (wanted_by words.now) (S.given source.old) (S.given source.new) (S.ended source.new)
+    ensures outcome { IsOutcome (wanted_by words.now) (S.given source.old) (S.given source.new) (S.ended source.new)
         (K.taken sink.old) (K.taken sink.new) result.status result.journal.items }
     ensures sure { result.status ≡ Status.Done → (S.faults source.new ≡ S.faults source.old) × (K.faults sink.new ≡ K.faults sink.old) }
     ensures unread { reads (wanted_by words.now) ≡ false → source.new ≡ source.old }

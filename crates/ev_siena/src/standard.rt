@@ -3,7 +3,7 @@ ghost use Rattle.std.specs.Prelude.{◌≡◌, ◌≢◌, ◌≤◌, ◌<◌, �
 ghost use Rattle.std.specs.Io.KnownBytes.{Consumes, IsAtEnd};
 ghost use Rattle.ev_quiet.specs.Words.{wanted_by};
 ghost use Rattle.ev_quiet.specs.Answers.{reads, most_read, CanAnswer};
-ghost use Rattle.ev_quiet.specs.Outcomes.{IsOutcomeOf};
+ghost use Rattle.ev_quiet.specs.Outcomes.{IsOutcome};
 
 use crate::top::siena;
 use ev_outside::{Gate, StdSink, StdSource, Word};
@@ -23,7 +23,7 @@ pub fn with_devices<E: Threads + Wait + Sync, R: Read, W: Write, G: Gate + Sync>
     output: W,
     gate: &G,
 ) -> Over<R, W>
-    ensures outcome { IsOutcomeOf (wanted_by words.now) [] result.source.given.bytes result.source.ended
+    ensures outcome { IsOutcome (wanted_by words.now) [] result.source.given.bytes result.source.ended
         [] result.sink.taken.bytes result.outcome.status result.outcome.journal.items }
     ensures sure { result.outcome.status ≡ Status.Done → (result.source.faults ≡ 0) × (result.sink.faults ≡ 0) }
     ensures unread { reads (wanted_by words.now) ≡ false → result.source.given.bytes ≡ [] }

@@ -6,7 +6,7 @@ ghost use Rattle.ev_outside.specs.Whole.{Gave};
 ghost use Rattle.ev_quiet.specs.Words.{wanted_by, AreNoneOfRun};
 ghost use Rattle.ev_quiet.specs.Answers.{reads, most_read, CanAnswer};
 ghost use Rattle.ev_quiet.specs.Answering.{IsAnswer};
-ghost use Rattle.ev_quiet.specs.Outcomes.{IsOutcomeOf};
+ghost use Rattle.ev_quiet.specs.Outcomes.{IsOutcome};
 ghost use Rattle.ev_siena.specs.Wishes.{with_threads};
 
 use crate::threaded::of_source;
@@ -49,10 +49,8 @@ fn run<R: Threads + Wait + Sync, S: Source, G: Gate + Sync>(
 /// Does what the words say. The words are read first, then the source, whose document is refused at its first fault; then the
 /// run is made, and then the text is written. All memory is taken before the first write.
 ///
-/// `run` makes the run of the network with two workers a server, each in a thread where one can be had, `walk` and `replay` make
-/// one on one thread; all three print what each client receives in it. `flood` prints what flooding owes and allows it, `check` how much the document has, and
-/// `gen` the document of a seed, or the summary of its walk. `patterns` prints where the patterns behind a document occur in
-/// what its clients receive. A call with `run` returns where its threads do.
+/// `run` makes the run of the network with two workers a server, each in a thread where one can be had, and prints what each
+/// client receives in it; such a call returns where its threads do. For all other words it is [`quiet`].
 pub fn siena<R: Threads + Wait + Sync, S: Source, K: Sink, G: Gate + Sync>(
     alloc: Global,
     rt: &R,
@@ -61,7 +59,7 @@ pub fn siena<R: Threads + Wait + Sync, S: Source, K: Sink, G: Gate + Sync>(
     sink: &mut K,
     gate: &G,
 ) -> Outcome
-    ensures outcome { IsOutcomeOf (wanted_by words.now) (S.given source.old) (S.given source.new) (S.ended source.new)
+    ensures outcome { IsOutcome (wanted_by words.now) (S.given source.old) (S.given source.new) (S.ended source.new)
         (K.taken sink.old) (K.taken sink.new) result.status result.journal.items }
     ensures sure { result.status ≡ Status.Done → (S.faults source.new ≡ S.faults source.old) × (K.faults sink.new ≡ K.faults sink.old) }
     ensures unread { reads (wanted_by words.now) ≡ false → source.new ≡ source.old }
