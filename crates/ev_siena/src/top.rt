@@ -11,7 +11,10 @@ ghost use Rattle.ev_siena.specs.Wishes.{with_threads};
 
 use crate::threaded::of_source;
 use ev_outside::{Gate, Sink, Source, Word};
-use ev_quiet::{Outcome, Printed, Query, Schedule, Shown, Status, Unanswered, Wanted, quiet, read_words, widened};
+use ev_quiet::{
+    Outcome, Printed, Query, Schedule, Shown, Status, Unanswered, Wanted, quiet, read_words,
+    widened,
+};
 use std::alloc::Global;
 use std::sync::Wait;
 use std::thread::Threads;
