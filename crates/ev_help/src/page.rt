@@ -59,7 +59,8 @@ rattle-kit-13f logic dac8208d650f15bf
 ";
 
 const USAGE: &[u8] =
-    b"siena: usage: walk, run or replay [--sorted] [--trace]; flood; traffic [--dot]; patterns; audit; check; format; gen --seed N [--summary]; help; version\n";
+    b"siena: usage: walk, run or replay [--sorted] [--trace]; flood; traffic [--dot]; patterns; audit; check; format; \
+    gen --seed N [--summary]; help; version\n";
 
 // What each word does.
 #[tactic(auto, unfolding(crate::specs::Pages::help_text))]

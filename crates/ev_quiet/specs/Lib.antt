@@ -12,7 +12,9 @@ pub mod Ran
 pub mod Patterns
 pub mod Audits
 pub mod Answers
+pub mod Outcomes
 pub mod Refusals
 pub mod Showing
+pub mod Answering
 pub mod Searching
 pub mod Auditing

@@ -120,14 +120,6 @@ IsQuietWish Patterns = Unit {0}
 IsQuietWish Audit = Unit {0}
 IsQuietWish (About page) = Unit {0}
 
--- no patterns and no audit are asked for either
-abbrev pub IsPlainWish : Wanted → Type 0
-IsPlainWish (Document query) = IsQuietQuery query
-IsPlainWish (Generate seed summary) = Unit {0}
-IsPlainWish Patterns = ⊥
-IsPlainWish Audit = ⊥
-IsPlainWish (About page) = Unit {0}
-
 abbrev pub AreNoneOfRun : Option Wanted → Type 0
 AreNoneOfRun None = Unit {0}
 AreNoneOfRun (Some wanted) = IsQuietWish wanted

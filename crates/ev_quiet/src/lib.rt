@@ -22,6 +22,7 @@ mod summary;
 mod text;
 mod top;
 mod traffic;
+mod unanswered;
 mod words;
 
 pub use law::promise;
@@ -33,4 +34,5 @@ pub use standard::{Over, quiet_with_devices};
 pub use status::{Status, fault_text};
 pub use text::printed_run;
 pub use top::{Outcome, quiet};
+pub use unanswered::{Unanswered, widened};
 pub use words::{Query, Schedule, Shown, Wanted, is_quiet, read_words};

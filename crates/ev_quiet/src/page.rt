@@ -9,8 +9,7 @@ use std::alloc::Global;
 
 /// A page.
 pub fn of_page(alloc: Global, page: Page) -> Result<Printed, NoMemory>
-    ensures text { IfOk result (λ p. p.text ≡ page_text page) }
-    ensures journal { IfOk result (λ p. p.journal ≡ []) }
+    ensures { IfOk result (λ p. (p.text ≡ page_text page) × (p.journal ≡ [])) }
 {
     let text = page.text().to_vec(alloc)?;
     Printed::alone(alloc, text)

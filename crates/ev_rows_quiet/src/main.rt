@@ -14,6 +14,7 @@ mod patterns;
 mod replays;
 mod row;
 mod runs;
+mod traffic;
 mod tried;
 mod usage;
 
@@ -29,6 +30,7 @@ fn main(rt: HostRuntime) -> Result<(), Failure> {
     tried::print_rows(&rt, alloc, &audits::AUDITS)?;
     audits::print_changed(&rt, alloc)?;
     tried::print_rows(&rt, alloc, &formats::FORMATS)?;
+    tried::print_rows(&rt, alloc, &traffic::TRAFFIC)?;
     tried::print_rows(&rt, alloc, &usage::USAGE)?;
     pages::print_pages(&rt, alloc)?;
     devices::print_devices(&rt, alloc)?;
