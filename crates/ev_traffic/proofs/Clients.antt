@@ -12,7 +12,7 @@ use Rattle.ev_phases.specs.Trees.{Tree, tree_after, tree_at, net_at}
 use Rattle.ev_theory.specs.Real.{real}
 use Rattle.ev_model.specs.Parts.{ClientParts, NetParts}
 use Rattle.ev_model.specs.Meaning.{phased_command}
-use Rattle.ev_model.specs.Nets.{client_at, first_tree, later_trees, of_clients, phased_net, phased_tree, topology_at, tree_of, home_of, script_of}
+use Rattle.ev_model.specs.Nets.{client_at, first_tree, later_trees, of_clients, phased_net, phased_tree, topology_at, tree_of, home_of, script_of, home_in, script_in}
 use Rattle.ev_model.specs.Sound.{IsSound, IsAmong, HasTrees}
 use Rattle.ev_traffic.specs.Flood.{accepted_phases, flood_on, flooded_by, floods_over, is_flooded, refused_of}
 use Rattle.ev_traffic.specs.Going.{client_flood}
@@ -58,10 +58,10 @@ tree-is net phase = after-tree (first_tree net.trees) (later_trees net.trees) ph
 module _ (net : NetParts) where
   module _ (i : ℕ) (client : ClientParts) (here : slice_get net.clients i ≡ Some client) where
     pub home-is : home_of net (suc i) ≡ client.home
-    home-is = ap (λ o. Rattle.ev_model.specs.Nets.home_in o) here
+    home-is = ap (λ o. home_in o) here
 
     pub script-is : script_of net (suc i) ≡ map phased_command client.script
-    script-is = ap (λ o. Rattle.ev_model.specs.Nets.script_in o) here
+    script-is = ap (λ o. script_in o) here
 
     by-client : (from to : ℕ) → flooded_by real (phased_net net) from to (suc i) ≡ client_flood net client from to
     by-client from to =

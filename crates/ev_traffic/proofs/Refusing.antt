@@ -3,7 +3,7 @@ use Rattle.std.proofs.Common.{◌≡◌, ℕ, zero, suc, ◌+◌, ◌<◌, Bool,
 use Rattle.ev_sets.specs.Sets.{Has}
 use Rattle.ev_routing.specs.Theory.{Theory}
 use Rattle.ev_routing.specs.Net.{Net, Command, Subscribe, Unsubscribe, Advertise, Unadvertise, Publish, PhasedCommand}
-use Rattle.ev_routing.specs.Clients.{accepts, adverts_step, is_publish, refused_from}
+use Rattle.ev_routing.specs.Clients.{accepts, adverts_step, is_publish, refused_from, add_refused}
 use Rattle.ev_traffic.specs.Flood.{is_accepted}
 use Rattle.ev_traffic.specs.Going.{is_first}
 
@@ -39,7 +39,7 @@ module _ (th : Theory) (net : Net th) where
       one false R ih (inr h) = omega (arith, ih h)
 
       go : (k : Command th) → (Has x (refused_from th net (adverts_step th adverts k) (cond (is_publish th k) (suc before) before) commands) → cond (is_publish th k) (suc before) before < x)
-          → Has x (Rattle.ev_routing.specs.Clients.add_refused th net adverts before k (refused_from th net (adverts_step th adverts k) (cond (is_publish th k) (suc before) before) commands)) → before < x
+          → Has x (add_refused th net adverts before k (refused_from th net (adverts_step th adverts k) (cond (is_publish th k) (suc before) before) commands)) → before < x
       go (Subscribe f) ih h = ih h
       go (Unsubscribe f) ih h = ih h
       go (Advertise a) ih h = ih h

@@ -13,6 +13,7 @@ use Rattle.ev_model.specs.Sound.{IsSound}
 use Rattle.ev_model.proofs.SoundNets.{few-servers}
 use Rattle.ev_traffic.specs.declared.loads.Direction.{Direction}
 use Rattle.ev_traffic.specs.Links.{is_link, links_from, links_in}
+use Rattle.ev_traffic.proofs.Away.{both-true}
 use Rattle.ev_traffic.specs.Text.{Loads, client_nodes, direction_arrow, direction_line, direction_of, in_all, link_arrows, link_lines, server_node, total_line, traffic_printed}
 
 pub has-flat : {X Y : Type 0} (f : X → List Y) (y : Y) (xs : List X) → Has y (flat_map f xs) → (x : X) × Has x xs × Has y (f x)
@@ -31,7 +32,7 @@ link-ends net sound link h =
     let m = map-has (λ b. (a, b)) link (filter (λ b. nat_lt a b && is_link net.trees a b) (servers_in net)) r.2 in
     let f = filter-Has (λ b. nat_lt a b && is_link net.trees a b) m.0 (servers_in net) m.1 in
     let e : link ≡ (a, m.0) = m.2 in
-    subst (λ z. Has z.0 (servers_in net) × Has z.1 (servers_in net) × (is_link net.trees z.0 z.1 ≡ true)) (sym e) (r.1, f.0, (Rattle.ev_traffic.proofs.Away.both-true (nat_lt a m.0) (is_link net.trees a m.0) f.1).1)
+    subst (λ z. Has z.0 (servers_in net) × Has z.1 (servers_in net) × (is_link net.trees z.0 z.1 ≡ true)) (sym e) (r.1, f.0, (both-true (nat_lt a m.0) (is_link net.trees a m.0) f.1).1)
 
 pub low : (net : NetParts) → IsSound net → (server : ℕ) → Has server (servers_in net) → server ≤ 64
 low net sound server h = let i = server-in (first_tree net.trees).count server h in omega (arith, i.1, few-servers net.trees sound.trees)

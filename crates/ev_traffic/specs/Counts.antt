@@ -1,5 +1,5 @@
 -- Counts of the directions between servers, which are numbered up to 64.
-use Rattle.std.specs.Prelude.{◌≡◌, ℕ, ◌+◌, ◌*◌, ◌≤◌, ◌==◌, ◌&&◌, Bool, List, slice_index}
+use Rattle.std.specs.Prelude.{◌≡◌, ℕ, ◌+◌, ◌*◌, ◌≤◌, ◌==◌, ◌&&◌, Bool, List, slice_index, length}
 
 -- the place of a direction among all
 abbrev pub place_of : ℕ → ℕ → ℕ
@@ -19,4 +19,4 @@ AreCounts cells quantity = (from to : ℕ) → from ≤ 64 → to ≤ 64 → cou
 
 -- contracts see counts as the list of them, of which there are as many as directions
 abbrev pub HasAllPlaces : List ℕ → Type 0
-HasAllPlaces cells = Rattle.std.specs.Prelude.length cells ≡ 4225
+HasAllPlaces cells = length cells ≡ 4225

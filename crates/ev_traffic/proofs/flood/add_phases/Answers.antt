@@ -1,4 +1,4 @@
-use Rattle.std.proofs.Common.{◌≡◌, ◌+◌, ◌≤◌, ap, sym, arith}
+use Rattle.std.proofs.Common.{◌≡◌, ◌+◌, ◌≤◌, ap, sym, arith, get_or}
 use Rattle.ev_sets.specs.Numbers.{count}
 use Rattle.ev_model.specs.Nets.{topology_at}
 use Rattle.ev_traffic.specs.Flood.{is_flooded}
@@ -7,7 +7,7 @@ use Rattle.ev_traffic.proofs.flood.add_phases.Goals as goal
 
 pub add_publication-requires : goal.add_publication-requires
 add_publication-requires c =
-    let phase = Rattle.std.proofs.Common.get_or c.args.phases.now c.loop-phase.phase-index 0 in
+    let phase = get_or c.args.phases.now c.loop-phase.phase-index 0 in
     (c.requires.home.0, omega (arith, c.requires.home.1, ap (λ t. t.count) c.tree.ensures, tree-count c.args.net.now c.requires.sound phase))
 
 pub loop-phase-preserved : goal.loop-phase-preserved
