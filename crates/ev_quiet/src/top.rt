@@ -16,8 +16,8 @@ use ev_model::Entry;
 use ev_outside::{Sink, Source, Word};
 use std::alloc::Global;
 
-/// How a run ended, and its journal in the order of the turns: that of the run for `walk`, `replay` and a summary, and
-/// empty for all else and where it is not done.
+/// How a run ended, and its journal in the order of the turns: that of the run for `walk`, `replay`, `traffic`, `patterns`,
+/// `audit` and a summary, and empty for all else and where it is not done.
 #[derive(Drop)]
 pub struct Outcome {
     /// How it ended.
@@ -91,10 +91,11 @@ impl Outcome {
 /// the first write.
 ///
 /// `walk` and `replay` print what each client receives in a run of the network, `flood` what flooding owes and allows it,
-/// `check` how much the document has, `format` its canonical text, and `gen` the document of a seed, or the summary of its walk. `patterns` prints where
-/// the patterns behind a document occur in what the clients receive in its walk. `audit` prints how much a run has whose output
-/// stands behind a document, with its trace, where that is the output of a whole run. `help` and `version` print what the program
-/// says of itself.
+/// `traffic` what each link carries in the walk beside plain flooding, `check` how much the document has, `format` its
+/// canonical text, and `gen` the document of a seed, or the summary of its walk. `patterns` prints where the patterns behind a
+/// document occur in what the clients receive in its walk. `audit` prints how much a run has whose output stands behind a
+/// document, with its trace, where that is the output of a whole run. `help` and `version` print what the program says of
+/// itself.
 pub fn quiet<S: Source, K: Sink>(
     alloc: Global,
     words: &[Word],
