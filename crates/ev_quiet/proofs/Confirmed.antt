@@ -1,15 +1,14 @@
 -- The answer to `audit`, and what it tells of the input.
-use Rattle.std.proofs.Common.{◌≡◌, ◌⊎◌, inl, inr, ℕ, ◌<◌, ◌≤◌, Bool, true, List, [], ◌++◌, length, Result, Ok, Err, refl, sym, ap, ◌∙◌, subst, arith}
-use Rattle.std.specs.Result.{IsOk, IsErrOf}
+use Rattle.std.proofs.Common.{◌≡◌, ◌⊎◌, inl, inr, ℕ, ◌<◌, ◌≤◌, Bool, true, List, ◌++◌, length, Result, Ok, Err, refl, sym, ◌∙◌, subst, arith}
+use Rattle.std.specs.Result.{IsOk}
 use Rattle.ev_outside.specs.Whole.{Gave}
 use Rattle.ev_model.specs.Parts.{NetParts, EntryParts}
 use Rattle.ev_model.specs.Sound.{IsSound}
-use Rattle.ev_input.specs.Net.{IsNetOf}
 use Rattle.ev_input.specs.declared.fault.Fault.{Fault}
 use Rattle.ev_input.specs.declared.fault.Fault.TheVariants.{TooLong}
 use Rattle.ev_audit.specs.Claim.{IsBadDocument}
 use Rattle.ev_audit.proofs.Claiming.{one_bad}
-use Rattle.ev_audited.specs.Verdict.{CanAudit, IsAudited, IsRefuted, MustBeRefuted}
+use Rattle.ev_audited.specs.Verdict.{IsAudited, IsRefuted}
 use Rattle.ev_audited.specs.declared.fault.AuditFault.{AuditFault}
 use Rattle.ev_audited.specs.declared.fault.AuditFault.TheVariants as faults
 use Rattle.ev_audited.specs.declared.fault.AuditKind.{AuditKind}
@@ -18,16 +17,14 @@ use Rattle.ev_quiet.specs.declared.audits.Unaudited.{Unaudited}
 use Rattle.ev_quiet.specs.declared.audits.Unaudited.TheVariants as whys
 use Rattle.ev_quiet.specs.declared.refusal.Refusal.{Refusal}
 use Rattle.ev_quiet.specs.declared.refusal.Refusal.TheVariants as refusals
-use Rattle.ev_quiet.specs.declared.status.Status.{Status}
-use Rattle.ev_quiet.specs.declared.status.Status.TheVariants as statuses
 use Rattle.ev_quiet.specs.declared.words.Wanted.TheVariants.{Audit}
 use Rattle.ev_quiet.specs.Printed.{run_text, trace_of}
 use Rattle.ev_quiet.specs.Promise.{ClientPromise, AreOfNotices}
 use Rattle.ev_quiet.specs.Network.{lists_by, RunPromise, IsWholeRun}
 use Rattle.ev_quiet.specs.Audits.{IsAuditOf, IsAuditAtFault, IsAuditRefuted, MustRefute, CanConfirm, audit_text, traced}
-use Rattle.ev_quiet.specs.Answers.{GaveOutput, GaveRefusedFor, GaveRefutedFor, GaveWrongFor, CanAnswerFor, HasFaultFor}
+use Rattle.ev_quiet.specs.Answers.{GaveOutput, GaveRefusedFor, GaveWrongFor, CanAnswerFor}
 use Rattle.ev_quiet.specs.Showing.{PrintedParts}
-use Rattle.ev_quiet.specs.Auditing.{AuditsInput, AuditsSource, audit_status, why_not, why_unread}
+use Rattle.ev_quiet.specs.Auditing.{AuditsInput, AuditsSource, why_not, why_unread}
 use Rattle.ev_quiet.proofs.Sources.{same-given}
 
 -- what is printed of a confirmed run
@@ -128,46 +125,9 @@ module _ (a b : List ℕ) (ended : Bool) where
   unread-audit refusals.ReadFault long within never = (never, within refl)
   unread-audit refusals.NoMemory long within never = tt
 
-  pub bad-audit : (why : Unaudited) (line : ℕ) (kind : Fault) → AuditsSource a b ended (Err why) → audit_status why ≡ statuses.BadInput line kind → HasFaultFor Audit a b ended line kind
-  bad-audit (whys.BadInput l k) line kind h e =
-      let x : l ≡ line = cc in
-      let y : k ≡ kind = cc in
-      (h.0, h.1, subst (λ z. IsAuditAtFault h.0 z kind) x (subst (λ z. IsAuditAtFault h.0 l z) y h.2))
-  bad-audit (whys.Refuted l k) line kind h e = absurd cc
-  bad-audit whys.ReadFault line kind h e = absurd cc
-  bad-audit whys.NoMemory line kind h e = absurd cc
-
-  pub refuted-audit : (why : Unaudited) (line : ℕ) (kind : AuditKind) → AuditsSource a b ended (Err why) → audit_status why ≡ statuses.Refuted line kind → GaveRefutedFor Audit a b ended line kind
-  refuted-audit (whys.BadInput l k) line kind h e = absurd cc
-  refuted-audit (whys.Refuted l k) line kind h e =
-      let x : l ≡ line = cc in
-      let y : k ≡ kind = cc in
-      (h.0, h.1, subst (λ z. IsAuditRefuted h.0 z kind) x (subst (λ z. IsAuditRefuted h.0 l z) y h.2))
-  refuted-audit whys.ReadFault line kind h e = absurd cc
-  refuted-audit whys.NoMemory line kind h e = absurd cc
-
 -- what is not confirmed
 pub not-confirmed : (input : List ℕ) → length input ≤ 268435456 → (fault : AuditFault) → ((line : ℕ) (kind : Fault) → fault ≡ faults.Document line kind → IsBadDocument input line kind)
     → ((line : ℕ) (kind : AuditKind) → fault ≡ faults.Refuted line kind → IsRefuted input line kind) → AuditsInput input (Err (why_not fault))
 not-confirmed input few (faults.Document line kind) bad refuted = inr (few, bad line kind refl)
 not-confirmed input few (faults.Refuted line kind) bad refuted = (few, refuted line kind refl)
 not-confirmed input few faults.NoMemory bad refuted = tt
-
--- Statuses.
-
-unerr : {A : Type 0} {a b : Unaudited} → ◌≡◌ {A = Result A Unaudited} (Err a) (Err b) → a ≡ b
-unerr e = cc
-
-pub refused-audit : {A : Type 0} (why : Unaudited) (s : Status) (line : ℕ) (kind : Fault) → s ≡ audit_status why
-    → IsErrOf {T = A} (Err why) (whys.BadInput line kind) ⊎ IsErrOf {T = A} (Err why) whys.NoMemory → (s ≡ statuses.BadInput line kind) ⊎ (s ≡ statuses.NoMemory)
-refused-audit why s line kind is (inl e) = inl (is ∙ ap audit_status (unerr e))
-refused-audit why s line kind is (inr e) = inr (is ∙ ap audit_status (unerr e))
-
-pub wrong-audit : {A : Type 0} (why : Unaudited) (s : Status) (line : ℕ) (kind : AuditKind) → s ≡ audit_status why
-    → IsErrOf {T = A} (Err why) (whys.Refuted line kind) ⊎ IsErrOf {T = A} (Err why) whys.NoMemory → (s ≡ statuses.Refuted line kind) ⊎ (s ≡ statuses.NoMemory)
-wrong-audit why s line kind is (inl e) = inl (is ∙ ap audit_status (unerr e))
-wrong-audit why s line kind is (inr e) = inr (is ∙ ap audit_status (unerr e))
-
-pub no-audit-why : {A : Type 0} (p : A) (x y : Unaudited) → IsErrOf (Ok p) x ⊎ IsErrOf (Ok p) y → ⊥
-no-audit-why p x y (inl e) = cc
-no-audit-why p x y (inr e) = cc

@@ -11,7 +11,7 @@ use Rattle.ev_quiet.specs.declared.refusal.Refusal.TheVariants as refusals
 use Rattle.ev_quiet.specs.declared.words.Schedule.{Schedule}
 use Rattle.ev_quiet.specs.declared.words.Shown.{Shown}
 use Rattle.ev_quiet.specs.declared.words.Query.{Query}
-use Rattle.ev_quiet.specs.declared.words.Query.TheVariants.{Run, Flood, Check, Format}
+use Rattle.ev_quiet.specs.declared.words.Query.TheVariants.{Run, Flood, Check, Format, Traffic}
 use Rattle.ev_quiet.specs.Runs.{turns_first}
 use Rattle.ev_quiet.specs.Faults.{ArePermitted, StopsAtLine, MustBeRefused, CanBeDone}
 use Rattle.ev_net.proofs.Stopping.{never-stops, one-line}
@@ -61,6 +61,7 @@ without-net {A = A} input e r s given refused (Run schedule shown) line kind (in
 without-net {A = A} input e r s given refused Flood line kind m = same-refused {A = A} e r line kind s (refused line kind m)
 without-net {A = A} input e r s given refused Check line kind m = same-refused {A = A} e r line kind s (refused line kind m)
 without-net {A = A} input e r s given refused Format line kind m = same-refused {A = A} e r line kind s (refused line kind m)
+without-net {A = A} input e r s given refused (Traffic graph) line kind m = same-refused {A = A} e r line kind s (refused line kind m)
 
 pub done-without-net : {A T : Type 0} (input : List ℕ) (e : Refusal) (r : Result T Refusal) → r ≡ Err e
     → ((net : NetParts) → IsNetOf input net → Ended {T = A} (Err e))
@@ -69,6 +70,7 @@ done-without-net {A = A} input e r s given (Run schedule shown) d = inr (same-en
 done-without-net {A = A} input e r s given Flood d = inr (same-ended {A = A} e r s (given d.0 d.1))
 done-without-net {A = A} input e r s given Check d = inr (same-ended {A = A} e r s (given d.0 d.1))
 done-without-net {A = A} input e r s given Format d = inr (same-ended {A = A} e r s (given d.0 d.1))
+done-without-net {A = A} input e r s given (Traffic graph) d = inr (same-ended {A = A} e r s (given d.0 d.1))
 
 -- a schedule that stops is refused at its line
 stops-there : {T : Type 0} (r : Result T Refusal) (net : NetParts) (turns : List (ℕ × Turn)) (line : ℕ)

@@ -7,7 +7,8 @@ pub mod Schedules
 pub mod Told
 pub mod Ended
 pub mod Sources
-pub mod Statuses
 pub mod Heard
 pub mod Searched
 pub mod Confirmed
+pub mod Carrying
+pub mod Answering

@@ -1,19 +1,10 @@
 -- Turns of a schedule: those that are made, and the first that is not permitted.
-use Rattle.std.proofs.Common.{◌≡◌, ℕ, inl, inr, true, List, [], ◌∷◌, ◌++◌, refl, sym, ap, ◌∙◌, subst}
-use Rattle.std.proofs.lemmas.Option.{same_Some}
-use Rattle.ev_phases.specs.Trees.{JournalEntry}
-use Rattle.ev_phases.specs.Moments.{Moment}
-use Rattle.ev_phases.specs.Turns.{turn_phase, entry_made}
-use Rattle.ev_phases.proofs.Turned.{found-is}
-use Rattle.ev_theory.specs.Real.{real}
+use Rattle.std.proofs.Common.{◌≡◌, ℕ, true, List, [], ◌++◌, refl, sym, subst}
 use Rattle.ev_model.specs.declared.turn.Turn.{Turn}
-use Rattle.ev_model.specs.declared.turn.Act.{Act as EntryAct}
-use Rattle.ev_model.specs.declared.turn.Act.TheVariants as acts
-use Rattle.ev_model.specs.Parts.{NetParts, EntryParts, entry_parts}
-use Rattle.ev_model.specs.Meaning.{act_of, entry_of, journal_of}
-use Rattle.ev_model.specs.Nets.{phased_net, turn_of}
-use Rattle.ev_net.specs.Network.{NetworkParts, network_parts, moment_by, IsDrainedBy}
-use Rattle.ev_net.specs.Turns.{IsEntryOf, IsBarred, AreMade, AreReplayed, StopsAt}
+use Rattle.ev_model.specs.Parts.{NetParts, EntryParts}
+use Rattle.ev_model.specs.Meaning.{journal_of}
+use Rattle.ev_net.specs.Network.{NetworkParts, network_parts, IsDrainedBy}
+use Rattle.ev_net.specs.Turns.{AreMade, AreReplayed, StopsAt}
 use Rattle.ev_net.specs.Walked.{walk_after, IsWalked}
 use Rattle.ev_net.specs.declared.replaying.ReplayFault.{ReplayFault}
 use Rattle.ev_net.specs.declared.replaying.ReplayFault.TheVariants as told

@@ -1,6 +1,6 @@
 -- The answer to `patterns`, and what it tells of the input.
 use Rattle.std.proofs.Common.{◌≡◌, ◌⊎◌, inl, inr, ℕ, ◌<◌, ◌≤◌, Bool, true, List, [], ◌++◌, append-nil, length, Result, Ok, Err, refl, sym, ap, ◌∙◌, subst, arith}
-use Rattle.std.specs.Result.{IsOk, IsErrOf}
+use Rattle.std.specs.Result.{IsOk}
 use Rattle.ev_outside.specs.Whole.{Gave}
 use Rattle.ev_model.specs.Parts.{NetParts, EntryParts}
 use Rattle.ev_model.specs.Sound.{IsSound}
@@ -10,12 +10,10 @@ use Rattle.ev_watch.specs.declared.fault.PatternKind.{PatternKind}
 use Rattle.ev_watch.specs.Parts.{PatternParts}
 use Rattle.ev_watch.specs.Watch.{IsWatchOf}
 use Rattle.ev_watch.proofs.Reading.{bad_refused, same_bad, same_refused, watch_bad, watch_refused}
-use Rattle.ev_quiet.specs.declared.patterns.Unsearched.{Unsearched}
-use Rattle.ev_quiet.specs.declared.patterns.Unsearched.TheVariants as whys
+use Rattle.ev_quiet.specs.declared.unanswered.Unanswered.{Unanswered}
+use Rattle.ev_quiet.specs.declared.unanswered.Unanswered.TheVariants as whys
 use Rattle.ev_quiet.specs.declared.refusal.Refusal.{Refusal}
 use Rattle.ev_quiet.specs.declared.refusal.Refusal.TheVariants as refusals
-use Rattle.ev_quiet.specs.declared.status.Status.{Status}
-use Rattle.ev_quiet.specs.declared.status.Status.TheVariants as statuses
 use Rattle.ev_quiet.specs.declared.words.Schedule.TheVariants.{Walk}
 use Rattle.ev_quiet.specs.declared.words.Wanted.TheVariants.{Patterns}
 use Rattle.ev_quiet.specs.Words.{plain}
@@ -23,9 +21,10 @@ use Rattle.ev_quiet.specs.Printed.{run_text, trace_of}
 use Rattle.ev_quiet.specs.Promise.{ClientPromise, AreOfNotices}
 use Rattle.ev_quiet.specs.Network.{lists_by, NetworkPromise, IsWholeRun}
 use Rattle.ev_quiet.specs.Patterns.{IsPatternsOf, IsInputAtFault, IsPatternAtFault, HasPatterns}
-use Rattle.ev_quiet.specs.Answers.{GaveDocument, GaveRefusedFor, GaveBadPatternFor, CanAnswerFor, HasFaultFor}
+use Rattle.ev_quiet.specs.Answers.{GaveDocument, GaveRefusedFor, GaveBadPatternFor, CanAnswerFor}
 use Rattle.ev_quiet.specs.Showing.{PrintedParts}
-use Rattle.ev_quiet.specs.Searching.{IsSearched, SearchesInput, SearchesSource, search_status, why_unread}
+use Rattle.ev_quiet.specs.Answering.{of_refusal}
+use Rattle.ev_quiet.specs.Searching.{IsSearched, SearchesInput, SearchesSource}
 use Rattle.ev_net.specs.Network.{IsLegal, IsDrainedBy}
 use Rattle.ev_found.specs.Found.{found_text}
 use Rattle.ev_quiet.specs.Runs.{GoesBy, received_in}
@@ -102,17 +101,18 @@ module _ (a b : List ℕ) (ended : Bool) where
   unread x (is, inl e) h = h.0 e
   unread x (is, inr big) h = omega (arith, big, subst (λ (z : List ℕ). length z ≤ 4194304) (same h.1.0 x h.1.1 is) h.1.2)
 
-  pub search-refused : (r : Result PrintedParts Unsearched) (line : ℕ) (kind : Fault) → SearchesSource a b ended r → GaveRefusedFor Patterns a b ended line kind
+  pub search-refused : (r : Result PrintedParts Unanswered) (line : ℕ) (kind : Fault) → SearchesSource a b ended r → GaveRefusedFor Patterns a b ended line kind
       → (r ≡ Err (whys.BadInput line kind)) ⊎ (r ≡ Err whys.NoMemory)
   search-refused (Ok p) line kind h t = absurd (said-refused t.0 p.text p.journal line kind (subst (λ z. IsPatternsOf z p.text p.journal) (same h.0 t.0 h.1 t.1.0) h.3) t.2)
   search-refused (Err (whys.BadInput l k)) line kind h t =
       let w = one-refused t.0 l line k kind (subst (λ z. IsInputAtFault z l k) (same h.0 t.0 h.1.0 t.1.0) h.2) t.2 in
       inl (rw (w.0, w.1) refl)
   search-refused (Err (whys.BadPattern l k)) line kind h t = absurd (refused-bad t.0 line l kind k t.2 (subst (λ z. IsPatternAtFault z l k) (same h.0 t.0 h.1.0 t.1.0) h.2))
+  search-refused (Err (whys.Refuted l k)) line kind h t = absurd h
   search-refused (Err whys.ReadFault) line kind h t = absurd (unread t.0 t.1 h)
   search-refused (Err whys.NoMemory) line kind h t = inr refl
 
-  pub search-bad : (r : Result PrintedParts Unsearched) (line : ℕ) (kind : PatternKind) → SearchesSource a b ended r → GaveBadPatternFor Patterns a b ended line kind
+  pub search-bad : (r : Result PrintedParts Unanswered) (line : ℕ) (kind : PatternKind) → SearchesSource a b ended r → GaveBadPatternFor Patterns a b ended line kind
       → (r ≡ Err (whys.BadPattern line kind)) ⊎ (r ≡ Err whys.NoMemory)
   search-bad (Ok p) line kind h t = absurd (said-bad t.0 p.text p.journal line kind (subst (λ z. IsPatternsOf z p.text p.journal) (same h.0 t.0 h.1 t.1.0) h.3) t.2)
   search-bad (Err (whys.BadInput l k)) line kind h t = absurd (refused-bad t.0 l line k kind (subst (λ z. IsInputAtFault z l k) (same h.0 t.0 h.1.0 t.1.0) h.2) t.2)
@@ -120,57 +120,32 @@ module _ (a b : List ℕ) (ended : Bool) where
       let bad : IsPatternAtFault t.0 l k = subst (λ z. IsPatternAtFault z l k) (same h.0 t.0 h.1.0 t.1.0) h.2 in
       let w = same_bad t.0 l line k kind bad.0 bad.1 t.2.1 in
       inl (rw (w.0, w.1) refl)
+  search-bad (Err (whys.Refuted l k)) line kind h t = absurd h
   search-bad (Err whys.ReadFault) line kind h t = absurd (unread t.0 t.1 h)
   search-bad (Err whys.NoMemory) line kind h t = inr refl
 
-  pub search-done : (r : Result PrintedParts Unsearched) → SearchesSource a b ended r → CanAnswerFor Patterns a b ended → IsOk r ⊎ (r ≡ Err whys.NoMemory)
+  pub search-done : (r : Result PrintedParts Unanswered) → SearchesSource a b ended r → CanAnswerFor Patterns a b ended → IsOk r ⊎ (r ≡ Err whys.NoMemory)
   search-done (Ok p) h t = inl refl
   search-done (Err (whys.BadInput l k)) h t = absurd (has-refused t.0 l k t.2 (subst (λ z. IsInputAtFault z l k) (same h.0 t.0 h.1.0 t.1.0) h.2))
   search-done (Err (whys.BadPattern l k)) h t = absurd (has-bad t.0 l k t.2 (subst (λ z. IsPatternAtFault z l k) (same h.0 t.0 h.1.0 t.1.0) h.2))
+  search-done (Err (whys.Refuted l k)) h t = absurd h
   search-done (Err whys.ReadFault) h t = absurd (unread t.0 t.1 h)
   search-done (Err whys.NoMemory) h t = inr refl
 
-  pub source-answer : (input : List ℕ) (r : Result PrintedParts Unsearched) → b ≡ a ++ input → ended ≡ true → SearchesInput input r → SearchesSource a b ended r
+  pub source-answer : (input : List ℕ) (r : Result PrintedParts Unanswered) → b ≡ a ++ input → ended ≡ true → SearchesInput input r → SearchesSource a b ended r
   source-answer input (Ok p) is e h = (input, is, e, h)
   source-answer input (Err (whys.BadInput l k)) is e h = (input, (is, inl e), h)
   source-answer input (Err (whys.BadPattern l k)) is e h = (input, (is, inl e), h)
+  source-answer input (Err (whys.Refuted l k)) is e h = absurd h
   source-answer input (Err whys.ReadFault) is e h = absurd h
   source-answer input (Err whys.NoMemory) is e h = tt
 
   pub unread-answer : (e : Refusal)
       → ((l : ℕ) (k : Fault) → e ≡ refusals.BadInput l k → (l ≡ 0) × (k ≡ TooLong) × Gave a b (λ given. length given ≡ 4194305))
-      → (e ≡ refusals.ReadFault → Gave a b (λ given. length given ≤ 4194304)) → (ended ≡ true → ⊥) → SearchesSource a b ended (Err (why_unread e))
+      → (e ≡ refusals.ReadFault → Gave a b (λ given. length given ≤ 4194304)) → (ended ≡ true → ⊥) → SearchesSource a b ended (Err (of_refusal e))
   unread-answer (refusals.BadInput l k) long within never =
       let t = long l k refl in
       let big : 4194304 < length t.2.0 = omega (arith, t.2.2) in
       (t.2.0, (t.2.1, inr big), inl (big, t.0, t.1))
   unread-answer refusals.ReadFault long within never = (never, within refl)
   unread-answer refusals.NoMemory long within never = tt
-
-  pub bad-why : (why : Unsearched) (line : ℕ) (kind : Fault) → SearchesSource a b ended (Err why) → search_status why ≡ statuses.BadInput line kind → HasFaultFor Patterns a b ended line kind
-  bad-why (whys.BadInput l k) line kind h e =
-      let x : l ≡ line = cc in
-      let y : k ≡ kind = cc in
-      (h.0, h.1, subst (λ z. IsInputAtFault h.0 z kind) x (subst (λ z. IsInputAtFault h.0 l z) y h.2))
-  bad-why (whys.BadPattern l k) line kind h e = absurd cc
-  bad-why whys.ReadFault line kind h e = absurd cc
-  bad-why whys.NoMemory line kind h e = absurd cc
-
--- Statuses.
-
-unerr : {A : Type 0} {a b : Unsearched} → ◌≡◌ {A = Result A Unsearched} (Err a) (Err b) → a ≡ b
-unerr e = cc
-
-pub refused-why : {A : Type 0} (why : Unsearched) (s : Status) (line : ℕ) (kind : Fault) → s ≡ search_status why
-    → IsErrOf {T = A} (Err why) (whys.BadInput line kind) ⊎ IsErrOf {T = A} (Err why) whys.NoMemory → (s ≡ statuses.BadInput line kind) ⊎ (s ≡ statuses.NoMemory)
-refused-why why s line kind is (inl e) = inl (is ∙ ap search_status (unerr e))
-refused-why why s line kind is (inr e) = inr (is ∙ ap search_status (unerr e))
-
-pub bad-pattern-why : {A : Type 0} (why : Unsearched) (s : Status) (line : ℕ) (kind : PatternKind) → s ≡ search_status why
-    → IsErrOf {T = A} (Err why) (whys.BadPattern line kind) ⊎ IsErrOf {T = A} (Err why) whys.NoMemory → (s ≡ statuses.BadPattern line kind) ⊎ (s ≡ statuses.NoMemory)
-bad-pattern-why why s line kind is (inl e) = inl (is ∙ ap search_status (unerr e))
-bad-pattern-why why s line kind is (inr e) = inr (is ∙ ap search_status (unerr e))
-
-pub no-why : {A : Type 0} (p : A) (x y : Unsearched) → IsErrOf (Ok p) x ⊎ IsErrOf (Ok p) y → ⊥
-no-why p x y (inl e) = cc
-no-why p x y (inr e) = cc

@@ -12,7 +12,7 @@ use Rattle.ev_input.specs.Net.{IsBadAt}
 use Rattle.ev_quiet.specs.declared.refusal.Refusal.{Refusal}
 use Rattle.ev_quiet.specs.declared.refusal.Refusal.TheVariants as refusals
 use Rattle.ev_quiet.specs.declared.words.Query.{Query}
-use Rattle.ev_quiet.specs.declared.words.Query.TheVariants.{Run, Flood, Check, Format}
+use Rattle.ev_quiet.specs.declared.words.Query.TheVariants.{Run, Flood, Check, Format, Traffic}
 use Rattle.ev_quiet.specs.declared.words.Wanted.TheVariants.{Document}
 use Rattle.ev_quiet.specs.Faults.{HasNet, IsAtFault, MustBeRefused, CanBeDone}
 use Rattle.ev_quiet.specs.Answers.{HasFaultFor}
@@ -32,6 +32,7 @@ by-bytes (Run schedule shown) input line kind b = inl b
 by-bytes Flood input line kind b = b
 by-bytes Check input line kind b = b
 by-bytes Format input line kind b = b
+by-bytes (Traffic graph) input line kind b = b
 
 -- a call gave one list of bytes
 pub same-given : (a b x y : List ℕ) → b ≡ a ++ x → b ≡ a ++ y → x ≡ y
@@ -68,12 +69,14 @@ must-be-long (Run schedule shown) input line kind a (inr m) = absurd (no-net inp
 must-be-long Flood input line kind a b = one-fault input line kind a b
 must-be-long Check input line kind a b = one-fault input line kind a b
 must-be-long Format input line kind a b = one-fault input line kind a b
+must-be-long (Traffic graph) input line kind a b = one-fault input line kind a b
 
 never-done : (query : Query) (input : List ℕ) → IsBadAt input 0 TooLong → CanBeDone query input → ⊥
 never-done (Run schedule shown) input a d = no-net input a d.0
 never-done Flood input a d = no-net input a d
 never-done Check input a d = no-net input a d
 never-done Format input a d = no-net input a d
+never-done (Traffic graph) input a d = no-net input a d
 
 -- where too much was given, that is the answer
 pub unread-refused : {T : Type 0} (query : Query) (a b input : List ℕ) (e : Refusal) (r : Result T Refusal) (line : ℕ) (kind : Fault) → r ≡ Err e

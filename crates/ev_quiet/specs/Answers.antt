@@ -4,12 +4,14 @@ use Rattle.ev_outside.specs.Whole.{TookPart}
 use Rattle.ev_model.specs.Parts.{EntryParts}
 use Rattle.ev_input.specs.declared.fault.Fault.{Fault}
 use Rattle.ev_generate.specs.Document.{generated}
+use Rattle.ev_help.specs.Pages.{page_text}
 use Rattle.ev_quiet.specs.declared.words.Query.{Query}
-use Rattle.ev_quiet.specs.declared.words.Query.TheVariants.{Run, Flood, Check, Format}
+use Rattle.ev_quiet.specs.declared.words.Query.TheVariants.{Run, Flood, Check, Format, Traffic}
 use Rattle.ev_quiet.specs.declared.words.Wanted.{Wanted}
-use Rattle.ev_quiet.specs.declared.words.Wanted.TheVariants.{Audit, Document, Generate, Patterns}
+use Rattle.ev_quiet.specs.declared.words.Wanted.TheVariants.{About, Audit, Document, Generate, Patterns}
 use Rattle.ev_quiet.specs.Printed.{IsFloodOf, IsCheckOf, IsFormatOf, IsSummaryOf}
 use Rattle.ev_quiet.specs.Headline.{Headline}
+use Rattle.ev_quiet.specs.Traffic.{IsTrafficOf}
 use Rattle.ev_watch.specs.declared.fault.PatternKind.{PatternKind}
 use Rattle.ev_quiet.specs.Faults.{IsAtFault, MustBeRefused, CanBeDone}
 use Rattle.ev_audited.specs.declared.fault.AuditKind.{AuditKind}
@@ -22,6 +24,7 @@ IsPrintedOf (Run schedule shown) input text journal = Headline schedule shown in
 IsPrintedOf Flood input text journal = IsFloodOf input text × (journal ≡ [])
 IsPrintedOf Check input text journal = IsCheckOf input text × (journal ≡ [])
 IsPrintedOf Format input text journal = IsFormatOf input text × (journal ≡ [])
+IsPrintedOf (Traffic graph) input text journal = IsTrafficOf graph input text journal
 
 -- those that a seed gives: its document, or the summary of its walk
 abbrev pub IsGenerated : ℕ → Bool → List ℕ → List EntryParts → Type 0
@@ -42,6 +45,7 @@ most_for (Document query) = 4194305
 most_for (Generate seed summary) = 4194305
 most_for Patterns = 4194305
 most_for Audit = 268435457
+most_for (About page) = 4194305
 
 abbrev pub most_read : Option Wanted → ℕ
 most_read None = 4194305
@@ -56,6 +60,7 @@ IsPrintedBy Patterns given now ended text journal =
     (input : List ℕ) × (now ≡ given ++ input) × (ended ≡ true) × IsPatternsOf input text journal
 IsPrintedBy Audit given now ended text journal =
     (input : List ℕ) × (now ≡ given ++ input) × (ended ≡ true) × IsAuditOf input text journal
+IsPrintedBy (About page) given now ended text journal = (text ≡ page_text page) × (journal ≡ [])
 
 -- what words ask for
 abbrev pub IsPrinted : Option Wanted → List ℕ → List ℕ → Bool → List ℕ → List EntryParts → Type 0
@@ -77,6 +82,7 @@ reads_document (Document query) = true
 reads_document (Generate seed summary) = false
 reads_document Patterns = true
 reads_document Audit = true
+reads_document (About page) = false
 
 abbrev pub reads : Option Wanted → Bool
 reads None = false
@@ -88,6 +94,7 @@ HasFaultFor (Document query) given now ended line kind = (input : List ℕ) × G
 HasFaultFor (Generate seed summary) given now ended line kind = ⊥
 HasFaultFor Patterns given now ended line kind = (input : List ℕ) × GaveDocument given now ended input × IsInputAtFault input line kind
 HasFaultFor Audit given now ended line kind = (input : List ℕ) × GaveOutput given now ended input × IsAuditAtFault input line kind
+HasFaultFor (About page) given now ended line kind = ⊥
 
 abbrev pub HasFault : Option Wanted → List ℕ → List ℕ → Bool → ℕ → Fault → Type 0
 HasFault None given now ended line kind = ⊥
@@ -99,6 +106,7 @@ GaveRefusedFor (Document query) given now ended line kind = (input : List ℕ) �
 GaveRefusedFor (Generate seed summary) given now ended line kind = ⊥
 GaveRefusedFor Patterns given now ended line kind = (input : List ℕ) × GaveDocument given now ended input × IsInputAtFault input line kind
 GaveRefusedFor Audit given now ended line kind = (input : List ℕ) × GaveOutput given now ended input × IsAuditAtFault input line kind
+GaveRefusedFor (About page) given now ended line kind = ⊥
 
 abbrev pub GaveRefused : Option Wanted → List ℕ → List ℕ → Bool → ℕ → Fault → Type 0
 GaveRefused None given now ended line kind = ⊥
@@ -110,6 +118,7 @@ GaveBadPatternFor (Document query) given now ended line kind = ⊥
 GaveBadPatternFor (Generate seed summary) given now ended line kind = ⊥
 GaveBadPatternFor Patterns given now ended line kind = (input : List ℕ) × GaveDocument given now ended input × IsPatternAtFault input line kind
 GaveBadPatternFor Audit given now ended line kind = ⊥
+GaveBadPatternFor (About page) given now ended line kind = ⊥
 
 abbrev pub GaveBadPattern : Option Wanted → List ℕ → List ℕ → Bool → ℕ → PatternKind → Type 0
 GaveBadPattern None given now ended line kind = ⊥
@@ -121,6 +130,7 @@ GaveRefutedFor Audit given now ended line kind = (input : List ℕ) × GaveOutpu
 GaveRefutedFor (Document query) given now ended line kind = ⊥
 GaveRefutedFor (Generate seed summary) given now ended line kind = ⊥
 GaveRefutedFor Patterns given now ended line kind = ⊥
+GaveRefutedFor (About page) given now ended line kind = ⊥
 
 abbrev pub GaveRefuted : Option Wanted → List ℕ → List ℕ → Bool → ℕ → AuditKind → Type 0
 GaveRefuted None given now ended line kind = ⊥
@@ -132,6 +142,7 @@ GaveWrongFor Audit given now ended line kind = (input : List ℕ) × GaveOutput 
 GaveWrongFor (Document query) given now ended line kind = ⊥
 GaveWrongFor (Generate seed summary) given now ended line kind = ⊥
 GaveWrongFor Patterns given now ended line kind = ⊥
+GaveWrongFor (About page) given now ended line kind = ⊥
 
 abbrev pub GaveWrong : Option Wanted → List ℕ → List ℕ → Bool → ℕ → AuditKind → Type 0
 GaveWrong None given now ended line kind = ⊥
@@ -143,6 +154,7 @@ CanAnswerFor (Document query) given now ended = (input : List ℕ) × GaveDocume
 CanAnswerFor (Generate seed summary) given now ended = Unit {0}
 CanAnswerFor Patterns given now ended = (input : List ℕ) × GaveDocument given now ended input × HasPatterns input
 CanAnswerFor Audit given now ended = (input : List ℕ) × GaveOutput given now ended input × CanConfirm input
+CanAnswerFor (About page) given now ended = Unit {0}
 
 abbrev pub CanAnswer : Option Wanted → List ℕ → List ℕ → Bool → Type 0
 CanAnswer None given now ended = ⊥

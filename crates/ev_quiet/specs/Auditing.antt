@@ -10,7 +10,7 @@ use Rattle.ev_quiet.specs.declared.refusal.Refusal.TheVariants as refusals
 use Rattle.ev_quiet.specs.declared.status.Status.{Status}
 use Rattle.ev_quiet.specs.declared.status.Status.TheVariants as statuses
 use Rattle.ev_quiet.specs.declared.words.Wanted.TheVariants.{Audit}
-use Rattle.ev_quiet.specs.Audits.{IsAuditOf, IsAuditAtFault, IsAuditRefuted, MustRefute, CanConfirm}
+use Rattle.ev_quiet.specs.Audits.{IsAuditOf, IsAuditAtFault, IsAuditRefuted}
 use Rattle.ev_quiet.specs.Answers.{IsPrintedBy, HasFaultFor, GaveRefutedFor}
 use Rattle.ev_quiet.specs.Showing.{PrintedParts}
 

@@ -1,5 +1,5 @@
 -- When a document is at fault, and when all that is wanted of it can be done.
-use Rattle.std.specs.Prelude.{◌≡◌, ℕ, List, [], ◌∷◌, ◌++◌, ◌⊎◌}
+use Rattle.std.specs.Prelude.{◌≡◌, ℕ, List, [], ◌⊎◌}
 use Rattle.ev_model.specs.declared.turn.Turn.{Turn}
 use Rattle.ev_model.specs.Parts.{NetParts, EntryParts}
 use Rattle.ev_net.specs.Turns.{AreMade}
@@ -9,7 +9,7 @@ use Rattle.ev_input.specs.declared.fault.Fault.TheVariants.{BadTurn}
 use Rattle.ev_input.specs.Net.{IsNetOf, IsBadAt}
 use Rattle.ev_quiet.specs.declared.words.Schedule.{Schedule}
 use Rattle.ev_quiet.specs.declared.words.Query.{Query}
-use Rattle.ev_quiet.specs.declared.words.Query.TheVariants.{Run, Flood, Check, Format}
+use Rattle.ev_quiet.specs.declared.words.Query.TheVariants.{Run, Flood, Check, Format, Traffic}
 use Rattle.ev_quiet.specs.Runs.{turns_first}
 
 -- each of these turns is permitted when it comes
@@ -30,6 +30,7 @@ IsAtFault (Run schedule shown) input line kind = IsBadAt input line kind ⊎ ((k
 IsAtFault Flood input line kind = IsBadAt input line kind
 IsAtFault Check input line kind = IsBadAt input line kind
 IsAtFault Format input line kind = IsBadAt input line kind
+IsAtFault (Traffic graph) input line kind = IsBadAt input line kind
 
 -- it is so by each of its nets, which differ in nothing but the tables of their trees
 abbrev pub MustStop : Schedule → List ℕ → ℕ → Type 0
@@ -40,6 +41,7 @@ MustBeRefused (Run schedule shown) input line kind = IsBadAt input line kind ⊎
 MustBeRefused Flood input line kind = IsBadAt input line kind
 MustBeRefused Check input line kind = IsBadAt input line kind
 MustBeRefused Format input line kind = IsBadAt input line kind
+MustBeRefused (Traffic graph) input line kind = IsBadAt input line kind
 
 -- ALL THAT IS WANTED CAN BE DONE: there is a net, and by each the turns of a schedule are permitted
 abbrev pub CanBeDone : Query → List ℕ → Type 0
@@ -47,3 +49,4 @@ CanBeDone (Run schedule shown) input = HasNet input × ((net : NetParts) → IsN
 CanBeDone Flood input = HasNet input
 CanBeDone Check input = HasNet input
 CanBeDone Format input = HasNet input
+CanBeDone (Traffic graph) input = HasNet input

@@ -6,14 +6,6 @@ use Rattle.ev_net.specs.declared.replaying.ReplayFault.{ReplayFault}
 use Rattle.ev_net.specs.declared.replaying.ReplayFault.TheVariants as turns
 use Rattle.ev_quiet.specs.declared.refusal.Refusal.{Refusal}
 use Rattle.ev_quiet.specs.declared.refusal.Refusal.TheVariants as refusals
-use Rattle.ev_quiet.specs.declared.status.Status.{Status}
-use Rattle.ev_quiet.specs.declared.status.Status.TheVariants as statuses
-
--- the status that tells it
-abbrev pub status_of : Refusal → Status
-status_of (refusals.BadInput line kind) = statuses.BadInput line kind
-status_of refusals.ReadFault = statuses.ReadFault
-status_of refusals.NoMemory = statuses.NoMemory
 
 -- of a document that is refused
 abbrev pub refusal_of_fault : InputFault → Refusal

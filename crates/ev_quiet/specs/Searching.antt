@@ -3,41 +3,16 @@ use Rattle.std.specs.Prelude.{◌≡◌, ◌≤◌, ℕ, Bool, true, List, lengt
 use Rattle.ev_outside.specs.Whole.{Gave}
 use Rattle.ev_model.specs.Parts.{EntryParts, NetParts}
 use Rattle.ev_net.specs.Network.{IsLegal, IsDrainedBy}
-use Rattle.ev_watch.specs.declared.fault.PatternFault.{PatternFault}
-use Rattle.ev_watch.specs.declared.fault.PatternFault.TheVariants as faults
 use Rattle.ev_watch.specs.Parts.{PatternParts}
 use Rattle.ev_found.specs.Found.{found_text}
-use Rattle.ev_quiet.specs.declared.patterns.Unsearched.{Unsearched}
-use Rattle.ev_quiet.specs.declared.patterns.Unsearched.TheVariants as whys
-use Rattle.ev_quiet.specs.declared.refusal.Refusal.{Refusal}
-use Rattle.ev_quiet.specs.declared.refusal.Refusal.TheVariants as refusals
-use Rattle.ev_quiet.specs.declared.status.Status.{Status}
-use Rattle.ev_quiet.specs.declared.status.Status.TheVariants as statuses
+use Rattle.ev_quiet.specs.declared.unanswered.Unanswered.{Unanswered}
+use Rattle.ev_quiet.specs.declared.unanswered.Unanswered.TheVariants as whys
 use Rattle.ev_quiet.specs.declared.words.Schedule.TheVariants.{Walk}
 use Rattle.ev_quiet.specs.declared.words.Wanted.TheVariants.{Patterns}
 use Rattle.ev_quiet.specs.Runs.{GoesBy, received_in}
 use Rattle.ev_quiet.specs.Patterns.{IsPatternsOf, IsInputAtFault, IsPatternAtFault}
 use Rattle.ev_quiet.specs.Answers.{IsPrintedBy, HasFaultFor, GaveBadPatternFor}
 use Rattle.ev_quiet.specs.Showing.{PrintedParts}
-
--- the status that tells it
-abbrev pub search_status : Unsearched → Status
-search_status (whys.BadInput line kind) = statuses.BadInput line kind
-search_status (whys.BadPattern line kind) = statuses.BadPattern line kind
-search_status whys.ReadFault = statuses.ReadFault
-search_status whys.NoMemory = statuses.NoMemory
-
--- of what was not read
-abbrev pub why_unread : Refusal → Unsearched
-why_unread (refusals.BadInput line kind) = whys.BadInput line kind
-why_unread refusals.ReadFault = whys.ReadFault
-why_unread refusals.NoMemory = whys.NoMemory
-
--- of what is refused
-abbrev pub why_refused : PatternFault → Unsearched
-why_refused (faults.Document line kind) = whys.BadInput line kind
-why_refused (faults.Bad line kind) = whys.BadPattern line kind
-why_refused faults.NoMemory = whys.NoMemory
 
 -- the text is what patterns find in the walk of a net, and this is its journal
 pub record IsSearched (net : NetParts) (patterns : List PatternParts) (text : List ℕ) (journal : List EntryParts) : Type 0 where
@@ -47,17 +22,19 @@ pub record IsSearched (net : NetParts) (patterns : List PatternParts) (text : Li
   pub printed : text ≡ found_text net.clients (received_in net journal) patterns
 
 -- the answer to an input
-abbrev pub SearchesInput : List ℕ → Result PrintedParts Unsearched → Type 0
+abbrev pub SearchesInput : List ℕ → Result PrintedParts Unanswered → Type 0
 SearchesInput input (Ok p) = IsPatternsOf input p.text p.journal
 SearchesInput input (Err (whys.BadInput line kind)) = IsInputAtFault input line kind
 SearchesInput input (Err (whys.BadPattern line kind)) = IsPatternAtFault input line kind
+SearchesInput input (Err (whys.Refuted line kind)) = ⊥
 SearchesInput input (Err whys.ReadFault) = ⊥
 SearchesInput input (Err whys.NoMemory) = Unit {0}
 
 -- the answer to what a source gave
-abbrev pub SearchesSource : List ℕ → List ℕ → Bool → Result PrintedParts Unsearched → Type 0
+abbrev pub SearchesSource : List ℕ → List ℕ → Bool → Result PrintedParts Unanswered → Type 0
 SearchesSource given now ended (Ok p) = IsPrintedBy Patterns given now ended p.text p.journal
 SearchesSource given now ended (Err (whys.BadInput line kind)) = HasFaultFor Patterns given now ended line kind
 SearchesSource given now ended (Err (whys.BadPattern line kind)) = GaveBadPatternFor Patterns given now ended line kind
+SearchesSource given now ended (Err (whys.Refuted line kind)) = ⊥
 SearchesSource given now ended (Err whys.ReadFault) = (ended ≡ true → ⊥) × Gave given now (λ bytes. length bytes ≤ 4194304)
 SearchesSource given now ended (Err whys.NoMemory) = Unit {0}

@@ -3,20 +3,21 @@ use Rattle.std.specs.Prelude.{ℕ, List, [], ◌++◌}
 use Rattle.ev_model.specs.Parts.{EntryParts}
 use Rattle.ev_format.specs.DocumentText.{document_text}
 use Rattle.ev_quiet.specs.declared.body.Body.{Body}
-use Rattle.ev_quiet.specs.declared.body.Body.TheVariants.{Nothing, Received, Flooded, Found, Formatted}
+use Rattle.ev_quiet.specs.declared.body.Body.TheVariants.{Nothing, Received, Flooded, Found, Formatted, Carried}
 
 -- the text and the journal
 pub record PrintedParts : Type 0 where
   pub text : List ℕ
   pub journal : List EntryParts
 
--- the text of what clients received, of what flooding brings, of where patterns occur, or of a document
+-- the text of what clients received, of what flooding brings, of where patterns occur, of a document, or of what links carried
 abbrev pub body_text : Body → List ℕ
 body_text Nothing = []
 body_text (Received text) = text
 body_text (Flooded text) = text
 body_text (Found text) = text
 body_text (Formatted net) = document_text net
+body_text (Carried text) = text
 
 abbrev pub printed_parts : Body → List ℕ → List EntryParts → PrintedParts
 printed_parts body rest journal = record { text = body_text body ++ rest; journal = journal }

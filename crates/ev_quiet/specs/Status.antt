@@ -1,5 +1,5 @@
 -- The texts of the faults.
-use Rattle.std.specs.Prelude.{ℕ, List, [], ◌∷◌, ◌++◌, codes}
+use Rattle.std.specs.Prelude.{ℕ, List, [], ◌++◌, codes}
 use Rattle.std.specs.Fmt.{decimal}
 use Rattle.ev_input.specs.declared.fault.Fault.{Fault}
 use Rattle.ev_input.specs.declared.fault.Fault.TheVariants as faults
@@ -7,6 +7,8 @@ use Rattle.ev_watch.specs.declared.fault.PatternKind.{PatternKind}
 use Rattle.ev_watch.specs.declared.fault.PatternKind.TheVariants as patterns
 use Rattle.ev_audited.specs.declared.fault.AuditKind.{AuditKind}
 use Rattle.ev_audited.specs.declared.fault.AuditKind.TheVariants as audits
+use Rattle.ev_help.specs.Pages.{usage_text}
+use Rattle.ev_quiet.specs.Sentences.{kind_means, pattern_means}
 use Rattle.ev_quiet.specs.declared.status.Status.{Status}
 use Rattle.ev_quiet.specs.declared.status.Status.TheVariants as statuses
 
@@ -48,16 +50,24 @@ audit_text audits.BadTurn = codes "badturn"
 audit_text audits.Differs = codes "differs"
 audit_text audits.Open = codes "open"
 
+-- the line of a refusal: the word of its kind, and what this means
+abbrev pub refusal_text : ℕ → List ℕ → List ℕ → List ℕ
+refusal_text line word means = codes "siena: line " ++ decimal line ++ codes ": " ++ word ++ codes ": " ++ means ++ codes "\n"
+
+-- the line of an audit that refutes: the word of its kind
+abbrev pub refuted_text : ℕ → List ℕ → List ℕ
+refuted_text line word = codes "siena: audit: line " ++ decimal line ++ codes ": " ++ word ++ codes "\n"
+
 -- what goes to standard error
 unfoldable pub status_text : Status → List ℕ
 status_text statuses.Done = []
-status_text statuses.Usage = codes "siena: usage: walk, run or replay [--sorted] [--trace]; flood; check; format; gen --seed N [--summary]" ++ 10 ∷ []
-status_text (statuses.BadInput line kind) = codes "siena: line " ++ decimal line ++ codes ": " ++ kind_text kind ++ 10 ∷ []
-status_text (statuses.BadPattern line kind) = codes "siena: line " ++ decimal line ++ codes ": " ++ pattern_text kind ++ 10 ∷ []
-status_text (statuses.Refuted line kind) = codes "siena: audit: line " ++ decimal line ++ codes ": " ++ audit_text kind ++ 10 ∷ []
-status_text statuses.ReadFault = codes "siena: the input could not be read" ++ 10 ∷ []
-status_text statuses.WriteFault = codes "siena: the output could not be written" ++ 10 ∷ []
-status_text statuses.NoMemory = codes "siena: out of memory" ++ 10 ∷ []
+status_text statuses.Usage = usage_text
+status_text (statuses.BadInput line kind) = refusal_text line (kind_text kind) (kind_means kind)
+status_text (statuses.BadPattern line kind) = refusal_text line (pattern_text kind) (pattern_means kind)
+status_text (statuses.Refuted line kind) = refuted_text line (audit_text kind)
+status_text statuses.ReadFault = codes "siena: the input could not be read\n"
+status_text statuses.WriteFault = codes "siena: the output could not be written\n"
+status_text statuses.NoMemory = codes "siena: out of memory\n"
 
 -- the number with which the program ends
 abbrev pub status_number : Status → ℕ

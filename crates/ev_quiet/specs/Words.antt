@@ -1,16 +1,17 @@
 -- What the words of the command line ask for.
-use Rattle.std.specs.Prelude.{◌≡◌, ℕ, ◌^◌, Bool, true, false, not, ◌&&◌, nat_lt, nat_le, if◌then◌else◌, Option, Some, None}
+use Rattle.std.specs.Prelude.{◌≡◌, ℕ, ◌^◌, Bool, true, false, not, ◌&&◌, ◌||◌, nat_lt, nat_le, if◌then◌else◌, Option, Some, None}
 use Rattle.std.specs.Prelude.{List, [], ◌∷◌, length, take, drop, codes}
 use Rattle.std.specs.Option.{option_map, option_and_then}
 use Rattle.std.specs.Str.{bytes_eq}
 use Rattle.ev_input.specs.Words.{number_from}
+use Rattle.ev_help.specs.declared.page.Page.TheVariants.{Help, Version}
 use Rattle.ev_quiet.specs.declared.words.Schedule.{Schedule}
 use Rattle.ev_quiet.specs.declared.words.Schedule.TheVariants.{Walk, Replay, Threads}
 use Rattle.ev_quiet.specs.declared.words.Shown.{Shown}
 use Rattle.ev_quiet.specs.declared.words.Query.{Query}
-use Rattle.ev_quiet.specs.declared.words.Query.TheVariants.{Run, Flood, Check, Format}
+use Rattle.ev_quiet.specs.declared.words.Query.TheVariants.{Run, Flood, Check, Format, Traffic}
 use Rattle.ev_quiet.specs.declared.words.Wanted.{Wanted}
-use Rattle.ev_quiet.specs.declared.words.Wanted.TheVariants.{Audit, Document, Generate, Patterns}
+use Rattle.ev_quiet.specs.declared.words.Wanted.TheVariants.{About, Audit, Document, Generate, Patterns}
 
 -- a run without an option
 abbrev pub plain : Shown
@@ -33,9 +34,15 @@ abbrev pub run_by : Schedule → List (List ℕ) → Option Wanted
 run_by schedule words = option_map (λ shown. Document (Run schedule shown)) (options plain words)
 
 -- what takes no further words
-abbrev pub alone : Query → List (List ℕ) → Option Wanted
-alone query [] = Some (Document query)
-alone query (word ∷ words) = None
+abbrev pub alone : Wanted → List (List ℕ) → Option Wanted
+alone wanted [] = Some wanted
+alone wanted (word ∷ words) = None
+
+-- what each link carries, by the words behind `traffic`: as a text, or with `--dot` as a graph
+abbrev pub traffic_by : List (List ℕ) → Option Wanted
+traffic_by [] = Some (Document (Traffic false))
+traffic_by (word ∷ []) = if bytes_eq word (codes "--dot") then Some (Document (Traffic true)) else None
+traffic_by (word ∷ other ∷ words) = None
 
 -- a number that fits into 64 bits
 abbrev pub in_64_bits : ℕ → Option ℕ
@@ -74,16 +81,6 @@ generate_by (one ∷ two ∷ three ∷ []) =
     else None
 generate_by (one ∷ two ∷ three ∷ four ∷ words) = None
 
--- patterns take no further words
-abbrev pub patterns_by : List (List ℕ) → Option Wanted
-patterns_by [] = Some Patterns
-patterns_by (word ∷ words) = None
-
--- an audit takes no further words
-abbrev pub audit_by : List (List ℕ) → Option Wanted
-audit_by [] = Some Audit
-audit_by (word ∷ words) = None
-
 -- WHAT THE WORDS ASK FOR, where they ask for something
 abbrev pub wanted_by : List (List ℕ) → Option Wanted
 wanted_by [] = None
@@ -91,12 +88,15 @@ wanted_by (word ∷ words) =
     if bytes_eq word (codes "walk") then run_by Walk words
     else if bytes_eq word (codes "replay") then run_by Replay words
     else if bytes_eq word (codes "run") then run_by Threads words
-    else if bytes_eq word (codes "flood") then alone Flood words
-    else if bytes_eq word (codes "check") then alone Check words
-    else if bytes_eq word (codes "format") then alone Format words
+    else if bytes_eq word (codes "flood") then alone (Document Flood) words
+    else if bytes_eq word (codes "check") then alone (Document Check) words
+    else if bytes_eq word (codes "format") then alone (Document Format) words
+    else if bytes_eq word (codes "traffic") then traffic_by words
     else if bytes_eq word (codes "gen") then generate_by words
-    else if bytes_eq word (codes "patterns") then patterns_by words
-    else if bytes_eq word (codes "audit") then audit_by words
+    else if bytes_eq word (codes "patterns") then alone Patterns words
+    else if bytes_eq word (codes "audit") then alone Audit words
+    else if bytes_eq word (codes "help") || bytes_eq word (codes "--help") then alone (About Help) words
+    else if bytes_eq word (codes "version") || bytes_eq word (codes "--version") then alone (About Version) words
     else None
 
 -- whether the runs of a schedule are made on one thread
@@ -111,19 +111,14 @@ IsQuietQuery (Run schedule shown) = is_quiet schedule ≡ true
 IsQuietQuery Flood = Unit {0}
 IsQuietQuery Check = Unit {0}
 IsQuietQuery Format = Unit {0}
+IsQuietQuery (Traffic graph) = Unit {0}
 
 abbrev pub IsQuietWish : Wanted → Type 0
 IsQuietWish (Document query) = IsQuietQuery query
 IsQuietWish (Generate seed summary) = Unit {0}
 IsQuietWish Patterns = Unit {0}
 IsQuietWish Audit = Unit {0}
-
--- no patterns and no audit are asked for either
-abbrev pub IsPlainWish : Wanted → Type 0
-IsPlainWish (Document query) = IsQuietQuery query
-IsPlainWish (Generate seed summary) = Unit {0}
-IsPlainWish Patterns = ⊥
-IsPlainWish Audit = ⊥
+IsQuietWish (About page) = Unit {0}
 
 abbrev pub AreNoneOfRun : Option Wanted → Type 0
 AreNoneOfRun None = Unit {0}

@@ -1,17 +1,23 @@
 //! What is answered over a source.
-ghost use Rattle.std.specs.Prelude.{◌≡◌, ◌≤◌, ◌⊎◌, ◌++◌, ℕ, List, true, false, length, IfOk, OnOk, IsOk, IsErrOf};
+ghost use Rattle.std.specs.Prelude.{◌≡◌, ◌≤◌, ◌⊎◌, ◌++◌, ℕ, Bool, List, true, false, length, IfOk, OnOk, IsOk, IsErrOf};
 ghost use Rattle.std.specs.Io.KnownBytes.{Consumes, IsAtEnd};
 ghost use Rattle.ev_outside.specs.Cause.{Rose};
 ghost use Rattle.ev_outside.specs.Whole.{Gave};
-ghost use Rattle.ev_quiet.specs.Words.{IsPlainWish, IsQuietQuery};
-ghost use Rattle.ev_quiet.specs.Answers.{IsPrintedBy, reads_document, HasFaultFor, GaveRefusedFor, CanAnswerFor};
+ghost use Rattle.ev_quiet.specs.Words.{IsQuietQuery, IsQuietWish};
+ghost use Rattle.ev_quiet.specs.Answers.{IsPrintedBy, reads_document, most_for, HasFaultFor, GaveRefusedFor, CanAnswerFor};
+ghost use Rattle.ev_quiet.specs.Answering.{IsAnswer};
 
+use crate::audits::of_audit;
 use crate::generated::of_seed;
+use crate::page::of_page;
+use crate::patterns::of_patterns;
 use crate::printed::{Printed, of_document};
 use crate::reading::document;
 use crate::refusal::Refusal;
+use crate::unanswered::{Unanswered, widened};
 use crate::words::{Query, Wanted};
 use ev_input::Fault;
+use ev_memory::NoMemory;
 use ev_outside::Source;
 use std::alloc::Global;
 
@@ -36,26 +42,67 @@ fn of_source<S: Source>(alloc: Global, query: Query, source: &mut S) -> Result<P
     of_document(alloc, query, &bytes)
 }
 
+// The same among all answers.
+fn of_query<S: Source>(alloc: Global, query: Query, source: &mut S) -> Result<Printed, Unanswered>
+    requires { IsQuietQuery query }
+    ensures answers { IsAnswer (Wanted.Document query) (S.given source.old) (S.given source.new) (S.ended source.new) result }
+    ensures sure { OnOk result (S.faults source.new ≡ S.faults source.old) }
+    ensures failed { IsErrOf result Unanswered.ReadFault → Rose (S.faults source.old) (S.faults source.new) }
+    ensures at_most { Gave (S.given source.old) (S.given source.new) (λ given. length given ≤ 4194305) }
+    ensures told { (given : List ℕ) → S.given source.new ≡ S.given source.old ++ given → Consumes (S.left source.old) (S.left source.new) given }
+    ensures end { S.ended source.new ≡ true → IsAtEnd (S.left source.new) }
+{
+    widened(of_source(alloc, query, source))
+}
+
+// Whether an output is that of a whole run, among all answers.
+fn of_claim<S: Source>(alloc: Global, source: &mut S) -> Result<Printed, Unanswered>
+    ensures answers { IsAnswer Wanted.Audit (S.given source.old) (S.given source.new) (S.ended source.new) result }
+    ensures sure { OnOk result (S.faults source.new ≡ S.faults source.old) }
+    ensures failed { IsErrOf result Unanswered.ReadFault → Rose (S.faults source.old) (S.faults source.new) }
+    ensures at_most { Gave (S.given source.old) (S.given source.new) (λ given. length given ≤ 268435457) }
+    ensures told { (given : List ℕ) → S.given source.new ≡ S.given source.old ++ given → Consumes (S.left source.old) (S.left source.new) given }
+    ensures end { S.ended source.new ≡ true → IsAtEnd (S.left source.new) }
+{
+    match of_audit(alloc, source) {
+        Ok(printed) => Ok(printed),
+        Err(why) => Err(Unanswered::from(why)),
+    }
+}
+
+// What needs no source.
+fn unasked(printed: Result<Printed, NoMemory>) -> Result<Printed, Unanswered>
+    ensures answers { (wanted : Wanted) (given : List ℕ) (ended : Bool) → reads_document wanted ≡ false
+        → IfOk printed (λ p. IsPrintedBy wanted given given ended p.text p.journal) → IsAnswer wanted given given ended result }
+    ensures read { IsErrOf result Unanswered.ReadFault → ⊥ }
+{
+    match printed {
+        Ok(printed) => Ok(printed),
+        Err(NoMemory) => Err(Unanswered::NoMemory),
+    }
+}
+
 /// What is wanted, or why nothing is written.
-pub fn answer<S: Source>(alloc: Global, wanted: Wanted, source: &mut S) -> Result<Printed, Refusal>
-    requires { IsPlainWish wanted }
-    ensures printed { IfOk result (λ p. IsPrintedBy wanted (S.given source.old) (S.given source.new) (S.ended source.new) p.text p.journal) }
+pub fn answer<S: Source>(
+    alloc: Global,
+    wanted: Wanted,
+    source: &mut S,
+) -> Result<Printed, Unanswered>
+    requires { IsQuietWish wanted }
+    ensures answers { IsAnswer wanted (S.given source.old) (S.given source.new) (S.ended source.new) result }
     ensures sure { OnOk result (S.faults source.new ≡ S.faults source.old) }
     ensures unread { reads_document wanted ≡ false → source.new ≡ source.old }
-    ensures bad { (line : ℕ) (kind : Fault) → IsErrOf result (Refusal.BadInput line kind)
-        → HasFaultFor wanted (S.given source.old) (S.given source.new) (S.ended source.new) line kind }
-    ensures failed { IsErrOf result Refusal.ReadFault → Rose (S.faults source.old) (S.faults source.new) }
-    ensures refused { (line : ℕ) (kind : Fault) → GaveRefusedFor wanted (S.given source.old) (S.given source.new) (S.ended source.new) line kind
-        → IsErrOf result (Refusal.BadInput line kind) ⊎ IsErrOf result Refusal.NoMemory }
-    ensures done { CanAnswerFor wanted (S.given source.old) (S.given source.new) (S.ended source.new) → IsOk result ⊎ IsErrOf result Refusal.NoMemory }
-    ensures at_most { reads_document wanted ≡ true → Gave (S.given source.old) (S.given source.new) (λ given. length given ≤ 4194305) }
+    ensures failed { IsErrOf result Unanswered.ReadFault → Rose (S.faults source.old) (S.faults source.new) }
+    ensures at_most { reads_document wanted ≡ true → Gave (S.given source.old) (S.given source.new) (λ given. length given ≤ most_for wanted) }
     ensures told { reads_document wanted ≡ true → (given : List ℕ) → S.given source.new ≡ S.given source.old ++ given
         → Consumes (S.left source.old) (S.left source.new) given }
     ensures end { reads_document wanted ≡ true → S.ended source.new ≡ true → IsAtEnd (S.left source.new) }
 {
     match wanted {
-        Wanted::Document(query) => of_source(alloc, query, source),
-        Wanted::Generate { seed, summary } => Ok(of_seed(alloc, seed, summary)?),
-        Wanted::Patterns | Wanted::Audit => unreachable!(),
+        Wanted::Document(query) => of_query(alloc, query, source),
+        Wanted::Generate { seed, summary } => unasked(of_seed(alloc, seed, summary)),
+        Wanted::Patterns => of_patterns(alloc, source),
+        Wanted::Audit => of_claim(alloc, source),
+        Wanted::About(page) => unasked(of_page(alloc, page)),
     }
 }

@@ -8,6 +8,7 @@ use ev_found::Found;
 use ev_model::Net;
 use ev_outside::{Pending, Sink};
 use ev_report::Flooded;
+use ev_traffic::Traffic;
 
 /// What is printed before the rest of a text.
 #[derive(Drop)]
@@ -22,6 +23,8 @@ pub enum Body {
     Found(Found),
     /// The canonical text of a net.
     Formatted(Net),
+    /// What links carried.
+    Carried(Traffic),
 }
 
 impl Body {
@@ -36,6 +39,7 @@ impl Body {
             Body::Flooded(flooded) => flooded.put(out, sink),
             Body::Found(found) => found.put(out, sink),
             Body::Formatted(net) => put_document(out, sink, &net),
+            Body::Carried(traffic) => traffic.put(out, sink),
         }
     }
 }

@@ -5,10 +5,9 @@ ghost use Rattle.ev_quiet.specs.Answers.{IsGenerated};
 
 use crate::body::Body;
 use crate::printed::Printed;
-use crate::ran::make_run;
+use crate::ran::walked;
 use crate::reading::net;
 use crate::summary::run_summary;
-use crate::words::Schedule;
 use ev_generate::generate;
 use ev_memory::NoMemory;
 use std::alloc::Global;
@@ -21,9 +20,7 @@ fn summary(alloc: Global, bytes: &[u8]) -> Result<Printed, NoMemory>
     let Ok(net) = net(alloc, bytes) else {
         return Err(NoMemory);
     };
-    let Ok(ran) = make_run(alloc, &net, Schedule::Walk) else {
-        return Err(NoMemory);
-    };
+    let ran = walked(alloc, &net)?;
     let text = run_summary(alloc, &net, &ran)?;
     Printed::make(alloc, Body::Nothing, text, ran.journal)
 }

@@ -16,6 +16,7 @@ use crate::ran::make_run;
 use crate::reading::net;
 use crate::refusal::Refusal;
 use crate::text::printed_run;
+use crate::traffic::traffic;
 use crate::words::{Query, Schedule, Shown};
 use ev_flood::must_may;
 use ev_format::law::text_is_read;
@@ -198,5 +199,6 @@ pub fn of_document(alloc: Global, query: Query, bytes: &[u8]) -> Result<Printed,
         Query::Flood => flood(alloc, bytes),
         Query::Check => check(alloc, bytes),
         Query::Format => format(alloc, bytes),
+        Query::Traffic { graph } => traffic(alloc, bytes, graph),
     }
 }

@@ -75,6 +75,17 @@ fn clients(net: &Net) -> u32
     net.clients.len() as u32
 }
 
+/// The walk of a net.
+pub fn walked(alloc: Global, net: &Net) -> Result<Ran, NoMemory>
+    requires { IsSound net.now }
+    ensures { IfOk result (λ ran. IsRan Schedule.Walk net.now ran) }
+{
+    match make_run(alloc, net, Schedule::Walk) {
+        Ok(ran) => Ok(ran),
+        Err(_) => Err(NoMemory),
+    }
+}
+
 /// The run of a net on one thread, by the turns of a schedule and the walk.
 pub fn make_run(alloc: Global, net: &Net, schedule: Schedule) -> Result<Ran, Refusal>
     requires sound { IsSound net.now }

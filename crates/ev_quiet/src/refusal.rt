@@ -1,15 +1,14 @@
-//! Why nothing is written.
+//! Why nothing is written of a document.
 ghost use Rattle.std.specs.Prelude.{◌≡◌};
-ghost use Rattle.ev_quiet.specs.Refusals.{status_of, refusal_of_fault, refusal_of_turn};
+ghost use Rattle.ev_quiet.specs.Refusals.{refusal_of_fault, refusal_of_turn};
 ghost use Rattle.ev_quiet.specs.declared.refusal.Refusal.TheVariants as refusals;
 
-use crate::status::Status;
 use ev_input::{Fault, InputFault};
 use ev_memory::NoMemory;
 use ev_net::ReplayFault;
 use std::alloc::{AllocError, AllocFailed};
 
-/// Why nothing is written.
+/// Why nothing is written of a document.
 #[derive(Clone, Copy, Debug, PartialEq, Eq)]
 pub enum Refusal {
     /// The document is refused, or a turn of its schedule isn't permitted.
@@ -23,19 +22,6 @@ pub enum Refusal {
     ReadFault,
     /// Memory ran out.
     NoMemory,
-}
-
-impl Refusal {
-    /// The status that tells it.
-    pub fn status(self) -> Status
-        ensures { result ≡ status_of self }
-    {
-        match self {
-            Refusal::BadInput { line, kind } => Status::BadInput { line, kind },
-            Refusal::ReadFault => Status::ReadFault,
-            Refusal::NoMemory => Status::NoMemory,
-        }
-    }
 }
 
 impl From<InputFault> for Refusal {

@@ -1,10 +1,12 @@
 //! How a run ends, and what it says of a fault.
-ghost use Rattle.std.specs.Prelude.{◌≡◌, ◌++◌, ◌∷◌, [], IfOk, OnOk, codes};
+ghost use Rattle.std.specs.Prelude.{◌≡◌, ◌++◌, IfOk, OnOk, codes};
 ghost use Rattle.std.specs.Fmt.{decimal};
-ghost use Rattle.ev_quiet.specs.Status.{audit_text, kind_text, pattern_text, status_number, status_text};
+ghost use Rattle.ev_quiet.specs.Status.{audit_text, kind_text, pattern_text, refusal_text, refuted_text, status_number, status_text};
 
+use crate::sentences::{kind_means, pattern_means};
 use ev_audited::AuditKind;
 use ev_decimal::push_number;
+use ev_help::usage;
 use ev_input::Fault;
 use ev_memory::NoMemory;
 use ev_watch::PatternKind;
@@ -118,20 +120,36 @@ fn audit_text(kind: AuditKind) -> &'static [u8]
     }
 }
 
-// The line of a fault, by what stands before its number, and its word.
+// The beginning of a fault's line: what stands before the line's number, the number, and the word of the kind.
 fn push_fault(out: &mut Vec<u8>, before: &[u8], line: u32, word: &[u8]) -> Result<(), NoMemory>
-    ensures { OnOk result (out.new.items ≡ out.old.items ++ before.now ++ decimal line ++ codes ": " ++ word.now ++ 10 ∷ []) }
+    ensures { OnOk result (out.new.items ≡ out.old.items ++ before.now ++ decimal line ++ codes ": " ++ word.now) }
 {
     out.extend_from_slice(before)?;
     push_number(out, u64::from(line))?;
     out.extend_from_slice(b": ")?;
     out.extend_from_slice(word)?;
+    Ok(())
+}
+
+// The line of a refusal: the word of its kind, and what this means.
+fn push_refusal(out: &mut Vec<u8>, line: u32, word: &[u8], means: &[u8]) -> Result<(), NoMemory>
+    ensures { OnOk result (out.new.items ≡ out.old.items ++ refusal_text line word.now means.now) }
+{
+    push_fault(out, b"siena: line ", line, word)?;
+    out.extend_from_slice(b": ")?;
+    out.extend_from_slice(means)?;
     out.extend_from_slice(b"\n")?;
     Ok(())
 }
 
-const USAGE: &[u8] =
-    b"siena: usage: walk, run or replay [--sorted] [--trace]; flood; check; format; gen --seed N [--summary]\n";
+// The line of an audit that refutes: the word of its kind.
+fn push_refuted(out: &mut Vec<u8>, line: u32, word: &[u8]) -> Result<(), NoMemory>
+    ensures { OnOk result (out.new.items ≡ out.old.items ++ refuted_text line word.now) }
+{
+    push_fault(out, b"siena: audit: line ", line, word)?;
+    out.extend_from_slice(b"\n")?;
+    Ok(())
+}
 
 /// What goes to standard error: one line, or nothing where the run is done.
 #[tactic(auto, unfolding(crate::specs::Status::status_text))]
@@ -141,25 +159,14 @@ pub fn fault_text(alloc: Global, status: &Status) -> Result<Vec<u8>, NoMemory>
     let mut out = Vec::new(alloc);
     match status {
         Status::Done => {}
-        Status::Usage => out.extend_from_slice(USAGE)?,
-        Status::BadInput { line, kind } => push_fault(
-            &mut out,
-            b"siena: line ",
-            *line,
-            kind_text(*kind),
-        )?,
-        Status::BadPattern { line, kind } => push_fault(
-            &mut out,
-            b"siena: line ",
-            *line,
-            pattern_text(*kind),
-        )?,
-        Status::Refuted { line, kind } => push_fault(
-            &mut out,
-            b"siena: audit: line ",
-            *line,
-            audit_text(*kind),
-        )?,
+        Status::Usage => out.extend_from_slice(usage())?,
+        Status::BadInput { line, kind } => {
+            push_refusal(&mut out, *line, kind_text(*kind), kind_means(*kind))?
+        }
+        Status::BadPattern { line, kind } => {
+            push_refusal(&mut out, *line, pattern_text(*kind), pattern_means(*kind))?
+        }
+        Status::Refuted { line, kind } => push_refuted(&mut out, *line, audit_text(*kind))?,
         Status::ReadFault => out.extend_from_slice(b"siena: the input could not be read\n")?,
         Status::WriteFault => out.extend_from_slice(b"siena: the output could not be written\n")?,
         Status::NoMemory => out.extend_from_slice(b"siena: out of memory\n")?,

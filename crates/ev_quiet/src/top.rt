@@ -1,26 +1,23 @@
 //! The top call.
-ghost use Rattle.std.specs.Prelude.{◌≡◌, ◌≢◌, ◌≤◌, ◌⊎◌, ◌++◌, ◌↔◌, ℕ, List, [], true, false, None, Some, length};
+ghost use Rattle.std.specs.Prelude.{◌≡◌, ◌≢◌, ◌≤◌, ◌⊎◌, ◌++◌, ℕ, List, true, false, length};
 ghost use Rattle.std.specs.Io.KnownBytes.{Consumes, IsAtEnd};
 ghost use Rattle.ev_outside.specs.Cause.{Rose};
-ghost use Rattle.ev_outside.specs.Whole.{Gave, TookPart};
-ghost use Rattle.ev_quiet.specs.Words.{wanted_by, AreNoneOfRun, IsPlainWish, IsQuietWish};
-ghost use Rattle.ev_quiet.specs.Answers.{Prints, PrintsPart, reads, most_read, HasFault, GaveRefused, GaveBadPattern, GaveRefuted, GaveWrong, CanAnswer};
+ghost use Rattle.ev_outside.specs.Whole.{Gave};
+ghost use Rattle.ev_quiet.specs.Words.{wanted_by, AreNoneOfRun};
+ghost use Rattle.ev_quiet.specs.Answers.{reads, most_read, CanAnswer};
+ghost use Rattle.ev_quiet.specs.Outcomes.{IsOutcome};
 
 use crate::answer::answer;
-use crate::audits::of_audit;
-use crate::patterns::of_patterns;
 use crate::printed::Printed;
 use crate::status::Status;
+use crate::unanswered::Unanswered;
 use crate::words::{Wanted, read_words};
-use ev_audited::AuditKind;
-use ev_input::Fault;
 use ev_model::Entry;
 use ev_outside::{Sink, Source, Word};
-use ev_watch::PatternKind;
 use std::alloc::Global;
 
-/// How a run ended, and its journal in the order of the turns: that of the run for `walk`, `replay` and a summary, and
-/// empty for all else and where it is not done.
+/// How a run ended, and its journal in the order of the turns: that of the run for `walk`, `replay`, `traffic`, `patterns`,
+/// `audit` and a summary, and empty for all else and where it is not done.
 #[derive(Drop)]
 pub struct Outcome {
     /// How it ended.
@@ -30,9 +27,11 @@ pub struct Outcome {
 }
 
 impl Outcome {
-    ghost use Rattle.std.specs.Prelude.{◌≡◌, ◌≢◌, ◌⊎◌, ◌++◌, []};
+    ghost use Rattle.std.specs.Prelude.{◌≡◌, ◌≢◌, ◌⊎◌, ◌++◌, ℕ, Bool, List, [], Some, IsOk, IsErrOf};
     ghost use Rattle.ev_outside.specs.Cause.{Rose};
     ghost use Rattle.ev_outside.specs.Whole.{TookPart};
+    ghost use Rattle.ev_quiet.specs.Answering.{IsAnswer};
+    ghost use Rattle.ev_quiet.specs.Outcomes.{IsOutcome};
 
     /// The outcome of what is not done.
     pub fn ended(alloc: Global, status: Status) -> Outcome
@@ -63,188 +62,27 @@ impl Outcome {
             Err(_) => Outcome::ended(alloc, Status::WriteFault),
         }
     }
-}
 
-// Does what is wanted, which is none of patterns and no audit.
-fn answered<S: Source, K: Sink>(
-    alloc: Global,
-    wanted: Wanted,
-    source: &mut S,
-    sink: &mut K,
-) -> Outcome
-    requires { IsPlainWish wanted }
-    ensures printed { result.status ≡ Status.Done
-        → Prints (Some wanted) (S.given source.old) (S.given source.new) (S.ended source.new) result.journal.items (K.taken sink.old) (K.taken sink.new) }
-    ensures sure { result.status ≡ Status.Done → (S.faults source.new ≡ S.faults source.old) × (K.faults sink.new ≡ K.faults sink.old) }
-    ensures unread { reads (Some wanted) ≡ false → source.new ≡ source.old }
-    ensures at_most { reads (Some wanted) ≡ true → Gave (S.given source.old) (S.given source.new) (λ given. length given ≤ 4194305) }
-    ensures told { reads (Some wanted) ≡ true → (given : List ℕ) → S.given source.new ≡ S.given source.old ++ given
-        → Consumes (S.left source.old) (S.left source.new) given }
-    ensures end { reads (Some wanted) ≡ true → S.ended source.new ≡ true → IsAtEnd (S.left source.new) }
-    ensures unwritten { result.status ≢ Status.Done → result.status ≢ Status.WriteFault → sink.new ≡ sink.old }
-    ensures journal { result.status ≢ Status.Done → result.journal.items ≡ [] }
-    ensures usage { result.status ≢ Status.Usage }
-    ensures bad_input { (line : ℕ) (kind : Fault) → result.status ≡ Status.BadInput line kind
-        → HasFault (Some wanted) (S.given source.old) (S.given source.new) (S.ended source.new) line kind }
-    ensures bad_pattern { (line : ℕ) (kind : PatternKind) → result.status ≡ Status.BadPattern line kind
-        → GaveBadPattern (Some wanted) (S.given source.old) (S.given source.new) (S.ended source.new) line kind }
-    ensures refuted { (line : ℕ) (kind : AuditKind) → result.status ≡ Status.Refuted line kind
-        → GaveRefuted (Some wanted) (S.given source.old) (S.given source.new) (S.ended source.new) line kind }
-    ensures read_fault { result.status ≡ Status.ReadFault → Rose (S.faults source.old) (S.faults source.new) }
-    ensures write_fault { result.status ≡ Status.WriteFault → Rose (K.faults sink.old) (K.faults sink.new) }
-    ensures part { result.status ≡ Status.WriteFault
-        → PrintsPart (Some wanted) (S.given source.old) (S.given source.new) (S.ended source.new) (K.taken sink.old) (K.taken sink.new) }
-    ensures refused { (line : ℕ) (kind : Fault) → GaveRefused (Some wanted) (S.given source.old) (S.given source.new) (S.ended source.new) line kind
-        → (result.status ≡ Status.BadInput line kind) ⊎ (result.status ≡ Status.NoMemory) }
-    ensures refused_pattern { (line : ℕ) (kind : PatternKind)
-        → GaveBadPattern (Some wanted) (S.given source.old) (S.given source.new) (S.ended source.new) line kind
-        → (result.status ≡ Status.BadPattern line kind) ⊎ (result.status ≡ Status.NoMemory) }
-    ensures wrong { (line : ℕ) (kind : AuditKind)
-        → GaveWrong (Some wanted) (S.given source.old) (S.given source.new) (S.ended source.new) line kind
-        → (result.status ≡ Status.Refuted line kind) ⊎ (result.status ≡ Status.NoMemory) }
-    ensures complete { CanAnswer (Some wanted) (S.given source.old) (S.given source.new) (S.ended source.new)
-        → (Rose (K.faults sink.old) (K.faults sink.new) → ⊥)
-        → (result.status ≡ Status.Done) ⊎ (result.status ≡ Status.NoMemory) }
-{
-    match answer(alloc, wanted, source) {
-        Ok(printed) => Outcome::written(alloc, printed, sink),
-        Err(refusal) => Outcome::ended(alloc, refusal.status()),
-    }
-}
-
-// Searches for patterns.
-fn search<S: Source, K: Sink>(alloc: Global, source: &mut S, sink: &mut K) -> Outcome
-    ensures printed { result.status ≡ Status.Done
-        → Prints (Some Wanted.Patterns) (S.given source.old) (S.given source.new) (S.ended source.new)
-        result.journal.items (K.taken sink.old) (K.taken sink.new) }
-    ensures sure { result.status ≡ Status.Done → (S.faults source.new ≡ S.faults source.old) × (K.faults sink.new ≡ K.faults sink.old) }
-    ensures at_most { Gave (S.given source.old) (S.given source.new) (λ given. length given ≤ 4194305) }
-    ensures told { (given : List ℕ) → S.given source.new ≡ S.given source.old ++ given
-        → Consumes (S.left source.old) (S.left source.new) given }
-    ensures end { S.ended source.new ≡ true → IsAtEnd (S.left source.new) }
-    ensures unwritten { result.status ≢ Status.Done → result.status ≢ Status.WriteFault → sink.new ≡ sink.old }
-    ensures journal { result.status ≢ Status.Done → result.journal.items ≡ [] }
-    ensures usage { result.status ≢ Status.Usage }
-    ensures bad_input { (line : ℕ) (kind : Fault) → result.status ≡ Status.BadInput line kind
-        → HasFault (Some Wanted.Patterns) (S.given source.old) (S.given source.new) (S.ended source.new) line kind }
-    ensures bad_pattern { (line : ℕ) (kind : PatternKind) → result.status ≡ Status.BadPattern line kind
-        → GaveBadPattern (Some Wanted.Patterns) (S.given source.old) (S.given source.new) (S.ended source.new) line kind }
-    ensures refuted { (line : ℕ) (kind : AuditKind) → result.status ≡ Status.Refuted line kind
-        → GaveRefuted (Some Wanted.Patterns) (S.given source.old) (S.given source.new) (S.ended source.new) line kind }
-    ensures read_fault { result.status ≡ Status.ReadFault → Rose (S.faults source.old) (S.faults source.new) }
-    ensures write_fault { result.status ≡ Status.WriteFault → Rose (K.faults sink.old) (K.faults sink.new) }
-    ensures part { result.status ≡ Status.WriteFault
-        → PrintsPart (Some Wanted.Patterns) (S.given source.old) (S.given source.new) (S.ended source.new) (K.taken sink.old) (K.taken sink.new) }
-    ensures refused { (line : ℕ) (kind : Fault) → GaveRefused (Some Wanted.Patterns) (S.given source.old) (S.given source.new) (S.ended source.new) line kind
-        → (result.status ≡ Status.BadInput line kind) ⊎ (result.status ≡ Status.NoMemory) }
-    ensures refused_pattern { (line : ℕ) (kind : PatternKind)
-        → GaveBadPattern (Some Wanted.Patterns) (S.given source.old) (S.given source.new) (S.ended source.new) line kind
-        → (result.status ≡ Status.BadPattern line kind) ⊎ (result.status ≡ Status.NoMemory) }
-    ensures wrong { (line : ℕ) (kind : AuditKind)
-        → GaveWrong (Some Wanted.Patterns) (S.given source.old) (S.given source.new) (S.ended source.new) line kind
-        → (result.status ≡ Status.Refuted line kind) ⊎ (result.status ≡ Status.NoMemory) }
-    ensures complete { CanAnswer (Some Wanted.Patterns) (S.given source.old) (S.given source.new) (S.ended source.new)
-        → (Rose (K.faults sink.old) (K.faults sink.new) → ⊥)
-        → (result.status ≡ Status.Done) ⊎ (result.status ≡ Status.NoMemory) }
-{
-    match of_patterns(alloc, source) {
-        Ok(printed) => Outcome::written(alloc, printed, sink),
-        Err(why) => Outcome::ended(alloc, why.status()),
-    }
-}
-
-// Audits an output.
-fn confirm<S: Source, K: Sink>(alloc: Global, source: &mut S, sink: &mut K) -> Outcome
-    ensures printed { result.status ≡ Status.Done
-        → Prints (Some Wanted.Audit) (S.given source.old) (S.given source.new) (S.ended source.new)
-        result.journal.items (K.taken sink.old) (K.taken sink.new) }
-    ensures sure { result.status ≡ Status.Done → (S.faults source.new ≡ S.faults source.old) × (K.faults sink.new ≡ K.faults sink.old) }
-    ensures at_most { Gave (S.given source.old) (S.given source.new) (λ given. length given ≤ 268435457) }
-    ensures told { (given : List ℕ) → S.given source.new ≡ S.given source.old ++ given
-        → Consumes (S.left source.old) (S.left source.new) given }
-    ensures end { S.ended source.new ≡ true → IsAtEnd (S.left source.new) }
-    ensures unwritten { result.status ≢ Status.Done → result.status ≢ Status.WriteFault → sink.new ≡ sink.old }
-    ensures journal { result.status ≢ Status.Done → result.journal.items ≡ [] }
-    ensures usage { result.status ≢ Status.Usage }
-    ensures bad_input { (line : ℕ) (kind : Fault) → result.status ≡ Status.BadInput line kind
-        → HasFault (Some Wanted.Audit) (S.given source.old) (S.given source.new) (S.ended source.new) line kind }
-    ensures bad_pattern { (line : ℕ) (kind : PatternKind) → result.status ≡ Status.BadPattern line kind
-        → GaveBadPattern (Some Wanted.Audit) (S.given source.old) (S.given source.new) (S.ended source.new) line kind }
-    ensures refuted { (line : ℕ) (kind : AuditKind) → result.status ≡ Status.Refuted line kind
-        → GaveRefuted (Some Wanted.Audit) (S.given source.old) (S.given source.new) (S.ended source.new) line kind }
-    ensures read_fault { result.status ≡ Status.ReadFault → Rose (S.faults source.old) (S.faults source.new) }
-    ensures write_fault { result.status ≡ Status.WriteFault → Rose (K.faults sink.old) (K.faults sink.new) }
-    ensures part { result.status ≡ Status.WriteFault
-        → PrintsPart (Some Wanted.Audit) (S.given source.old) (S.given source.new) (S.ended source.new) (K.taken sink.old) (K.taken sink.new) }
-    ensures refused { (line : ℕ) (kind : Fault) → GaveRefused (Some Wanted.Audit) (S.given source.old) (S.given source.new) (S.ended source.new) line kind
-        → (result.status ≡ Status.BadInput line kind) ⊎ (result.status ≡ Status.NoMemory) }
-    ensures refused_pattern { (line : ℕ) (kind : PatternKind)
-        → GaveBadPattern (Some Wanted.Audit) (S.given source.old) (S.given source.new) (S.ended source.new) line kind
-        → (result.status ≡ Status.BadPattern line kind) ⊎ (result.status ≡ Status.NoMemory) }
-    ensures wrong { (line : ℕ) (kind : AuditKind)
-        → GaveWrong (Some Wanted.Audit) (S.given source.old) (S.given source.new) (S.ended source.new) line kind
-        → (result.status ≡ Status.Refuted line kind) ⊎ (result.status ≡ Status.NoMemory) }
-    ensures complete { CanAnswer (Some Wanted.Audit) (S.given source.old) (S.given source.new) (S.ended source.new)
-        → (Rose (K.faults sink.old) (K.faults sink.new) → ⊥)
-        → (result.status ≡ Status.Done) ⊎ (result.status ≡ Status.NoMemory) }
-{
-    match of_audit(alloc, source) {
-        Ok(printed) => Outcome::written(alloc, printed, sink),
-        Err(why) => Outcome::ended(alloc, why.status()),
-    }
-}
-
-// Does what is wanted.
-fn carry_out<S: Source, K: Sink>(
-    alloc: Global,
-    wanted: Wanted,
-    source: &mut S,
-    sink: &mut K,
-) -> Outcome
-    requires { IsQuietWish wanted }
-    ensures printed { result.status ≡ Status.Done
-        → Prints (Some wanted) (S.given source.old) (S.given source.new) (S.ended source.new) result.journal.items (K.taken sink.old) (K.taken sink.new) }
-    ensures sure { result.status ≡ Status.Done → (S.faults source.new ≡ S.faults source.old) × (K.faults sink.new ≡ K.faults sink.old) }
-    ensures unread { reads (Some wanted) ≡ false → source.new ≡ source.old }
-    ensures at_most { reads (Some wanted) ≡ true → Gave (S.given source.old) (S.given source.new) (λ given. length given ≤ most_read (Some wanted)) }
-    ensures told { reads (Some wanted) ≡ true → (given : List ℕ) → S.given source.new ≡ S.given source.old ++ given
-        → Consumes (S.left source.old) (S.left source.new) given }
-    ensures end { reads (Some wanted) ≡ true → S.ended source.new ≡ true → IsAtEnd (S.left source.new) }
-    ensures unwritten { result.status ≢ Status.Done → result.status ≢ Status.WriteFault → sink.new ≡ sink.old }
-    ensures journal { result.status ≢ Status.Done → result.journal.items ≡ [] }
-    ensures usage { result.status ≢ Status.Usage }
-    ensures bad_input { (line : ℕ) (kind : Fault) → result.status ≡ Status.BadInput line kind
-        → HasFault (Some wanted) (S.given source.old) (S.given source.new) (S.ended source.new) line kind }
-    ensures bad_pattern { (line : ℕ) (kind : PatternKind) → result.status ≡ Status.BadPattern line kind
-        → GaveBadPattern (Some wanted) (S.given source.old) (S.given source.new) (S.ended source.new) line kind }
-    ensures refuted { (line : ℕ) (kind : AuditKind) → result.status ≡ Status.Refuted line kind
-        → GaveRefuted (Some wanted) (S.given source.old) (S.given source.new) (S.ended source.new) line kind }
-    ensures read_fault { result.status ≡ Status.ReadFault → Rose (S.faults source.old) (S.faults source.new) }
-    ensures write_fault { result.status ≡ Status.WriteFault → Rose (K.faults sink.old) (K.faults sink.new) }
-    ensures part { result.status ≡ Status.WriteFault
-        → PrintsPart (Some wanted) (S.given source.old) (S.given source.new) (S.ended source.new) (K.taken sink.old) (K.taken sink.new) }
-    ensures refused { (line : ℕ) (kind : Fault) → GaveRefused (Some wanted) (S.given source.old) (S.given source.new) (S.ended source.new) line kind
-        → (result.status ≡ Status.BadInput line kind) ⊎ (result.status ≡ Status.NoMemory) }
-    ensures refused_pattern { (line : ℕ) (kind : PatternKind)
-        → GaveBadPattern (Some wanted) (S.given source.old) (S.given source.new) (S.ended source.new) line kind
-        → (result.status ≡ Status.BadPattern line kind) ⊎ (result.status ≡ Status.NoMemory) }
-    ensures wrong { (line : ℕ) (kind : AuditKind)
-        → GaveWrong (Some wanted) (S.given source.old) (S.given source.new) (S.ended source.new) line kind
-        → (result.status ≡ Status.Refuted line kind) ⊎ (result.status ≡ Status.NoMemory) }
-    ensures complete { CanAnswer (Some wanted) (S.given source.old) (S.given source.new) (S.ended source.new)
-        → (Rose (K.faults sink.old) (K.faults sink.new) → ⊥)
-        → (result.status ≡ Status.Done) ⊎ (result.status ≡ Status.NoMemory) }
-{
-    match wanted {
-        Wanted::Patterns => search(alloc, source, sink),
-        Wanted::Audit => confirm(alloc, source, sink),
-        Wanted::Document(query) => answered(alloc, Wanted::Document(query), source, sink),
-        Wanted::Generate { seed, summary } => answered(
-            alloc,
-            Wanted::Generate { seed, summary },
-            source,
-            sink,
-        ),
+    /// Writes what is answered, or tells why nothing is written.
+    pub fn of_answer<K: Sink>(
+        alloc: Global,
+        answer: Result<Printed, Unanswered>,
+        sink: &mut K,
+    ) -> Outcome
+        ensures outcome { (wanted : Wanted) (given now : List ℕ) (ended : Bool) → IsAnswer wanted given now ended answer
+            → IsOutcome (Some wanted) given now ended (K.taken sink.old) (K.taken sink.new) result.status result.journal.items }
+        ensures done { result.status ≡ Status.Done → IsOk answer }
+        ensures sure { result.status ≡ Status.Done → K.faults sink.new ≡ K.faults sink.old }
+        ensures unwritten { result.status ≢ Status.Done → result.status ≢ Status.WriteFault → sink.new ≡ sink.old }
+        ensures read_fault { result.status ≡ Status.ReadFault → IsErrOf answer Unanswered.ReadFault }
+        ensures write_fault { result.status ≡ Status.WriteFault → Rose (K.faults sink.old) (K.faults sink.new) }
+        ensures complete { IsOk answer ⊎ IsErrOf answer Unanswered.NoMemory → (Rose (K.faults sink.old) (K.faults sink.new) → ⊥)
+            → (result.status ≡ Status.Done) ⊎ (result.status ≡ Status.NoMemory) }
+    {
+        match answer {
+            Ok(printed) => Outcome::written(alloc, printed, sink),
+            Err(why) => Outcome::ended(alloc, why.status()),
+        }
     }
 }
 
@@ -253,9 +91,11 @@ fn carry_out<S: Source, K: Sink>(
 /// the first write.
 ///
 /// `walk` and `replay` print what each client receives in a run of the network, `flood` what flooding owes and allows it,
-/// `check` how much the document has, `format` its canonical text, and `gen` the document of a seed, or the summary of its walk. `patterns` prints where
-/// the patterns behind a document occur in what the clients receive in its walk. `audit` prints how much a run has whose output
-/// stands behind a document, with its trace, where that is the output of a whole run.
+/// `traffic` what each link carries in the walk beside plain flooding, `check` how much the document has, `format` its
+/// canonical text, and `gen` the document of a seed, or the summary of its walk. `patterns` prints where the patterns behind a
+/// document occur in what the clients receive in its walk. `audit` prints how much a run has whose output stands behind a
+/// document, with its trace, where that is the output of a whole run. `help` and `version` print what the program says of
+/// itself.
 pub fn quiet<S: Source, K: Sink>(
     alloc: Global,
     words: &[Word],
@@ -263,42 +103,24 @@ pub fn quiet<S: Source, K: Sink>(
     sink: &mut K,
 ) -> Outcome
     requires { AreNoneOfRun (wanted_by words.now) }
-    ensures printed { result.status ≡ Status.Done
-        → Prints (wanted_by words.now) (S.given source.old) (S.given source.new) (S.ended source.new)
-        result.journal.items (K.taken sink.old) (K.taken sink.new) }
+    ensures outcome { IsOutcome (wanted_by words.now) (S.given source.old) (S.given source.new) (S.ended source.new)
+        (K.taken sink.old) (K.taken sink.new) result.status result.journal.items }
     ensures sure { result.status ≡ Status.Done → (S.faults source.new ≡ S.faults source.old) × (K.faults sink.new ≡ K.faults sink.old) }
     ensures unread { reads (wanted_by words.now) ≡ false → source.new ≡ source.old }
-    ensures at_most { reads (wanted_by words.now) ≡ true → Gave (S.given source.old) (S.given source.new) (λ given. length given ≤ most_read (wanted_by words.now)) }
+    ensures at_most { reads (wanted_by words.now) ≡ true
+        → Gave (S.given source.old) (S.given source.new) (λ given. length given ≤ most_read (wanted_by words.now)) }
     ensures told { reads (wanted_by words.now) ≡ true → (given : List ℕ) → S.given source.new ≡ S.given source.old ++ given
         → Consumes (S.left source.old) (S.left source.new) given }
     ensures end { reads (wanted_by words.now) ≡ true → S.ended source.new ≡ true → IsAtEnd (S.left source.new) }
     ensures unwritten { result.status ≢ Status.Done → result.status ≢ Status.WriteFault → sink.new ≡ sink.old }
-    ensures journal { result.status ≢ Status.Done → result.journal.items ≡ [] }
-    ensures usage { result.status ≡ Status.Usage ↔ (wanted_by words.now ≡ None) }
-    ensures bad_input { (line : ℕ) (kind : Fault) → result.status ≡ Status.BadInput line kind
-        → HasFault (wanted_by words.now) (S.given source.old) (S.given source.new) (S.ended source.new) line kind }
-    ensures bad_pattern { (line : ℕ) (kind : PatternKind) → result.status ≡ Status.BadPattern line kind
-        → GaveBadPattern (wanted_by words.now) (S.given source.old) (S.given source.new) (S.ended source.new) line kind }
-    ensures refuted { (line : ℕ) (kind : AuditKind) → result.status ≡ Status.Refuted line kind
-        → GaveRefuted (wanted_by words.now) (S.given source.old) (S.given source.new) (S.ended source.new) line kind }
     ensures read_fault { result.status ≡ Status.ReadFault → Rose (S.faults source.old) (S.faults source.new) }
     ensures write_fault { result.status ≡ Status.WriteFault → Rose (K.faults sink.old) (K.faults sink.new) }
-    ensures part { result.status ≡ Status.WriteFault
-        → PrintsPart (wanted_by words.now) (S.given source.old) (S.given source.new) (S.ended source.new) (K.taken sink.old) (K.taken sink.new) }
-    ensures refused { (line : ℕ) (kind : Fault) → GaveRefused (wanted_by words.now) (S.given source.old) (S.given source.new) (S.ended source.new) line kind
-        → (result.status ≡ Status.BadInput line kind) ⊎ (result.status ≡ Status.NoMemory) }
-    ensures refused_pattern { (line : ℕ) (kind : PatternKind)
-        → GaveBadPattern (wanted_by words.now) (S.given source.old) (S.given source.new) (S.ended source.new) line kind
-        → (result.status ≡ Status.BadPattern line kind) ⊎ (result.status ≡ Status.NoMemory) }
-    ensures wrong { (line : ℕ) (kind : AuditKind)
-        → GaveWrong (wanted_by words.now) (S.given source.old) (S.given source.new) (S.ended source.new) line kind
-        → (result.status ≡ Status.Refuted line kind) ⊎ (result.status ≡ Status.NoMemory) }
     ensures complete { CanAnswer (wanted_by words.now) (S.given source.old) (S.given source.new) (S.ended source.new)
         → (Rose (K.faults sink.old) (K.faults sink.new) → ⊥)
         → (result.status ≡ Status.Done) ⊎ (result.status ≡ Status.NoMemory) }
 {
     match read_words(words) {
-        Some(wanted) => carry_out(alloc, wanted, source, sink),
+        Some(wanted) => Outcome::of_answer(alloc, answer(alloc, wanted, source), sink),
         None => Outcome::ended(alloc, Status::Usage),
     }
 }

@@ -1,10 +1,11 @@
 //! What the words of the command line ask for.
 ghost use Rattle.std.specs.Prelude.{◌≡◌, ◌↔◌, IsTrue};
 ghost use Rattle.std.specs.Str.{bytes_eq};
-ghost use Rattle.ev_quiet.specs.Words.{AreNoneOfRun, alone, asked, audit_by, generate_by, is_summary, joined_seed, options, parted_seed, patterns_by};
-ghost use Rattle.ev_quiet.specs.Words.{plain, run_by, wanted_by, with_option};
+ghost use Rattle.ev_quiet.specs.Words.{AreNoneOfRun, alone, asked, generate_by, is_summary, joined_seed, options, parted_seed};
+ghost use Rattle.ev_quiet.specs.Words.{plain, run_by, traffic_by, wanted_by, with_option};
 
 use crate::seed::seed;
+use ev_help::Page;
 use ev_outside::Word;
 
 /// Which turns a run makes.
@@ -38,6 +39,11 @@ pub enum Query {
     Check,
     /// Its canonical text.
     Format,
+    /// What each link carries in its walk, beside what plain flooding would have put there.
+    Traffic {
+        /// Whether it is wanted as a graph.
+        graph: bool,
+    },
 }
 
 /// What the words ask for.
@@ -56,6 +62,8 @@ pub enum Wanted {
     Patterns,
     /// Whether the output behind the document that the source gives is that of a whole run.
     Audit,
+    /// What the program says of itself.
+    About(Page),
 }
 
 // Whether it is this word.
@@ -112,13 +120,20 @@ fn run(schedule: Schedule, words: &[Word]) -> Option<Wanted>
 }
 
 // What takes no further words.
-fn alone(query: Query, words: &[Word]) -> Option<Wanted>
-    ensures { result ≡ alone query words.now }
+fn alone(wanted: Wanted, words: &[Word]) -> Option<Wanted>
+    ensures { result ≡ alone wanted words.now }
 {
-    if words.is_empty() {
-        Some(Wanted::Document(query))
-    } else {
-        None
+    if words.is_empty() { Some(wanted) } else { None }
+}
+
+// What each link carries, by the words behind `traffic`.
+fn traffic(words: &[Word]) -> Option<Wanted>
+    ensures { result ≡ traffic_by words.now }
+{
+    match words {
+        [] => Some(Wanted::Document(Query::Traffic { graph: false })),
+        [one] if is_word(one, b"--dot") => Some(Wanted::Document(Query::Traffic { graph: true })),
+        _ => None,
     }
 }
 
@@ -175,28 +190,6 @@ fn generate(words: &[Word]) -> Option<Wanted>
     }
 }
 
-// Patterns, which take no further words.
-fn patterns(words: &[Word]) -> Option<Wanted>
-    ensures { result ≡ patterns_by words.now }
-{
-    if words.is_empty() {
-        Some(Wanted::Patterns)
-    } else {
-        None
-    }
-}
-
-// An audit, which takes no further words.
-fn audit(words: &[Word]) -> Option<Wanted>
-    ensures { result ≡ audit_by words.now }
-{
-    if words.is_empty() {
-        Some(Wanted::Audit)
-    } else {
-        None
-    }
-}
-
 /// What the words ask for, where they ask for something.
 pub fn read_words(words: &[Word]) -> Option<Wanted>
     ensures { result ≡ wanted_by words.now }
@@ -211,17 +204,23 @@ pub fn read_words(words: &[Word]) -> Option<Wanted>
     } else if is_word(word, b"run") {
         run(Schedule::Threads, rest)
     } else if is_word(word, b"flood") {
-        alone(Query::Flood, rest)
+        alone(Wanted::Document(Query::Flood), rest)
     } else if is_word(word, b"check") {
-        alone(Query::Check, rest)
+        alone(Wanted::Document(Query::Check), rest)
     } else if is_word(word, b"format") {
-        alone(Query::Format, rest)
+        alone(Wanted::Document(Query::Format), rest)
+    } else if is_word(word, b"traffic") {
+        traffic(rest)
     } else if is_word(word, b"gen") {
         generate(rest)
     } else if is_word(word, b"patterns") {
-        patterns(rest)
+        alone(Wanted::Patterns, rest)
     } else if is_word(word, b"audit") {
-        audit(rest)
+        alone(Wanted::Audit, rest)
+    } else if is_word(word, b"help") || is_word(word, b"--help") {
+        alone(Wanted::About(Page::Help), rest)
+    } else if is_word(word, b"version") || is_word(word, b"--version") {
+        alone(Wanted::About(Page::Version), rest)
     } else {
         None
     }

@@ -2,6 +2,7 @@
 use crate::failure::Failure;
 use crate::row::Row;
 use crate::tried::outcome;
+use crate::usage::USAGE_LINE;
 use std::alloc::Global;
 
 /// Inputs that are audited.
@@ -127,7 +128,7 @@ pub const AUDITS: [Row; 14] = [
         name: "A document at fault before its output",
         words: "audit",
         document: "siena 1\nsemantics subscription\noutput\ntrace 0\n",
-        fault: "siena: line 3: ended\n",
+        fault: "siena: line 3: ended: the document ends before its lines `siena`, `semantics` and `servers`\n",
         text: "",
     },
     Row {
@@ -135,7 +136,7 @@ pub const AUDITS: [Row; 14] = [
         words: "audit --trace",
         document: "siena 1\nsemantics subscription\nservers 1\nclient c1 1\nclient c2 1\nscript c1\n\
             subscribe x int = 7\nbarrier\nscript c2\nbarrier\npublish x int 7\npublish x int 5\n",
-        fault: "siena: usage: walk, run or replay [--sorted] [--trace]; flood; check; format; gen --seed N [--summary]\n",
+        fault: USAGE_LINE,
         text: "",
     },
 ];

@@ -1,5 +1,6 @@
 //! Documents in their canonical form.
 use crate::row::Row;
+use crate::usage::USAGE_LINE;
 
 /// Documents with what the word `format` writes of them.
 pub const FORMATS: [Row; 5] = [
@@ -41,14 +42,14 @@ pub const FORMATS: [Row; 5] = [
         name: "A document at fault, not formatted",
         words: "format",
         document: "siena 1\nsemantics subscription\nservers 2\n",
-        fault: "siena: line 4: apart\n",
+        fault: "siena: line 4: apart: the edges of this tree don't join all servers\n",
         text: "",
     },
     Row {
         name: "A format with a further word",
         words: "format --sorted",
         document: "siena 1\nsemantics subscription\nservers 1\n",
-        fault: "siena: usage: walk, run or replay [--sorted] [--trace]; flood; check; format; gen --seed N [--summary]\n",
+        fault: USAGE_LINE,
         text: "",
     },
 ];

@@ -12,6 +12,9 @@ const SCRIPT: &[u8] = b"client a 1\nscript a\n";
 /// A publication on a line of 64 bytes.
 const LONG: &[u8] = b"publish x str \"aaaaaaaaaaaaaaaaaaaaaaaaaaaaaaaaaaaaaaaaaaaaaaaa\"\n";
 
+/// A publication on a short line.
+const SHORT: &[u8] = b"publish x int 1\n";
+
 /// A withdrawal.
 const WITHDRAWAL: &[u8] = b"unsubscribe x int any\n";
 
@@ -27,6 +30,16 @@ fn padded(alloc: Global, bytes: usize) -> Result<Vec<u8>, Failure> {
     let mut document = HEAD.to_vec(alloc)?;
     document.extend_from_slice(SCRIPT)?;
     document.resize(bytes, b'\n')?;
+    Ok(document)
+}
+
+/// A client whose script is so often this line.
+fn repeated(alloc: Global, line: &[u8], times: u32) -> Result<Vec<u8>, Failure> {
+    let mut document = HEAD.to_vec(alloc)?;
+    document.extend_from_slice(SCRIPT)?;
+    for _ in 0..times {
+        document.extend_from_slice(line)?;
+    }
     Ok(document)
 }
 
@@ -76,7 +89,13 @@ pub fn print_large(rt: &impl Print, alloc: Global) -> Result<(), Failure> {
     let came = outcome(alloc, "walk", &padded(alloc, 4_194_304)?)?;
     print_verdict(rt, "4194304 bytes", &came, b"", b"client a\n")?;
     let came = outcome(alloc, "walk", &padded(alloc, 4_194_305)?)?;
-    print_verdict(rt, "one byte more", &came, b"siena: line 0: toolong\n", b"")?;
+    print_verdict(
+        rt,
+        "one byte more",
+        &came,
+        b"siena: line 0: toolong: the document has more than 4194304 bytes, or what is audited more than 268435456\n",
+        b"",
+    )?;
     let came = outcome(alloc, "check", &with_deliveries(alloc, 4096)?)?;
     print_verdict(
         rt,
@@ -90,7 +109,7 @@ pub fn print_large(rt: &impl Print, alloc: Global) -> Result<(), Failure> {
         rt,
         "one more",
         &came,
-        b"siena: line 5125: muchnotice\n",
+        b"siena: line 5125: muchnotice: bytes of publish lines * clients is more than 268435456\n",
         b"",
     )?;
     let came = outcome(alloc, "check", &with_withdrawals(alloc, 1263)?)?;
@@ -106,7 +125,23 @@ pub fn print_large(rt: &impl Print, alloc: Global) -> Result<(), Failure> {
         rt,
         "one more",
         &came,
-        b"siena: line 1332: muchcontrol\n",
+        b"siena: line 1332: muchcontrol: (1 + unsubscribe and unadvertise commands) * bytes of control lines * servers is more than 2147483648\n",
+        b"",
+    )?;
+    let came = outcome(alloc, "check", &repeated(alloc, WITHDRAWAL, 4097)?)?;
+    print_verdict(
+        rt,
+        "4097 withdrawals",
+        &came,
+        b"siena: line 4102: commands: more than 4096 commands of subscriptions and advertisements\n",
+        b"",
+    )?;
+    let came = outcome(alloc, "check", &repeated(alloc, SHORT, 100_001)?)?;
+    print_verdict(
+        rt,
+        "100001 publications",
+        &came,
+        b"siena: line 100006: publications: more than 100000 publish commands\n",
         b"",
     )?;
     println!(rt;

@@ -9,10 +9,12 @@ mod faults;
 mod formats;
 mod generated;
 mod large;
+mod pages;
 mod patterns;
 mod replays;
 mod row;
 mod runs;
+mod traffic;
 mod tried;
 mod usage;
 
@@ -28,7 +30,9 @@ fn main(rt: HostRuntime) -> Result<(), Failure> {
     tried::print_rows(&rt, alloc, &audits::AUDITS)?;
     audits::print_changed(&rt, alloc)?;
     tried::print_rows(&rt, alloc, &formats::FORMATS)?;
+    tried::print_rows(&rt, alloc, &traffic::TRAFFIC)?;
     tried::print_rows(&rt, alloc, &usage::USAGE)?;
+    pages::print_pages(&rt, alloc)?;
     devices::print_devices(&rt, alloc)?;
     large::print_large(&rt, alloc)?;
     generated::print_generated(&rt, alloc)

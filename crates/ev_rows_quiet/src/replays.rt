@@ -37,7 +37,7 @@ pub const REPLAYS: [Row; 5] = [
         name: "A turn that isn't permitted",
         words: "replay",
         document: "siena 1\nsemantics subscription\nservers 2\nedge 1 2\nschedule\ntake 2 1\n",
-        fault: "siena: line 6: badturn\n",
+        fault: "siena: line 6: badturn: this turn is not permitted when it comes\n",
         text: "",
     },
     Row {
@@ -47,7 +47,7 @@ pub const REPLAYS: [Row; 5] = [
             script a\nsubscribe x int any\nbarrier\nunsubscribe x int any\nscript b\nsubscribe x int > 5\n\
             script p\nbarrier\npublish x int 9\nschedule\ncommand a\ncommand b\nversion 1\ntake 2 1\nversion 2\n\
             take 3 2\nversion 3\ntake 3 2\n",
-        fault: "siena: line 26: badturn\n",
+        fault: "siena: line 26: badturn: this turn is not permitted when it comes\n",
         text: "",
     },
 ];

@@ -1,14 +1,19 @@
 //! Words that ask for nothing.
 use crate::row::Row;
 
-/// Words over a document that is good.
-pub const USAGE: [Row; 12] = [
+/// The line that names the words.
+pub const USAGE_LINE: &str =
+    "siena: usage: walk, run or replay [--sorted] [--trace]; flood; traffic [--dot]; patterns; audit; check; format; \
+    gen --seed N [--summary]; help; version\n";
+
+/// Words over a document that is good, or over none.
+pub const USAGE: [Row; 14] = [
     Row {
         name: "An option twice",
         words: "walk --sorted --sorted",
         document: "siena 1\nsemantics subscription\nservers 1\nclient c1 1\nclient c2 1\nscript c1\n\
             subscribe x int = 7\nbarrier\nscript c2\nbarrier\npublish x int 7\npublish x int 5\n",
-        fault: "siena: usage: walk, run or replay [--sorted] [--trace]; flood; check; format; gen --seed N [--summary]\n",
+        fault: USAGE_LINE,
         text: "",
     },
     Row {
@@ -16,7 +21,7 @@ pub const USAGE: [Row; 12] = [
         words: "fly",
         document: "siena 1\nsemantics subscription\nservers 1\nclient c1 1\nclient c2 1\nscript c1\n\
             subscribe x int = 7\nbarrier\nscript c2\nbarrier\npublish x int 7\npublish x int 5\n",
-        fault: "siena: usage: walk, run or replay [--sorted] [--trace]; flood; check; format; gen --seed N [--summary]\n",
+        fault: USAGE_LINE,
         text: "",
     },
     Row {
@@ -24,7 +29,7 @@ pub const USAGE: [Row; 12] = [
         words: "gen",
         document: "siena 1\nsemantics subscription\nservers 1\nclient c1 1\nclient c2 1\nscript c1\n\
             subscribe x int = 7\nbarrier\nscript c2\nbarrier\npublish x int 7\npublish x int 5\n",
-        fault: "siena: usage: walk, run or replay [--sorted] [--trace]; flood; check; format; gen --seed N [--summary]\n",
+        fault: USAGE_LINE,
         text: "",
     },
     Row {
@@ -32,7 +37,7 @@ pub const USAGE: [Row; 12] = [
         words: "gen --seed x",
         document: "siena 1\nsemantics subscription\nservers 1\nclient c1 1\nclient c2 1\nscript c1\n\
             subscribe x int = 7\nbarrier\nscript c2\nbarrier\npublish x int 7\npublish x int 5\n",
-        fault: "siena: usage: walk, run or replay [--sorted] [--trace]; flood; check; format; gen --seed N [--summary]\n",
+        fault: USAGE_LINE,
         text: "",
     },
     Row {
@@ -40,7 +45,7 @@ pub const USAGE: [Row; 12] = [
         words: "",
         document: "siena 1\nsemantics subscription\nservers 1\nclient c1 1\nclient c2 1\nscript c1\n\
             subscribe x int = 7\nbarrier\nscript c2\nbarrier\npublish x int 7\npublish x int 5\n",
-        fault: "siena: usage: walk, run or replay [--sorted] [--trace]; flood; check; format; gen --seed N [--summary]\n",
+        fault: USAGE_LINE,
         text: "",
     },
     Row {
@@ -48,7 +53,7 @@ pub const USAGE: [Row; 12] = [
         words: "flood --sorted",
         document: "siena 1\nsemantics subscription\nservers 1\nclient c1 1\nclient c2 1\nscript c1\n\
             subscribe x int = 7\nbarrier\nscript c2\nbarrier\npublish x int 7\npublish x int 5\n",
-        fault: "siena: usage: walk, run or replay [--sorted] [--trace]; flood; check; format; gen --seed N [--summary]\n",
+        fault: USAGE_LINE,
         text: "",
     },
     Row {
@@ -56,7 +61,7 @@ pub const USAGE: [Row; 12] = [
         words: "gen --seed 18446744073709551616",
         document: "siena 1\nsemantics subscription\nservers 1\nclient c1 1\nclient c2 1\nscript c1\n\
             subscribe x int = 7\nbarrier\nscript c2\nbarrier\npublish x int 7\npublish x int 5\n",
-        fault: "siena: usage: walk, run or replay [--sorted] [--trace]; flood; check; format; gen --seed N [--summary]\n",
+        fault: USAGE_LINE,
         text: "",
     },
     Row {
@@ -64,7 +69,7 @@ pub const USAGE: [Row; 12] = [
         words: "gen --seed 000000000000000000001",
         document: "siena 1\nsemantics subscription\nservers 1\nclient c1 1\nclient c2 1\nscript c1\n\
             subscribe x int = 7\nbarrier\nscript c2\nbarrier\npublish x int 7\npublish x int 5\n",
-        fault: "siena: usage: walk, run or replay [--sorted] [--trace]; flood; check; format; gen --seed N [--summary]\n",
+        fault: USAGE_LINE,
         text: "",
     },
     Row {
@@ -72,7 +77,7 @@ pub const USAGE: [Row; 12] = [
         words: "gen --seed 1 --seed=1",
         document: "siena 1\nsemantics subscription\nservers 1\nclient c1 1\nclient c2 1\nscript c1\n\
             subscribe x int = 7\nbarrier\nscript c2\nbarrier\npublish x int 7\npublish x int 5\n",
-        fault: "siena: usage: walk, run or replay [--sorted] [--trace]; flood; check; format; gen --seed N [--summary]\n",
+        fault: USAGE_LINE,
         text: "",
     },
     Row {
@@ -80,7 +85,7 @@ pub const USAGE: [Row; 12] = [
         words: "gen --summary --seed 1 --summary",
         document: "siena 1\nsemantics subscription\nservers 1\nclient c1 1\nclient c2 1\nscript c1\n\
             subscribe x int = 7\nbarrier\nscript c2\nbarrier\npublish x int 7\npublish x int 5\n",
-        fault: "siena: usage: walk, run or replay [--sorted] [--trace]; flood; check; format; gen --seed N [--summary]\n",
+        fault: USAGE_LINE,
         text: "",
     },
     Row {
@@ -88,15 +93,28 @@ pub const USAGE: [Row; 12] = [
         words: "gen --seed --summary",
         document: "siena 1\nsemantics subscription\nservers 1\nclient c1 1\nclient c2 1\nscript c1\n\
             subscribe x int = 7\nbarrier\nscript c2\nbarrier\npublish x int 7\npublish x int 5\n",
-        fault: "siena: usage: walk, run or replay [--sorted] [--trace]; flood; check; format; gen --seed N [--summary]\n",
+        fault: USAGE_LINE,
         text: "",
     },
     Row {
-        name: "Help",
-        words: "--help",
-        document: "siena 1\nsemantics subscription\nservers 1\nclient c1 1\nclient c2 1\nscript c1\n\
-            subscribe x int = 7\nbarrier\nscript c2\nbarrier\npublish x int 7\npublish x int 5\n",
-        fault: "siena: usage: walk, run or replay [--sorted] [--trace]; flood; check; format; gen --seed N [--summary]\n",
+        name: "Help with a further word",
+        words: "--help walk",
+        document: "",
+        fault: USAGE_LINE,
+        text: "",
+    },
+    Row {
+        name: "A version with an option",
+        words: "version --sorted",
+        document: "",
+        fault: USAGE_LINE,
+        text: "",
+    },
+    Row {
+        name: "A help that is not spelled so",
+        words: "-h",
+        document: "",
+        fault: USAGE_LINE,
         text: "",
     },
 ];

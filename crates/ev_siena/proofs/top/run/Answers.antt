@@ -1,15 +1,10 @@
-use Rattle.std.proofs.Common.{Err, sym, ap, ◌∙◌}
-use Rattle.ev_quiet.proofs.Ended.{no-refusal}
-use Rattle.ev_quiet.proofs.Statuses.{is-bad, refused-status}
+use Rattle.std.proofs.Common.{sym, subst}
+use Rattle.ev_quiet.specs.Answering.{IsAnswer}
+use Rattle.ev_quiet.proofs.Answering.{document-answer}
+use Rattle.ev_siena.specs.Wishes.{query_of, with_threads}
 use Rattle.ev_siena.proofs.top.run.Goals as goal
 
-pub returns-in-Ok-clause-refused : goal.returns-in-Ok-clause-refused
-returns-in-Ok-clause-refused g c = λ line kind t. absurd (no-refusal c.in-Ok.printed line kind (c.in-Ok.ensures.refused line kind t))
-
-pub returns-in-Err-clause-bad_input : goal.returns-in-Err-clause-bad_input
-returns-in-Err-clause-bad_input g c = λ line kind e.
-    c.in-Err.ensures.bad line kind (ap Err (is-bad c.in-Err.refusal line kind (sym (c.ended.ensures.status ∙ c.status.ensures) ∙ e)))
-
-pub returns-in-Err-clause-refused : goal.returns-in-Err-clause-refused
-returns-in-Err-clause-refused g c = λ line kind t.
-    refused-status c.in-Err.refusal c.ended.result.status line kind (c.ended.ensures.status ∙ c.status.ensures) (c.in-Err.ensures.refused line kind t)
+pub returns-clause-answers : goal.returns-clause-answers
+returns-clause-answers g c =
+    subst (λ z. IsAnswer (with_threads c.args.shown) (g.S.Source.given c.args.source.now) (g.S.Source.given c.of_source.new.source) (g.S.Source.ended c.of_source.new.source) z) (sym c.widened.ensures)
+    (document-answer (query_of c.args.shown) _ _ _ c.of_source.result c.of_source.ensures.printed c.of_source.ensures.bad c.of_source.ensures.refused c.of_source.ensures.done)

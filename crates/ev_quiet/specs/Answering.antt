@@ -1,0 +1,71 @@
+-- How the code answers, before anything is written; no promise to a caller speaks of it.
+use Rattle.std.specs.Prelude.{◌⊎◌, ℕ, Bool, List, Result, Ok, Err}
+use Rattle.std.specs.Result.{IsOk, IsErrOf}
+use Rattle.ev_input.specs.declared.fault.Fault.{Fault}
+use Rattle.ev_watch.specs.declared.fault.PatternKind.{PatternKind}
+use Rattle.ev_watch.specs.declared.fault.PatternFault.{PatternFault}
+use Rattle.ev_watch.specs.declared.fault.PatternFault.TheVariants as faults
+use Rattle.ev_audited.specs.declared.fault.AuditKind.{AuditKind}
+use Rattle.ev_quiet.specs.declared.audits.Unaudited.{Unaudited}
+use Rattle.ev_quiet.specs.declared.audits.Unaudited.TheVariants as audits
+use Rattle.ev_quiet.specs.declared.refusal.Refusal.{Refusal}
+use Rattle.ev_quiet.specs.declared.refusal.Refusal.TheVariants as refusals
+use Rattle.ev_quiet.specs.declared.unanswered.Unanswered.{Unanswered}
+use Rattle.ev_quiet.specs.declared.unanswered.Unanswered.TheVariants as whys
+use Rattle.ev_quiet.specs.declared.status.Status.{Status}
+use Rattle.ev_quiet.specs.declared.status.Status.TheVariants as statuses
+use Rattle.ev_quiet.specs.declared.words.Wanted.{Wanted}
+use Rattle.ev_quiet.specs.Answers.{IsPrintedBy, HasFaultFor, GaveRefusedFor, GaveBadPatternFor, GaveRefutedFor, GaveWrongFor, CanAnswerFor}
+use Rattle.ev_quiet.specs.Showing.{PrintedParts}
+
+-- the status that tells it
+abbrev pub status_of : Unanswered → Status
+status_of (whys.BadInput line kind) = statuses.BadInput line kind
+status_of (whys.BadPattern line kind) = statuses.BadPattern line kind
+status_of (whys.Refuted line kind) = statuses.Refuted line kind
+status_of whys.ReadFault = statuses.ReadFault
+status_of whys.NoMemory = statuses.NoMemory
+
+-- of a document that is refused, or could not be read
+abbrev pub of_refusal : Refusal → Unanswered
+of_refusal (refusals.BadInput line kind) = whys.BadInput line kind
+of_refusal refusals.ReadFault = whys.ReadFault
+of_refusal refusals.NoMemory = whys.NoMemory
+
+-- of patterns that are refused
+abbrev pub of_pattern_fault : PatternFault → Unanswered
+of_pattern_fault (faults.Document line kind) = whys.BadInput line kind
+of_pattern_fault (faults.Bad line kind) = whys.BadPattern line kind
+of_pattern_fault faults.NoMemory = whys.NoMemory
+
+-- of what is not confirmed
+abbrev pub of_unaudited : Unaudited → Unanswered
+of_unaudited (audits.BadInput line kind) = whys.BadInput line kind
+of_unaudited (audits.Refuted line kind) = whys.Refuted line kind
+of_unaudited audits.ReadFault = whys.ReadFault
+of_unaudited audits.NoMemory = whys.NoMemory
+
+-- the answer about a document, among all answers
+abbrev pub widened : {T : Type 0} → Result T Refusal → Result T Unanswered
+widened (Ok p) = Ok p
+widened (Err refusal) = Err (of_refusal refusal)
+
+-- what an answer says of what the source gave
+abbrev pub Says : Wanted → List ℕ → List ℕ → Bool → Result PrintedParts Unanswered → Type 0
+Says wanted given now ended (Ok p) = IsPrintedBy wanted given now ended p.text p.journal
+Says wanted given now ended (Err (whys.BadInput line kind)) = HasFaultFor wanted given now ended line kind
+Says wanted given now ended (Err (whys.BadPattern line kind)) = GaveBadPatternFor wanted given now ended line kind
+Says wanted given now ended (Err (whys.Refuted line kind)) = GaveRefutedFor wanted given now ended line kind
+Says wanted given now ended (Err whys.ReadFault) = Unit {0}
+Says wanted given now ended (Err whys.NoMemory) = Unit {0}
+
+-- it says so, and what must be refused, and what can be done, has its answer, want of memory aside
+pub record IsAnswer (wanted : Wanted) (given now : List ℕ) (ended : Bool) (answer : Result PrintedParts Unanswered) : Type 0 where
+  pub says : Says wanted given now ended answer
+  pub refused : (line : ℕ) (kind : Fault) → GaveRefusedFor wanted given now ended line kind
+      → IsErrOf answer (whys.BadInput line kind) ⊎ IsErrOf answer whys.NoMemory
+  pub refused_pattern : (line : ℕ) (kind : PatternKind) → GaveBadPatternFor wanted given now ended line kind
+      → IsErrOf answer (whys.BadPattern line kind) ⊎ IsErrOf answer whys.NoMemory
+  pub wrong : (line : ℕ) (kind : AuditKind) → GaveWrongFor wanted given now ended line kind
+      → IsErrOf answer (whys.Refuted line kind) ⊎ IsErrOf answer whys.NoMemory
+  pub done : CanAnswerFor wanted given now ended → IsOk answer ⊎ IsErrOf answer whys.NoMemory

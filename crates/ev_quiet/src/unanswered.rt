@@ -1,0 +1,103 @@
+//! Why nothing is written, whatever is wanted.
+ghost use Rattle.std.specs.Prelude.{◌≡◌};
+ghost use Rattle.ev_quiet.specs.Answering.{of_pattern_fault, of_refusal, of_unaudited, status_of, widened};
+
+use crate::audits::Unaudited;
+use crate::printed::Printed;
+use crate::refusal::Refusal;
+use crate::status::Status;
+use ev_audited::AuditKind;
+use ev_input::Fault;
+use ev_watch::{PatternFault, PatternKind};
+
+/// Why nothing is written.
+#[derive(Clone, Copy, Debug, PartialEq, Eq)]
+pub enum Unanswered {
+    /// The document is refused, or a turn of its schedule isn't permitted; or the input is too long.
+    BadInput {
+        /// The line.
+        line: u32,
+        /// Its fault.
+        kind: Fault,
+    },
+    /// A line behind the line `patterns` is at fault.
+    BadPattern {
+        /// The line.
+        line: u32,
+        /// Its fault.
+        kind: PatternKind,
+    },
+    /// The output that is audited is not that of a whole run.
+    Refuted {
+        /// The first line at which that shows.
+        line: u32,
+        /// What shows there.
+        kind: AuditKind,
+    },
+    /// The input could not be read.
+    ReadFault,
+    /// Memory ran out.
+    NoMemory,
+}
+
+impl Unanswered {
+    /// The status that tells it.
+    pub fn status(self) -> Status
+        ensures { result ≡ status_of self }
+    {
+        match self {
+            Unanswered::BadInput { line, kind } => Status::BadInput { line, kind },
+            Unanswered::BadPattern { line, kind } => Status::BadPattern { line, kind },
+            Unanswered::Refuted { line, kind } => Status::Refuted { line, kind },
+            Unanswered::ReadFault => Status::ReadFault,
+            Unanswered::NoMemory => Status::NoMemory,
+        }
+    }
+}
+
+impl From<Refusal> for Unanswered {
+    ghost from_gives = { λ refusal e. e ≡ of_refusal refusal };
+
+    fn from(refusal: Refusal) -> Self {
+        match refusal {
+            Refusal::BadInput { line, kind } => Unanswered::BadInput { line, kind },
+            Refusal::ReadFault => Unanswered::ReadFault,
+            Refusal::NoMemory => Unanswered::NoMemory,
+        }
+    }
+}
+
+impl From<PatternFault> for Unanswered {
+    ghost from_gives = { λ fault e. e ≡ of_pattern_fault fault };
+
+    fn from(fault: PatternFault) -> Self {
+        match fault {
+            PatternFault::Document { line, kind } => Unanswered::BadInput { line, kind },
+            PatternFault::Bad { line, kind } => Unanswered::BadPattern { line, kind },
+            PatternFault::NoMemory => Unanswered::NoMemory,
+        }
+    }
+}
+
+impl From<Unaudited> for Unanswered {
+    ghost from_gives = { λ why e. e ≡ of_unaudited why };
+
+    fn from(why: Unaudited) -> Self {
+        match why {
+            Unaudited::BadInput { line, kind } => Unanswered::BadInput { line, kind },
+            Unaudited::Refuted { line, kind } => Unanswered::Refuted { line, kind },
+            Unaudited::ReadFault => Unanswered::ReadFault,
+            Unaudited::NoMemory => Unanswered::NoMemory,
+        }
+    }
+}
+
+/// An answer about a document, among all answers.
+pub fn widened(answer: Result<Printed, Refusal>) -> Result<Printed, Unanswered>
+    ensures { result ≡ widened answer }
+{
+    match answer {
+        Ok(printed) => Ok(printed),
+        Err(refusal) => Err(Unanswered::from(refusal)),
+    }
+}

@@ -1,0 +1,17 @@
+pub mod Cells
+pub mod Edges
+pub mod Away
+pub mod Refusing
+pub mod Clients
+pub mod Chain
+pub mod Same
+pub mod Entries
+pub mod Ordinals
+pub mod Sizes
+pub mod Carrying
+pub mod Saved
+pub mod Way
+pub mod Owed
+pub mod Equal
+pub mod Telling
+pub mod Tallies

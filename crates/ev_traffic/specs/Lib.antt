@@ -1,0 +1,11 @@
+pub mod Counts
+pub mod Carried
+pub mod Flood
+pub mod Going
+pub mod Runs
+pub mod Tallied
+pub mod Links
+pub mod Text
+pub mod Printed
+pub mod Told
+pub mod Laws

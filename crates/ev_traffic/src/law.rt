@@ -1,0 +1,21 @@
+//! What the traffic of every legal run keeps.
+ghost use Rattle.std.specs.Prelude.{◌≡◌, List};
+ghost use Rattle.ev_phases.specs.AtMoments.{EndsDrained};
+ghost use Rattle.ev_phases.specs.Runs.{PhasedRun};
+ghost use Rattle.ev_theory.specs.Real.{real};
+ghost use Rattle.ev_wire.specs.declared.sent.Sent.{Sent};
+ghost use Rattle.ev_model.specs.Nets.{phased_net};
+ghost use Rattle.ev_model.specs.Parts.{EntryParts, NetParts};
+ghost use Rattle.ev_model.specs.Sound.{IsSound};
+ghost use Rattle.ev_traffic.specs.Told.{IsTold};
+ghost use Rattle.ev_traffic.specs.Laws.{AsManyWhereOwed, NeverMore};
+
+/// In a legal run of a sound net no link carries more notifications than plain flooding would put on it; and where the run is
+/// drained, it carries as many wherever each accepted publication that flooding sends over the link is owed to some client
+/// beyond it, as where every client takes everything.
+pub fn beside_flooding()
+    ensures never_more { (net : NetParts) → IsSound net → (run : PhasedRun real) → run.net ≡ phased_net net
+        → (journal : List EntryParts) (outs : List (List Sent)) → IsTold run journal outs → NeverMore net journal outs }
+    ensures as_many { (net : NetParts) → IsSound net → (run : PhasedRun real) → run.net ≡ phased_net net → EndsDrained real run
+        → (journal : List EntryParts) (outs : List (List Sent)) → IsTold run journal outs → AsManyWhereOwed net journal outs }
+{}

@@ -1,0 +1,17 @@
+//! Parts of lines, on their way to a sink. No call takes memory.
+ghost use Rattle.std.specs.Prelude.{◌≡◌};
+ghost use Rattle.ev_outside.specs.Pending.{outlet, Went};
+ghost use Rattle.ev_decimal.specs.Text.{labelled};
+
+use ev_outside::{Pending, Sink};
+use itoa::Buffer;
+
+/// A label with a number behind it.
+pub(crate) fn put_labelled<K: Sink>(out: &mut Pending, sink: &mut K, label: &[u8], number: u64)
+    ensures { Went (outlet (K.taken sink.old) (K.faults sink.old) out.old) (outlet (K.taken sink.new) (K.faults sink.new) out.new)
+        (labelled label.now number) }
+{
+    out.put(sink, label);
+    let mut buffer = Buffer::new();
+    out.put(sink, buffer.format(number).as_bytes())
+}
