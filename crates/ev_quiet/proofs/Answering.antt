@@ -2,8 +2,6 @@
 use Rattle.std.proofs.Common.{◌⊎◌, inl, inr, ℕ, Bool, List, Result, Ok, Err, refl, ap}
 use Rattle.std.specs.Result.{IfOk, IsOk, IsErrOf}
 use Rattle.ev_input.specs.declared.fault.Fault.{Fault}
-use Rattle.ev_quiet.specs.declared.audits.Unaudited.{Unaudited}
-use Rattle.ev_quiet.specs.declared.audits.Unaudited.TheVariants as audits
 use Rattle.ev_quiet.specs.declared.refusal.Refusal.{Refusal}
 use Rattle.ev_quiet.specs.declared.refusal.Refusal.TheVariants as refusals
 use Rattle.ev_quiet.specs.declared.unanswered.Unanswered.{Unanswered}
@@ -11,7 +9,7 @@ use Rattle.ev_quiet.specs.declared.unanswered.Unanswered.TheVariants as whys
 use Rattle.ev_quiet.specs.declared.words.Query.{Query}
 use Rattle.ev_quiet.specs.declared.words.Wanted.TheVariants.{Audit, Document, Patterns}
 use Rattle.ev_quiet.specs.Answers.{IsPrintedBy, HasFaultFor, GaveRefusedFor, CanAnswerFor}
-use Rattle.ev_quiet.specs.Answering.{IsAnswer, Says, of_unaudited, widened}
+use Rattle.ev_quiet.specs.Answering.{IsAnswer, Says, widened}
 use Rattle.ev_quiet.specs.Auditing.{AuditsSource}
 use Rattle.ev_quiet.specs.Searching.{SearchesSource}
 use Rattle.ev_quiet.specs.Showing.{PrintedParts}
@@ -70,35 +68,19 @@ pattern-answer a b ended r h = record {
 
 -- Answers to audits.
 
-abbrev pub claimed : Result PrintedParts Unaudited → Result PrintedParts Unanswered
-claimed (Ok p) = Ok p
-claimed (Err why) = Err (of_unaudited why)
+audit-says : (a b : List ℕ) (ended : Bool) (r : Result PrintedParts Unanswered) → AuditsSource a b ended r → Says Audit a b ended r
+audit-says a b ended (Ok p) h = h
+audit-says a b ended (Err (whys.BadInput line kind)) h = h
+audit-says a b ended (Err (whys.BadPattern line kind)) h = absurd h
+audit-says a b ended (Err (whys.Refuted line kind)) h = h
+audit-says a b ended (Err whys.ReadFault) h = tt
+audit-says a b ended (Err whys.NoMemory) h = tt
 
-claim-says : (a b : List ℕ) (ended : Bool) (r : Result PrintedParts Unaudited) → AuditsSource a b ended r → Says Audit a b ended (claimed r)
-claim-says a b ended (Ok p) h = h
-claim-says a b ended (Err (audits.BadInput line kind)) h = h
-claim-says a b ended (Err (audits.Refuted line kind)) h = h
-claim-says a b ended (Err audits.ReadFault) h = tt
-claim-says a b ended (Err audits.NoMemory) h = tt
-
-is-ok-claimed : (r : Result PrintedParts Unaudited) → IsOk r → IsOk (claimed r)
-is-ok-claimed (Ok p) e = refl
-is-ok-claimed (Err why) e = absurd cc
-
-pub claim-answer : (a b : List ℕ) (ended : Bool) (r : Result PrintedParts Unaudited) → AuditsSource a b ended r → IsAnswer Audit a b ended (claimed r)
+pub claim-answer : (a b : List ℕ) (ended : Bool) (r : Result PrintedParts Unanswered) → AuditsSource a b ended r → IsAnswer Audit a b ended r
 claim-answer a b ended r h = record {
-  says = claim-says a b ended r h;
-  refused = λ line kind t. elim (audit-refused a b ended r line kind h t) [
-    | inl e ↦ inl (ap claimed e)
-    | inr e ↦ inr (ap claimed e)
-  ];
+  says = audit-says a b ended r h;
+  refused = λ line kind t. audit-refused a b ended r line kind h t;
   refused_pattern = λ line kind t. absurd t;
-  wrong = λ line kind t. elim (audit-wrong a b ended r line kind h t) [
-    | inl e ↦ inl (ap claimed e)
-    | inr e ↦ inr (ap claimed e)
-  ];
-  done = λ t. elim (audit-done a b ended r h t) [
-    | inl e ↦ inl (is-ok-claimed r e)
-    | inr e ↦ inr (ap claimed e)
-  ];
+  wrong = λ line kind t. audit-wrong a b ended r line kind h t;
+  done = λ t. audit-done a b ended r h t;
 }

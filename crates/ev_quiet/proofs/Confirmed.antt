@@ -13,8 +13,8 @@ use Rattle.ev_audited.specs.declared.fault.AuditFault.{AuditFault}
 use Rattle.ev_audited.specs.declared.fault.AuditFault.TheVariants as faults
 use Rattle.ev_audited.specs.declared.fault.AuditKind.{AuditKind}
 use Rattle.ev_audited.proofs.Verdicts.{audited_or_bad, audited_or_must, can_or_bad, can_or_refuted, must_or_bad, refuted_once, refuted_or_bad}
-use Rattle.ev_quiet.specs.declared.audits.Unaudited.{Unaudited}
-use Rattle.ev_quiet.specs.declared.audits.Unaudited.TheVariants as whys
+use Rattle.ev_quiet.specs.declared.unanswered.Unanswered.{Unanswered}
+use Rattle.ev_quiet.specs.declared.unanswered.Unanswered.TheVariants as whys
 use Rattle.ev_quiet.specs.declared.refusal.Refusal.{Refusal}
 use Rattle.ev_quiet.specs.declared.refusal.Refusal.TheVariants as refusals
 use Rattle.ev_quiet.specs.declared.words.Wanted.TheVariants.{Audit}
@@ -24,7 +24,8 @@ use Rattle.ev_quiet.specs.Network.{lists_by, RunPromise, IsWholeRun}
 use Rattle.ev_quiet.specs.Audits.{IsAuditOf, IsAuditAtFault, IsAuditRefuted, MustRefute, CanConfirm, audit_text, traced}
 use Rattle.ev_quiet.specs.Answers.{GaveOutput, GaveRefusedFor, GaveWrongFor, CanAnswerFor}
 use Rattle.ev_quiet.specs.Showing.{PrintedParts}
-use Rattle.ev_quiet.specs.Auditing.{AuditsInput, AuditsSource, why_not, why_unread}
+use Rattle.ev_quiet.specs.Answering.{of_audit_fault, of_refusal}
+use Rattle.ev_quiet.specs.Auditing.{AuditsInput, AuditsSource}
 use Rattle.ev_quiet.proofs.Sources.{same-given}
 
 -- what is printed of a confirmed run
@@ -79,45 +80,49 @@ module _ (a b : List ℕ) (ended : Bool) where
   unread x (is, inl e) h = h.0 e
   unread x (is, inr big) h = omega (arith, big, subst (λ (z : List ℕ). length z ≤ 268435456) (same h.1.0 x h.1.1 is) h.1.2)
 
-  pub audit-refused : (r : Result PrintedParts Unaudited) (line : ℕ) (kind : Fault) → AuditsSource a b ended r → GaveRefusedFor Audit a b ended line kind
+  pub audit-refused : (r : Result PrintedParts Unanswered) (line : ℕ) (kind : Fault) → AuditsSource a b ended r → GaveRefusedFor Audit a b ended line kind
       → (r ≡ Err (whys.BadInput line kind)) ⊎ (r ≡ Err whys.NoMemory)
   audit-refused (Ok p) line kind h t = absurd (said-refused t.0 p.text p.journal line kind (subst (λ z. IsAuditOf z p.text p.journal) (same h.0 t.0 h.1 t.1.0) h.3) t.2)
   audit-refused (Err (whys.BadInput l k)) line kind h t =
       let w = one-refused t.0 l line k kind (subst (λ z. IsAuditAtFault z l k) (same h.0 t.0 h.1.0 t.1.0) h.2) t.2 in
       inl (rw (w.0, w.1) refl)
+  audit-refused (Err (whys.BadPattern l k)) line kind h t = absurd h
   audit-refused (Err (whys.Refuted l k)) line kind h t = absurd (refused-refuted t.0 line l kind k t.2 (subst (λ z. IsAuditRefuted z l k) (same h.0 t.0 h.1.0 t.1.0) h.2))
   audit-refused (Err whys.ReadFault) line kind h t = absurd (unread t.0 t.1 h)
   audit-refused (Err whys.NoMemory) line kind h t = inr refl
 
-  pub audit-wrong : (r : Result PrintedParts Unaudited) (line : ℕ) (kind : AuditKind) → AuditsSource a b ended r → GaveWrongFor Audit a b ended line kind
+  pub audit-wrong : (r : Result PrintedParts Unanswered) (line : ℕ) (kind : AuditKind) → AuditsSource a b ended r → GaveWrongFor Audit a b ended line kind
       → (r ≡ Err (whys.Refuted line kind)) ⊎ (r ≡ Err whys.NoMemory)
   audit-wrong (Ok p) line kind h t =
       let is : IsAuditOf t.0 p.text p.journal = subst (λ z. IsAuditOf z p.text p.journal) (same h.0 t.0 h.1 t.1.0) h.3 in
       absurd (audited_or_must t.0 is.net p.journal is.owed is.deliveries line kind is.audited t.2.1)
   audit-wrong (Err (whys.BadInput l k)) line kind h t = absurd (refused-wrong t.0 l line k kind (subst (λ z. IsAuditAtFault z l k) (same h.0 t.0 h.1.0 t.1.0) h.2) t.2)
+  audit-wrong (Err (whys.BadPattern l k)) line kind h t = absurd h
   audit-wrong (Err (whys.Refuted l k)) line kind h t =
       let w = refuted_once t.0 l line k kind (subst (λ z. IsAuditRefuted z l k) (same h.0 t.0 h.1.0 t.1.0) h.2).1 t.2.1 in
       inl (rw (w.0, w.1) refl)
   audit-wrong (Err whys.ReadFault) line kind h t = absurd (unread t.0 t.1 h)
   audit-wrong (Err whys.NoMemory) line kind h t = inr refl
 
-  pub audit-done : (r : Result PrintedParts Unaudited) → AuditsSource a b ended r → CanAnswerFor Audit a b ended → IsOk r ⊎ (r ≡ Err whys.NoMemory)
+  pub audit-done : (r : Result PrintedParts Unanswered) → AuditsSource a b ended r → CanAnswerFor Audit a b ended → IsOk r ⊎ (r ≡ Err whys.NoMemory)
   audit-done (Ok p) h t = inl refl
   audit-done (Err (whys.BadInput l k)) h t = absurd (has-refused t.0 l k t.2 (subst (λ z. IsAuditAtFault z l k) (same h.0 t.0 h.1.0 t.1.0) h.2))
+  audit-done (Err (whys.BadPattern l k)) h t = absurd h
   audit-done (Err (whys.Refuted l k)) h t = absurd (can_or_refuted t.0 l k t.2.1 (subst (λ z. IsAuditRefuted z l k) (same h.0 t.0 h.1.0 t.1.0) h.2).1)
   audit-done (Err whys.ReadFault) h t = absurd (unread t.0 t.1 h)
   audit-done (Err whys.NoMemory) h t = inr refl
 
-  pub audit-answer : (input : List ℕ) (r : Result PrintedParts Unaudited) → b ≡ a ++ input → ended ≡ true → AuditsInput input r → AuditsSource a b ended r
+  pub audit-answer : (input : List ℕ) (r : Result PrintedParts Unanswered) → b ≡ a ++ input → ended ≡ true → AuditsInput input r → AuditsSource a b ended r
   audit-answer input (Ok p) is e h = (input, is, e, h)
   audit-answer input (Err (whys.BadInput l k)) is e h = (input, (is, inl e), h)
+  audit-answer input (Err (whys.BadPattern l k)) is e h = absurd h
   audit-answer input (Err (whys.Refuted l k)) is e h = (input, (is, inl e), h)
   audit-answer input (Err whys.ReadFault) is e h = absurd h
   audit-answer input (Err whys.NoMemory) is e h = tt
 
   pub unread-audit : (e : Refusal)
       → ((l : ℕ) (k : Fault) → e ≡ refusals.BadInput l k → (l ≡ 0) × (k ≡ TooLong) × Gave a b (λ given. length given ≡ 268435457))
-      → (e ≡ refusals.ReadFault → Gave a b (λ given. length given ≤ 268435456)) → (ended ≡ true → ⊥) → AuditsSource a b ended (Err (why_unread e))
+      → (e ≡ refusals.ReadFault → Gave a b (λ given. length given ≤ 268435456)) → (ended ≡ true → ⊥) → AuditsSource a b ended (Err (of_refusal e))
   unread-audit (refusals.BadInput l k) long within never =
       let t = long l k refl in
       let big : 268435456 < length t.2.0 = omega (arith, t.2.2) in
@@ -127,7 +132,7 @@ module _ (a b : List ℕ) (ended : Bool) where
 
 -- what is not confirmed
 pub not-confirmed : (input : List ℕ) → length input ≤ 268435456 → (fault : AuditFault) → ((line : ℕ) (kind : Fault) → fault ≡ faults.Document line kind → IsBadDocument input line kind)
-    → ((line : ℕ) (kind : AuditKind) → fault ≡ faults.Refuted line kind → IsRefuted input line kind) → AuditsInput input (Err (why_not fault))
+    → ((line : ℕ) (kind : AuditKind) → fault ≡ faults.Refuted line kind → IsRefuted input line kind) → AuditsInput input (Err (of_audit_fault fault))
 not-confirmed input few (faults.Document line kind) bad refuted = inr (few, bad line kind refl)
 not-confirmed input few (faults.Refuted line kind) bad refuted = (few, refuted line kind refl)
 not-confirmed input few faults.NoMemory bad refuted = tt

@@ -6,8 +6,8 @@ use Rattle.ev_watch.specs.declared.fault.PatternKind.{PatternKind}
 use Rattle.ev_watch.specs.declared.fault.PatternFault.{PatternFault}
 use Rattle.ev_watch.specs.declared.fault.PatternFault.TheVariants as faults
 use Rattle.ev_audited.specs.declared.fault.AuditKind.{AuditKind}
-use Rattle.ev_quiet.specs.declared.audits.Unaudited.{Unaudited}
-use Rattle.ev_quiet.specs.declared.audits.Unaudited.TheVariants as audits
+use Rattle.ev_audited.specs.declared.fault.AuditFault.{AuditFault}
+use Rattle.ev_audited.specs.declared.fault.AuditFault.TheVariants as audits
 use Rattle.ev_quiet.specs.declared.refusal.Refusal.{Refusal}
 use Rattle.ev_quiet.specs.declared.refusal.Refusal.TheVariants as refusals
 use Rattle.ev_quiet.specs.declared.unanswered.Unanswered.{Unanswered}
@@ -39,11 +39,10 @@ of_pattern_fault (faults.Bad line kind) = whys.BadPattern line kind
 of_pattern_fault faults.NoMemory = whys.NoMemory
 
 -- of what is not confirmed
-abbrev pub of_unaudited : Unaudited → Unanswered
-of_unaudited (audits.BadInput line kind) = whys.BadInput line kind
-of_unaudited (audits.Refuted line kind) = whys.Refuted line kind
-of_unaudited audits.ReadFault = whys.ReadFault
-of_unaudited audits.NoMemory = whys.NoMemory
+abbrev pub of_audit_fault : AuditFault → Unanswered
+of_audit_fault (audits.Document line kind) = whys.BadInput line kind
+of_audit_fault (audits.Refuted line kind) = whys.Refuted line kind
+of_audit_fault audits.NoMemory = whys.NoMemory
 
 -- the answer about a document, among all answers
 abbrev pub widened : {T : Type 0} → Result T Refusal → Result T Unanswered

@@ -55,21 +55,6 @@ fn of_query<S: Source>(alloc: Global, query: Query, source: &mut S) -> Result<Pr
     widened(of_source(alloc, query, source))
 }
 
-// Whether an output is that of a whole run, among all answers.
-fn of_claim<S: Source>(alloc: Global, source: &mut S) -> Result<Printed, Unanswered>
-    ensures answers { IsAnswer Wanted.Audit (S.given source.old) (S.given source.new) (S.ended source.new) result }
-    ensures sure { OnOk result (S.faults source.new ≡ S.faults source.old) }
-    ensures failed { IsErrOf result Unanswered.ReadFault → Rose (S.faults source.old) (S.faults source.new) }
-    ensures at_most { Gave (S.given source.old) (S.given source.new) (λ given. length given ≤ 268435457) }
-    ensures told { (given : List ℕ) → S.given source.new ≡ S.given source.old ++ given → Consumes (S.left source.old) (S.left source.new) given }
-    ensures end { S.ended source.new ≡ true → IsAtEnd (S.left source.new) }
-{
-    match of_audit(alloc, source) {
-        Ok(printed) => Ok(printed),
-        Err(why) => Err(Unanswered::from(why)),
-    }
-}
-
 // What needs no source.
 fn unasked(printed: Result<Printed, NoMemory>) -> Result<Printed, Unanswered>
     ensures answers { (wanted : Wanted) (given : List ℕ) (ended : Bool) → reads_document wanted ≡ false
@@ -102,7 +87,7 @@ pub fn answer<S: Source>(
         Wanted::Document(query) => of_query(alloc, query, source),
         Wanted::Generate { seed, summary } => unasked(of_seed(alloc, seed, summary)),
         Wanted::Patterns => of_patterns(alloc, source),
-        Wanted::Audit => of_claim(alloc, source),
+        Wanted::Audit => of_audit(alloc, source),
         Wanted::About(page) => unasked(of_page(alloc, page)),
     }
 }

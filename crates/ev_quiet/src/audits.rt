@@ -1,5 +1,5 @@
 //! Whether the output of an input is that of a whole run.
-ghost use Rattle.std.specs.Prelude.{◌≡◌, ◌≤◌, ◌⊎◌, ◌++◌, ℕ, List, true, length, IfOk, OnOk, IsOk, IsErrOf};
+ghost use Rattle.std.specs.Prelude.{◌≡◌, ◌≤◌, ◌++◌, ℕ, List, true, length, IfOk, OnOk, IsErrOf};
 ghost use Rattle.std.specs.Io.KnownBytes.{Consumes, IsAtEnd};
 ghost use Rattle.ev_outside.specs.Cause.{Rose};
 ghost use Rattle.ev_model.specs.Parts.{EntryParts};
@@ -8,85 +8,24 @@ ghost use Rattle.ev_outside.specs.Whole.{Gave};
 ghost use Rattle.ev_quiet.specs.declared.words.Schedule.{Schedule};
 ghost use Rattle.ev_quiet.specs.Headline.{Headline};
 ghost use Rattle.ev_quiet.specs.Audits.{CanConfirm, audit_text, traced};
-ghost use Rattle.ev_quiet.specs.Answers.{GaveRefusedFor, GaveWrongFor, CanAnswerFor};
-ghost use Rattle.ev_quiet.specs.Auditing.{AuditsInput, AuditsSource, audit_status, why_not, why_unread};
+ghost use Rattle.ev_quiet.specs.declared.words.Wanted.{Wanted};
+ghost use Rattle.ev_quiet.specs.Answering.{IsAnswer};
+ghost use Rattle.ev_quiet.specs.Auditing.{AuditsInput};
 
 use crate::body::Body;
 use crate::law::promise;
 use crate::notices::settle;
 use crate::printed::Printed;
 use crate::reading::all_bytes;
-use crate::refusal::Refusal;
-use crate::status::Status;
-use crate::words::Wanted;
-use ev_audited::{AuditFault, AuditKind, Audited, audit};
+use crate::unanswered::Unanswered;
+use ev_audited::{Audited, audit};
 use ev_decimal::push_number;
-use ev_input::Fault;
 use ev_input::law::net_is_sound;
 use ev_memory::NoMemory;
 use ev_outside::Source;
 use std::alloc::Global;
 
-/// Why nothing is written of an audit.
-#[derive(Clone, Copy, Debug, PartialEq, Eq)]
-pub enum Unaudited {
-    /// The input is too long, or its document part is refused.
-    BadInput {
-        /// The line.
-        line: u32,
-        /// Its fault.
-        kind: Fault,
-    },
-    /// Its output is not that of a whole run.
-    Refuted {
-        /// The first line at which that shows.
-        line: u32,
-        /// What shows there.
-        kind: AuditKind,
-    },
-    /// The input could not be read.
-    ReadFault,
-    /// Memory ran out.
-    NoMemory,
-}
-
-impl Unaudited {
-    /// The status that tells it.
-    pub fn status(self) -> Status
-        ensures { result ≡ audit_status self }
-    {
-        match self {
-            Unaudited::BadInput { line, kind } => Status::BadInput { line, kind },
-            Unaudited::Refuted { line, kind } => Status::Refuted { line, kind },
-            Unaudited::ReadFault => Status::ReadFault,
-            Unaudited::NoMemory => Status::NoMemory,
-        }
-    }
-}
-
 const MOST_BYTES: usize = 268_435_456;
-
-// Of what was not read.
-fn unread(refusal: Refusal) -> Unaudited
-    ensures { result ≡ why_unread refusal }
-{
-    match refusal {
-        Refusal::BadInput { line, kind } => Unaudited::BadInput { line, kind },
-        Refusal::ReadFault => Unaudited::ReadFault,
-        Refusal::NoMemory => Unaudited::NoMemory,
-    }
-}
-
-// Of what is not confirmed.
-fn not_confirmed(fault: AuditFault) -> Unaudited
-    ensures { result ≡ why_not fault }
-{
-    match fault {
-        AuditFault::Document { line, kind } => Unaudited::BadInput { line, kind },
-        AuditFault::Refuted { line, kind } => Unaudited::Refuted { line, kind },
-        AuditFault::NoMemory => Unaudited::NoMemory,
-    }
-}
 
 // How much a confirmed run has, as a text.
 fn counts_text(alloc: Global, entries: u64, owed: u64, deliveries: u64) -> Result<Vec<u8>, NoMemory>
@@ -119,7 +58,7 @@ fn confirmed(alloc: Global, audited: Audited) -> Result<Printed, NoMemory>
 }
 
 // The answer to an input of at most 268,435,456 bytes.
-fn of_input(alloc: Global, bytes: &[u8]) -> Result<Printed, Unaudited>
+fn of_input(alloc: Global, bytes: &[u8]) -> Result<Printed, Unanswered>
     requires { length bytes.now ≤ 268435456 }
     ensures { AuditsInput bytes.now result }
 {
@@ -127,35 +66,27 @@ fn of_input(alloc: Global, bytes: &[u8]) -> Result<Printed, Unaudited>
     net_is_sound();
     let audited = match audit(alloc, bytes) {
         Ok(audited) => audited,
-        Err(fault) => return Err(not_confirmed(fault)),
+        Err(fault) => return Err(Unanswered::from(fault)),
     };
     settle(&audited.net);
     match confirmed(alloc, audited) {
         Ok(printed) => Ok(printed),
-        Err(NoMemory) => Err(Unaudited::NoMemory),
+        Err(NoMemory) => Err(Unanswered::NoMemory),
     }
 }
 
 /// Whether the output is that of a whole run, by the input that the source gives, or why nothing is written.
-pub fn of_audit<S: Source>(alloc: Global, source: &mut S) -> Result<Printed, Unaudited>
-    ensures audited { AuditsSource (S.given source.old) (S.given source.new) (S.ended source.new) result }
+pub fn of_audit<S: Source>(alloc: Global, source: &mut S) -> Result<Printed, Unanswered>
+    ensures answers { IsAnswer Wanted.Audit (S.given source.old) (S.given source.new) (S.ended source.new) result }
     ensures sure { OnOk result (S.faults source.new ≡ S.faults source.old) }
-    ensures failed { IsErrOf result Unaudited.ReadFault → Rose (S.faults source.old) (S.faults source.new) }
-    ensures refused { (line : ℕ) (kind : Fault)
-        → GaveRefusedFor Wanted.Audit (S.given source.old) (S.given source.new) (S.ended source.new) line kind
-        → IsErrOf result (Unaudited.BadInput line kind) ⊎ IsErrOf result Unaudited.NoMemory }
-    ensures wrong { (line : ℕ) (kind : AuditKind)
-        → GaveWrongFor Wanted.Audit (S.given source.old) (S.given source.new) (S.ended source.new) line kind
-        → IsErrOf result (Unaudited.Refuted line kind) ⊎ IsErrOf result Unaudited.NoMemory }
-    ensures done { CanAnswerFor Wanted.Audit (S.given source.old) (S.given source.new) (S.ended source.new)
-        → IsOk result ⊎ IsErrOf result Unaudited.NoMemory }
+    ensures failed { IsErrOf result Unanswered.ReadFault → Rose (S.faults source.old) (S.faults source.new) }
     ensures at_most { Gave (S.given source.old) (S.given source.new) (λ given. length given ≤ 268435457) }
     ensures told { (given : List ℕ) → S.given source.new ≡ S.given source.old ++ given → Consumes (S.left source.old) (S.left source.new) given }
     ensures end { S.ended source.new ≡ true → IsAtEnd (S.left source.new) }
 {
     let bytes = match all_bytes(alloc, source, MOST_BYTES) {
         Ok(bytes) => bytes,
-        Err(refusal) => return Err(unread(refusal)),
+        Err(refusal) => return Err(Unanswered::from(refusal)),
     };
     of_input(alloc, &bytes)
 }

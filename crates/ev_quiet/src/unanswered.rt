@@ -1,12 +1,11 @@
 //! Why nothing is written, whatever is wanted.
 ghost use Rattle.std.specs.Prelude.{◌≡◌};
-ghost use Rattle.ev_quiet.specs.Answering.{of_pattern_fault, of_refusal, of_unaudited, status_of, widened};
+ghost use Rattle.ev_quiet.specs.Answering.{of_audit_fault, of_pattern_fault, of_refusal, status_of, widened};
 
-use crate::audits::Unaudited;
 use crate::printed::Printed;
 use crate::refusal::Refusal;
 use crate::status::Status;
-use ev_audited::AuditKind;
+use ev_audited::{AuditFault, AuditKind};
 use ev_input::Fault;
 use ev_watch::{PatternFault, PatternKind};
 
@@ -79,15 +78,14 @@ impl From<PatternFault> for Unanswered {
     }
 }
 
-impl From<Unaudited> for Unanswered {
-    ghost from_gives = { λ why e. e ≡ of_unaudited why };
+impl From<AuditFault> for Unanswered {
+    ghost from_gives = { λ fault e. e ≡ of_audit_fault fault };
 
-    fn from(why: Unaudited) -> Self {
-        match why {
-            Unaudited::BadInput { line, kind } => Unanswered::BadInput { line, kind },
-            Unaudited::Refuted { line, kind } => Unanswered::Refuted { line, kind },
-            Unaudited::ReadFault => Unanswered::ReadFault,
-            Unaudited::NoMemory => Unanswered::NoMemory,
+    fn from(fault: AuditFault) -> Self {
+        match fault {
+            AuditFault::Document { line, kind } => Unanswered::BadInput { line, kind },
+            AuditFault::Refuted { line, kind } => Unanswered::Refuted { line, kind },
+            AuditFault::NoMemory => Unanswered::NoMemory,
         }
     }
 }

@@ -7,7 +7,7 @@ use Rattle.ev_quiet.proofs.audits.of_input.Goals as goal
 
 pub returns-in-Err : goal.returns-in-Err
 returns-in-Err c =
-    subst (λ z. AuditsInput c.args.bytes.now (Err z)) (sym c.not_confirmed.ensures)
+    subst (λ z. AuditsInput c.args.bytes.now (Err z)) (sym c.from.ensures)
     (not-confirmed c.args.bytes.now c.requires c.in-Err.fault (λ line kind e. c.in-Err.ensures.document line kind (ap Err e)) (λ line kind e. c.in-Err.ensures.refuted line kind (ap Err e)))
 
 pub returns-in-Ok-confirmed : goal.returns-in-Ok-confirmed

@@ -1,6 +1,4 @@
-use Rattle.std.proofs.Common.{◌≡◌, ◌++◌, ◌∷◌, [], List, ℕ, length, get_or, ap, subst, ◌∙◌}
-use Rattle.ev_wire.specs.declared.sent.Sent.{Sent}
-use Rattle.ev_model.specs.Parts.{EntryParts}
+use Rattle.std.proofs.Common.{◌≡◌, ◌++◌, ◌∷◌, [], get_or, ap, subst, ◌∙◌}
 use Rattle.ev_net.specs.Retold.{turn_of_entry}
 use Rattle.ev_net.specs.Turns.{IsTurn}
 use Rattle.ev_traffic.specs.Tallied.{Carries}

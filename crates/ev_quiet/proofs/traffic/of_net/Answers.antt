@@ -1,4 +1,4 @@
-use Rattle.std.proofs.Common.{◌≡◌, refl, subst, ◌∙◌}
+use Rattle.std.proofs.Common.{refl, subst, ◌∙◌}
 use Rattle.ev_net.specs.Told.{told_by}
 use Rattle.ev_traffic.specs.Tallied.{Carries}
 use Rattle.ev_quiet.specs.Network.{run_of}
