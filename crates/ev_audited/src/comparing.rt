@@ -1,5 +1,5 @@
 //! A text compared with what is claimed, as it is written.
-ghost use Rattle.std.specs.Prelude.{◌≡◌, ◌≤◌, List, ℕ, false, drop, length, IfSome};
+ghost use Rattle.std.specs.Prelude.{◌≡◌, ◌≤◌, List, ℕ, true, false, drop, length, IfSome};
 ghost use Rattle.ev_audit.specs.Difference.{difference};
 ghost use Rattle.ev_audited.specs.Comparing.{Follows, GoesOn, IsComparedTo, comparing};
 
@@ -59,7 +59,9 @@ impl<'a> Comparing<'a> {
     pub fn follow(&mut self, part: &Comparing<'_>, from: usize) -> bool
         requires part { part.now.claimed ≡ drop from self.old.claimed }
         requires within { from ≤ length self.old.claimed }
-        ensures { (piece : List ℕ) → IsComparedTo part.now piece → Follows result self.old self.new piece }
+        ensures went { (piece : List ℕ) → IsComparedTo part.now piece → Follows result self.old self.new piece }
+        ensures apart { self.old.apart ≡ true → result ≡ true }
+        ensures there { self.old.at ≡ from → result ≡ true }
     {
         if self.apart {
             return true;

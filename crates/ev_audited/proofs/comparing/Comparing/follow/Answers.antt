@@ -3,8 +3,8 @@ use Rattle.ev_audited.specs.Comparing.{ComparingParts, IsComparedTo, comparing}
 use Rattle.ev_audited.proofs.Pieces.{follows_at}
 use Rattle.ev_audited.proofs.comparing.Comparing.follow.Goals as goal
 
-pub returns : goal.returns
-returns c = λ piece h.
+pub returns-clause-went : goal.returns-clause-went
+returns-clause-went c = λ piece h.
     follows_at c.args.self.now c.self.inside.claimed.now c.self.inside.at (comparing c.part.inside.claimed.now c.part.inside.at c.part.inside.apart) piece
     (ap (comparing c.self.inside.claimed.now c.self.inside.at) (sym c.if-self.false) ∙ c.self.view_is)
     (ap (λ (z : ComparingParts). z.claimed) c.part.view_is
