@@ -2,6 +2,7 @@
 use Rattle.std.specs.Prelude.{◌≡◌, length}
 use Rattle.ev_order.specs.Order.{picked}
 use Rattle.ev_wire.specs.MessageText.{IsId}
+use Rattle.ev_wire.specs.declared.semantics.Semantics.TheVariants.{Advertisement}
 use Rattle.ev_routing.specs.Server.{Message, Subs, Advs, Noticed}
 use Rattle.ev_theory.specs.Real.{real}
 use Rattle.ev_model.specs.Parts.{NetParts}
@@ -17,8 +18,10 @@ meaning net (loads.Publication p) = Noticed p.id.publisher p.id.ordinal p.notice
 meaning net (loads.Filters change) = Subs (picked (known_filters net.clients) change.withdrawn) (picked (known_filters net.clients) change.added)
 meaning net (loads.Adverts change) = Advs (picked (known_adverts net.clients) change.withdrawn) (picked (known_adverts net.clients) change.added)
 
--- the numbers of what is carried are those of the net; a publication has the numbers of the filters that it matches
+-- the numbers of what is carried are those of the net; a publication has the numbers of the filters that it matches, and advertisements are sent
+-- under advertisement semantics alone
 abbrev pub IsLoad : NetParts → Load → Type 0
-IsLoad net (loads.Publication p) = IsId p.id × (p.matched ≡ record { width = length (known_filters net.clients); members = matched p.notice (known_filters net.clients) })
+IsLoad net (loads.Publication p) =
+    IsId p.id × (p.matched ≡ record { width = length (known_filters net.clients); members = matched p.notice (known_filters net.clients) })
 IsLoad net (loads.Filters change) = IsChange (length (known_filters net.clients)) change
-IsLoad net (loads.Adverts change) = IsChange (length (known_adverts net.clients)) change
+IsLoad net (loads.Adverts change) = (net.semantics ≡ Advertisement) × IsChange (length (known_adverts net.clients)) change

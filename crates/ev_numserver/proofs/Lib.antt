@@ -1,0 +1,16 @@
+pub mod Sessions
+pub mod Going
+pub mod Stamps
+pub mod Steps
+pub mod Made
+pub mod Commands
+pub mod Emptied
+pub mod Sieving
+pub mod Telling
+pub mod Sendings
+pub mod Shown
+pub mod Turned
+pub mod Changed
+pub mod Plans
+pub mod Keeping
+pub mod Starting

@@ -1,0 +1,28 @@
+use Rattle.std.proofs.Common.{◌≡◌, [], take, length, sym, ap, subst, ◌∙◌}
+use Rattle.ev_numcontrol.specs.Control.{Controlled as Numbered}
+use Rattle.ev_numserver.specs.Keeps.{IsLedger}
+use Rattle.ev_numserver.specs.Showing.{shown}
+use Rattle.ev_numserver.proofs.Changed.{first-kept, first-shown, none-held}
+use Rattle.ev_numserver.proofs.ledger.Ledger.new.Goals as goal
+
+pub invariant_of-result : goal.invariant_of-result
+invariant_of-result c =
+    let e = c.in_ok-control.ensures in
+    let control = c.in_ok-control.control in
+    let links : c.in_ok-links.links.items ≡ take c.args.links c.args.interfaces.now = c.in_ok-links.ensures.items_if_clones_equal (λ x y h. h) in
+    let same : length control.adverts.told ≡ length control.filters.told =
+    subst (λ (z : Numbered). length z.adverts.told ≡ length z.filters.told) c.control.view_is c.control.invariant.links in
+    subst (λ (z : Numbered). IsLedger c.args.tables.now c.in_ok-links.links.items control z c.new-2.result.items) (sym c.of-published.ensures)
+    (subst (IsLedger c.args.tables.now c.in_ok-links.links.items control control) (sym c.new-2.ensures.items)
+    (first-kept c.args.tables.now c.in_ok-links.links.items control (links ∙ sym (ap (λ n. take n control.filters.interfaces) e.links ∙ ap (take c.args.links) e.filter_interfaces)) (e.semantics ∙ c.semantics.ensures)
+    (e.filter_items ∙ c.filters.ensures) (e.advert_items ∙ c.adverts.ensures) (e.advert_interfaces ∙ sym e.filter_interfaces) same))
+
+pub returns-clause-control : goal.returns-clause-control
+returns-clause-control c =
+    let e = c.in_ok-control.ensures in
+    first-shown c.in_ok-control.control c.args.tables.now.semantics c.args.interfaces.now c.args.links (e.semantics ∙ c.semantics.ensures) e.filter_interfaces e.links e.filters e.adverts
+
+pub returns-clause-published : goal.returns-clause-published
+returns-clause-published c =
+    let e = c.in_ok-control.ensures in
+    subst (λ (z : Numbered). (shown z).filters ≡ []) (sym c.of-published.ensures) (none-held c.in_ok-control.control.filters.interfaces c.in_ok-control.control.filters.holdings e.filters)

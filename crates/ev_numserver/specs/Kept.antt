@@ -1,0 +1,29 @@
+-- What the code keeps of a core.
+use Rattle.std.specs.Prelude.{◌≡◌, ℕ, true, ◌<◌, ◌≤◌, ◌^◌, nat_lt, List}
+use Rattle.std.specs.Int.{IsInRange}
+use Rattle.ev_sets.specs.Sets.{Has, IsRising}
+use Rattle.ev_routing.specs.Server.{client_interface}
+use Rattle.ev_control.specs.Control.{subs, advs, by_adverts}
+use Rattle.ev_model.specs.Parts.{NetParts}
+use Rattle.ev_session.specs.Session.{SessionParts}
+use Rattle.ev_session.specs.Turn.{filter_set_at, advert_set_at}
+use Rattle.ev_numserver.specs.Core.{CoreParts}
+
+-- the clock is a stamp, links rise up to 64, sessions are of the server's semantics and their clients' numbers in range, and what is held from
+-- a client are its own lists
+pub record IsCore (core : CoreParts) : Type 0 where
+  pub clock_low : core.clock < 2 ^ 62
+  pub links_rise : IsRising nat_lt core.control.links
+  pub links_small : (link : ℕ) → Has link core.control.links → link ≤ 64
+  pub one_semantics : (s : SessionParts) → Has s core.clients → s.semantics ≡ core.control.semantics
+  pub ids : (s : SessionParts) → Has s core.clients → IsInRange 1 1024 s.client
+  pub own_filters : (s : SessionParts) → Has s core.clients → subs core.control (client_interface s.client) ≡ filter_set_at s s.taken
+  pub own_adverts : (s : SessionParts) → Has s core.clients → by_adverts core.control.semantics ≡ true
+      → advs core.control (client_interface s.client) ≡ advert_set_at s s.taken
+
+-- beside it, the sessions are of the ledger's net, and all links and all clients are among the interfaces
+pub record IsKept (interfaces : List ℕ) (net : NetParts) (core : CoreParts) : Type 0 where
+  pub kept : IsCore core
+  pub of_net : net ≡ core.net
+  pub linked : (link : ℕ) → Has link core.control.links → Has link interfaces
+  pub reached : (s : SessionParts) → Has s core.clients → Has (client_interface s.client) interfaces

@@ -1,0 +1,12 @@
+pub mod Core
+pub mod Step
+pub mod Staged
+pub mod Ledger
+pub mod Acting
+pub mod Routed
+pub mod Clients
+pub mod Kept
+pub mod Showing
+pub mod Due
+pub mod Keeps
+pub mod Start

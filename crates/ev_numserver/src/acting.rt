@@ -1,0 +1,75 @@
+//! What a message, or a client's planned change, does at a server: the one body of its step.
+ghost use Rattle.std.specs.Prelude.{◌≡◌, true, map, IfOk, OnErr};
+ghost use Rattle.ev_sets.specs.Sets.{Has};
+ghost use Rattle.ev_message.specs.Message.{IsLoad, meaning};
+ghost use Rattle.ev_numserver.specs.Clients.{bare, StayPlanned};
+ghost use Rattle.ev_numserver.specs.Acting.{IsRouted, HasActed, HasChanged, IsChangeIn};
+
+use crate::clients::Clients;
+use crate::ledger::Ledger;
+use crate::spreading::spread;
+use ev_memory::NoMemory;
+use ev_message::{Load, Sending};
+use ev_numsession::Planned;
+use ev_wire::Semantics;
+use std::alloc::Global;
+
+/// What a message does that came from an interface with this load. A publication goes by its route. The answer is the messages that become due, by link.
+pub(crate) fn act<'a>(
+    alloc: Global,
+    ledger: &mut Ledger<'a>,
+    clients: &mut Clients<'a>,
+    from: u32,
+    load: &Load,
+    route: &[u32],
+) -> Result<Vec<Sending<'a>>, NoMemory>
+    requires from { Has from ledger.old.interfaces }
+    requires load { IsLoad ledger.old.net load.now }
+    requires routed { IsRouted (meaning ledger.old.net load.now) route.now }
+    ensures acted { IfOk result (λ sent. HasActed from (meaning ledger.old.net load.now) route.now ledger.old ledger.new
+        clients.old.sessions clients.new.sessions sent.items) }
+    ensures interfaces { ledger.new.interfaces ≡ ledger.old.interfaces }
+    ensures net { clients.new.net ≡ clients.old.net }
+    ensures planned { StayPlanned clients.old.sessions clients.new.sessions }
+    ensures ledger { OnErr result (ledger.new ≡ ledger.old) }
+    ensures clients { OnErr result (map bare clients.new.sessions ≡ map bare clients.old.sessions) }
+{
+    ledger.is_of_net();
+    match load {
+        Load::Filters(change) => ledger.set_filters(from, change.withdrawn(), change.added()),
+        Load::Adverts(change) => ledger.set_adverts(from, change.withdrawn(), change.added()),
+        Load::Publication(publication) => {
+            let tables = ledger.tables();
+            spread(
+                alloc,
+                tables,
+                ledger.links(),
+                clients,
+                from,
+                publication,
+                route,
+            )
+        }
+    }
+}
+
+/// What a planned change of a client does, which is no publish that is accepted.
+pub(crate) fn act_on<'a>(
+    alloc: Global,
+    ledger: &mut Ledger<'a>,
+    from: u32,
+    plan: &Planned,
+) -> Result<Vec<Sending<'a>>, NoMemory>
+    requires from { Has from ledger.old.interfaces }
+    requires change { IsChangeIn ledger.old.net plan.now }
+    ensures changed { IfOk result (λ sent. HasChanged from plan.now ledger.old ledger.new sent.items) }
+    ensures interfaces { ledger.new.interfaces ≡ ledger.old.interfaces }
+    ensures err { OnErr result (ledger.new ≡ ledger.old) }
+{
+    match (plan, ledger.semantics()) {
+        (Planned::Filters(moved), _) => ledger.move_filters(from, moved),
+        (Planned::Adverts(moved), Semantics::Advertisement) => ledger.move_adverts(from, moved),
+        (Planned::Publish { .. }, _) => unreachable!(),
+        _ => Ok(Vec::new(alloc)),
+    }
+}

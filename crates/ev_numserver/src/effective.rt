@@ -1,0 +1,51 @@
+//! Which numbers of a change make a difference.
+ghost use Rattle.std.specs.Prelude.{◌≡◌, ◌<◌, ◌↔◌, ℕ, length, IfOk};
+ghost use Rattle.ev_sets.specs.Sets.{Has};
+ghost use Rattle.ev_stock.specs.Stock.{held_from};
+ghost use Rattle.ev_numserver.specs.Due.{IsHeldAt};
+
+use ev_memory::NoMemory;
+use ev_pool::Cover;
+use ev_stock::Stock;
+use std::alloc::Global;
+
+/// Those of these numbers whose items are held from an interface.
+pub(crate) fn held_of<'a, T: Cover>(
+    alloc: Global,
+    stock: &Stock<'a, T>,
+    interface: u32,
+    numbers: &[u32],
+) -> Result<Vec<u32>, NoMemory>
+    requires { (i : ℕ) → Has i numbers.now → i < length stock.now.items }
+    ensures { IfOk result (λ list. (k : ℕ) → Has k list.items
+        ↔ (Has k numbers.now × IsHeldAt stock.now.items (held_from T.order interface stock.now.holdings) k)) }
+{
+    let mut list = Vec::new(alloc);
+    for i in numbers {
+        if stock.holds(interface, *i) {
+            list.push(*i)?;
+        }
+    }
+    Ok(list)
+}
+
+/// Those of these numbers whose items are not held from an interface.
+pub(crate) fn unheld_of<'a, T: Cover>(
+    alloc: Global,
+    stock: &Stock<'a, T>,
+    interface: u32,
+    numbers: &[u32],
+) -> Result<Vec<u32>, NoMemory>
+    requires { (i : ℕ) → Has i numbers.now → i < length stock.now.items }
+    ensures { IfOk result (λ list. (k : ℕ) → Has k list.items
+        ↔ (Has k numbers.now × (IsHeldAt stock.now.items (held_from T.order interface stock.now.holdings) k → ⊥))) }
+{
+    let mut list = Vec::new(alloc);
+    for i in numbers {
+        if stock.holds(interface, *i) {
+            continue;
+        }
+        list.push(*i)?;
+    }
+    Ok(list)
+}

@@ -1,0 +1,222 @@
+//! What a server holds from whom, what was published of it, and what changed since.
+ghost use Rattle.std.specs.Prelude.{◌≡◌, ◌<◌, ◌≤◌, ◌^◌, ℕ, nat_lt, true, [], length, take, IfOk, OnErr};
+ghost use Rattle.ev_sets.specs.Sets.{Has, IsRising};
+ghost use Rattle.ev_order.specs.Order.{picked};
+ghost use Rattle.ev_catalogue.specs.Known.{known_filters, known_adverts};
+ghost use Rattle.ev_control.specs.Control.{by_adverts, subs};
+ghost use Rattle.ev_control.specs.Holdings.{held_from};
+ghost use Rattle.ev_theory.specs.Real.{real};
+ghost use Rattle.ev_numserver.specs.Ledger.{FiltersSet, AdvertsSet};
+ghost use Rattle.ev_numserver.specs.Staged.{IsStaged};
+
+use crate::due::{advert_messages, filter_messages};
+use crate::effective::{held_of, unheld_of};
+use crate::staging::stage;
+use ev_forwarding::Change;
+use ev_memory::NoMemory;
+use ev_message::Sending;
+use ev_numcontrol::Control;
+use ev_tables::Tables;
+use ev_wire::Semantics;
+use std::alloc::Global;
+use std::marker::Model;
+use std::snapshot::Snapshot;
+
+/// What a server holds from whom, with what of it was published, as contracts alone see it, and the changes since.
+#[derive(Drop)]
+pub(crate) struct Ledger<'a> {
+    alloc: Global,
+    tables: &'a Tables<'a>,
+    links: Vec<u32>,
+    control: Control<'a>,
+    published: Snapshot<Control<'a>>,
+    staged: Vec<Change>,
+}
+
+impl<'a> Model for Ledger<'a> {
+    ghost use Rattle.ev_numserver.specs.Ledger.{LedgerParts};
+    ghost use Rattle.ev_numserver.specs.Showing.{shown};
+    ghost use Rattle.ev_numserver.specs.Keeps.{IsLedger};
+
+    ghost Value = { LedgerParts };
+
+    ghost view = { λ l. record {
+      net = l.tables.now;
+      interfaces = l.control.filters.interfaces;
+      control = shown l.control;
+      published = (shown l.published.value).filters;
+      staged = l.staged.items;
+    } };
+
+    ghost invariant = { λ l. IsLedger l.tables.now l.links.items l.control l.published.value l.staged.items };
+}
+
+impl<'a> Ledger<'a> {
+    /// Nothing is held from these interfaces, of which the first are links, and nothing is published. All memory of what can
+    /// be held is taken here.
+    pub(crate) fn new(
+        alloc: Global,
+        tables: &'a Tables<'a>,
+        interfaces: &[u32],
+        links: usize,
+    ) -> Result<Ledger<'a>, NoMemory>
+        requires rising { IsRising nat_lt interfaces.now }
+        requires few { length interfaces.now < 2 ^ 32 }
+        requires links { links ≤ length interfaces.now }
+        ensures net { IfOk result (λ ledger. ledger.net ≡ tables.now) }
+        ensures interfaces { IfOk result (λ ledger. ledger.interfaces ≡ interfaces.now) }
+        ensures control { IfOk result (λ ledger. ledger.control
+            ≡ record { semantics = tables.now.semantics; links = take links interfaces.now; filters = []; adverts = [] }) }
+        ensures published { IfOk result (λ ledger. ledger.published ≡ []) }
+        ensures staged { IfOk result (λ ledger. ledger.staged ≡ []) }
+    {
+        let control = Control::new(
+            alloc,
+            tables.semantics(),
+            tables.filters(),
+            tables.adverts(),
+            tables.overlaps(),
+            interfaces,
+            links as u32,
+        )?;
+        let links = interfaces[..links].to_vec(alloc)?;
+        let published = Snapshot::of(&control);
+        Ok(Ledger {
+            alloc,
+            tables,
+            links,
+            control,
+            published,
+            staged: Vec::new(alloc),
+        })
+    }
+
+    /// The tables of the run.
+    pub(crate) fn tables(&self) -> &'a Tables<'a>
+        ensures { result.now ≡ self.now.net }
+    {
+        self.tables
+    }
+
+    /// The links, rising.
+    pub(crate) fn links(&self) -> &[u32]
+        ensures { result.now ≡ self.now.control.links }
+    {
+        &self.links
+    }
+
+    /// Whether advertisements steer the filters.
+    pub(crate) fn semantics(&self) -> Semantics
+        ensures control { result ≡ self.now.control.semantics }
+        ensures net { result ≡ self.now.net.semantics }
+    {
+        let _ = &self.control;
+        self.tables.semantics()
+    }
+
+    /// Does nothing; its contract tells that what is held is under the net's semantics.
+    pub(crate) fn is_of_net(&self)
+        ensures { self.now.control.semantics ≡ self.now.net.semantics }
+    {
+        let _ = &self.control;
+    }
+
+    /// What changed since the last version.
+    pub(crate) fn staged(&self) -> &[Change]
+        ensures changes { result.now ≡ self.now.staged }
+        ensures staged { IsStaged (known_filters self.now.net.clients) self.now.interfaces (λ i. held_from real.before i self.now.published)
+            (subs self.now.control) self.now.staged }
+    {
+        &self.staged
+    }
+
+    /// An interface holds the filters with the first numbers no more and then those with the second ones too, which is
+    /// staged. The answer is the messages that this makes due, by link.
+    pub(crate) fn set_filters(
+        &mut self,
+        interface: u32,
+        out: &[u32],
+        add: &[u32],
+    ) -> Result<Vec<Sending<'a>>, NoMemory>
+        requires interface { Has interface self.old.interfaces }
+        requires out { (i : ℕ) → Has i out.now → i < length (known_filters self.old.net.clients) }
+        requires add { (i : ℕ) → Has i add.now → i < length (known_filters self.old.net.clients) }
+        requires apart { (i : ℕ) → Has i out.now → Has i add.now → ⊥ }
+        ensures set { IfOk result (λ sent. FiltersSet interface (picked (known_filters self.old.net.clients) out.now)
+            (picked (known_filters self.old.net.clients) add.now) self.old self.new sent.items) }
+        ensures interfaces { self.new.interfaces ≡ self.old.interfaces }
+        ensures err { OnErr result (self.new ≡ self.old) }
+    {
+        self.control.filters().is_known();
+        self.control.adverts().is_known();
+        let lost = held_of(self.alloc, self.control.filters(), interface, out)?;
+        let won = unheld_of(self.alloc, self.control.filters(), interface, add)?;
+        self.staged.reserve(lost.len() + won.len())?;
+        self.control.change_filters(interface, &lost, &won);
+        self.control.filters().is_known();
+        match filter_messages(self.alloc, self.tables, &self.links, self.control.filters()) {
+            Ok(sent) => {
+                stage(&mut self.staged, interface, &lost, &won);
+                Ok(sent)
+            }
+            Err(fault) => {
+                self.control.change_filters(interface, &won, &lost);
+                self.control.filters().is_known();
+                Err(fault)
+            }
+        }
+    }
+
+    /// An interface holds the advertisements with the first numbers no more and then those with the second ones too, under
+    /// advertisement semantics. The answer is the messages that this makes due, by link.
+    pub(crate) fn set_adverts(
+        &mut self,
+        interface: u32,
+        out: &[u32],
+        add: &[u32],
+    ) -> Result<Vec<Sending<'a>>, NoMemory>
+        requires interface { Has interface self.old.interfaces }
+        requires semantics { by_adverts self.old.control.semantics ≡ true }
+        requires out { (i : ℕ) → Has i out.now → i < length (known_adverts self.old.net.clients) }
+        requires add { (i : ℕ) → Has i add.now → i < length (known_adverts self.old.net.clients) }
+        requires apart { (i : ℕ) → Has i out.now → Has i add.now → ⊥ }
+        ensures set { IfOk result (λ sent. AdvertsSet interface (picked (known_adverts self.old.net.clients) out.now)
+            (picked (known_adverts self.old.net.clients) add.now) self.old self.new sent.items) }
+        ensures interfaces { self.new.interfaces ≡ self.old.interfaces }
+        ensures err { OnErr result (self.new ≡ self.old) }
+    {
+        self.control.filters().is_known();
+        self.control.adverts().is_known();
+        let lost = held_of(self.alloc, self.control.adverts(), interface, out)?;
+        let won = unheld_of(self.alloc, self.control.adverts(), interface, add)?;
+        self.control.change_adverts(interface, &lost, &won);
+        self.control.adverts().is_known();
+        match advert_messages(
+            self.alloc,
+            self.tables,
+            &self.links,
+            interface,
+            self.control.filters(),
+            self.control.adverts(),
+        ) {
+            Ok(sent) => Ok(sent),
+            Err(fault) => {
+                self.control.change_adverts(interface, &won, &lost);
+                self.control.adverts().is_known();
+                Err(fault)
+            }
+        }
+    }
+
+    /// All that is held is published. It takes no memory.
+    pub(crate) fn publish(&mut self)
+        ensures net { self.new.net ≡ self.old.net }
+        ensures interfaces { self.new.interfaces ≡ self.old.interfaces }
+        ensures control { self.new.control ≡ self.old.control }
+        ensures published { self.new.published ≡ self.old.control.filters }
+        ensures staged { self.new.staged ≡ [] }
+    {
+        self.published = Snapshot::of(&self.control);
+        self.staged.clear();
+    }
+}

@@ -1,0 +1,20 @@
+//! The core of a server by the numbers of a run: what it holds, its clients' sessions, its clock, and the one body of its step.
+//!
+//! Layer: server. What is held from whom stands in rows that are made before the first step; a message carries numbers, and a
+//! step compares no filters.
+#![tactic(auto)]
+
+mod acting;
+mod clients;
+mod due;
+mod effective;
+mod ledger;
+mod moving;
+mod server;
+mod spreading;
+mod staging;
+mod start;
+mod stepped;
+
+pub use server::Core;
+pub use stepped::{Step, StepFault};

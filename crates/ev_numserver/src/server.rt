@@ -1,0 +1,268 @@
+//! Cores of servers.
+ghost use Rattle.std.specs.Prelude.{◌≡◌, ◌<◌, ◌^◌, ◌↔◌, ◌+◌, ℕ, [], max, List, length, map, Some, slice_get, IfOk, OnErr, IsErrOf, IfSome, IfNone};
+ghost use Rattle.ev_sets.specs.Sets.{Has};
+ghost use Rattle.ev_notice.specs.Notice.{Attribute};
+ghost use Rattle.ev_run.specs.Machine.{Does, Takes};
+ghost use Rattle.ev_routing.specs.Step.{NextCommand, Version};
+ghost use Rattle.ev_wire.specs.declared.id.Id.{Id};
+ghost use Rattle.ev_catalogue.specs.Known.{known_filters, known_publications, PublicationParts};
+ghost use Rattle.ev_control.specs.Control.{subs};
+ghost use Rattle.ev_session.specs.declared.planned.Planned.TheVariants as plans;
+ghost use Rattle.ev_session.specs.Plan.{next_plan};
+ghost use Rattle.ev_session.specs.Session.{SessionParts};
+ghost use Rattle.ev_message.specs.Message.{IsLoad};
+ghost use Rattle.ev_numserver.specs.Clients.{bare, client_numbers};
+ghost use Rattle.ev_numserver.specs.Core.{core_parts, published_from, without_inbox};
+ghost use Rattle.ev_numserver.specs.Kept.{IsKept};
+ghost use Rattle.ev_numserver.specs.Step.{MakesStep, last_stamp};
+ghost use Rattle.ev_numserver.specs.Staged.{IsStaged};
+ghost use Rattle.ev_numserver.specs.Routed.{IsRoute, RoutesMessage};
+
+use crate::acting::{act, act_on};
+use crate::clients::Clients;
+use crate::ledger::Ledger;
+use crate::spreading::spread;
+use crate::stepped::{Step, StepFault};
+use ev_forwarding::Change;
+use ev_message::{Load, Message, Publication};
+use ev_numsession::Session;
+use ev_routing::LAST_LINK;
+use ev_tables::Tables;
+use ev_wire::Delivery;
+use std::alloc::Global;
+use std::marker::Model;
+
+/// The greatest stamp.
+const LAST_STAMP: u64 = (1 << 62) - 1;
+
+/// The core of a server in a run: what it holds from whom, its clients, and its clock.
+///
+/// Contracts see the net, the server, what is held, published and staged, the clients as their commands and deliveries make
+/// them, and the clock. After any fault it is as before.
+#[derive(Drop)]
+pub struct Core<'a> {
+    alloc: Global,
+    server: u32,
+    ledger: Ledger<'a>,
+    clients: Clients<'a>,
+    clock: u64,
+}
+
+impl<'a> Model for Core<'a> {
+    ghost use Rattle.std.specs.Prelude.{map};
+    ghost use Rattle.ev_numserver.specs.Clients.{bare};
+    ghost use Rattle.ev_numserver.specs.Core.{CoreParts, core_parts};
+    ghost use Rattle.ev_numserver.specs.Kept.{IsKept};
+
+    ghost Value = { CoreParts };
+
+    ghost view = { λ c. core_parts c.server c.ledger (map bare c.clients.sessions) c.clock };
+
+    ghost invariant = { λ c. IsKept c.ledger.interfaces c.clients.net (core_parts c.server c.ledger (map bare c.clients.sessions) c.clock) };
+}
+
+impl<'a> Core<'a> {
+    /// A core with the clock 0.
+    pub(crate) fn of(
+        alloc: Global,
+        server: u32,
+        ledger: Ledger<'a>,
+        clients: Clients<'a>,
+    ) -> Core<'a>
+        requires { IsKept ledger.interfaces clients.net (core_parts server ledger (map bare clients.sessions) 0) }
+        ensures { result ≡ core_parts server ledger.entry (map bare clients.entry.sessions) 0 }
+    {
+        Core {
+            alloc,
+            server,
+            ledger,
+            clients,
+            clock: 0,
+        }
+    }
+
+    /// The stamp of a step that takes a message with this stamp, or 0.
+    fn next_stamp(&self, taken: u64) -> Result<u64, StepFault>
+        requires { taken < 2 ^ 62 }
+        ensures ok { IfOk result (λ stamp. (stamp ≡ 1 + max self.now.clock taken) × (stamp < 2 ^ 62)) }
+        ensures exhausted { (s : ℕ) → IsErrOf result (StepFault.StampsExhausted s) ↔ ((max self.now.clock taken ≡ last_stamp) × (s ≡ last_stamp)) }
+        ensures memory { IsErrOf result StepFault.NoMemory → ⊥ }
+    {
+        let last = self.clock.max(taken);
+        if last == LAST_STAMP {
+            return Err(StepFault::StampsExhausted(last));
+        }
+        Ok(last + 1)
+    }
+
+    /// Takes the next command of a client that lives here and has one left, where that is no publish that is accepted.
+    /// Messages of a change go to the links where what is sent changed.
+    pub fn take_command(&mut self, client: u32) -> Result<Step<'a>, StepFault>
+        requires lives { Has client (client_numbers self.old.clients) }
+        requires left { (s : SessionParts) → Has s self.old.clients → s.client ≡ client → s.taken < length s.script }
+        requires silent { (s : SessionParts) (id : Id) (n : List Attribute) → Has s self.old.clients → s.client ≡ client
+            → next_plan s ≡ Some (plans.Publish id n) → ⊥ }
+        ensures step { IfOk result (λ s. MakesStep (Does (NextCommand client)) 0 self.old self.new s.stamp s.sent.items) }
+        ensures exhausted { (s : ℕ) → IsErrOf result (StepFault.StampsExhausted s) ↔ ((self.old.clock ≡ last_stamp) × (s ≡ last_stamp)) }
+        ensures err { OnErr result (self.new ≡ self.old) }
+    {
+        let stamp = match self.next_stamp(0) {
+            Ok(stamp) => stamp,
+            Err(fault) => return Err(fault),
+        };
+        self.clients.rise();
+        let plan = self.clients.plan(client)?;
+        let sent = act_on(self.alloc, &mut self.ledger, LAST_LINK + client, &plan)?;
+        self.clients.commit(client, &plan);
+        self.clock = stamp;
+        Ok(Step { stamp, sent })
+    }
+
+    /// Takes the next command of a client that lives here and has one left, a publish that is accepted: of this publication,
+    /// whose route is that of its notice by what was published.
+    pub fn take_publish(
+        &mut self,
+        client: u32,
+        publication: &Publication,
+        route: &[u32],
+    ) -> Result<Step<'a>, StepFault>
+        requires lives { Has client (client_numbers self.old.clients) }
+        requires left { (s : SessionParts) → Has s self.old.clients → s.client ≡ client → s.taken < length s.script }
+        requires publish { (s : SessionParts) → Has s self.old.clients → s.client ≡ client
+            → next_plan s ≡ Some (plans.Publish publication.now.id publication.now.notice) }
+        requires load { IsLoad self.old.net (Load.Publication publication.now) }
+        requires route { IsRoute publication.now.notice (published_from self.old) route.now }
+        ensures step { IfOk result (λ s. MakesStep (Does (NextCommand client)) 0 self.old self.new s.stamp s.sent.items) }
+        ensures exhausted { (s : ℕ) → IsErrOf result (StepFault.StampsExhausted s) ↔ ((self.old.clock ≡ last_stamp) × (s ≡ last_stamp)) }
+        ensures err { OnErr result (self.new ≡ self.old) }
+    {
+        let stamp = match self.next_stamp(0) {
+            Ok(stamp) => stamp,
+            Err(fault) => return Err(fault),
+        };
+        self.clients.rise();
+        let plan = self.clients.plan(client)?;
+        let tables = self.ledger.tables();
+        let sent = spread(
+            self.alloc,
+            tables,
+            self.ledger.links(),
+            &mut self.clients,
+            LAST_LINK + client,
+            publication,
+            route,
+        )?;
+        self.clients.commit(client, &plan);
+        self.clock = stamp;
+        Ok(Step { stamp, sent })
+    }
+
+    /// Takes a message that a neighbour sent with its stamp. Where it is a publication, the route is that of its notice by what
+    /// was published.
+    pub fn take_message(
+        &mut self,
+        from: u32,
+        stamp: u64,
+        message: &Message<'a>,
+        route: &[u32],
+    ) -> Result<Step<'a>, StepFault>
+        requires from { Has from self.old.control.links }
+        requires stamp { stamp < 2 ^ 62 }
+        requires net { message.now.net ≡ self.old.net }
+        requires route { RoutesMessage self.old message.now.message route.now }
+        ensures step { IfOk result (λ s. MakesStep (Takes from message.now.message) stamp self.old self.new s.stamp s.sent.items) }
+        ensures exhausted { (s : ℕ) → IsErrOf result (StepFault.StampsExhausted s) ↔ ((max self.old.clock stamp ≡ last_stamp) × (s ≡ last_stamp)) }
+        ensures err { OnErr result (self.new ≡ self.old) }
+    {
+        let stamp = match self.next_stamp(stamp) {
+            Ok(stamp) => stamp,
+            Err(fault) => return Err(fault),
+        };
+        let sent = act(
+            self.alloc,
+            &mut self.ledger,
+            &mut self.clients,
+            from,
+            message.load(),
+            route,
+        )?;
+        self.clock = stamp;
+        Ok(Step { stamp, sent })
+    }
+
+    /// Publishes what is staged. It takes no memory, so its one refusal is that stamps are exhausted; the answer is the stamp.
+    pub fn publish(&mut self) -> Result<u64, StepFault>
+        requires { (self.old.staged ≡ []) → ⊥ }
+        ensures step { IfOk result (λ stamp. MakesStep (Does Version) 0 self.old self.new stamp []) }
+        ensures exhausted { (s : ℕ) → IsErrOf result (StepFault.StampsExhausted s) ↔ ((self.old.clock ≡ last_stamp) × (s ≡ last_stamp)) }
+        ensures memory { IsErrOf result StepFault.NoMemory → ⊥ }
+        ensures err { OnErr result (self.new ≡ self.old) }
+    {
+        let stamp = match self.next_stamp(0) {
+            Ok(stamp) => stamp,
+            Err(fault) => return Err(fault),
+        };
+        self.ledger.publish();
+        self.clock = stamp;
+        Ok(stamp)
+    }
+
+    /// What changed since the last version, which turns what was published into what is held.
+    pub fn staged(&self) -> &[Change]
+        ensures changes { result.now ≡ self.now.staged }
+        ensures staged { IsStaged (known_filters self.now.net.clients) self.now.interfaces (published_from self.now) (subs self.now.control) self.now.staged }
+    {
+        self.ledger.staged()
+    }
+
+    /// The stamp of the last step, or what the clock was set to since.
+    pub fn clock(&self) -> u64
+        ensures clock { result ≡ self.now.clock }
+        ensures below { result < 2 ^ 62 }
+    {
+        self.clock
+    }
+
+    /// Sets the clock, which takes no memory. A lower number takes a raise back.
+    pub fn raise(&mut self, clock: u64)
+        requires { clock < 2 ^ 62 }
+        ensures { self.new ≡ record self.old { clock = clock } }
+    {
+        self.clock = clock;
+    }
+
+    /// The session of a client that lives here.
+    pub fn session(&self, client: u32) -> &Session<'a>
+        requires { Has client (client_numbers self.now.clients) }
+        ensures session { Has (bare result.now.session) self.now.clients }
+        ensures client { result.now.session.client ≡ client }
+        ensures net { result.now.net ≡ self.now.net }
+    {
+        let Some(session) = self.clients.session(client) else {
+            unreachable!()
+        };
+        session
+    }
+
+    /// Hands on what was delivered to a client that lives here, whose inbox is empty then. It takes no memory.
+    pub fn take_inbox(&mut self, client: u32) -> Vec<Delivery>
+        requires { Has client (client_numbers self.old.clients) }
+        ensures inbox { (s : SessionParts) → Has s self.old.clients → s.client ≡ client → result.items ≡ s.inbox }
+        ensures emptied { self.new ≡ without_inbox client self.old }
+    {
+        self.clients.take_inbox(client)
+    }
+
+    /// The number of the publication of the next command of a client that lives here; `None` where that is no publish that will
+    /// be accepted, or there is none.
+    pub fn next_publication(&self, client: u32) -> Option<u32>
+        requires { Has client (client_numbers self.now.clients) }
+        ensures publish { IfSome result (λ k. (p : PublicationParts) × (slice_get (known_publications 1 self.now.net.clients) k ≡ Some p)
+            × ((s : SessionParts) → Has s self.now.clients → s.client ≡ client → next_plan s ≡ Some (plans.Publish p.id p.notice))) }
+        ensures none { IfNone result ((s : SessionParts) (id : Id) (n : List Attribute) → Has s self.now.clients → s.client ≡ client
+            → next_plan s ≡ Some (plans.Publish id n) → ⊥) }
+    {
+        self.clients.rise();
+        self.session(client).next_publication()
+    }
+}

@@ -1,0 +1,132 @@
+//! A publication that goes on by its route, and is delivered.
+ghost use Rattle.std.specs.Prelude.{◌≡◌, ◌≤◌, ℕ, ◌==◌, ◌&&◌, not, nat_le, [], ◌∷◌, ◌++◌, map, List, IfOk, OnOk, OnErr};
+ghost use Rattle.std.specs.List.Sorted.{IsStrictlyIncreasing};
+ghost use Rattle.ev_routing.specs.Server.{is_among, Noticed};
+ghost use Rattle.ev_sets.specs.Sets.{Has};
+ghost use Rattle.ev_session.specs.Inbox.{IsDelivery};
+ghost use Rattle.ev_wire.specs.declared.delivery.Delivery.{Delivery as DeliveryParts};
+ghost use Rattle.ev_message.specs.Message.{IsLoad};
+ghost use Rattle.ev_numserver.specs.declared.spreading.Ready.{Ready as ReadyParts};
+ghost use Rattle.ev_numserver.specs.Clients.{bare, clients_parts, HaveRoom, StayPlanned};
+ghost use Rattle.ev_numserver.specs.Acting.{IsSpread, sent_on, links_on, clients_on, delivered, ready_for};
+
+use crate::clients::Clients;
+use ev_memory::NoMemory;
+use ev_message::{Load, Message, Publication, Sending};
+use ev_routing::LAST_LINK;
+use ev_tables::Tables;
+use ev_wire::{Delivery, Id, SharedText};
+use std::alloc::Global;
+
+/// A delivery with its client.
+#[derive(Drop)]
+struct Ready {
+    client: u32,
+    delivery: Delivery,
+}
+
+/// Sends a publication on and delivers it, by its route.
+pub(crate) fn spread<'a>(
+    alloc: Global,
+    tables: &'a Tables<'a>,
+    links: &[u32],
+    clients: &mut Clients<'a>,
+    from: u32,
+    publication: &Publication,
+    route: &[u32],
+) -> Result<Vec<Sending<'a>>, NoMemory>
+    requires rising { IsStrictlyIncreasing route.now }
+    requires load { IsLoad tables.now (Load.Publication publication.now) }
+    ensures spread { IfOk result (λ sent. IsSpread tables.now from publication.now.id.publisher publication.now.id.ordinal publication.now.notice
+        route.now links.now clients.old.sessions clients.new.sessions sent.items) }
+    ensures net { clients.new.net ≡ clients.old.net }
+    ensures planned { StayPlanned clients.old.sessions clients.new.sessions }
+    ensures err { OnErr result (map bare clients.new.sessions ≡ map bare clients.old.sessions) }
+{
+    let to = links_of(alloc, links, from, route)?;
+    let sent = sendings(alloc, tables, publication, &to)?;
+    let ready = make_ready(alloc, clients, publication.id(), publication.text(), route)?;
+    deliver(clients, ready);
+    Ok(sent)
+}
+
+/// The publication on its way to each of these links.
+fn sendings<'a>(
+    alloc: Global,
+    tables: &'a Tables<'a>,
+    publication: &Publication,
+    links: &[u32],
+) -> Result<Vec<Sending<'a>>, NoMemory>
+    requires { IsLoad tables.now (Load.Publication publication.now) }
+    ensures { IfOk result (λ sent. sent.items ≡ sent_on tables.now
+        (Noticed publication.now.id.publisher publication.now.id.ordinal publication.now.notice) links.now) }
+{
+    let mut sent = Vec::new(alloc);
+    for to in links {
+        let load = Load::Publication(publication.share(alloc)?);
+        let message = Message::of(tables, load);
+        sent.push(Sending { to: *to, message })?;
+    }
+    Ok(sent)
+}
+
+/// The links of a route but one.
+fn links_of(alloc: Global, links: &[u32], from: u32, route: &[u32]) -> Result<Vec<u32>, NoMemory>
+    ensures { IfOk result (λ to. to.items ≡ links_on links.now from route.now) }
+{
+    let mut to = Vec::new(alloc);
+    for link in route {
+        if goes_on(links, from, *link) {
+            to.push(*link)?;
+        }
+    }
+    Ok(to)
+}
+
+/// Whether a message goes on to an interface: it is one of the links, and not the one that the message came from.
+fn goes_on(links: &[u32], from: u32, interface: u32) -> bool
+    ensures { result ≡ nat_le interface 64 && (not (interface == from) && is_among interface links.now) }
+{
+    interface <= LAST_LINK && interface != from && links.contains(&interface)
+}
+
+/// A delivery for each client of a route, each of which has room for it then.
+fn make_ready<'a>(
+    alloc: Global,
+    clients: &mut Clients<'a>,
+    id: Id,
+    text: &SharedText,
+    route: &[u32],
+) -> Result<Vec<Ready>, NoMemory>
+    ensures ready { IfOk result (λ ready. ready.items ≡ ready_for (record { id = id; bytes = text.now }) (clients_on route.now)) }
+    ensures room { OnOk result (HaveRoom (clients_on route.now) clients.new.sessions) }
+    ensures net { clients.new.net ≡ clients.old.net }
+    ensures planned { StayPlanned clients.old.sessions clients.new.sessions }
+    ensures bare { map bare clients.new.sessions ≡ map bare clients.old.sessions }
+{
+    let mut ready = Vec::with_capacity(alloc, route.len())?;
+    for interface in route {
+        if *interface <= LAST_LINK {
+            continue;
+        }
+        let client = *interface - LAST_LINK;
+        clients.make_room(client)?;
+        let bytes = text.share()?;
+        let delivery = Delivery { id, bytes };
+        ready.push(Ready { client, delivery })?;
+    }
+    Ok(ready)
+}
+
+/// Delivers what was made ready. It takes no memory.
+fn deliver<'a>(clients: &mut Clients<'a>, ready: Vec<Ready>)
+    requires rising { IsStrictlyIncreasing (map (λ one. one.client) ready.items) }
+    requires room { HaveRoom (map (λ one. one.client) ready.items) clients.old.sessions }
+    requires texts { (one : ReadyParts) → Has one ready.items → IsDelivery one.delivery }
+    ensures { (delivery : DeliveryParts) (to : List ℕ) → ready.items ≡ ready_for delivery to
+        → clients.new ≡ clients_parts clients.old.net (delivered to delivery clients.old.sessions) }
+{
+    for one in ready {
+        clients.deliver(one.client, one.delivery);
+    }
+}

@@ -1,0 +1,72 @@
+//! Cores before their first step.
+ghost use Rattle.std.specs.Prelude.{◌≡◌, ◌≤◌, ◌+◌, ◌++◌, ℕ, length, map, IfOk};
+ghost use Rattle.std.specs.List.Sorted.{IsStrictlyIncreasing};
+ghost use Rattle.ev_sets.specs.Sets.{Has};
+ghost use Rattle.ev_routing.specs.Routing.{empty_server};
+ghost use Rattle.ev_phases.specs.Trees.{net_at};
+ghost use Rattle.ev_theory.specs.Real.{real};
+ghost use Rattle.ev_model.specs.Sound.{IsSound};
+ghost use Rattle.ev_model.specs.Nets.{phased_net, servers_in};
+ghost use Rattle.ev_numserver.specs.Core.{IsServerState};
+ghost use Rattle.ev_numserver.specs.Clients.{client_numbers, clients_parts};
+ghost use Rattle.ev_numserver.specs.Start.{sessions_of};
+
+use crate::clients::Clients;
+use crate::ledger::Ledger;
+use crate::server::Core;
+use ev_memory::NoMemory;
+use ev_numsession::Session;
+use ev_routing::LAST_LINK;
+use ev_tables::Tables;
+use std::alloc::Global;
+
+impl<'a> Core<'a> {
+    /// The core of a server of a net before its first step, over the tree of phase 0. All memory of what it can hold is taken
+    /// here.
+    pub fn start(alloc: Global, tables: &'a Tables<'a>, server: u32) -> Result<Core<'a>, NoMemory>
+        requires sound { IsSound tables.now }
+        requires among { Has server (servers_in tables.now) }
+        ensures net { IfOk result (λ core. core.net ≡ tables.now) }
+        ensures server { IfOk result (λ core. core.server ≡ server) }
+        ensures state { IfOk result (λ core. IsServerState (net_at real (phased_net tables.now) 0) core
+            (empty_server real (net_at real (phased_net tables.now) 0))) }
+        ensures clock { IfOk result (λ core. core.clock ≡ 0) }
+    {
+        let links = tables.net().tree(0).neighbours(server);
+        let clients = at_home(alloc, tables, server)?;
+        let interfaces = interfaces_of(alloc, links, clients.numbers())?;
+        let ledger = Ledger::new(alloc, tables, &interfaces, links.len())?;
+        Ok(Core::of(alloc, server, ledger, clients))
+    }
+}
+
+/// The interfaces of a server with these links and clients, rising.
+fn interfaces_of(alloc: Global, links: &[u32], clients: &[u32]) -> Result<Vec<u32>, NoMemory>
+    requires { (n : ℕ) → Has n clients.now → n ≤ 1024 }
+    ensures { IfOk result (λ list. list.items ≡ links.now ++ map (λ n. 64 + n) clients.now) }
+{
+    let mut interfaces = links.to_vec(alloc)?;
+    for client in clients {
+        interfaces.push(LAST_LINK + *client)?;
+    }
+    Ok(interfaces)
+}
+
+/// The sessions of the clients that live at a server.
+fn at_home<'a>(alloc: Global, tables: &'a Tables<'a>, server: u32) -> Result<Clients<'a>, NoMemory>
+    requires { IsSound tables.now }
+    ensures { IfOk result (λ clients. clients ≡ clients_parts tables.now (sessions_of tables.now.semantics server 1 tables.now.clients)) }
+{
+    let mut numbers = Vec::new(alloc);
+    let mut sessions = Vec::new(alloc);
+    let mut number = 0;
+    for client in &tables.net().clients {
+        number += 1;
+        if client.home != server {
+            continue;
+        }
+        numbers.push(number)?;
+        sessions.push(Session::start(alloc, tables, number)?)?;
+    }
+    Ok(Clients::of(tables, numbers, sessions))
+}
