@@ -84,8 +84,8 @@ fn lost_beginnings(alloc: Global) -> Result<u32, Failure> {
     Ok(lost)
 }
 
-/// Prints whether the documents at each limit, and one beyond, come as wanted.
-pub fn print_large(rt: &impl Print, alloc: Global) -> Result<(), Failure> {
+// At the limit of bytes, and one beyond.
+fn print_bytes(rt: &impl Print, alloc: Global) -> Result<(), Failure> {
     let came = outcome(alloc, "walk", &padded(alloc, 4_194_304)?)?;
     print_verdict(rt, "4194304 bytes", &came, b"", b"client a\n")?;
     let came = outcome(alloc, "walk", &padded(alloc, 4_194_305)?)?;
@@ -95,7 +95,11 @@ pub fn print_large(rt: &impl Print, alloc: Global) -> Result<(), Failure> {
         &came,
         b"siena: line 0: toolong: the document has more than 4194304 bytes, or what is audited more than 268435456\n",
         b"",
-    )?;
+    )
+}
+
+// At the limit of what publications bring to clients, and one publication beyond.
+fn print_deliveries(rt: &impl Print, alloc: Global) -> Result<(), Failure> {
     let came = outcome(alloc, "check", &with_deliveries(alloc, 4096)?)?;
     print_verdict(
         rt,
@@ -111,7 +115,11 @@ pub fn print_large(rt: &impl Print, alloc: Global) -> Result<(), Failure> {
         &came,
         b"siena: line 5125: muchnotice: bytes of publish lines * clients is more than 268435456\n",
         b"",
-    )?;
+    )
+}
+
+// At the limit of what withdrawals cost, and one withdrawal beyond.
+fn print_withdrawals(rt: &impl Print, alloc: Global) -> Result<(), Failure> {
     let came = outcome(alloc, "check", &with_withdrawals(alloc, 1263)?)?;
     print_verdict(
         rt,
@@ -127,7 +135,11 @@ pub fn print_large(rt: &impl Print, alloc: Global) -> Result<(), Failure> {
         &came,
         b"siena: line 1332: muchcontrol: (1 + unsubscribe and unadvertise commands) * bytes of control lines * servers is more than 2147483648\n",
         b"",
-    )?;
+    )
+}
+
+// One command beyond each of the two counts.
+fn print_counts(rt: &impl Print, alloc: Global) -> Result<(), Failure> {
     let came = outcome(alloc, "check", &repeated(alloc, WITHDRAWAL, 4097)?)?;
     print_verdict(
         rt,
@@ -143,7 +155,15 @@ pub fn print_large(rt: &impl Print, alloc: Global) -> Result<(), Failure> {
         &came,
         b"siena: line 100006: publications: more than 100000 publish commands\n",
         b"",
-    )?;
+    )
+}
+
+/// Prints whether the documents at each limit, and one beyond, come as wanted.
+pub fn print_large(rt: &impl Print, alloc: Global) -> Result<(), Failure> {
+    print_bytes(rt, alloc)?;
+    print_deliveries(rt, alloc)?;
+    print_withdrawals(rt, alloc)?;
+    print_counts(rt, alloc)?;
     println!(rt;
         "beginnings of the market that are lost: {}",
         lost_beginnings(alloc)?
