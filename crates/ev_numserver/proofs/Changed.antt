@@ -1,5 +1,5 @@
 -- A change of what an interface holds: what of the ledger stays, what is staged, and what is sent.
-use Rattle.std.proofs.Common.{◌≡◌, ◌≢◌, inl, inr, ℕ, zero, suc, ◌<◌, ◌||◌, not, true, List, [], ◌∷◌, ◌++◌, length, map, take, slice_get, Some, refl, sym, ap, subst, ◌∙◌, arith}
+use Rattle.std.proofs.Common.{◌^◌, ◌≡◌, ◌≢◌, inl, inr, ℕ, zero, suc, ◌<◌, ◌||◌, not, true, List, [], ◌∷◌, ◌++◌, length, map, take, slice_get, Some, refl, sym, ap, subst, ◌∙◌, arith}
 use Rattle.std.proofs.lemmas.Bool.{cases_eq}
 use Rattle.ev_constraint.specs.Constraint.{ConstraintParts}
 use Rattle.ev_notice.specs.Before.{list_before}
@@ -87,6 +87,7 @@ module _ (net : NetParts) (links : List ℕ) (old published : Numbered) (staged 
       semantics = changed.semantics ∙ is.semantics;
       filter_items = changed.items ∙ is.filter_items;
       advert_items = ap (λ z. z.items) changed.adverts ∙ is.advert_items;
+      few = subst (λ z. length z < 2 ^ 32) (sym changed.interfaces) is.few;
       same_interfaces = ap (λ z. z.interfaces) changed.adverts ∙ (is.same_interfaces ∙ sym changed.interfaces);
       same_links = ap (λ z. length z.told) changed.adverts ∙ (is.same_links ∙ sym changed.links);
       changes = subst (λ z. IsStaged (known_filters net.clients) z (λ i. held_from list_before i (shown published).filters) (λ i. held_from list_before i (shown new).filters) more) (sym changed.interfaces)
@@ -157,6 +158,7 @@ module _ (net : NetParts) (links : List ℕ) (old published : Numbered) (staged 
         semantics = undone.semantics ∙ (changed.semantics ∙ is.semantics);
         filter_items = undone.items ∙ (changed.items ∙ is.filter_items);
         advert_items = ap (λ z. z.items) (undone.adverts ∙ changed.adverts) ∙ is.advert_items;
+        few = subst (λ z. length z < 2 ^ 32) (sym same-interfaces) is.few;
         same_interfaces = ap (λ z. z.interfaces) (undone.adverts ∙ changed.adverts) ∙ (is.same_interfaces ∙ sym same-interfaces);
         same_links = ap (λ z. length z.told) (undone.adverts ∙ changed.adverts) ∙ (is.same_links ∙ sym same-told);
         changes = subst (λ z. IsStaged (known_filters net.clients) z (λ i. held_from list_before i (shown published).filters) (λ i. held_from list_before i (shown back).filters) staged) (sym same-interfaces)
@@ -245,6 +247,7 @@ module _ (net : NetParts) (links : List ℕ) (old published : Numbered) (staged 
       semantics = changed.semantics ∙ is.semantics;
       filter_items = changed.filter_items ∙ is.filter_items;
       advert_items = changed.items ∙ is.advert_items;
+      few = subst (λ z. length z < 2 ^ 32) (sym changed.filter_interfaces) is.few;
       same_interfaces = changed.interfaces ∙ (is.same_interfaces ∙ sym changed.filter_interfaces);
       same_links = changed.links ∙ (is.same_links ∙ sym changed.filter_links);
       changes = subst (λ z. IsStaged (known_filters net.clients) z (λ i. held_from list_before i (shown published).filters) (λ i. held_from list_before i (shown new).filters) staged) (sym changed.filter_interfaces)
@@ -318,6 +321,7 @@ module _ (net : NetParts) (links : List ℕ) (old published : Numbered) (staged 
         semantics = undone.semantics ∙ (changed.semantics ∙ is.semantics);
         filter_items = undone.filter_items ∙ (changed.filter_items ∙ is.filter_items);
         advert_items = undone.items ∙ (changed.items ∙ is.advert_items);
+        few = subst (λ z. length z < 2 ^ 32) (sym (undone.filter_interfaces ∙ changed.filter_interfaces)) is.few;
         same_interfaces = (undone.interfaces ∙ changed.interfaces) ∙ (is.same_interfaces ∙ sym (undone.filter_interfaces ∙ changed.filter_interfaces));
         same_links = (undone.links ∙ changed.links) ∙ (is.same_links ∙ sym (undone.filter_links ∙ changed.filter_links));
         changes = subst (λ z. IsStaged (known_filters net.clients) z (λ i. held_from list_before i (shown published).filters) (λ i. held_from list_before i (shown back).filters) staged)
@@ -340,12 +344,13 @@ first-shown c semantics interfaces links d e f g h =
     (ap (λ n. take n c.filters.interfaces) f ∙ ap (take links) e) (none-held c.filters.interfaces c.filters.holdings g) (none-held c.adverts.interfaces c.adverts.holdings h)
 
 pub first-kept : (net : NetParts) (links : List ℕ) (c : Numbered) → links ≡ take (length c.filters.told) c.filters.interfaces → c.semantics ≡ net.semantics → c.filters.items ≡ known_filters net.clients
-    → c.adverts.items ≡ known_adverts net.clients → c.adverts.interfaces ≡ c.filters.interfaces → length c.adverts.told ≡ length c.filters.told → IsLedger net links c c []
-first-kept net links c a b d e f g = record {
+    → c.adverts.items ≡ known_adverts net.clients → length c.filters.interfaces < 2 ^ 32 → c.adverts.interfaces ≡ c.filters.interfaces → length c.adverts.told ≡ length c.filters.told → IsLedger net links c c []
+first-kept net links c a b d e k f g = record {
   links_are = a;
   semantics = b;
   filter_items = d;
   advert_items = e;
+  few = k;
   same_interfaces = f;
   same_links = g;
   changes = staged-none (known_filters net.clients) c.filters.interfaces (λ i. held_from list_before i (shown c).filters);

@@ -1,5 +1,5 @@
 -- What the code keeps of a ledger.
-use Rattle.std.specs.Prelude.{◌≡◌, ℕ, List, length, take}
+use Rattle.std.specs.Prelude.{◌≡◌, ◌<◌, ◌^◌, ℕ, List, length, take}
 use Rattle.ev_notice.specs.Before.{list_before}
 use Rattle.ev_control.specs.Holdings.{held_from}
 use Rattle.ev_model.specs.Parts.{NetParts}
@@ -15,6 +15,7 @@ pub record IsLedger (net : NetParts) (links : List ℕ) (control published : Num
   pub semantics : control.semantics ≡ net.semantics
   pub filter_items : control.filters.items ≡ known_filters net.clients
   pub advert_items : control.adverts.items ≡ known_adverts net.clients
+  pub few : length control.filters.interfaces < 2 ^ 32
   pub same_interfaces : control.adverts.interfaces ≡ control.filters.interfaces
   pub same_links : length control.adverts.told ≡ length control.filters.told
   pub changes : IsStaged (known_filters net.clients) control.filters.interfaces (λ i. held_from list_before i (shown published).filters)

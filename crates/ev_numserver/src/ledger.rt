@@ -1,6 +1,7 @@
 //! What a server holds from whom, what was published of it, and what changed since.
-ghost use Rattle.std.specs.Prelude.{◌≡◌, ◌<◌, ◌≤◌, ◌^◌, ℕ, nat_lt, true, [], length, take, IfOk, OnErr};
+ghost use Rattle.std.specs.Prelude.{◌≡◌, ◌<◌, ◌≤◌, ◌^◌, ℕ, nat_lt, true, List, [], length, take, IfOk, OnErr};
 ghost use Rattle.ev_sets.specs.Sets.{Has, IsRising};
+ghost use Rattle.ev_constraint.specs.Constraint.{ConstraintParts};
 ghost use Rattle.ev_order.specs.Order.{picked};
 ghost use Rattle.ev_catalogue.specs.Known.{known_filters, known_adverts};
 ghost use Rattle.ev_control.specs.Control.{by_adverts, subs};
@@ -103,6 +104,24 @@ impl<'a> Ledger<'a> {
         ensures { result.now ≡ self.now.control.links }
     {
         &self.links
+    }
+
+    /// The interfaces, rising.
+    pub(crate) fn interfaces(&self) -> &[u32]
+        ensures interfaces { result.now ≡ self.now.interfaces }
+        ensures rising { IsRising nat_lt self.now.interfaces }
+        ensures few { length self.now.interfaces < 2 ^ 32 }
+    {
+        self.control.filters().is_known();
+        self.control.filters().interfaces()
+    }
+
+    /// Does nothing; its contract tells that the filters that are held are filters of the net.
+    pub(crate) fn is_known(&self)
+        ensures { (i : ℕ) (f : List ConstraintParts) → Has f (subs self.now.control i) → Has f (known_filters self.now.net.clients) }
+    {
+        self.control.filters().is_known();
+        self.control.adverts().is_known();
     }
 
     /// Whether advertisements steer the filters.

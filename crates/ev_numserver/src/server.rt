@@ -1,6 +1,7 @@
 //! Cores of servers.
-ghost use Rattle.std.specs.Prelude.{◌≡◌, ◌<◌, ◌^◌, ◌↔◌, ◌+◌, ℕ, [], max, List, length, map, Some, slice_get, IfOk, OnErr, IsErrOf, IfSome, IfNone};
-ghost use Rattle.ev_sets.specs.Sets.{Has};
+ghost use Rattle.std.specs.Prelude.{◌≡◌, ◌<◌, ◌^◌, ◌↔◌, ◌+◌, ℕ, nat_lt, [], max, List, length, map, Some, slice_get, IfOk, OnErr, IsErrOf, IfSome, IfNone};
+ghost use Rattle.ev_constraint.specs.Constraint.{ConstraintParts};
+ghost use Rattle.ev_sets.specs.Sets.{Has, IsRising};
 ghost use Rattle.ev_notice.specs.Notice.{Attribute};
 ghost use Rattle.ev_run.specs.Machine.{Does, Takes};
 ghost use Rattle.ev_routing.specs.Step.{NextCommand, Version};
@@ -213,6 +214,29 @@ impl<'a> Core<'a> {
         ensures staged { IsStaged (known_filters self.now.net.clients) self.now.interfaces (published_from self.now) (subs self.now.control) self.now.staged }
     {
         self.ledger.staged()
+    }
+
+    /// The tables of the run.
+    pub fn tables(&self) -> &'a Tables<'a>
+        ensures { result.now ≡ self.now.net }
+    {
+        self.ledger.tables()
+    }
+
+    /// The interfaces, rising: the neighbours, and 64 and the number of each client that lives here.
+    pub fn interfaces(&self) -> &[u32]
+        ensures interfaces { result.now ≡ self.now.interfaces }
+        ensures rising { IsRising nat_lt self.now.interfaces }
+        ensures few { length self.now.interfaces < 2 ^ 32 }
+    {
+        self.ledger.interfaces()
+    }
+
+    /// Does nothing; its contract tells that the filters that are held are filters of the net.
+    pub fn is_known(&self)
+        ensures { (i : ℕ) (f : List ConstraintParts) → Has f (subs self.now.control i) → Has f (known_filters self.now.net.clients) }
+    {
+        self.ledger.is_known();
     }
 
     /// The stamp of the last step, or what the clock was set to since.

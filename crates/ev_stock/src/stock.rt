@@ -93,6 +93,13 @@ impl<'a, T: Cover> Stock<'a, T> {
         Ok(Stock { interfaces, table })
     }
 
+    /// The interfaces, rising, of which the links are the first.
+    pub fn interfaces(&self) -> &[u32]
+        ensures { result.now ≡ self.now.interfaces }
+    {
+        &self.interfaces
+    }
+
     /// Does nothing; its contract tells what each stock keeps: items and interfaces rise, the links are the first interfaces, and
     /// what is held is among the items, from one of the interfaces.
     pub fn is_known(&self)

@@ -1,4 +1,4 @@
-use Rattle.std.proofs.Common.{◌≡◌, [], take, length, sym, ap, subst, ◌∙◌}
+use Rattle.std.proofs.Common.{◌≡◌, ◌<◌, ◌^◌, [], take, length, sym, ap, subst, ◌∙◌}
 use Rattle.ev_numcontrol.specs.Control.{Controlled as Numbered}
 use Rattle.ev_numserver.specs.Keeps.{IsLedger}
 use Rattle.ev_numserver.specs.Showing.{shown}
@@ -15,7 +15,7 @@ invariant_of-result c =
     subst (λ (z : Numbered). IsLedger c.args.tables.now c.in_ok-links.links.items control z c.new-2.result.items) (sym c.of-published.ensures)
     (subst (IsLedger c.args.tables.now c.in_ok-links.links.items control control) (sym c.new-2.ensures.items)
     (first-kept c.args.tables.now c.in_ok-links.links.items control (links ∙ sym (ap (λ n. take n control.filters.interfaces) e.links ∙ ap (take c.args.links) e.filter_interfaces)) (e.semantics ∙ c.semantics.ensures)
-    (e.filter_items ∙ c.filters.ensures) (e.advert_items ∙ c.adverts.ensures) (e.advert_interfaces ∙ sym e.filter_interfaces) same))
+    (e.filter_items ∙ c.filters.ensures) (e.advert_items ∙ c.adverts.ensures) (subst (λ z. length z < 2 ^ 32) (sym e.filter_interfaces) c.requires.few) (e.advert_interfaces ∙ sym e.filter_interfaces) same))
 
 pub returns-clause-control : goal.returns-clause-control
 returns-clause-control c =
