@@ -1,5 +1,5 @@
 //! Cores of servers.
-ghost use Rattle.std.specs.Prelude.{◌≡◌, ◌<◌, ◌^◌, ◌↔◌, ◌+◌, ℕ, nat_lt, [], max, List, length, map, Some, slice_get, IfOk, OnErr, IsErrOf, IfSome, IfNone};
+ghost use Rattle.std.specs.Prelude.{◌≡◌, ◌<◌, ◌^◌, ◌↔◌, ◌+◌, ℕ, nat_lt, [], max, List, length, map, Some, slice_get, IfOk, OnOk, OnErr, IsErrOf, IfSome, IfNone};
 ghost use Rattle.ev_constraint.specs.Constraint.{ConstraintParts};
 ghost use Rattle.ev_sets.specs.Sets.{Has, IsRising};
 ghost use Rattle.ev_notice.specs.Notice.{Attribute};
@@ -104,6 +104,7 @@ impl<'a> Core<'a> {
         requires silent { (s : SessionParts) (id : Id) (n : List Attribute) → Has s self.old.clients → s.client ≡ client
             → next_plan s ≡ Some (plans.Publish id n) → ⊥ }
         ensures step { IfOk result (λ s. MakesStep (Does (NextCommand client)) 0 self.old self.new s.stamp s.sent.items) }
+        ensures interfaces { OnOk result (self.new.interfaces ≡ self.old.interfaces) }
         ensures exhausted { (s : ℕ) → IsErrOf result (StepFault.StampsExhausted s) ↔ ((self.old.clock ≡ last_stamp) × (s ≡ last_stamp)) }
         ensures err { OnErr result (self.new ≡ self.old) }
     {
@@ -134,6 +135,7 @@ impl<'a> Core<'a> {
         requires load { IsLoad self.old.net (Load.Publication publication.now) }
         requires route { IsRoute publication.now.notice (published_from self.old) route.now }
         ensures step { IfOk result (λ s. MakesStep (Does (NextCommand client)) 0 self.old self.new s.stamp s.sent.items) }
+        ensures interfaces { OnOk result (self.new.interfaces ≡ self.old.interfaces) }
         ensures exhausted { (s : ℕ) → IsErrOf result (StepFault.StampsExhausted s) ↔ ((self.old.clock ≡ last_stamp) × (s ≡ last_stamp)) }
         ensures err { OnErr result (self.new ≡ self.old) }
     {
@@ -172,6 +174,7 @@ impl<'a> Core<'a> {
         requires net { message.now.net ≡ self.old.net }
         requires route { RoutesMessage self.old message.now.message route.now }
         ensures step { IfOk result (λ s. MakesStep (Takes from message.now.message) stamp self.old self.new s.stamp s.sent.items) }
+        ensures interfaces { OnOk result (self.new.interfaces ≡ self.old.interfaces) }
         ensures exhausted { (s : ℕ) → IsErrOf result (StepFault.StampsExhausted s) ↔ ((max self.old.clock stamp ≡ last_stamp) × (s ≡ last_stamp)) }
         ensures err { OnErr result (self.new ≡ self.old) }
     {
@@ -195,6 +198,7 @@ impl<'a> Core<'a> {
     pub fn publish(&mut self) -> Result<u64, StepFault>
         requires { (self.old.staged ≡ []) → ⊥ }
         ensures step { IfOk result (λ stamp. MakesStep (Does Version) 0 self.old self.new stamp []) }
+        ensures interfaces { OnOk result (self.new.interfaces ≡ self.old.interfaces) }
         ensures exhausted { (s : ℕ) → IsErrOf result (StepFault.StampsExhausted s) ↔ ((self.old.clock ≡ last_stamp) × (s ≡ last_stamp)) }
         ensures memory { IsErrOf result StepFault.NoMemory → ⊥ }
         ensures err { OnErr result (self.new ≡ self.old) }
@@ -260,6 +264,7 @@ impl<'a> Core<'a> {
         requires { Has client (client_numbers self.now.clients) }
         ensures session { Has (bare result.now.session) self.now.clients }
         ensures client { result.now.session.client ≡ client }
+        ensures semantics { result.now.session.semantics ≡ self.now.control.semantics }
         ensures net { result.now.net ≡ self.now.net }
     {
         let Some(session) = self.clients.session(client) else {

@@ -1,5 +1,5 @@
 //! Sessions.
-ghost use Rattle.std.specs.Prelude.{◌≡◌, ◌<◌, ◌≤◌, ℕ, suc, true, false, ◌+◌, ◌-◌, [], ◌∷◌, ◌++◌, length, List, Some, slice_get, IfSome, IfNone, IfOk, OnOk, OnErr};
+ghost use Rattle.std.specs.Prelude.{◌≡◌, ◌<◌, ◌≤◌, ℕ, suc, true, false, ◌+◌, ◌-◌, [], ◌∷◌, ◌++◌, length, List, Some, slice_get, IsSome, ◌↔◌, IfSome, IfNone, IfOk, OnOk, OnErr};
 ghost use Rattle.ev_notice.specs.Notice.{Attribute};
 ghost use Rattle.ev_wire.specs.declared.id.Id.{Id as IdParts};
 ghost use Rattle.ev_order.specs.Order.{picked};
@@ -98,6 +98,17 @@ impl<'a> Session<'a> {
             room: 0,
             planned: false,
         })
+    }
+
+    /// The next command with its phase; `None` where none is left.
+    pub fn next(&self) -> Option<(u32, &Command)>
+        ensures left { IsSome result ↔ (self.now.session.taken < length self.now.session.script) }
+        ensures next { IfSome result (λ step. slice_get self.now.session.script self.now.session.taken ≡ Some (step.0, step.1.now)) }
+    {
+        match self.script.get(self.taken) {
+            Some((phase, command)) => Some((*phase, command)),
+            None => None,
+        }
     }
 
     /// The next command by numbers; `None` where none is left.

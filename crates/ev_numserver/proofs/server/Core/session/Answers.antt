@@ -1,4 +1,4 @@
-use Rattle.std.proofs.Common.{sym, subst}
+use Rattle.std.proofs.Common.{◌≡◌, sym, subst}
 use Rattle.ev_sets.specs.Sets.{Has}
 use Rattle.ev_numserver.specs.Clients.{bare, client_numbers}
 use Rattle.ev_numserver.specs.Core.{CoreParts}
@@ -13,3 +13,8 @@ unreachable-requires c =
 pub returns-clause-session : goal.returns-clause-session
 returns-clause-session c =
     subst (λ (z : CoreParts). Has (bare c.in-Some.session.now.session) z.clients) c.self.view_is (map-has bare c.self.inside.clients.sessions c.in-Some.session.now.session c.in-Some.ensures.session.0)
+
+pub returns-clause-semantics : goal.returns-clause-semantics
+returns-clause-semantics c =
+    subst (λ (z : CoreParts). c.in-Some.session.now.session.semantics ≡ z.control.semantics) c.self.view_is
+    (c.self.invariant.kept.one_semantics (bare c.in-Some.session.now.session) (map-has bare c.self.inside.clients.sessions c.in-Some.session.now.session c.in-Some.ensures.session.0))
