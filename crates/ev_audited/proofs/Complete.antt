@@ -3,9 +3,9 @@ use Rattle.std.proofs.Common.{◌≡◌, inl, inr, ℕ, ◌<◌, ◌^◌, List, 
 use Rattle.ev_model.specs.declared.turn.Turn.{Turn}
 use Rattle.ev_model.specs.Parts.{NetParts, EntryParts}
 use Rattle.ev_model.specs.Nets.{of_clients}
-use Rattle.ev_net.specs.Network.{moment_by, received_by, refused_by}
-use Rattle.ev_net.specs.Told.{told_by}
-use Rattle.ev_net.specs.Turns.{AreMade}
+use Rattle.ev_turns.specs.Network.{moment_by, received_by, refused_by}
+use Rattle.ev_turns.specs.Told.{told_by}
+use Rattle.ev_turns.specs.Turns.{AreMade}
 use Rattle.ev_input.specs.Net.{IsNetOf}
 use Rattle.ev_input.specs.Rules.{version_number}
 use Rattle.ev_input.proofs.SoundDocuments.{document_is_sound}

@@ -29,7 +29,7 @@ use Rattle.ev_report.specs.Trace.{act_text}
 use Rattle.ev_audit.specs.Trace.{act_turn, are_joined, is_server, joins}
 use Rattle.ev_audit.proofs.Spelled.{AreApart, command-read, take-read, version-read}
 use Rattle.ev_audited.proofs.Acts.{IsActOf, IsThere, all-there}
-use Rattle.ev_net.specs.Retold.{turn_by, turn_of_entry}
+use Rattle.ev_turns.specs.Retold.{turn_by, turn_of_entry}
 
 -- Tests.
 

@@ -8,10 +8,10 @@ use Rattle.ev_model.specs.declared.turn.Turn.{Turn}
 use Rattle.ev_model.specs.Parts.{NetParts, EntryParts}
 use Rattle.ev_model.specs.Meaning.{entry_of, journal_of}
 use Rattle.ev_model.specs.Nets.{phased_net}
-use Rattle.ev_net.specs.Network.{NetworkParts, network_parts}
-use Rattle.ev_net.specs.Told.{told_by, told_from, told_of}
-use Rattle.ev_net.specs.Turns.{AreMade, IsTurn}
-use Rattle.ev_net.proofs.Replayed.{IsReplayedTo, replayed-more}
+use Rattle.ev_turns.specs.Network.{NetworkParts, network_parts}
+use Rattle.ev_turns.specs.Told.{told_by, told_from, told_of}
+use Rattle.ev_turns.specs.Turns.{AreMade, IsTurn}
+use Rattle.ev_turns.proofs.Replayed.{IsReplayedTo, replayed-more}
 use Rattle.ev_report.specs.Trace.{entries_text, entry_text}
 use Rattle.ev_audited.specs.Comparing.{ComparesTurn, ComparingParts, GoesOn}
 use Rattle.ev_audited.proofs.Pieces.{goes_then}

@@ -18,9 +18,9 @@ use Rattle.ev_model.specs.declared.turn.Turn.{Turn as NetTurn}
 use Rattle.ev_model.specs.Parts.{NetParts, EntryParts}
 use Rattle.ev_model.specs.Meaning.{act_of, entry_of, journal_of}
 use Rattle.ev_model.specs.Nets.{home_of, phased_net, turn_of}
-use Rattle.ev_net.specs.Network.{IsLegal, moment_by}
-use Rattle.ev_net.specs.Retold.{turn_by, turn_of_entry}
-use Rattle.ev_net.specs.Turns.{AreMade}
+use Rattle.ev_turns.specs.Network.{IsLegal, moment_by}
+use Rattle.ev_turns.specs.Retold.{turn_by, turn_of_entry}
+use Rattle.ev_turns.specs.Turns.{AreMade}
 use Rattle.ev_audited.proofs.Acts.{IsActOf, IsThere}
 
 -- a command is a turn of its client's home

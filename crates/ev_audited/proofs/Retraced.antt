@@ -20,7 +20,7 @@ use Rattle.ev_audit.specs.declared.line.TraceLine.TheVariants.{Entry, Message}
 use Rattle.ev_audit.proofs.Spelled.{are_shown, client-first, deliver-first, entry-read, message-read, output-line, refused-first, shown-append, trace-counted, trace-first}
 use Rattle.ev_audited.proofs.Entries.{IsReadable}
 use Rattle.ev_audited.proofs.Kept.{All}
-use Rattle.ev_net.specs.Retold.{turn_of_entry}
+use Rattle.ev_turns.specs.Retold.{turn_of_entry}
 use Rattle.ev_audited.proofs.ShownTexts.{IsShownDelivery, IsShownSent, decimal-shown}
 
 -- a line and what follows it

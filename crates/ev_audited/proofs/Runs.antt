@@ -5,11 +5,11 @@ use Rattle.std.proofs.lemmas.List.{take_more}
 use Rattle.ev_sets.specs.Numbers.{sum_over}
 use Rattle.ev_wire.specs.declared.sent.Sent.{Sent}
 use Rattle.ev_model.specs.Parts.{ClientParts, NetParts, EntryParts}
-use Rattle.ev_net.specs.Network.{NetworkParts, IsLegal}
-use Rattle.ev_net.specs.Told.{told_from}
-use Rattle.ev_net.specs.Walked.{IsPhaseOf}
-use Rattle.ev_net.proofs.Again.{IsRetoldTo}
-use Rattle.ev_net.proofs.Drained.{walked-open}
+use Rattle.ev_turns.specs.Network.{NetworkParts, IsLegal}
+use Rattle.ev_turns.specs.Told.{told_from}
+use Rattle.ev_turns.specs.Walked.{IsPhaseOf}
+use Rattle.ev_turns.proofs.Again.{IsRetoldTo}
+use Rattle.ev_turns.proofs.Drained.{walked-open}
 use Rattle.ev_report.specs.Trace.{entries_text, entry_text}
 use Rattle.ev_audited.specs.Answers.{TellsDrained}
 

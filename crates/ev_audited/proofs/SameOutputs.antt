@@ -13,8 +13,8 @@ use Rattle.ev_model.specs.Parts.{ClientParts, NetParts, EntryParts, net_parts}
 use Rattle.ev_model.specs.Meaning.{deliveries_of, entry_of, journal_of}
 use Rattle.ev_model.specs.Nets.{home_of, phased_net, script_of}
 use Rattle.ev_model.specs.Lists.{refused_ordinals}
-use Rattle.ev_net.specs.Network.{received_by, refused_by, taken_by}
-use Rattle.ev_net.specs.Told.{told_from}
+use Rattle.ev_turns.specs.Network.{received_by, refused_by, taken_by}
+use Rattle.ev_turns.specs.Told.{told_from}
 use Rattle.ev_input.specs.Drawn.{Block}
 use Rattle.ev_input.specs.Net.{AreTreesOf, IsNetOf}
 use Rattle.ev_input.specs.declared.fault.Fault.{Fault}

@@ -15,8 +15,8 @@ use Rattle.ev_spelling.specs.CommandText.{IsCommandIn, command_text}
 use Rattle.ev_model.specs.Parts.{ClientParts, NetParts, EntryParts}
 use Rattle.ev_model.specs.Meaning.{command_of, entry_of, journal_of, phased_command}
 use Rattle.ev_model.specs.Nets.{home_of, of_clients, phased_net, script_in, script_of}
-use Rattle.ev_net.specs.Network.{moment_by, received_by}
-use Rattle.ev_net.specs.Told.{told_by, told_from, told_of}
+use Rattle.ev_turns.specs.Network.{moment_by, received_by}
+use Rattle.ev_turns.specs.Told.{told_by, told_from, told_of}
 use Rattle.ev_input.proofs.Members.{Each}
 use Rattle.ev_format.proofs.ClientStands.{AreApart as AreApartInText, IsWritableClient}
 use Rattle.ev_format.proofs.Shown.{command_shown}

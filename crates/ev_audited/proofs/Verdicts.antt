@@ -3,9 +3,9 @@ use Rattle.std.proofs.Common.{◌≡◌, ◌⊎◌, inl, inr, ℕ, Bool, true, f
 use Rattle.std.specs.Prelude.{IfOk, IsOkAnd, codes}
 use Rattle.ev_model.specs.declared.turn.Turn.{Turn}
 use Rattle.ev_model.specs.Parts.{NetParts, EntryParts}
-use Rattle.ev_net.specs.Network.{NetworkParts, IsLegal}
-use Rattle.ev_net.specs.Turns.{AreMade}
-use Rattle.ev_net.proofs.Stopping.{never-stops, one-journal, one-line}
+use Rattle.ev_turns.specs.Network.{NetworkParts, IsLegal}
+use Rattle.ev_turns.specs.Turns.{AreMade}
+use Rattle.ev_turns.proofs.Stopping.{never-stops, one-journal, one-line}
 use Rattle.ev_input.specs.declared.fault.Fault.{Fault}
 use Rattle.ev_input.specs.Net.{IsNetOf}
 use Rattle.ev_cut.specs.Cut.{first_number}

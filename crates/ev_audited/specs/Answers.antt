@@ -2,9 +2,9 @@
 use Rattle.std.specs.Prelude.{◌≡◌, ℕ, Bool, true, false, List, [], Result, Ok, Err, Option, Some, None}
 use Rattle.ev_model.specs.declared.turn.Turn.{Turn}
 use Rattle.ev_model.specs.Parts.{NetParts, EntryParts}
-use Rattle.ev_net.specs.Network.{NetworkParts, IsDrainedBy}
-use Rattle.ev_net.specs.Stopping.{StopsAtLine}
-use Rattle.ev_net.specs.Turns.{AreMade}
+use Rattle.ev_turns.specs.Network.{NetworkParts, IsDrainedBy}
+use Rattle.ev_turns.specs.Stopping.{StopsAtLine}
+use Rattle.ev_turns.specs.Turns.{AreMade}
 use Rattle.ev_audit.specs.Claim.{IsBadDocument}
 use Rattle.ev_audit.specs.Difference.{difference}
 use Rattle.ev_audit.specs.declared.fault.ClaimFault.{ClaimFault}

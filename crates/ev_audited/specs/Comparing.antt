@@ -5,8 +5,8 @@ use Rattle.ev_theory.specs.Real.{real}
 use Rattle.ev_model.specs.Parts.{EntryParts}
 use Rattle.ev_model.specs.Meaning.{journal_of}
 use Rattle.ev_model.specs.Nets.{phased_net}
-use Rattle.ev_net.specs.Network.{NetworkParts}
-use Rattle.ev_net.specs.Told.{told_of}
+use Rattle.ev_turns.specs.Network.{NetworkParts}
+use Rattle.ev_turns.specs.Told.{told_of}
 use Rattle.ev_report.specs.Trace.{entry_text}
 use Rattle.ev_audit.specs.Difference.{difference}
 

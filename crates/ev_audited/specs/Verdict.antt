@@ -4,10 +4,10 @@ use Rattle.ev_sets.specs.Numbers.{sum_over, count}
 use Rattle.ev_model.specs.declared.turn.Turn.{Turn}
 use Rattle.ev_model.specs.Parts.{NetParts, EntryParts}
 use Rattle.ev_model.specs.Nets.{of_clients}
-use Rattle.ev_net.specs.Network.{IsLegal, IsDrainedBy, received_by, refused_by}
-use Rattle.ev_net.specs.Stopping.{StopsAtLine}
-use Rattle.ev_net.specs.Told.{told_by}
-use Rattle.ev_net.specs.Turns.{AreMade}
+use Rattle.ev_turns.specs.Network.{IsLegal, IsDrainedBy, received_by, refused_by}
+use Rattle.ev_turns.specs.Stopping.{StopsAtLine}
+use Rattle.ev_turns.specs.Told.{told_by}
+use Rattle.ev_turns.specs.Turns.{AreMade}
 use Rattle.ev_flood.specs.declared.owed.OwedRow.{OwedRow}
 use Rattle.ev_flood.specs.Flooding.{IsFlooding}
 use Rattle.ev_report.specs.Counts.{total}

@@ -3,9 +3,9 @@ ghost use Rattle.std.specs.Prelude.{◌≡◌, ◌≤◌, ◌⊎◌, ℕ, List, 
 ghost use Rattle.ev_model.specs.Parts.{NetParts, EntryParts};
 ghost use Rattle.ev_model.specs.Nets.{of_clients};
 ghost use Rattle.ev_model.specs.Sound.{IsSound};
-ghost use Rattle.ev_net.specs.Network.{received_by};
+ghost use Rattle.ev_turns.specs.Network.{received_by};
 ghost use Rattle.ev_input.specs.declared.fault.Fault.{Fault as DocumentFault};
-ghost use Rattle.ev_net.specs.Told.{told_by};
+ghost use Rattle.ev_turns.specs.Told.{told_by};
 ghost use Rattle.ev_report.specs.Counts.{total};
 ghost use Rattle.ev_report.specs.Trace.{trace_text};
 ghost use Rattle.ev_audit.specs.Claim.{IsBadDocument};

@@ -3,7 +3,7 @@ ghost use Rattle.std.specs.Prelude.{◌≡◌, ◌≤◌, false, length, OnOk};
 ghost use Rattle.std.specs.List.{flat_map};
 ghost use Rattle.ev_model.specs.Nets.{of_clients};
 ghost use Rattle.ev_model.specs.Sound.{IsSound};
-ghost use Rattle.ev_net.specs.Network.{received_by, refused_by};
+ghost use Rattle.ev_turns.specs.Network.{received_by, refused_by};
 ghost use Rattle.ev_report.specs.Deliveries.{deliveries_text, delivery_line, delivery_section};
 ghost use Rattle.ev_audited.specs.Comparing.{GoesOn};
 

@@ -1,9 +1,9 @@
 //! The trace of a run, compared with what is claimed.
 ghost use Rattle.std.specs.Prelude.{◌≡◌, true, IfOk, OnOk, length};
 ghost use Rattle.ev_model.specs.Sound.{IsSound};
-ghost use Rattle.ev_net.specs.Network.{IsLegal};
-ghost use Rattle.ev_net.specs.Told.{told_by};
-ghost use Rattle.ev_net.specs.Turns.{IsTurn};
+ghost use Rattle.ev_turns.specs.Network.{IsLegal};
+ghost use Rattle.ev_turns.specs.Told.{told_by};
+ghost use Rattle.ev_turns.specs.Turns.{IsTurn};
 ghost use Rattle.ev_report.specs.Trace.{entries_text, entry_text, trace_head, trace_text};
 ghost use Rattle.ev_audited.specs.Comparing.{ComparesLast, ComparesTurn, GoesOn};
 ghost use Rattle.ev_audited.specs.Answers.{TellsDrained, TellsMade};

@@ -22,9 +22,9 @@ use Rattle.ev_merge.specs.Merging.{IsMergeOf}
 use Rattle.ev_merge.proofs.Runs.{one-merge}
 use Rattle.ev_server.specs.Core.{CoreParts, IsServerState}
 use Rattle.ev_server.specs.Staged.{is_some_there}
-use Rattle.ev_net.specs.Network.{moment_by}
+use Rattle.ev_turns.specs.Network.{moment_by}
 use Rattle.ev_net.specs.Kept.{AreServers}
-use Rattle.ev_net.proofs.Among.{server_low}
+use Rattle.ev_turns.proofs.Among.{server_low}
 use Rattle.ev_node.specs.Cell.{CellParts, HasNoneBelow}
 use Rattle.ev_node.specs.Coming.{HaveCommand}
 use Rattle.ev_node.specs.Entered.{AreThrough, AreCalm, state_of}

@@ -10,8 +10,8 @@ use Rattle.ev_model.specs.Nets.{home_of, with_adverts}
 use Rattle.ev_session.specs.Session.{SessionParts}
 use Rattle.ev_server.specs.Clients.{bare}
 use Rattle.ev_server.specs.Core.{CoreParts}
-use Rattle.ev_net.specs.Network.{network_parts, moment_by}
-use Rattle.ev_net.specs.Sessions.{IsSessionOf}
+use Rattle.ev_turns.specs.Network.{network_parts, moment_by}
+use Rattle.ev_turns.specs.Sessions.{IsSessionOf}
 use Rattle.ev_net.proofs.Commanding.{taken_there, script_there, home_place}
 use Rattle.ev_node.specs.Cell.{CellParts}
 use Rattle.ev_node.proofs.Gathered.{map-found}

@@ -8,7 +8,7 @@ use Rattle.ev_model.specs.Parts.{NetParts, EntryParts}
 use Rattle.ev_model.specs.Nets.{phased_net, of_clients}
 use Rattle.ev_model.specs.Sound.{IsSound}
 use Rattle.ev_merge.specs.Merging.{IsMergeOf, journals_in}
-use Rattle.ev_net.specs.Network.{IsLegal, IsDrainedBy, moment_by, refused_by, received_by}
+use Rattle.ev_turns.specs.Network.{IsLegal, IsDrainedBy, moment_by, refused_by, received_by}
 use Rattle.ev_net.specs.Kept.{AreServers}
 use Rattle.ev_node.specs.Cell.{CellParts, IsKept, machine_in}
 use Rattle.ev_node.specs.Coming.{HaveCommand}

@@ -2,8 +2,8 @@
 ghost use Rattle.std.specs.Prelude.{◌≡◌, ◌≤◌, ℕ, length, map, IfOk};
 ghost use Rattle.ev_model.specs.Nets.{home_of, phases_of, of_clients};
 ghost use Rattle.ev_model.specs.Sound.{IsSound};
-ghost use Rattle.ev_net.specs.Network.{network_parts, refused_by, received_by};
-ghost use Rattle.ev_net.specs.Sessions.{IsSessionOf};
+ghost use Rattle.ev_turns.specs.Network.{network_parts, refused_by, received_by};
+ghost use Rattle.ev_turns.specs.Sessions.{IsSessionOf};
 ghost use Rattle.ev_node.specs.Entered.{AreThrough};
 ghost use Rattle.ev_course.specs.Course.{StandBetween, AreInHand, IsWholeMerge, IsEndOf, IsRanBy, journals_by};
 

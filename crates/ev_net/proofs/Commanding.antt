@@ -30,19 +30,19 @@ use Rattle.ev_server.specs.Step.{last_stamp}
 use Rattle.ev_net.specs.declared.servers.Servers as code
 use Rattle.ev_net.specs.Seen.{seen, calm_in, calm_at, AreCalmCores}
 use Rattle.ev_frame.specs.Frame.{FrameParts}
-use Rattle.ev_net.specs.Sessions.{is_phase_below}
+use Rattle.ev_turns.specs.Sessions.{is_phase_below}
 use Rattle.std.proofs.lemmas.Bool.Decides.{nat_tests}
 use Rattle.ev_sets.proofs.Numbers.{Same, Is, Not, compare}
 use Rattle.ev_memory.specs.declared.NoMemory.{NoMemory}
-use Rattle.ev_net.specs.Network.{network_parts, moment_by, IsLegal, taken_by, phase_in, next_phase_by}
-use Rattle.ev_net.specs.Turns.{IsMade, IsBarred}
+use Rattle.ev_turns.specs.Network.{network_parts, moment_by, IsLegal, taken_by, phase_in, next_phase_by}
+use Rattle.ev_turns.specs.Turns.{IsMade, IsBarred}
 use Rattle.ev_net.specs.Links.{AreOnLinks, framed}
 use Rattle.ev_net.specs.Kept.{AreServers, IsNetwork}
 use Rattle.ev_net.specs.Acted.{Servers, IsActed}
 use Rattle.ev_net.proofs.Acted.{network-step, IsNetworkStep, get-below}
 use Rattle.ev_tree.proofs.Servers.{server-in, in-server}
-use Rattle.ev_net.proofs.Among.{server_low, low_server, not_both}
-use Rattle.ev_net.proofs.Barred.{Permits, permits}
+use Rattle.ev_turns.proofs.Among.{server_low, low_server, not_both}
+use Rattle.ev_turns.proofs.Barred.{Permits, permits}
 use Rattle.ev_net.proofs.Grown.{is_made, is_kept}
 use Rattle.ev_net.proofs.Tried.{IsSame, same_kept}
 use Rattle.ev_net.proofs.Standing.{At, Found, get-at, laws_at, low_at, run_of}

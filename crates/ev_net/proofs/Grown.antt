@@ -12,8 +12,8 @@ use Rattle.ev_model.specs.declared.turn.Turn.{Turn}
 use Rattle.ev_model.specs.Parts.{NetParts, EntryParts}
 use Rattle.ev_model.specs.Meaning.{entry_of, journal_of}
 use Rattle.ev_model.specs.Nets.{phased_net, turn_of}
-use Rattle.ev_net.specs.Network.{network_parts, moment_by, IsLegal}
-use Rattle.ev_net.specs.Turns.{IsMade}
+use Rattle.ev_turns.specs.Network.{network_parts, moment_by, IsLegal}
+use Rattle.ev_turns.specs.Turns.{IsMade}
 use Rattle.ev_net.specs.Links.{AreOnLinks}
 use Rattle.ev_net.specs.Kept.{AreServers, IsNetwork}
 use Rattle.ev_net.specs.Acted.{Servers}

@@ -13,11 +13,11 @@ use Rattle.ev_server.specs.Clients.{client_numbers, at_client, emptied}
 use Rattle.ev_server.specs.Core.{CoreParts, without_inbox}
 use Rattle.ev_server.proofs.Emptied.{numbers-emptied}
 use Rattle.ev_server.proofs.Sessions.{has-map}
-use Rattle.ev_net.specs.Network.{moment_by, received_by}
+use Rattle.ev_turns.specs.Network.{moment_by, received_by}
 use Rattle.ev_net.specs.Kept.{IsNetwork}
 use Rattle.ev_net.specs.Acted.{Servers}
 use Rattle.ev_net.specs.Inboxes.{HaveInboxes}
-use Rattle.ev_net.proofs.Among.{core_at}
+use Rattle.ev_turns.proofs.Among.{core_at}
 use Rattle.ev_net.proofs.Commanding.{home_low, lives_there, home_place}
 use Rattle.ev_net.proofs.Standing.{At, Found, get-at}
 use Rattle.ev_net.proofs.Turning.{set-same, set-other, set-long}

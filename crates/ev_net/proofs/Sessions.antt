@@ -10,10 +10,10 @@ use Rattle.ev_model.specs.Nets.{home_of, with_adverts}
 use Rattle.ev_session.specs.Session.{SessionParts}
 use Rattle.ev_server.specs.Clients.{bare}
 use Rattle.ev_server.specs.Core.{CoreParts}
-use Rattle.ev_net.specs.Network.{network_parts, moment_by}
+use Rattle.ev_turns.specs.Network.{network_parts, moment_by}
 use Rattle.ev_net.specs.Kept.{IsNetwork}
 use Rattle.ev_net.specs.Acted.{Servers}
-use Rattle.ev_net.specs.Sessions.{IsSessionOf}
+use Rattle.ev_turns.specs.Sessions.{IsSessionOf}
 use Rattle.ev_net.proofs.Commanding.{taken_there, script_there, home_place}
 
 one-semantics : (a b : Semantics) → with_adverts a ≡ by_adverts b → b ≡ a

@@ -23,7 +23,7 @@ use Rattle.ev_model.proofs.Counted.{stays-low}
 use Rattle.ev_model.proofs.SoundNets.{net-laws, tree-map, few-servers}
 use Rattle.ev_server.specs.Core.{CoreParts}
 use Rattle.ev_server.specs.Step.{last_stamp}
-use Rattle.ev_net.specs.Network.{moment_by, IsLegal}
+use Rattle.ev_turns.specs.Network.{moment_by, IsLegal}
 use Rattle.ev_net.specs.Seen.{CanAct}
 use Rattle.ev_net.specs.Kept.{AreServers, IsNetwork}
 use Rattle.ev_net.specs.Acted.{Servers}

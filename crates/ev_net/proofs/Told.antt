@@ -26,15 +26,15 @@ use Rattle.ev_control.specs.Control.{texts}
 use Rattle.ev_model.specs.Parts.{NetParts, EntryParts}
 use Rattle.ev_model.specs.Meaning.{entry_of, journal_of}
 use Rattle.ev_model.specs.Nets.{phased_net}
-use Rattle.ev_net.specs.Network.{moment_by}
+use Rattle.ev_turns.specs.Network.{moment_by}
 use Rattle.ev_net.specs.Links.{framed, frame_of}
 use Rattle.ev_net.specs.Kept.{IsNetwork}
 use Rattle.ev_net.specs.Acted.{Servers}
 use Rattle.ev_net.specs.Last.{LieLast}
-use Rattle.ev_net.specs.Told.{told_of}
+use Rattle.ev_turns.specs.Told.{told_of}
 use Rattle.ev_net.proofs.Sending.{receivers-told, texts-to, texts-of}
 use Rattle.ev_net.proofs.Standing.{laws_at, run_of}
-use Rattle.ev_net.proofs.Within.{taken-low, found-within}
+use Rattle.ev_turns.proofs.Within.{taken-low, found-within}
 
 drop-append : {T : Type 0} (k : ℕ) (xs ys : List T) → k ≤ length xs → drop k (xs ++ ys) ≡ drop k xs ++ ys
 drop-append zero xs ys l = refl

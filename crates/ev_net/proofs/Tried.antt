@@ -18,15 +18,15 @@ use Rattle.ev_model.specs.Parts.{NetParts, entry_parts}
 use Rattle.ev_model.specs.Nets.{phased_net, topology_at}
 use Rattle.ev_server.specs.Core.{CoreParts}
 use Rattle.ev_server.specs.Staged.{is_some_there}
-use Rattle.ev_net.specs.Network.{network_parts, moment_by}
-use Rattle.ev_net.specs.Turns.{IsTurn, IsMade, IsBarred}
+use Rattle.ev_turns.specs.Network.{network_parts, moment_by}
+use Rattle.ev_turns.specs.Turns.{IsTurn, IsMade, IsBarred}
 use Rattle.ev_net.specs.Links.{framed}
 use Rattle.ev_net.specs.Kept.{IsNetwork}
 use Rattle.ev_net.specs.declared.servers.Servers as code
 use Rattle.ev_net.specs.Seen.{seen, IsUnchanged}
 use Rattle.ev_net.specs.Acted.{Servers, IsActed}
 use Rattle.ev_net.proofs.Acted.{network-step, IsNetworkStep}
-use Rattle.ev_net.proofs.Barred.{permits}
+use Rattle.ev_turns.proofs.Barred.{permits}
 use Rattle.ev_net.proofs.Grown.{is_made, is_kept, stays_kept}
 use Rattle.ev_net.proofs.Standing.{laws_at, links_at}
 

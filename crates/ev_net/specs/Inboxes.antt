@@ -6,7 +6,7 @@ use Rattle.ev_model.specs.Nets.{first_tree, home_of}
 use Rattle.ev_session.specs.Session.{SessionParts}
 use Rattle.ev_server.specs.Clients.{client_numbers}
 use Rattle.ev_server.specs.Core.{CoreParts}
-use Rattle.ev_net.specs.Network.{received_by}
+use Rattle.ev_turns.specs.Network.{received_by}
 
 -- the clients behind the first so many live at the cores of their homes, with what was delivered to them by a journal
 pub record HaveInboxes (net : NetParts) (journal : List EntryParts) (done : ℕ) (cores : List CoreParts) : Type 0 where

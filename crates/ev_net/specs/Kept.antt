@@ -13,7 +13,7 @@ use Rattle.ev_model.specs.Parts.{NetParts}
 use Rattle.ev_model.specs.Nets.{phased_net, first_tree}
 use Rattle.ev_model.specs.Sound.{IsSound}
 use Rattle.ev_server.specs.Core.{CoreParts, IsServerState, published_from}
-use Rattle.ev_net.specs.Network.{moment_by, IsLegal}
+use Rattle.ev_turns.specs.Network.{moment_by, IsLegal}
 use Rattle.ev_net.specs.Links.{AreOnLinks}
 use Rattle.ev_net.specs.Acted.{Servers}
 

@@ -9,7 +9,7 @@ use Rattle.ev_server.specs.Core.{CoreParts, IsServerState}
 use Rattle.ev_server.specs.Staged.{is_some_there}
 use Rattle.ev_server.specs.Step.{last_stamp}
 use Rattle.ev_net.specs.declared.servers.Servers as code
-use Rattle.ev_net.specs.Network.{NetworkParts, network_parts}
+use Rattle.ev_turns.specs.Network.{NetworkParts, network_parts}
 use Rattle.ev_net.specs.Acted.{Servers}
 use Rattle.ev_net.specs.Links.{frames_at, AreSame}
 

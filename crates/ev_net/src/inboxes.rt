@@ -5,7 +5,7 @@ ghost use Rattle.ev_model.specs.Nets.{home_of, of_clients};
 ghost use Rattle.ev_session.specs.Session.{SessionParts};
 ghost use Rattle.ev_server.specs.Clients.{client_numbers};
 ghost use Rattle.ev_server.specs.Core.{CoreParts, without_inbox};
-ghost use Rattle.ev_net.specs.Network.{received_by};
+ghost use Rattle.ev_turns.specs.Network.{received_by};
 ghost use Rattle.ev_net.specs.Kept.{IsNetwork};
 ghost use Rattle.ev_net.specs.Seen.{seen};
 

@@ -7,12 +7,12 @@ ghost use Rattle.ev_model.specs.Parts.{NetParts};
 ghost use Rattle.ev_model.specs.Nets.{phased_net, home_of};
 ghost use Rattle.ev_model.specs.declared.turn.Turn.TheVariants as turns;
 ghost use Rattle.ev_server.specs.Core.{CoreParts};
-ghost use Rattle.ev_net.specs.Network.{moment_by, next_phase_by, received_by, refused_by};
-ghost use Rattle.ev_net.specs.Turns.{IsTurn, IsMade};
+ghost use Rattle.ev_turns.specs.Network.{moment_by, next_phase_by, received_by, refused_by};
+ghost use Rattle.ev_turns.specs.Turns.{IsTurn, IsMade};
 ghost use Rattle.ev_net.specs.Kept.{IsNetwork};
 ghost use Rattle.ev_net.specs.Seen.{seen, shown, calm_in, calm_at, AreCalmCores};
 ghost use Rattle.ev_net.specs.Links.{frames_at};
-ghost use Rattle.ev_net.specs.Sessions.{IsSessionOf, is_phase_below};
+ghost use Rattle.ev_turns.specs.Sessions.{IsSessionOf, is_phase_below};
 
 use crate::begin::{begin, take_back};
 use crate::place::Place;

@@ -9,7 +9,7 @@ ghost use Rattle.ev_model.specs.Nets.{phased_net, first_tree, servers_in, client
 ghost use Rattle.ev_model.specs.Sound.{IsSound};
 ghost use Rattle.ev_net.specs.Kept.{AreServers};
 ghost use Rattle.ev_net.specs.Seen.{AreClients};
-ghost use Rattle.ev_net.specs.Told.{told_of};
+ghost use Rattle.ev_turns.specs.Told.{told_of};
 
 use crate::inboxes::take_inboxes;
 use crate::links::Links;
@@ -37,7 +37,7 @@ pub struct Network<'a> {
 }
 
 impl<'a> Model for Network<'a> {
-    ghost use Rattle.ev_net.specs.Network.{NetworkParts, network_parts};
+    ghost use Rattle.ev_turns.specs.Network.{NetworkParts, network_parts};
     ghost use Rattle.ev_net.specs.Kept.{IsNetwork};
     ghost use Rattle.ev_net.specs.Seen.{seen, AreClients};
 
@@ -98,8 +98,8 @@ fn all_clients(alloc: Global, net: &Net, count: u32) -> Result<Vec<Lists<u32>>, 
 }
 
 impl<'a> Network<'a> {
-    ghost use Rattle.ev_net.specs.Network.{network_parts, moment_by, next_phase_by, IsLegal, received_by, refused_by};
-    ghost use Rattle.ev_net.specs.Turns.{IsTurn};
+    ghost use Rattle.ev_turns.specs.Network.{network_parts, moment_by, next_phase_by, IsLegal, received_by, refused_by};
+    ghost use Rattle.ev_turns.specs.Turns.{IsTurn};
 
     /// The network of a net before its first turn.
     pub fn start(alloc: Global, net: &'a Net) -> Result<Network<'a>, NoMemory>

@@ -15,8 +15,8 @@ pub enum ReplayFault {
 }
 
 impl<'a> Network<'a> {
-    ghost use Rattle.ev_net.specs.Network.{IsLater};
-    ghost use Rattle.ev_net.specs.Turns.{AreReplayed, AreBegun, StopsAt};
+    ghost use Rattle.ev_turns.specs.Network.{IsLater};
+    ghost use Rattle.ev_turns.specs.Turns.{AreReplayed, AreBegun, StopsAt};
 
     /// Makes turns, each with its line, in their order, up to the first that is not permitted. The turns before it, and
     /// those before want of memory, stand, and no other was made.

@@ -1,9 +1,9 @@
 //! The messages of a journal.
 ghost use Rattle.std.specs.Prelude.{◌≡◌, IfOk};
 ghost use Rattle.ev_model.specs.Sound.{IsSound};
-ghost use Rattle.ev_net.specs.Network.{IsLegal};
-ghost use Rattle.ev_net.specs.Told.{told_by};
-ghost use Rattle.ev_net.specs.Retold.{turn_of_entry};
+ghost use Rattle.ev_turns.specs.Network.{IsLegal};
+ghost use Rattle.ev_turns.specs.Told.{told_by};
+ghost use Rattle.ev_turns.specs.Retold.{turn_of_entry};
 
 use crate::network::Network;
 use ev_memory::NoMemory;

@@ -11,7 +11,7 @@ ghost use Rattle.ev_net.specs.Kept.{IsNetwork};
 ghost use Rattle.ev_net.specs.Last.{LieLast};
 ghost use Rattle.ev_net.specs.Links.{frames_at};
 ghost use Rattle.ev_net.specs.Seen.{seen};
-ghost use Rattle.ev_net.specs.Told.{told_of};
+ghost use Rattle.ev_turns.specs.Told.{told_of};
 
 use crate::links::Links;
 use crate::servers::Servers;

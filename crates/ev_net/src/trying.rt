@@ -12,9 +12,9 @@ use ev_model::{Net, Turn};
 use ev_tree::Tree;
 
 impl<'a> Network<'a> {
-    ghost use Rattle.ev_net.specs.Network.{IsLater};
-    ghost use Rattle.ev_net.specs.Trying.{Tries, Begins, command_turn, script_turns, server_turns, commands_turns};
-    ghost use Rattle.ev_net.specs.Trying.{takings, round_turns, rounds_turns, phase_turns};
+    ghost use Rattle.ev_turns.specs.Network.{IsLater};
+    ghost use Rattle.ev_turns.specs.Trying.{Tries, Begins, command_turn, script_turns, server_turns, commands_turns};
+    ghost use Rattle.ev_turns.specs.Trying.{takings, round_turns, rounds_turns, phase_turns};
 
     /// Makes what is left of a phase: its commands, and then rounds until one makes nothing.
     pub(crate) fn make_phase(&mut self, phase: u32) -> Result<(), NoMemory>

@@ -5,8 +5,8 @@ use crate::network::Network;
 use ev_memory::NoMemory;
 
 impl<'a> Network<'a> {
-    ghost use Rattle.ev_net.specs.Network.{IsLater};
-    ghost use Rattle.ev_net.specs.Walked.{IsWalked, IsWalkBegun, IsPhaseOf, IsPhaseBegun};
+    ghost use Rattle.ev_turns.specs.Network.{IsLater};
+    ghost use Rattle.ev_turns.specs.Walked.{IsWalked, IsWalkBegun, IsPhaseOf, IsPhaseBegun};
 
     /// Makes what is left of the phase in hand, or else of the next phase that has something left, and answers whether
     /// there was something. After want of memory the turns that were made stand: a beginning of these.

@@ -12,11 +12,11 @@ use Rattle.ev_model.specs.Parts.{NetParts, EntryParts}
 use Rattle.ev_model.specs.Meaning.{journal_of}
 use Rattle.ev_model.specs.Lists.{refused_ordinals}
 use Rattle.ev_model.specs.Nets.{home_of, of_clients, phased_net}
-use Rattle.ev_net.specs.Network.{NetworkParts, network_parts, IsDrainedBy, IsLegal, refused_by}
-use Rattle.ev_net.specs.Retold.{turn_of_entry}
-use Rattle.ev_net.specs.Told.{told_of, told_from, told_by}
-use Rattle.ev_net.specs.Turns.{IsTurn}
-use Rattle.ev_net.proofs.Again.{IsRetoldTo, retold-all, retold-more, retold-none}
+use Rattle.ev_turns.specs.Network.{NetworkParts, network_parts, IsDrainedBy, IsLegal, refused_by}
+use Rattle.ev_turns.specs.Retold.{turn_of_entry}
+use Rattle.ev_turns.specs.Told.{told_of, told_from, told_by}
+use Rattle.ev_turns.specs.Turns.{IsTurn}
+use Rattle.ev_turns.proofs.Again.{IsRetoldTo, retold-all, retold-more, retold-none}
 use Rattle.ev_traffic.specs.declared.carried.Carried.{Carried}
 use Rattle.ev_traffic.specs.Tallied.{Carries}
 use Rattle.ev_traffic.specs.Told.{IsTold, told_from as run_told_from}

@@ -14,7 +14,7 @@ use Rattle.ev_quiet.specs.declared.words.Query.{Query}
 use Rattle.ev_quiet.specs.declared.words.Query.TheVariants.{Run, Flood, Check, Format, Traffic}
 use Rattle.ev_quiet.specs.Runs.{turns_first}
 use Rattle.ev_quiet.specs.Faults.{ArePermitted, StopsAtLine, MustBeRefused, CanBeDone}
-use Rattle.ev_net.proofs.Stopping.{never-stops, one-line}
+use Rattle.ev_turns.proofs.Stopping.{never-stops, one-line}
 
 -- where one holds of an answer, so does what follows
 pub if-ok : {T E : Type 0} (r : Result T E) (P Q : T → Type 0) → ((x : T) → P x → Q x) → IfOk r P → IfOk r Q

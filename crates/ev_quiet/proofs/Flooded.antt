@@ -5,7 +5,7 @@ use Rattle.ev_wire.specs.declared.delivery.Delivery.{Delivery}
 use Rattle.ev_model.specs.Parts.{ClientParts, NetParts, EntryParts}
 use Rattle.ev_model.specs.Nets.{home_of}
 use Rattle.ev_model.specs.Lists.{refused_ordinals}
-use Rattle.ev_net.specs.Network.{IsDrainedBy, refused_by, received_by}
+use Rattle.ev_turns.specs.Network.{IsDrainedBy, refused_by, received_by}
 use Rattle.ev_input.specs.declared.fault.Fault.{Fault}
 use Rattle.ev_input.specs.declared.state.State.{State}
 use Rattle.ev_input.specs.Net.{IsNetOf, client_of}

@@ -3,9 +3,9 @@ use Rattle.std.proofs.Common.{◌≡◌, ℕ, true, List, [], ◌++◌, refl, sy
 use Rattle.ev_model.specs.declared.turn.Turn.{Turn}
 use Rattle.ev_model.specs.Parts.{NetParts, EntryParts}
 use Rattle.ev_model.specs.Meaning.{journal_of}
-use Rattle.ev_net.specs.Network.{NetworkParts, network_parts, IsDrainedBy}
-use Rattle.ev_net.specs.Turns.{AreMade, AreReplayed, StopsAt}
-use Rattle.ev_net.specs.Walked.{walk_after, IsWalked}
+use Rattle.ev_turns.specs.Network.{NetworkParts, network_parts, IsDrainedBy}
+use Rattle.ev_turns.specs.Turns.{AreMade, AreReplayed, StopsAt}
+use Rattle.ev_turns.specs.Walked.{walk_after, IsWalked}
 use Rattle.ev_net.specs.declared.replaying.ReplayFault.{ReplayFault}
 use Rattle.ev_net.specs.declared.replaying.ReplayFault.TheVariants as told
 use Rattle.ev_input.specs.declared.fault.Fault.{Fault}
@@ -14,8 +14,8 @@ use Rattle.ev_quiet.specs.declared.words.Schedule.{Schedule}
 use Rattle.ev_quiet.specs.declared.words.Schedule.TheVariants.{Walk, Replay, Threads}
 use Rattle.ev_quiet.specs.Words.{is_quiet}
 use Rattle.ev_quiet.specs.Runs.{turns_first, GoesBy}
-use Rattle.ev_net.specs.Stopping.{StopsAtLine}
-use Rattle.ev_net.proofs.Stopping.{from-start}
+use Rattle.ev_turns.specs.Stopping.{StopsAtLine}
+use Rattle.ev_turns.proofs.Stopping.{from-start}
 use Rattle.ev_quiet.specs.Ran.{IsRunThrough}
 use Rattle.ev_quiet.specs.Refusals.{refusal_of_turn}
 use Rattle.ev_quiet.specs.declared.refusal.Refusal.TheVariants as refusals

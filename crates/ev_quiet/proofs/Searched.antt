@@ -25,7 +25,7 @@ use Rattle.ev_quiet.specs.Answers.{GaveDocument, GaveRefusedFor, GaveBadPatternF
 use Rattle.ev_quiet.specs.Showing.{PrintedParts}
 use Rattle.ev_quiet.specs.Answering.{of_refusal}
 use Rattle.ev_quiet.specs.Searching.{IsSearched, SearchesInput, SearchesSource}
-use Rattle.ev_net.specs.Network.{IsLegal, IsDrainedBy}
+use Rattle.ev_turns.specs.Network.{IsLegal, IsDrainedBy}
 use Rattle.ev_found.specs.Found.{found_text}
 use Rattle.ev_quiet.specs.Runs.{GoesBy, received_in}
 use Rattle.ev_quiet.proofs.Sources.{same-given}

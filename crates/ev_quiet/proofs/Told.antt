@@ -1,7 +1,7 @@
 -- Each entry of a journal has its messages.
 use Rattle.std.proofs.Common.{◌≡◌, ℕ, zero, suc, List, [], ◌∷◌, length, refl, ap}
 use Rattle.ev_model.specs.Parts.{NetParts, EntryParts}
-use Rattle.ev_net.specs.Told.{told_from, told_by}
+use Rattle.ev_turns.specs.Told.{told_from, told_by}
 
 from_place : (net : NetParts) (journal : List EntryParts) (n : ℕ) (entries : List EntryParts) → length (told_from net journal n entries) ≡ length entries
 from_place net journal n [] = refl

@@ -2,8 +2,8 @@
 use Rattle.std.specs.Prelude.{◌≡◌, ℕ, List, [], ◌⊎◌}
 use Rattle.ev_model.specs.declared.turn.Turn.{Turn}
 use Rattle.ev_model.specs.Parts.{NetParts, EntryParts}
-use Rattle.ev_net.specs.Turns.{AreMade}
-pub use Rattle.ev_net.specs.Stopping.{StopsAtLine}
+use Rattle.ev_turns.specs.Turns.{AreMade}
+pub use Rattle.ev_turns.specs.Stopping.{StopsAtLine}
 use Rattle.ev_input.specs.declared.fault.Fault.{Fault}
 use Rattle.ev_input.specs.declared.fault.Fault.TheVariants.{BadTurn}
 use Rattle.ev_input.specs.Net.{IsNetOf, IsBadAt}

@@ -14,7 +14,7 @@ use Rattle.ev_model.specs.Parts.{NetParts, EntryParts}
 use Rattle.ev_model.specs.Meaning.{journal_of}
 use Rattle.ev_model.specs.Nets.{phased_net}
 use Rattle.ev_model.specs.Sound.{IsSound}
-use Rattle.ev_net.specs.Network.{moment_by, IsLegal, IsDrainedBy, refused_by, received_by}
+use Rattle.ev_turns.specs.Network.{moment_by, IsLegal, IsDrainedBy, refused_by, received_by}
 use Rattle.ev_quiet.specs.declared.words.Schedule.{Schedule}
 use Rattle.ev_quiet.specs.declared.words.Shown.{Shown}
 use Rattle.ev_quiet.specs.Runs.{GoesBy}

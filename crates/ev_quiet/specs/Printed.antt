@@ -3,8 +3,8 @@ use Rattle.std.specs.Prelude.{◌≡◌, ℕ, ◌-◌, Bool, true, false, List, 
 use Rattle.ev_sets.specs.Numbers.{sum_over}
 use Rattle.ev_model.specs.Parts.{NetParts, EntryParts}
 use Rattle.ev_model.specs.Sound.{publishes}
-use Rattle.ev_net.specs.Network.{IsLegal, IsDrainedBy}
-use Rattle.ev_net.specs.Told.{told_by}
+use Rattle.ev_turns.specs.Network.{IsLegal, IsDrainedBy}
+use Rattle.ev_turns.specs.Told.{told_by}
 use Rattle.ev_input.specs.Net.{IsNetOf}
 use Rattle.ev_format.specs.DocumentText.{as_written, document_text}
 use Rattle.ev_format.specs.Limits.{FitsDocument}

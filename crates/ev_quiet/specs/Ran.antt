@@ -1,7 +1,7 @@
 -- How the code makes a run; no promise to a caller speaks of it.
 use Rattle.std.specs.Prelude.{◌≡◌, ℕ, List}
 use Rattle.ev_model.specs.Parts.{NetParts, EntryParts}
-use Rattle.ev_net.specs.Network.{NetworkParts, IsLegal, IsDrainedBy}
+use Rattle.ev_turns.specs.Network.{NetworkParts, IsLegal, IsDrainedBy}
 use Rattle.ev_quiet.specs.declared.ran.Ran.{Ran}
 use Rattle.ev_quiet.specs.declared.words.Schedule.{Schedule}
 use Rattle.ev_quiet.specs.declared.words.Shown.{Shown}

@@ -5,9 +5,9 @@ use Rattle.ev_wire.specs.declared.delivery.Delivery.{Delivery}
 use Rattle.ev_model.specs.declared.turn.Turn.{Turn}
 use Rattle.ev_model.specs.Parts.{NetParts, EntryParts}
 use Rattle.ev_model.specs.Meaning.{journal_of}
-use Rattle.ev_net.specs.Network.{refused_by, received_by}
-use Rattle.ev_net.specs.Turns.{AreMade}
-use Rattle.ev_net.specs.Walked.{walk_after}
+use Rattle.ev_turns.specs.Network.{refused_by, received_by}
+use Rattle.ev_turns.specs.Turns.{AreMade}
+use Rattle.ev_turns.specs.Walked.{walk_after}
 use Rattle.ev_quiet.specs.declared.words.Schedule.{Schedule}
 use Rattle.ev_quiet.specs.declared.words.Schedule.TheVariants.{Walk, Replay, Threads}
 use Rattle.ev_model.specs.Nets.{of_clients}

@@ -2,7 +2,7 @@
 use Rattle.std.specs.Prelude.{◌≡◌, ◌≤◌, ℕ, Bool, true, List, length, Result, Ok, Err}
 use Rattle.ev_outside.specs.Whole.{Gave}
 use Rattle.ev_model.specs.Parts.{EntryParts, NetParts}
-use Rattle.ev_net.specs.Network.{IsLegal, IsDrainedBy}
+use Rattle.ev_turns.specs.Network.{IsLegal, IsDrainedBy}
 use Rattle.ev_watch.specs.Parts.{PatternParts}
 use Rattle.ev_found.specs.Found.{found_text}
 use Rattle.ev_quiet.specs.declared.unanswered.Unanswered.{Unanswered}

@@ -1,8 +1,8 @@
 -- What is printed of what the links of a document carry in its walk.
 use Rattle.std.specs.Prelude.{◌≡◌, ℕ, Bool, List}
 use Rattle.ev_model.specs.Parts.{NetParts, EntryParts}
-use Rattle.ev_net.specs.Network.{IsLegal, IsDrainedBy}
-use Rattle.ev_net.specs.Told.{told_by}
+use Rattle.ev_turns.specs.Network.{IsLegal, IsDrainedBy}
+use Rattle.ev_turns.specs.Told.{told_by}
 use Rattle.ev_input.specs.Net.{IsNetOf}
 use Rattle.ev_traffic.specs.Text.{loads_of, traffic_printed}
 use Rattle.ev_traffic.specs.Laws.{AsManyWhereOwed, NeverMore}

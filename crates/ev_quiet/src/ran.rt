@@ -1,7 +1,7 @@
 //! Runs of a network, and what they leave.
 ghost use Rattle.std.specs.Prelude.{◌≡◌, ◌≤◌, ℕ, true, [], length, IfOk, IsErrOf};
 ghost use Rattle.ev_model.specs.Sound.{IsSound};
-ghost use Rattle.ev_net.specs.Network.{IsLegal, refused_by};
+ghost use Rattle.ev_turns.specs.Network.{IsLegal, refused_by};
 ghost use Rattle.ev_quiet.specs.Runs.{turns_first};
 ghost use Rattle.ev_quiet.specs.Ran.{IsRan, IsRunThrough};
 ghost use Rattle.ev_quiet.specs.Words.{is_quiet};

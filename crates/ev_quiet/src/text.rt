@@ -1,8 +1,8 @@
 //! Texts of runs.
 ghost use Rattle.std.specs.Prelude.{◌≡◌, IfOk};
 ghost use Rattle.ev_model.specs.Sound.{IsSound};
-ghost use Rattle.ev_net.specs.Network.{IsLegal};
-ghost use Rattle.ev_net.specs.Told.{told_by};
+ghost use Rattle.ev_turns.specs.Network.{IsLegal};
+ghost use Rattle.ev_turns.specs.Told.{told_by};
 ghost use Rattle.ev_report.specs.Trace.{trace_text};
 ghost use Rattle.ev_quiet.specs.Printed.{trace_of, run_text};
 ghost use Rattle.ev_quiet.specs.Ran.{IsCollected};

@@ -1,8 +1,8 @@
 //! What the links of a document carry in its walk.
 ghost use Rattle.std.specs.Prelude.{◌⊎◌, ℕ, List, IfOk, IsOk, IsErrOf};
 ghost use Rattle.ev_model.specs.Sound.{IsSound};
-ghost use Rattle.ev_net.specs.Network.{IsLegal};
-ghost use Rattle.ev_net.specs.Told.{told_by};
+ghost use Rattle.ev_turns.specs.Network.{IsLegal};
+ghost use Rattle.ev_turns.specs.Told.{told_by};
 ghost use Rattle.ev_input.specs.Net.{IsNetOf};
 ghost use Rattle.ev_traffic.specs.Tallied.{Carries};
 ghost use Rattle.ev_quiet.specs.Answers.{IsPrintedOf};

@@ -1,7 +1,7 @@
 -- What a run with threads leaves.
 use Rattle.std.specs.Prelude.{◌≡◌}
 use Rattle.ev_model.specs.Parts.{NetParts}
-use Rattle.ev_net.specs.Network.{IsLegal, IsDrainedBy, refused_by, received_by}
+use Rattle.ev_turns.specs.Network.{IsLegal, IsDrainedBy, refused_by, received_by}
 use Rattle.ev_course.specs.declared.ran.Ran.{Ran}
 use Rattle.ev_quiet.specs.Runs.{IsByStamp}
 use Rattle.ev_model.specs.Nets.{of_clients}

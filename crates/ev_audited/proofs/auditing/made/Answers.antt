@@ -1,4 +1,4 @@
-use Rattle.ev_net.specs.Told.{told_by}
+use Rattle.ev_turns.specs.Told.{told_by}
 use Rattle.ev_report.specs.Trace.{trace_text}
 use Rattle.ev_audited.specs.Verdict.{traced_text}
 use Rattle.ev_audited.proofs.Verdicts.{compared_all}

@@ -1,7 +1,7 @@
 use Rattle.std.proofs.Common.{◌≡◌, ℕ, List, [], Ok, Vec, Global, refl, sym, ap, subst, ◌∙◌}
 use Rattle.ev_model.specs.declared.entry.Entry.{Entry}
 use Rattle.ev_model.specs.Parts.{EntryParts}
-use Rattle.ev_net.specs.Network.{IsLegal, NetworkParts}
+use Rattle.ev_turns.specs.Network.{IsLegal, NetworkParts}
 use Rattle.ev_audit.specs.Difference.{difference}
 use Rattle.ev_audited.specs.Answers.{TellsDrained}
 use Rattle.ev_audited.specs.Verdict.{IsOutputOf, MakesRun, delivered_in, traced_text}

@@ -2,7 +2,7 @@ use Rattle.std.proofs.Common.{◌≡◌, ◌+◌, ◌<◌, false, List, ℕ, [],
 use Rattle.std.proofs.lemmas.List.FromFn.{get_or-map-range_with_len, length-map-range_with_len}
 use Rattle.ev_wire.specs.declared.delivery.Delivery.{Delivery}
 use Rattle.ev_model.specs.Nets.{of_clients}
-use Rattle.ev_net.specs.Network.{received_by, refused_by}
+use Rattle.ev_turns.specs.Network.{received_by, refused_by}
 use Rattle.ev_report.specs.Deliveries.{delivery_section, delivery_sections}
 use Rattle.ev_report.proofs.Sections.{sections-next}
 use Rattle.ev_audited.proofs.Pieces.{goes_nowhere, goes_then}

@@ -1,6 +1,6 @@
 use Rattle.std.proofs.Common.{◌≡◌, ℕ, false, List, ◌++◌, drop}
 use Rattle.ev_model.specs.Nets.{of_clients}
-use Rattle.ev_net.specs.Network.{received_by, refused_by}
+use Rattle.ev_turns.specs.Network.{received_by, refused_by}
 use Rattle.ev_report.specs.Deliveries.{delivery_sections}
 use Rattle.ev_audited.specs.Comparing.{GoesOn}
 use Rattle.ev_audited.proofs.compared.compare_deliveries.Given as goal

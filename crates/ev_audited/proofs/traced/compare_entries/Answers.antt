@@ -1,10 +1,10 @@
 use Rattle.std.proofs.Common.{◌≡◌, ◌++◌, ◌∷◌, [], List, take, get_or, length, refl, ap, subst, ◌∙◌, arith}
 use Rattle.std.proofs.Math.Seq.{take-length}
 use Rattle.ev_wire.specs.declared.sent.Sent.{Sent}
-use Rattle.ev_net.specs.Turns.{IsTurn}
-use Rattle.ev_net.specs.Retold.{turn_of_entry}
-use Rattle.ev_net.specs.Told.{told_by}
-use Rattle.ev_net.proofs.Again.{retold-all, retold-more, retold-none}
+use Rattle.ev_turns.specs.Turns.{IsTurn}
+use Rattle.ev_turns.specs.Retold.{turn_of_entry}
+use Rattle.ev_turns.specs.Told.{told_by}
+use Rattle.ev_turns.proofs.Again.{retold-all, retold-more, retold-none}
 use Rattle.ev_report.specs.Trace.{entries_text, entry_text}
 use Rattle.ev_audited.specs.Comparing.{GoesOn}
 use Rattle.ev_audited.proofs.Pieces.{goes_nowhere, goes_then}

@@ -1,6 +1,6 @@
 use Rattle.std.proofs.Common.{List, take}
 use Rattle.ev_wire.specs.declared.sent.Sent.{Sent}
-use Rattle.ev_net.proofs.Again.{IsRetoldTo}
+use Rattle.ev_turns.proofs.Again.{IsRetoldTo}
 use Rattle.ev_report.specs.Trace.{entries_text}
 use Rattle.ev_audited.specs.Comparing.{GoesOn}
 use Rattle.ev_audited.proofs.traced.compare_entries.Given as goal

@@ -2,11 +2,11 @@ use Rattle.std.proofs.Common.{◌≡◌, ℕ, List, [], length, refl, sym, ap, s
 use Rattle.std.proofs.Math.Seq.{take-length}
 use Rattle.std.proofs.Common.{take}
 use Rattle.ev_model.specs.declared.turn.Turn.TheVariants as turns
-use Rattle.ev_net.specs.Network.{network_parts}
-use Rattle.ev_net.specs.Told.{told_by}
-use Rattle.ev_net.specs.Turns.{AreMade}
-use Rattle.ev_net.proofs.Replayed.{stops}
-use Rattle.ev_net.proofs.Stopping.{from-start}
+use Rattle.ev_turns.specs.Network.{network_parts}
+use Rattle.ev_turns.specs.Told.{told_by}
+use Rattle.ev_turns.specs.Turns.{AreMade}
+use Rattle.ev_turns.proofs.Replayed.{stops}
+use Rattle.ev_turns.proofs.Stopping.{from-start}
 use Rattle.ev_report.specs.Trace.{entries_text, trace_head}
 use Rattle.ev_audited.specs.Comparing.{GoesOn}
 use Rattle.ev_audited.proofs.Making.{as-many-entries, made-more}

@@ -1,6 +1,6 @@
 use Rattle.std.proofs.Common.{◌≡◌, map}
 use Rattle.std.specs.List.{range_with_len}
-use Rattle.ev_net.specs.Network.{received_by}
+use Rattle.ev_turns.specs.Network.{received_by}
 use Rattle.ev_course.proofs.ran.received.Given as goal
 
 abbrev pub invariant-loop-place : goal.invariant-loop-place

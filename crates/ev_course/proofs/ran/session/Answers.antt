@@ -3,7 +3,7 @@ use Rattle.ev_sets.specs.Sets.{Has}
 use Rattle.ev_model.specs.Nets.{first_tree, home_of}
 use Rattle.ev_server.specs.Clients.{bare, client_numbers}
 use Rattle.ev_server.specs.Core.{CoreParts}
-use Rattle.ev_net.specs.Network.{moment_by}
+use Rattle.ev_turns.specs.Network.{moment_by}
 use Rattle.ev_net.proofs.Commanding.{home_low, lives_there}
 use Rattle.ev_node.specs.Cell.{CellParts}
 use Rattle.ev_node.proofs.Places.{placed}

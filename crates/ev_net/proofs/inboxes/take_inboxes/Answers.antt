@@ -3,7 +3,7 @@ use Rattle.std.specs.List.{range_with_len}
 use Rattle.std.proofs.lemmas.Grind.{common_steps}
 use Rattle.std.proofs.lemmas.List.FromFn.{map-range_with_len_more}
 use Rattle.ev_model.specs.Nets.{home_of}
-use Rattle.ev_net.specs.Network.{received_by}
+use Rattle.ev_turns.specs.Network.{received_by}
 use Rattle.ev_net.specs.Seen.{seen}
 use Rattle.ev_net.proofs.Commanding.{home_low}
 use Rattle.ev_net.proofs.HandedOn.{have_all, next_inbox}

@@ -1,6 +1,6 @@
 use Rattle.std.proofs.Common.{refl, sym, ◌∙◌}
 use Rattle.ev_net.specs.Seen.{seen}
-use Rattle.ev_net.proofs.Among.{not_both}
+use Rattle.ev_turns.proofs.Among.{not_both}
 use Rattle.ev_net.proofs.Commanding.{command_early, quiet_where, empty_where, calm_where, through_where, below_where}
 use Rattle.ev_net.proofs.making.command.Goals as goal
 

@@ -1,9 +1,9 @@
 use Rattle.std.proofs.Common.{◌≡◌, ◌≤◌, ◌-◌, Some, slice_get, sym, ap, subst, ◌∙◌}
 use Rattle.ev_tree.specs.Tree.{links_of}
 use Rattle.ev_model.specs.Nets.{first_tree}
-use Rattle.ev_net.specs.Network.{moment_by}
+use Rattle.ev_turns.specs.Network.{moment_by}
 use Rattle.ev_net.specs.Seen.{seen, CanAct}
-use Rattle.ev_net.proofs.Among.{count_at}
+use Rattle.ev_turns.proofs.Among.{count_at}
 use Rattle.ev_net.proofs.Standing.{can_act, clocks_low}
 use Rattle.ev_net.proofs.Tried.{same_on_err}
 use Rattle.ev_net.proofs.Commanding.{home_low, lives_there, left_there, commanded_now, on_ok_same, kept_either, journal_on_err}

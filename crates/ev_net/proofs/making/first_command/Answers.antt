@@ -6,12 +6,12 @@ use Rattle.ev_model.specs.Nets.{phased_net, first_tree, home_of, script_of}
 use Rattle.ev_model.specs.declared.turn.Act.TheVariants as acts
 use Rattle.ev_run.specs.Machine.{Does}
 use Rattle.ev_routing.specs.Step.{NextCommand}
-use Rattle.ev_net.specs.Network.{moment_by, phase_in}
+use Rattle.ev_turns.specs.Network.{moment_by, phase_in}
 use Rattle.ev_net.specs.Acted.{IsActed}
 use Rattle.ev_net.specs.Begin.{IsUndoneBy}
 use Rattle.ev_net.specs.Links.{frames_at}
 use Rattle.ev_net.specs.Seen.{seen, CanAct}
-use Rattle.ev_net.proofs.Among.{count_at}
+use Rattle.ev_turns.proofs.Among.{count_at}
 use Rattle.ev_net.proofs.Standing.{can_act}
 use Rattle.ev_net.proofs.Commanding.{home_low, lives_there, left_there, ready_later, rests_now, links_later, low_later, done_later, command_made, command_kept, taken_back}
 use Rattle.ev_net.proofs.making.first_command.Goals as goal

@@ -1,4 +1,4 @@
-use Rattle.ev_net.proofs.Among.{any_has}
+use Rattle.ev_turns.proofs.Among.{any_has}
 use Rattle.ev_net.proofs.making.is_among.Goals as goal
 
 pub returns : goal.returns

@@ -1,6 +1,6 @@
 use Rattle.std.proofs.Common.{◌≡◌, ◌<◌, ◌≤◌, ℕ, false}
-use Rattle.ev_net.specs.Network.{next_phase_by}
-use Rattle.ev_net.specs.Sessions.{is_phase_below}
+use Rattle.ev_turns.specs.Network.{next_phase_by}
+use Rattle.ev_turns.specs.Sessions.{is_phase_below}
 use Rattle.ev_net.proofs.making.none_below.Given as goal
 
 abbrev pub invariant-loop-client : goal.invariant-loop-client

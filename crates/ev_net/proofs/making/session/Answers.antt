@@ -2,9 +2,9 @@ use Rattle.std.proofs.Common.{◌≡◌, ◌<◌, ◌≤◌, ◌-◌, length, So
 use Rattle.ev_server.specs.Clients.{bare, client_numbers}
 use Rattle.ev_sets.specs.Sets.{Has}
 use Rattle.ev_model.specs.Nets.{first_tree}
-use Rattle.ev_net.specs.Network.{moment_by}
+use Rattle.ev_turns.specs.Network.{moment_by}
 use Rattle.ev_net.specs.Seen.{seen}
-use Rattle.ev_net.proofs.Among.{core_at}
+use Rattle.ev_turns.proofs.Among.{core_at}
 use Rattle.ev_net.proofs.Commanding.{home_low, lives_there}
 use Rattle.ev_net.proofs.Sessions.{session_of}
 use Rattle.ev_net.proofs.making.session.Goals as goal

@@ -2,8 +2,8 @@ use Rattle.std.proofs.Common.{◌≤◌, refl, sym, ap, subst, ◌∙◌}
 use Rattle.ev_sets.specs.Sets.{Has}
 use Rattle.ev_tree.specs.Tree.{links_of}
 use Rattle.ev_net.specs.Seen.{seen, CanAct}
-use Rattle.ev_net.specs.Network.{moment_by}
-use Rattle.ev_net.proofs.Among.{count_at, server_low, not_both}
+use Rattle.ev_turns.specs.Network.{moment_by}
+use Rattle.ev_turns.proofs.Among.{count_at, server_low, not_both}
 use Rattle.ev_net.proofs.Standing.{can_act, clocks_low, frames_low, frames_readable}
 use Rattle.ev_net.proofs.Tried.{taken_none, taken_turn, same_of, same_on_err}
 use Rattle.ev_net.proofs.making.take.Goals as goal

@@ -1,10 +1,10 @@
 use Rattle.std.proofs.Common.{◌≤◌, ◌<◌, ◌-◌, length, refl, sym, ap, subst, ◌∙◌, arith}
 use Rattle.std.proofs.lemmas.Option.{same_Some}
 use Rattle.ev_net.specs.Seen.{seen}
-use Rattle.ev_net.specs.Network.{moment_by}
+use Rattle.ev_turns.specs.Network.{moment_by}
 use Rattle.ev_tree.specs.Tree.{links_of}
 use Rattle.ev_model.specs.Nets.{topology_at}
-use Rattle.ev_net.proofs.Among.{server_low, not_both, core_at}
+use Rattle.ev_turns.proofs.Among.{server_low, not_both, core_at}
 use Rattle.ev_net.proofs.Standing.{can_act, clocks_low}
 use Rattle.ev_net.proofs.Tried.{version_barred, version_none, version_turn}
 use Rattle.ev_net.proofs.making.version.Goals as goal

@@ -4,7 +4,7 @@ use Rattle.ev_routing.specs.Routing.{empty_server}
 use Rattle.ev_theory.specs.Real.{real}
 use Rattle.ev_model.specs.Nets.{phased_net}
 use Rattle.ev_server.specs.Core.{CoreParts, IsServerState}
-use Rattle.ev_net.proofs.Among.{low_server}
+use Rattle.ev_turns.proofs.Among.{low_server}
 use Rattle.ev_net.proofs.Sending.{length-append}
 use Rattle.ev_net.proofs.Starting.{each_more, servers_start}
 use Rattle.ev_net.proofs.network.places.Goals as goal

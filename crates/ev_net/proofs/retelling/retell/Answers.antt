@@ -1,7 +1,7 @@
 use Rattle.std.proofs.Common.{◌≡◌, get_or, ap, subst, ◌∙◌}
-use Rattle.ev_net.specs.Turns.{IsTurn}
-use Rattle.ev_net.specs.Retold.{turn_of_entry}
-use Rattle.ev_net.proofs.Again.{retold-none, retold-more}
+use Rattle.ev_turns.specs.Turns.{IsTurn}
+use Rattle.ev_turns.specs.Retold.{turn_of_entry}
+use Rattle.ev_turns.proofs.Again.{retold-none, retold-more}
 use Rattle.ev_net.proofs.retelling.retell.Goals as goal
 
 pub loop-entry-init : goal.loop-entry-init

@@ -1,4 +1,4 @@
-use Rattle.ev_net.proofs.Again.{IsRetoldTo}
+use Rattle.ev_turns.proofs.Again.{IsRetoldTo}
 use Rattle.ev_net.proofs.retelling.retell.Given as goal
 
 abbrev pub invariant-loop-entry : goal.invariant-loop-entry

@@ -10,7 +10,7 @@ use Rattle.ev_net.specs.Kept.{IsNetwork}
 use Rattle.ev_net.specs.Last.{LieLast}
 use Rattle.ev_net.specs.Links.{frames_at}
 use Rattle.ev_net.specs.Seen.{seen}
-use Rattle.ev_net.specs.Told.{told_of}
+use Rattle.ev_turns.specs.Told.{told_of}
 use Rattle.ev_net.proofs.Told.{small_last, told_last}
 use Rattle.ev_net.proofs.telling.last_told.Goals as goal
 

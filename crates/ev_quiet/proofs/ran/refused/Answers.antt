@@ -1,7 +1,7 @@
 use Rattle.std.proofs.Common.{◌+◌, arith}
 use Rattle.std.proofs.lemmas.Grind.{common_steps}
 use Rattle.std.proofs.lemmas.List.FromFn.{map-range_with_len_more}
-use Rattle.ev_net.specs.Network.{refused_by}
+use Rattle.ev_turns.specs.Network.{refused_by}
 use Rattle.ev_quiet.proofs.ran.refused.Goals as goal
 
 pub loop-place-preserved : goal.loop-place-preserved

@@ -1,6 +1,6 @@
 use Rattle.std.proofs.Common.{ap, ◌∙◌, length}
 use Rattle.std.proofs.lemmas.List.FromFn.{length-map-range_with_len}
-use Rattle.ev_net.specs.Network.{refused_by, received_by}
+use Rattle.ev_turns.specs.Network.{refused_by, received_by}
 use Rattle.ev_quiet.proofs.text.printed_run.Goals as goal
 
 pub make-requires-clause-refused : goal.make-requires-clause-refused

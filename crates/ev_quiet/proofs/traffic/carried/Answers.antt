@@ -1,6 +1,6 @@
 use Rattle.std.proofs.Common.{◌≡◌, ◌++◌, ◌∷◌, [], get_or, ap, subst, ◌∙◌}
-use Rattle.ev_net.specs.Retold.{turn_of_entry}
-use Rattle.ev_net.specs.Turns.{IsTurn}
+use Rattle.ev_turns.specs.Retold.{turn_of_entry}
+use Rattle.ev_turns.specs.Turns.{IsTurn}
 use Rattle.ev_traffic.specs.Tallied.{Carries}
 use Rattle.ev_quiet.proofs.Carrying.{counted-more}
 use Rattle.ev_quiet.proofs.traffic.carried.Goals as goal

@@ -1,5 +1,5 @@
 use Rattle.std.proofs.Common.{refl, subst, ◌∙◌}
-use Rattle.ev_net.specs.Told.{told_by}
+use Rattle.ev_turns.specs.Told.{told_by}
 use Rattle.ev_traffic.specs.Tallied.{Carries}
 use Rattle.ev_quiet.specs.Network.{run_of}
 use Rattle.ev_quiet.specs.Traffic.{IsTrafficOf}

@@ -1,7 +1,7 @@
 use Rattle.std.proofs.Common.{◌≡◌, ◌-◌, ◌<◌, suc, length, sym, ap, subst, ◌∙◌, rules, arith}
 use Rattle.ev_sets.specs.Sets.{Has}
 use Rattle.ev_model.specs.Nets.{servers_in, clients_of}
-use Rattle.ev_net.proofs.Among.{server_low}
+use Rattle.ev_turns.proofs.Among.{server_low}
 use Rattle.ev_net.proofs.Starting.{list_at}
 use Rattle.ev_net.proofs.network.Network.clients.Goals as goal
 

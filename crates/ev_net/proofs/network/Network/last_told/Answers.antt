@@ -7,8 +7,8 @@ use Rattle.ev_model.specs.Parts.{EntryParts, NetParts}
 use Rattle.ev_model.specs.Nets.{phased_net}
 use Rattle.ev_net.specs.Kept.{IsNetwork}
 use Rattle.ev_net.specs.Seen.{seen}
-use Rattle.ev_net.specs.Told.{told_of}
-use Rattle.ev_net.specs.Network.{NetworkParts}
+use Rattle.ev_turns.specs.Told.{told_of}
+use Rattle.ev_turns.specs.Network.{NetworkParts}
 use Rattle.ev_net.proofs.network.Network.last_told.Goals as goal
 
 pub returns : goal.returns

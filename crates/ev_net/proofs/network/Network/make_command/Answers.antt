@@ -1,11 +1,11 @@
 use Rattle.std.proofs.Common.{[], ◌∷◌, sym, ◌∙◌, refl}
 use Rattle.ev_model.specs.declared.turn.Turn.TheVariants as turns
-use Rattle.ev_net.specs.Network.{moment_by}
-use Rattle.ev_net.specs.Trying.{command_turn}
-use Rattle.ev_net.proofs.Commands.{skipped, command-tried, turn-none, turn-later, same-phase, other-phase}
-use Rattle.ev_net.proofs.Later.{later-same}
-use Rattle.ev_net.proofs.Tries.{idle}
-use Rattle.ev_net.proofs.Begun.{on-err, begun-none}
+use Rattle.ev_turns.specs.Network.{moment_by}
+use Rattle.ev_turns.specs.Trying.{command_turn}
+use Rattle.ev_turns.proofs.Commands.{skipped, command-tried, turn-none, turn-later, same-phase, other-phase}
+use Rattle.ev_turns.proofs.Later.{later-same}
+use Rattle.ev_turns.proofs.Tries.{idle}
+use Rattle.ev_turns.proofs.Begun.{on-err, begun-none}
 use Rattle.ev_net.proofs.network.Network.make_command.Goals as goal
 
 pub returns : goal.returns

@@ -3,13 +3,13 @@ use Rattle.ev_routing.specs.Walk.{command_turns}
 use Rattle.ev_phases.specs.Trees.{net_at}
 use Rattle.ev_theory.specs.Real.{real}
 use Rattle.ev_model.specs.Nets.{phased_net, first_tree, servers_in}
-use Rattle.ev_net.specs.Trying.{server_turns, commands_turns, Tries, Begins}
-use Rattle.ev_net.proofs.Later.{later-same, later-on, later-net}
-use Rattle.ev_net.proofs.Ranges.{servers-past}
-use Rattle.ev_net.proofs.Homes.{servers-left, server-there}
-use Rattle.ev_net.proofs.Tries.{going-starts, going-on, going-ends}
-use Rattle.ev_net.proofs.Walks.{on-err}
-use Rattle.ev_net.proofs.Begun.{going-breaks}
+use Rattle.ev_turns.specs.Trying.{server_turns, commands_turns, Tries, Begins}
+use Rattle.ev_turns.proofs.Later.{later-same, later-on, later-net}
+use Rattle.ev_turns.proofs.Ranges.{servers-past}
+use Rattle.ev_turns.proofs.Homes.{servers-left, server-there}
+use Rattle.ev_turns.proofs.Tries.{going-starts, going-on, going-ends}
+use Rattle.ev_turns.proofs.Walks.{on-err}
+use Rattle.ev_turns.proofs.Begun.{going-breaks}
 use Rattle.ev_net.proofs.network.Network.make_commands.Goals as goal
 
 pub loop-server-init : goal.loop-server-init

@@ -4,12 +4,12 @@ use Rattle.ev_routing.specs.Walk.{client_turns}
 use Rattle.ev_phases.specs.Trees.{net_at}
 use Rattle.ev_theory.specs.Real.{real}
 use Rattle.ev_model.specs.Nets.{phased_net, clients_of}
-use Rattle.ev_net.specs.Trying.{script_turns, server_turns, Tries, Begins}
-use Rattle.ev_net.proofs.Later.{later-same, later-on, later-net}
-use Rattle.ev_net.proofs.Homes.{client-lives, clients-left}
-use Rattle.ev_net.proofs.Tries.{going-starts, going-on, going-ends}
-use Rattle.ev_net.proofs.Walks.{on-err}
-use Rattle.ev_net.proofs.Begun.{going-breaks}
+use Rattle.ev_turns.specs.Trying.{script_turns, server_turns, Tries, Begins}
+use Rattle.ev_turns.proofs.Later.{later-same, later-on, later-net}
+use Rattle.ev_turns.proofs.Homes.{client-lives, clients-left}
+use Rattle.ev_turns.proofs.Tries.{going-starts, going-on, going-ends}
+use Rattle.ev_turns.proofs.Walks.{on-err}
+use Rattle.ev_turns.proofs.Begun.{going-breaks}
 use Rattle.ev_net.proofs.network.Network.make_commands_at.Goals as goal
 
 pub loop-place-init : goal.loop-place-init

@@ -3,9 +3,9 @@ use Rattle.ev_routing.specs.Walk.{client_turns}
 use Rattle.ev_phases.specs.Trees.{net_at}
 use Rattle.ev_theory.specs.Real.{real}
 use Rattle.ev_model.specs.Nets.{phased_net, clients_of}
-use Rattle.ev_net.specs.Network.{IsLater}
-use Rattle.ev_net.specs.Trying.{server_turns}
-use Rattle.ev_net.proofs.Tries.{Going}
+use Rattle.ev_turns.specs.Network.{IsLater}
+use Rattle.ev_turns.specs.Trying.{server_turns}
+use Rattle.ev_turns.proofs.Tries.{Going}
 use Rattle.ev_net.proofs.network.Network.make_commands_at.Given as goal
 
 abbrev pub invariant-loop-place : goal.invariant-loop-place

@@ -1,13 +1,13 @@
 use Rattle.std.proofs.Common.{sym, ap, subst, ◌∙◌}
 use Rattle.ev_tree.specs.Tree.{Topology}
 use Rattle.ev_model.specs.Nets.{topology_at}
-use Rattle.ev_net.specs.Trying.{Tries, Begins, commands_turns, rounds_turns}
-use Rattle.ev_net.proofs.Later.{later-on, later-net}
-use Rattle.ev_net.proofs.Rounds.{count-same}
-use Rattle.ev_net.proofs.Tries.{both-tried}
-use Rattle.ev_net.proofs.Walks.{on-ok, on-err}
-use Rattle.ev_net.proofs.Begun.{first-begun, second-begun}
-use Rattle.ev_net.proofs.Begun.{on-err as begun-on}
+use Rattle.ev_turns.specs.Trying.{Tries, Begins, commands_turns, rounds_turns}
+use Rattle.ev_turns.proofs.Later.{later-on, later-net}
+use Rattle.ev_turns.proofs.Rounds.{count-same}
+use Rattle.ev_turns.proofs.Tries.{both-tried}
+use Rattle.ev_turns.proofs.Walks.{on-ok, on-err}
+use Rattle.ev_turns.proofs.Begun.{first-begun, second-begun}
+use Rattle.ev_turns.proofs.Begun.{on-err as begun-on}
 use Rattle.ev_net.proofs.network.Network.make_phase.Goals as goal
 
 pub make_commands-requires : goal.make_commands-requires

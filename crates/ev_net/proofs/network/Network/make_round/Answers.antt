@@ -5,13 +5,13 @@ use Rattle.ev_routing.specs.Walk.{round_at}
 use Rattle.ev_phases.specs.Trees.{net_at}
 use Rattle.ev_theory.specs.Real.{real}
 use Rattle.ev_model.specs.Nets.{phased_net, servers_in}
-use Rattle.ev_net.specs.Network.{IsLater}
-use Rattle.ev_net.specs.Trying.{takings, round_turns, Tries}
-use Rattle.ev_net.proofs.Later.{later-same, later-on, later-turn}
-use Rattle.ev_net.proofs.Rounds.{round-left, round-goes, round-past, fewer-entries}
-use Rattle.ev_net.proofs.Tries.{going-starts, going-on, going-ends}
-use Rattle.ev_net.proofs.Walks.{on-err}
-use Rattle.ev_net.proofs.Begun.{going-breaks, going-stops}
+use Rattle.ev_turns.specs.Network.{IsLater}
+use Rattle.ev_turns.specs.Trying.{takings, round_turns, Tries}
+use Rattle.ev_turns.proofs.Later.{later-same, later-on, later-turn}
+use Rattle.ev_turns.proofs.Rounds.{round-left, round-goes, round-past, fewer-entries}
+use Rattle.ev_turns.proofs.Tries.{going-starts, going-on, going-ends}
+use Rattle.ev_turns.proofs.Walks.{on-err}
+use Rattle.ev_turns.proofs.Begun.{going-breaks, going-stops}
 use Rattle.ev_net.proofs.network.Network.make_round.Goals as goal
 use Rattle.ev_net.proofs.network.Network.make_round.Goals.{else-loop-server-test, then-loop-server-test+in_ok-take_each+in_ok-turn+else-server-server-end}
 use Rattle.ev_model.specs.declared.turn.Turn.TheVariants as turns

@@ -3,9 +3,9 @@ use Rattle.ev_routing.specs.Walk.{round_at}
 use Rattle.ev_phases.specs.Trees.{net_at}
 use Rattle.ev_theory.specs.Real.{real}
 use Rattle.ev_model.specs.Nets.{phased_net, servers_in, topology_at}
-use Rattle.ev_net.specs.Network.{IsLater}
-use Rattle.ev_net.specs.Trying.{round_turns}
-use Rattle.ev_net.proofs.Tries.{Going}
+use Rattle.ev_turns.specs.Network.{IsLater}
+use Rattle.ev_turns.specs.Trying.{round_turns}
+use Rattle.ev_turns.proofs.Tries.{Going}
 use Rattle.ev_net.proofs.network.Network.make_round.Given as goal
 
 abbrev pub invariant-loop-server : goal.invariant-loop-server

@@ -3,11 +3,11 @@ use Rattle.ev_run.specs.Walk.{repeated}
 use Rattle.ev_phases.specs.Trees.{machine_at}
 use Rattle.ev_theory.specs.Real.{real}
 use Rattle.ev_model.specs.Nets.{phased_net, script_of}
-use Rattle.ev_net.specs.Trying.{command_turn, script_turns, Tries, Begins}
-use Rattle.ev_net.proofs.Later.{later-same, later-on, later-net}
-use Rattle.ev_net.proofs.Tries.{Going, going-starts, going-repeats, going-rests}
-use Rattle.ev_net.proofs.Walks.{on-err}
-use Rattle.ev_net.proofs.Begun.{repeat-breaks}
+use Rattle.ev_turns.specs.Trying.{command_turn, script_turns, Tries, Begins}
+use Rattle.ev_turns.proofs.Later.{later-same, later-on, later-net}
+use Rattle.ev_turns.proofs.Tries.{Going, going-starts, going-repeats, going-rests}
+use Rattle.ev_turns.proofs.Walks.{on-err}
+use Rattle.ev_turns.proofs.Begun.{repeat-breaks}
 use Rattle.ev_net.proofs.network.Network.make_script.Goals as goal
 
 pub loop-init : goal.loop-init

@@ -3,9 +3,9 @@ use Rattle.ev_run.specs.Walk.{repeated}
 use Rattle.ev_phases.specs.Trees.{machine_at}
 use Rattle.ev_theory.specs.Real.{real}
 use Rattle.ev_model.specs.Nets.{phased_net, script_of}
-use Rattle.ev_net.specs.Network.{IsLater}
-use Rattle.ev_net.specs.Trying.{command_turn, script_turns}
-use Rattle.ev_net.proofs.Tries.{Going}
+use Rattle.ev_turns.specs.Network.{IsLater}
+use Rattle.ev_turns.specs.Trying.{command_turn, script_turns}
+use Rattle.ev_turns.proofs.Tries.{Going}
 use Rattle.ev_net.proofs.network.Network.make_script.Given as goal
 
 abbrev pub invariant-loop : goal.invariant-loop

@@ -1,8 +1,8 @@
 use Rattle.ev_model.specs.declared.turn.Turn.TheVariants as turns
 use Rattle.std.proofs.Common.{get_or, refl, subst}
-use Rattle.ev_net.specs.Turns.{IsTurn}
-use Rattle.ev_net.proofs.Begun.{replay-begun}
-use Rattle.ev_net.proofs.Replayed.{replayed-none, replayed-more, stops}
+use Rattle.ev_turns.specs.Turns.{IsTurn}
+use Rattle.ev_turns.proofs.Begun.{replay-begun}
+use Rattle.ev_turns.proofs.Replayed.{replayed-none, replayed-more, stops}
 use Rattle.ev_net.proofs.network.Network.replay.Goals as goal
 
 pub loop-line-init : goal.loop-line-init

@@ -1,4 +1,4 @@
-use Rattle.ev_net.proofs.Replayed.{IsReplayedTo}
+use Rattle.ev_turns.proofs.Replayed.{IsReplayedTo}
 use Rattle.ev_net.proofs.network.Network.replay.Given as goal
 
 abbrev pub invariant-loop-line : goal.invariant-loop-line

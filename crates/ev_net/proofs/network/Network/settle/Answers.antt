@@ -3,11 +3,11 @@ use Rattle.ev_routing.specs.Walk.{enough_rounds}
 use Rattle.ev_phases.specs.Trees.{net_at}
 use Rattle.ev_theory.specs.Real.{real}
 use Rattle.ev_model.specs.Nets.{phased_net, topology_at}
-use Rattle.ev_net.proofs.Later.{later-same, later-on, later-net}
-use Rattle.ev_net.proofs.Ranges.{less-left}
-use Rattle.ev_net.proofs.Rounds.{settling-starts, settling-on, settling-ends}
-use Rattle.ev_net.proofs.Walks.{on-err}
-use Rattle.ev_net.proofs.Begun.{settling-breaks}
+use Rattle.ev_turns.proofs.Later.{later-same, later-on, later-net}
+use Rattle.ev_turns.proofs.Ranges.{less-left}
+use Rattle.ev_turns.proofs.Rounds.{settling-starts, settling-on, settling-ends}
+use Rattle.ev_turns.proofs.Walks.{on-err}
+use Rattle.ev_turns.proofs.Begun.{settling-breaks}
 use Rattle.ev_net.proofs.network.Network.settle.Goals as goal
 
 pub loop-init : goal.loop-init

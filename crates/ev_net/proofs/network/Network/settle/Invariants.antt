@@ -3,8 +3,8 @@ use Rattle.ev_routing.specs.Walk.{enough_rounds}
 use Rattle.ev_phases.specs.Trees.{net_at}
 use Rattle.ev_theory.specs.Real.{real}
 use Rattle.ev_model.specs.Nets.{phased_net, topology_at}
-use Rattle.ev_net.specs.Network.{IsLater}
-use Rattle.ev_net.proofs.Rounds.{Settling}
+use Rattle.ev_turns.specs.Network.{IsLater}
+use Rattle.ev_turns.proofs.Rounds.{Settling}
 use Rattle.ev_net.proofs.network.Network.settle.Given as goal
 
 abbrev pub invariant-loop : goal.invariant-loop

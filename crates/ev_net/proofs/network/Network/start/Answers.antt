@@ -1,6 +1,6 @@
 use Rattle.std.proofs.Common.{◌≤◌, sym, ap, subst, ◌∙◌}
 use Rattle.ev_model.proofs.SoundNets.{few-servers}
-use Rattle.ev_net.proofs.Among.{count_at}
+use Rattle.ev_turns.proofs.Among.{count_at}
 use Rattle.ev_net.proofs.network.Network.start.Goals as goal
 
 pub places-requires-clause-count : goal.places-requires-clause-count

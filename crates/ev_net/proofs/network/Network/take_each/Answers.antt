@@ -2,12 +2,12 @@ use Rattle.std.proofs.Common.{[], ◌∷◌, get_or, drop, refl, ap, arith, ◌+
 use Rattle.ev_run.specs.Machine.{Took}
 use Rattle.ev_model.specs.declared.turn.Turn.TheVariants as turns
 use Rattle.ev_model.proofs.Walking.{drop-end}
-use Rattle.ev_net.specs.Trying.{takings}
-use Rattle.ev_net.proofs.Later.{later-same, later-on, later-turn}
-use Rattle.ev_net.proofs.Ranges.{drop-next}
-use Rattle.ev_net.proofs.Tries.{going-starts, going-on, going-ends, turn-tries}
-use Rattle.ev_net.proofs.Walks.{on-err}
-use Rattle.ev_net.proofs.Begun.{going-stops}
+use Rattle.ev_turns.specs.Trying.{takings}
+use Rattle.ev_turns.proofs.Later.{later-same, later-on, later-turn}
+use Rattle.ev_turns.proofs.Ranges.{drop-next}
+use Rattle.ev_turns.proofs.Tries.{going-starts, going-on, going-ends, turn-tries}
+use Rattle.ev_turns.proofs.Walks.{on-err}
+use Rattle.ev_turns.proofs.Begun.{going-stops}
 use Rattle.ev_net.proofs.network.Network.take_each.Goals as goal
 
 pub loop-from-init : goal.loop-from-init

@@ -1,7 +1,7 @@
 use Rattle.std.proofs.Common.{ℕ, drop}
-use Rattle.ev_net.specs.Network.{IsLater}
-use Rattle.ev_net.specs.Trying.{takings}
-use Rattle.ev_net.proofs.Tries.{Going}
+use Rattle.ev_turns.specs.Network.{IsLater}
+use Rattle.ev_turns.specs.Trying.{takings}
+use Rattle.ev_turns.proofs.Tries.{Going}
 use Rattle.ev_net.proofs.network.Network.take_each.Given as goal
 
 abbrev pub invariant-loop-from : goal.invariant-loop-from

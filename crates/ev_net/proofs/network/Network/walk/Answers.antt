@@ -1,8 +1,8 @@
 use Rattle.std.proofs.Common.{◌≡◌, ◌<◌, ◌≤◌, sym, ap, ◌∙◌, arith}
 use Rattle.ev_model.specs.Nets.{phases_of}
-use Rattle.ev_net.proofs.Later.{later-on, later-net}
-use Rattle.ev_net.proofs.Walks.{walk-starts, walk-on, walk-ends, walked-later, on-err}
-use Rattle.ev_net.proofs.Begun.{walk-begun}
+use Rattle.ev_turns.proofs.Later.{later-on, later-net}
+use Rattle.ev_turns.proofs.Walks.{walk-starts, walk-on, walk-ends, walked-later, on-err}
+use Rattle.ev_turns.proofs.Begun.{walk-begun}
 use Rattle.ev_net.proofs.network.Network.walk.Goals as goal
 
 pub loop-phase-init : goal.loop-phase-init

@@ -1,4 +1,4 @@
-use Rattle.ev_net.specs.Trying.{IsWalkedTo}
+use Rattle.ev_turns.specs.Trying.{IsWalkedTo}
 use Rattle.ev_net.proofs.network.Network.walk.Given as goal
 
 abbrev pub invariant-loop-phase : goal.invariant-loop-phase

@@ -1,9 +1,9 @@
 use Rattle.std.proofs.Common.{◌≡◌, ◌<◌, ◌≤◌, length, refl, sym, ap, subst, ◌∙◌, arith}
 use Rattle.ev_model.specs.Nets.{phases_of}
-use Rattle.ev_net.specs.Network.{NetworkParts, moment_by, IsDrainedBy}
-use Rattle.ev_net.proofs.Later.{later-net, later-none}
-use Rattle.ev_net.proofs.Walks.{on-err, walk-starts, walk-can, walk-on, walk-drained, walked-later, empty-none, empty-more, phase-walked}
-use Rattle.ev_net.proofs.Begun.{phase-begun}
+use Rattle.ev_turns.specs.Network.{NetworkParts, moment_by, IsDrainedBy}
+use Rattle.ev_turns.proofs.Later.{later-net, later-none}
+use Rattle.ev_turns.proofs.Walks.{on-err, walk-starts, walk-can, walk-on, walk-drained, walked-later, empty-none, empty-more, phase-walked}
+use Rattle.ev_turns.proofs.Begun.{phase-begun}
 use Rattle.ev_net.proofs.network.Network.walk_phase.Goals as goal
 
 pub loop-phase-init : goal.loop-phase-init

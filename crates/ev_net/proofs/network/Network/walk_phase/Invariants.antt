@@ -1,6 +1,6 @@
 use Rattle.std.proofs.Common.{◌≡◌}
-use Rattle.ev_net.specs.Trying.{IsWalkedTo}
-use Rattle.ev_net.proofs.Walks.{AreEmpty}
+use Rattle.ev_turns.specs.Trying.{IsWalkedTo}
+use Rattle.ev_turns.proofs.Walks.{AreEmpty}
 use Rattle.ev_net.proofs.network.Network.walk_phase.Given as goal
 
 abbrev pub invariant-loop-phase : goal.invariant-loop-phase

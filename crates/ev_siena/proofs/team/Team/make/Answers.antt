@@ -1,6 +1,6 @@
 use Rattle.std.proofs.Common.{ap, subst, ◌∙◌, arith}
 use Rattle.ev_tree.specs.Tree.{Topology}
-use Rattle.ev_net.proofs.Among.{count_at}
+use Rattle.ev_turns.proofs.Among.{count_at}
 use Rattle.ev_course.specs.Course.{AreKept}
 use Rattle.ev_siena.proofs.Parting.{started-eyes, started-many, team-first}
 use Rattle.ev_siena.proofs.team.Team.make.Goals as goal

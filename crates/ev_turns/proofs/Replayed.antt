@@ -2,9 +2,9 @@
 use Rattle.std.proofs.Common.{◌≡◌, ℕ, suc, ◌+◌, ◌<◌, Bool, true, false, List, [], ◌∷◌, ◌++◌, length, get_or, take, drop, refl, sym, ap, subst, ◌∙◌, drop-cons}
 use Rattle.std.proofs.lemmas.List.{take_more, take-append-drop}
 use Rattle.ev_model.specs.declared.turn.Turn.{Turn}
-use Rattle.ev_net.specs.Network.{NetworkParts, IsLater}
-use Rattle.ev_net.specs.Turns.{IsEntryOf, IsMade, IsTurn, IsBarred, AreMade, StopsAt}
-use Rattle.ev_net.proofs.Later.{later-same, later-on, made-more}
+use Rattle.ev_turns.specs.Network.{NetworkParts, IsLater}
+use Rattle.ev_turns.specs.Turns.{IsEntryOf, IsMade, IsTurn, IsBarred, AreMade, StopsAt}
+use Rattle.ev_turns.proofs.Later.{later-same, later-on, made-more}
 
 -- so far a schedule was made
 pub record IsReplayedTo (count : ℕ) (turns : List (ℕ × Turn)) (old new : NetworkParts) : Type 0 where

@@ -3,7 +3,7 @@ use Rattle.std.specs.Prelude.{◌≡◌, ℕ, nat_lt, Bool, false, map, Option, 
 use Rattle.ev_model.specs.Meaning.{phased_command}
 use Rattle.ev_model.specs.Nets.{script_of}
 use Rattle.ev_session.specs.Session.{SessionParts}
-use Rattle.ev_net.specs.Network.{NetworkParts, taken_by, received_by}
+use Rattle.ev_turns.specs.Network.{NetworkParts, taken_by, received_by}
 
 -- it has the client's script, of which as many commands are taken as in the run, and the texts of what was delivered to the client
 pub record IsSessionOf (network : NetworkParts) (client : ℕ) (session : SessionParts) : Type 0 where

@@ -23,11 +23,11 @@ use Rattle.ev_model.specs.Meaning.{entry_of, journal_of}
 use Rattle.ev_model.specs.Nets.{phased_net, phases_of}
 use Rattle.ev_model.specs.Sound.{IsSound}
 use Rattle.ev_model.proofs.SoundNets.{net-laws, phases-low}
-use Rattle.ev_net.specs.Network.{NetworkParts, network_parts, moment_by, IsLegal, IsDrainedBy, IsLater}
-use Rattle.ev_net.specs.Walked.{phase_after, IsWalked, IsPhaseWalked}
-use Rattle.ev_net.specs.Trying.{entries_tried, CanTry, IsTried, Tries, phase_turns, walk_left, CanWalk, IsWalkedTo}
-use Rattle.ev_net.proofs.Turns.{run-first}
-use Rattle.ev_net.proofs.Tries.{moment-made, nothing-made}
+use Rattle.ev_turns.specs.Network.{NetworkParts, network_parts, moment_by, IsLegal, IsDrainedBy, IsLater}
+use Rattle.ev_turns.specs.Walked.{phase_after, IsWalked, IsPhaseWalked}
+use Rattle.ev_turns.specs.Trying.{entries_tried, CanTry, IsTried, Tries, phase_turns, walk_left, CanWalk, IsWalkedTo}
+use Rattle.ev_turns.proofs.Turns.{run-first}
+use Rattle.ev_turns.proofs.Tries.{moment-made, nothing-made}
 
 module _ (th : Theory) (net : PhasedNet th) (bound : ℕ) (some : 0 < bound) (low : AllBelow th net bound) where
   next-low : (client : ℕ) (k : ℕ) (o : Option (PhasedCommand th)) (n q : ℕ) → slice_get (net.script client) n ≡ o → phase_of th (net_at th net q) o ≡ Some k → k < bound

@@ -25,10 +25,10 @@ use Rattle.ev_model.specs.declared.turn.Act.TheVariants as acts
 use Rattle.ev_model.specs.Parts.{NetParts, EntryParts}
 use Rattle.ev_model.specs.Meaning.{act_of, entry_of, journal_of}
 use Rattle.ev_model.specs.Nets.{phased_net, home_of, clients_of, turn_of}
-use Rattle.ev_net.specs.Network.{NetworkParts, network_parts, moment_by, IsLegal}
-use Rattle.ev_net.specs.Turns.{IsTurn}
-use Rattle.ev_net.specs.Told.{told_of, told_from, told_by}
-use Rattle.ev_net.specs.Retold.{turn_by, turn_of_entry}
+use Rattle.ev_turns.specs.Network.{NetworkParts, network_parts, moment_by, IsLegal}
+use Rattle.ev_turns.specs.Turns.{IsTurn}
+use Rattle.ev_turns.specs.Told.{told_of, told_from, told_by}
+use Rattle.ev_turns.specs.Retold.{turn_by, turn_of_entry}
 
 -- an entry is known by what it means
 act-same : (a b : EntryAct) → act_of a ≡ act_of b → a ≡ b

@@ -11,16 +11,16 @@ use Rattle.ev_theory.specs.Real.{real}
 use Rattle.ev_model.specs.declared.turn.Turn.{Turn as NetTurn}
 use Rattle.ev_model.specs.Meaning.{entry_of, journal_of}
 use Rattle.ev_model.specs.Nets.{phased_net, phases_of}
-use Rattle.ev_net.specs.Network.{NetworkParts, network_parts, moment_by, IsLater}
-use Rattle.ev_net.specs.Turns.{AreMade, AreBegun}
-use Rattle.ev_net.specs.Walked.{IsWalkBegun, IsPhaseBegun}
-use Rattle.ev_net.specs.Trying.{entries_tried, IsOnWay, IsBegun, Tries, Begins, round_turns, rounds_turns, phase_turns, IsWalkedTo}
-use Rattle.ev_net.proofs.Later.{later-net}
-use Rattle.ev_net.proofs.Turns.{entries-append}
-use Rattle.ev_net.proofs.Tries.{Going, can-part, going-starts, going-on}
-use Rattle.ev_net.proofs.Rounds.{Settling}
-use Rattle.ev_net.proofs.Walks.{walk-split, here-can, AreEmpty}
-use Rattle.ev_net.proofs.Replayed.{IsReplayedTo}
+use Rattle.ev_turns.specs.Network.{NetworkParts, network_parts, moment_by, IsLater}
+use Rattle.ev_turns.specs.Turns.{AreMade, AreBegun}
+use Rattle.ev_turns.specs.Walked.{IsWalkBegun, IsPhaseBegun}
+use Rattle.ev_turns.specs.Trying.{entries_tried, IsOnWay, IsBegun, Tries, Begins, round_turns, rounds_turns, phase_turns, IsWalkedTo}
+use Rattle.ev_turns.proofs.Later.{later-net}
+use Rattle.ev_turns.proofs.Turns.{entries-append}
+use Rattle.ev_turns.proofs.Tries.{Going, can-part, going-starts, going-on}
+use Rattle.ev_turns.proofs.Rounds.{Settling}
+use Rattle.ev_turns.proofs.Walks.{walk-split, here-can, AreEmpty}
+use Rattle.ev_turns.proofs.Replayed.{IsReplayedTo}
 
 pub on-err : {T E P Q : Type 0} (r : Result T E) → (P → Q) → OnErr r P → OnErr r Q
 on-err (Ok x) f p = tt

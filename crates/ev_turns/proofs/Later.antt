@@ -3,8 +3,8 @@ use Rattle.std.proofs.Common.{◌≡◌, ℕ, ◌≤◌, Bool, true, false, List
 use Rattle.std.proofs.lemmas.List.{append-nil, append_assoc}
 use Rattle.ev_model.specs.declared.turn.Turn.{Turn}
 use Rattle.ev_model.specs.Parts.{NetParts, EntryParts}
-use Rattle.ev_net.specs.Network.{NetworkParts, network_parts, IsLater}
-use Rattle.ev_net.specs.Turns.{IsTurn, IsEntryOf, AreMade}
+use Rattle.ev_turns.specs.Network.{NetworkParts, network_parts, IsLater}
+use Rattle.ev_turns.specs.Turns.{IsTurn, IsEntryOf, AreMade}
 
 pub later-same : (a b : NetworkParts) → b ≡ a → IsLater a b
 later-same a b e = record { made = []; later = e ∙ ap (network_parts a.net) (sym (append-nil a.journal)) }

@@ -1,4 +1,4 @@
--- Members of lists, servers of a net's trees, and cores at their places.
+-- Members of lists and at their places, and servers of a net's trees.
 use Rattle.std.proofs.Common.{◌≡◌, ◌↔◌, ℕ, zero, suc, ◌<◌, ◌≤◌, ◌==◌, ◌||◌, nat_le, cond, Bool, true, false, List, [], ◌∷◌, length, slice_get, slice_index_or, Some, inl, inr, refl, sym, ap, ◌∙◌, arith, eq-eqb, IsTrue}
 use Rattle.std.specs.List.{list_any}
 use Rattle.ev_sets.specs.Sets.{Has}
@@ -9,7 +9,6 @@ use Rattle.ev_phases.specs.Trees.{tree_after}
 use Rattle.ev_model.specs.Parts.{NetParts}
 use Rattle.ev_model.specs.Nets.{first_tree, later_trees, topology_at}
 use Rattle.ev_model.specs.Sound.{IsSound, HasTrees}
-use Rattle.ev_server.specs.Core.{CoreParts}
 
 has-any : (x : ℕ) (xs : List ℕ) → Has x xs → list_any (λ y. y == x) xs ≡ true
 has-any x [] h = absurd h
@@ -61,8 +60,8 @@ not_both b e f = true-false (sym e ∙ f)
     true-false : true ≡ false → ⊥
     true-false q = cc
 
--- the core at a place
-pub core_at : (cores : List CoreParts) (k : ℕ) (x : CoreParts) → k < length cores → x ≡ slice_index_or cores k x → slice_get cores k ≡ Some x
+-- the member at a place
+pub core_at : {T : Type 0} (cores : List T) (k : ℕ) (x : T) → k < length cores → x ≡ slice_index_or cores k x → slice_get cores k ≡ Some x
 core_at [] k x l e = absurd (omega (arith, l))
 core_at (y ∷ ys) zero x l e = ap Some (sym e)
 core_at (y ∷ ys) (suc k) x l e = core_at ys k x (omega (arith, l)) e

@@ -14,8 +14,8 @@ use Rattle.ev_phases.specs.Trees.{net_at, machine_at}
 use Rattle.ev_theory.specs.Real.{real}
 use Rattle.ev_model.specs.Parts.{NetParts}
 use Rattle.ev_model.specs.Nets.{phased_net, first_tree, servers_in, home_of, clients_of, script_of}
-use Rattle.ev_net.specs.Trying.{script_turns, server_turns}
-use Rattle.ev_net.proofs.Ranges.{drop-next, servers-next}
+use Rattle.ev_turns.specs.Trying.{script_turns, server_turns}
+use Rattle.ev_turns.proofs.Ranges.{drop-next, servers-next}
 
 -- a client of a server is one of the net's, and lives there
 pub record LivesAt (net : NetParts) (server client : ℕ) : Type 0 where

@@ -21,11 +21,11 @@ use Rattle.ev_model.specs.declared.turn.Turn.{Turn}
 use Rattle.ev_model.specs.declared.turn.Turn.TheVariants as turns
 use Rattle.ev_model.specs.Parts.{NetParts}
 use Rattle.ev_model.specs.Nets.{phased_net, home_of, script_of}
-use Rattle.ev_net.specs.Network.{NetworkParts, moment_by, IsLater}
-use Rattle.ev_net.specs.Turns.{IsTurn}
-use Rattle.ev_net.specs.Trying.{phase_in, next_phase_by, command_turn, Tries}
-use Rattle.ev_net.proofs.Later.{later-same, later-turn}
-use Rattle.ev_net.proofs.Tries.{turn-tries}
+use Rattle.ev_turns.specs.Network.{NetworkParts, moment_by, IsLater}
+use Rattle.ev_turns.specs.Turns.{IsTurn}
+use Rattle.ev_turns.specs.Trying.{phase_in, next_phase_by, command_turn, Tries}
+use Rattle.ev_turns.proofs.Later.{later-same, later-turn}
+use Rattle.ev_turns.proofs.Tries.{turn-tries}
 
 -- a next command of the phase is of the phase
 pub own-phase : (net : NetParts) (o : Option (PhasedCommand real)) (phase q r : ℕ) → phase_in o ≡ Some phase → is_of_phase (machine_at real (phased_net net) q) phase (phase_of real (net_at real (phased_net net) r) o) ≡ true

@@ -4,10 +4,10 @@ use Rattle.ev_model.specs.declared.turn.Turn.{Turn}
 use Rattle.ev_model.specs.Parts.{NetParts, EntryParts}
 use Rattle.ev_model.specs.Meaning.{entry_of}
 use Rattle.ev_model.specs.Nets.{turn_of}
-use Rattle.ev_net.specs.Network.{NetworkParts, network_parts, moment_by}
-use Rattle.ev_net.specs.Turns.{IsEntryOf, IsBarred, AreMade, StopsAt}
-use Rattle.ev_net.specs.Stopping.{StopsAtLine}
-use Rattle.ev_net.proofs.Again.{entry-same, permitted-once}
+use Rattle.ev_turns.specs.Network.{NetworkParts, network_parts, moment_by}
+use Rattle.ev_turns.specs.Turns.{IsEntryOf, IsBarred, AreMade, StopsAt}
+use Rattle.ev_turns.specs.Stopping.{StopsAtLine}
+use Rattle.ev_turns.proofs.Again.{entry-same, permitted-once}
 
 -- a turn has one entry
 same-entry : (net : NetParts) (journal : List EntryParts) (turn : Turn) (a b : EntryParts) → IsEntryOf net journal turn a → IsEntryOf net journal turn b → a ≡ b

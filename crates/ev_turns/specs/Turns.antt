@@ -9,7 +9,7 @@ use Rattle.ev_model.specs.declared.turn.Turn.{Turn}
 use Rattle.ev_model.specs.Parts.{NetParts, EntryParts}
 use Rattle.ev_model.specs.Meaning.{entry_of}
 use Rattle.ev_model.specs.Nets.{phased_net, turn_of}
-use Rattle.ev_net.specs.Network.{NetworkParts, network_parts, moment_by}
+use Rattle.ev_turns.specs.Network.{NetworkParts, network_parts, moment_by}
 
 -- after a journal a turn is permitted, and this is its entry
 abbrev pub IsEntryOf : NetParts → List EntryParts → Turn → EntryParts → Type 0

@@ -13,10 +13,10 @@ use Rattle.ev_model.specs.declared.turn.Turn.{Turn as NetTurn}
 use Rattle.ev_model.specs.Parts.{NetParts, EntryParts}
 use Rattle.ev_model.specs.Meaning.{entry_of, journal_of}
 use Rattle.ev_model.specs.Nets.{phased_net, turn_of}
-use Rattle.ev_net.specs.Network.{NetworkParts, network_parts, moment_by}
-use Rattle.ev_net.specs.Turns.{IsTurn}
-use Rattle.ev_net.specs.Trying.{entries_tried, CanTry, IsTried, IsOnWay, Tries}
-use Rattle.ev_net.proofs.Turns.{entries-append, moment-entries, after-append, permitted-makes, barred-none, made-nothing, run-parts, repeat-nothing}
+use Rattle.ev_turns.specs.Network.{NetworkParts, network_parts, moment_by}
+use Rattle.ev_turns.specs.Turns.{IsTurn}
+use Rattle.ev_turns.specs.Trying.{entries_tried, CanTry, IsTried, IsOnWay, Tries}
+use Rattle.ev_turns.proofs.Turns.{entries-append, moment-entries, after-append, permitted-makes, barred-none, made-nothing, run-parts, repeat-nothing}
 
 -- the moment after a journal that goes on
 pub moment-later : (net : NetParts) (journal made : List EntryParts) → moment_by net (journal ++ made) ≡ moment_after real (phased_net net) (moment_by net journal) (journal_of made) (length (journal_of made))

@@ -2,7 +2,7 @@
 use Rattle.std.specs.Prelude.{◌≡◌, ◌⊎◌, ℕ, List, [], ◌∷◌, ◌++◌}
 use Rattle.ev_model.specs.declared.turn.Turn.{Turn}
 use Rattle.ev_model.specs.Parts.{NetParts, EntryParts}
-use Rattle.ev_net.specs.Turns.{IsEntryOf, IsBarred}
+use Rattle.ev_turns.specs.Turns.{IsEntryOf, IsBarred}
 
 -- after a journal, the first of these turns that is not permitted when it comes is that of this line, and each before it is made
 abbrev pub StopsAtLine : NetParts → List EntryParts → List (ℕ × Turn) → ℕ → Type 0

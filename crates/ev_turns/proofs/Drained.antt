@@ -15,10 +15,10 @@ use Rattle.ev_theory.specs.Real.{real}
 use Rattle.ev_model.specs.Parts.{NetParts, EntryParts}
 use Rattle.ev_model.specs.Meaning.{act_of, entry_of, journal_of}
 use Rattle.ev_model.specs.Nets.{phased_net}
-use Rattle.ev_net.specs.Network.{NetworkParts, network_parts, moment_by, IsLegal, IsDrainedBy}
-use Rattle.ev_net.specs.Walked.{IsPhaseWalked}
-use Rattle.ev_net.proofs.Again.{begin-is, permitted-there}
-use Rattle.ev_net.proofs.Barred.{Needs, permits}
+use Rattle.ev_turns.specs.Network.{NetworkParts, network_parts, moment_by, IsLegal, IsDrainedBy}
+use Rattle.ev_turns.specs.Walked.{IsPhaseWalked}
+use Rattle.ev_turns.proofs.Again.{begin-is, permitted-there}
+use Rattle.ev_turns.proofs.Barred.{Needs, permits}
 
 both-ways : (b : Bool) → b ≡ true → b ≡ false → ⊥
 both-ways b p q = cc

@@ -18,12 +18,12 @@ use Rattle.ev_model.specs.Meaning.{entry_of, journal_of}
 use Rattle.ev_model.specs.Nets.{phased_net, first_tree, later_trees, servers_in, topology_at}
 use Rattle.ev_model.specs.Sound.{HasTrees, IsSound}
 use Rattle.ev_model.proofs.SoundNets.{net-laws, tree-map}
-use Rattle.ev_net.specs.Network.{NetworkParts, moment_by, IsLegal, IsLater}
-use Rattle.ev_net.specs.Turns.{IsTurn}
-use Rattle.ev_net.specs.Trying.{takings, round_turns, rounds_turns, Tries}
-use Rattle.ev_net.proofs.Ranges.{servers-next, servers-past}
-use Rattle.ev_net.proofs.Later.{later-net}
-use Rattle.ev_net.proofs.Tries.{Going, going-starts, going-on, going-repeats, going-rests, turn-tries}
+use Rattle.ev_turns.specs.Network.{NetworkParts, moment_by, IsLegal, IsLater}
+use Rattle.ev_turns.specs.Turns.{IsTurn}
+use Rattle.ev_turns.specs.Trying.{takings, round_turns, rounds_turns, Tries}
+use Rattle.ev_turns.proofs.Ranges.{servers-next, servers-past}
+use Rattle.ev_turns.proofs.Later.{later-net}
+use Rattle.ev_turns.proofs.Tries.{Going, going-starts, going-on, going-repeats, going-rests, turn-tries}
 
 -- all trees have the servers of the first
 count-after : (count : ℕ) (tree : Topology) (later : List (ℕ × Topology)) → tree.count ≡ count → ((next : ℕ × Topology) → Has next later → next.1.count ≡ count) → (phase : ℕ) → (tree_after tree later phase).count ≡ count

@@ -8,7 +8,7 @@ use Rattle.ev_theory.specs.Real.{real}
 use Rattle.ev_model.specs.Parts.{NetParts, EntryParts}
 use Rattle.ev_model.specs.Meaning.{journal_of}
 use Rattle.ev_model.specs.Nets.{phased_net, phases_of}
-use Rattle.ev_net.specs.Network.{NetworkParts, network_parts, moment_by, IsDrainedBy}
+use Rattle.ev_turns.specs.Network.{NetworkParts, network_parts, moment_by, IsDrainedBy}
 
 -- the entries that the walk makes after a journal until the run is drained
 abbrev pub walk_after : NetParts → List EntryParts → List JournalEntry

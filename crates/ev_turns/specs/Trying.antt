@@ -14,8 +14,8 @@ use Rattle.ev_theory.specs.Real.{real}
 use Rattle.ev_model.specs.Parts.{NetParts, EntryParts}
 use Rattle.ev_model.specs.Meaning.{journal_of}
 use Rattle.ev_model.specs.Nets.{phased_net, phases_of, servers_in, home_of, clients_of, script_of}
-pub use Rattle.ev_net.specs.Network.{phase_in, next_phase_by}
-use Rattle.ev_net.specs.Network.{NetworkParts, network_parts, moment_by}
+pub use Rattle.ev_turns.specs.Network.{phase_in, next_phase_by}
+use Rattle.ev_turns.specs.Network.{NetworkParts, network_parts, moment_by}
 
 -- the entries of turns within a phase after a journal, where those that are not possible are skipped
 abbrev pub entries_tried : NetworkParts → ℕ → List Turn → List JournalEntry

@@ -1,0 +1,16 @@
+pub mod Barred
+pub mod Among
+pub mod Commands
+pub mod Homes
+pub mod Later
+pub mod Ranges
+pub mod Replayed
+pub mod Rounds
+pub mod Tries
+pub mod Begun
+pub mod Turns
+pub mod Walks
+pub mod Within
+pub mod Again
+pub mod Stopping
+pub mod Drained
