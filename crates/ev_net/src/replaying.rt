@@ -1,18 +1,10 @@
 //! Schedules.
 ghost use Rattle.std.specs.Prelude.{ℕ, OnOk, IsErrOf};
-ghost use Rattle.ev_net.specs.declared.replaying.ReplayFault.TheVariants as faults;
+ghost use Rattle.ev_turns.specs.declared.replaying.ReplayFault.TheVariants as faults;
 
 use crate::network::Network;
 use ev_model::Turn;
-
-/// Why a schedule was not made to its end.
-#[derive(Clone, Copy, Debug, PartialEq, Eq)]
-pub enum ReplayFault {
-    /// The turn of this line is not permitted when it comes.
-    BadTurn(u32),
-    /// Memory ran out.
-    NoMemory,
-}
+use ev_turns::ReplayFault;
 
 impl<'a> Network<'a> {
     ghost use Rattle.ev_turns.specs.Network.{IsLater};

@@ -6,8 +6,8 @@ use Rattle.ev_model.specs.Meaning.{journal_of}
 use Rattle.ev_turns.specs.Network.{NetworkParts, network_parts, IsDrainedBy}
 use Rattle.ev_turns.specs.Turns.{AreMade, AreReplayed, StopsAt}
 use Rattle.ev_turns.specs.Walked.{walk_after, IsWalked}
-use Rattle.ev_net.specs.declared.replaying.ReplayFault.{ReplayFault}
-use Rattle.ev_net.specs.declared.replaying.ReplayFault.TheVariants as told
+use Rattle.ev_turns.specs.declared.replaying.ReplayFault.{ReplayFault}
+use Rattle.ev_turns.specs.declared.replaying.ReplayFault.TheVariants as told
 use Rattle.ev_input.specs.declared.fault.Fault.{Fault}
 use Rattle.ev_input.specs.declared.fault.Fault.TheVariants.{BadTurn}
 use Rattle.ev_quiet.specs.declared.words.Schedule.{Schedule}

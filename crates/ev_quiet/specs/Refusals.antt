@@ -2,8 +2,8 @@
 use Rattle.ev_input.specs.declared.fault.Fault.TheVariants.{BadTurn}
 use Rattle.ev_input.specs.declared.fault.InputFault.{InputFault}
 use Rattle.ev_input.specs.declared.fault.InputFault.TheVariants as inputs
-use Rattle.ev_net.specs.declared.replaying.ReplayFault.{ReplayFault}
-use Rattle.ev_net.specs.declared.replaying.ReplayFault.TheVariants as turns
+use Rattle.ev_turns.specs.declared.replaying.ReplayFault.{ReplayFault}
+use Rattle.ev_turns.specs.declared.replaying.ReplayFault.TheVariants as turns
 use Rattle.ev_quiet.specs.declared.refusal.Refusal.{Refusal}
 use Rattle.ev_quiet.specs.declared.refusal.Refusal.TheVariants as refusals
 

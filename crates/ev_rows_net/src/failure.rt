@@ -81,7 +81,7 @@ impl From<InputFault> for Failure {
 
 impl From<ReplayFault> for Failure {
     ghost use Rattle.std.specs.Prelude.{◌≡◌};
-    ghost use Rattle.ev_net.specs.declared.replaying.ReplayFault.TheVariants as replays;
+    ghost use Rattle.ev_turns.specs.declared.replaying.ReplayFault.TheVariants as replays;
     ghost use Rattle.ev_rows_net.specs.declared.failure.Failure.TheVariants.{NoMemory};
 
     ghost from_gives = { λ fault e. fault ≡ replays.NoMemory → e ≡ NoMemory };
