@@ -21,5 +21,4 @@ mod walking;
 
 pub use making::is_among;
 pub use network::Network;
-pub use ev_turns::ReplayFault;
 pub use retelling::{retell, turn_of};

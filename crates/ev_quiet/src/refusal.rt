@@ -5,7 +5,7 @@ ghost use Rattle.ev_quiet.specs.declared.refusal.Refusal.TheVariants as refusals
 
 use ev_input::{Fault, InputFault};
 use ev_memory::NoMemory;
-use ev_net::ReplayFault;
+use ev_turns::ReplayFault;
 use std::alloc::{AllocError, AllocFailed};
 
 /// Why nothing is written of a document.

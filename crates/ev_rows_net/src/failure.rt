@@ -1,7 +1,7 @@
 //! Why nothing more was printed.
 use ev_input::InputFault;
 use ev_memory::NoMemory;
-use ev_net::ReplayFault;
+use ev_turns::ReplayFault;
 use std::alloc::{AllocError, AllocFailed};
 use std::io;
 

@@ -7,7 +7,8 @@ use ev_input::law::net_is_sound;
 use ev_input::{InputFault, read_net};
 use ev_memory::NoMemory;
 use ev_model::{Net, Turn};
-use ev_net::{Network, ReplayFault, retell};
+use ev_net::{Network, retell};
+use ev_turns::ReplayFault;
 use ev_rows::{Answers, RowFault, first_word, number};
 use std::alloc::Global;
 
