@@ -9,8 +9,8 @@ use ev_input::read_net;
 use ev_memory::NoMemory;
 use ev_model::{Client, Command, Delivery, Entry, Net};
 use ev_net::Network;
-use ev_turns::ReplayFault;
 use ev_report::{deliveries_text, summary_text};
+use ev_turns::ReplayFault;
 use ev_wire::Lists;
 use std::alloc::Global;
 

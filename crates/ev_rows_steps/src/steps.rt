@@ -8,8 +8,8 @@ use ev_input::{InputFault, read_net};
 use ev_memory::NoMemory;
 use ev_model::{Net, Turn};
 use ev_net::{Network, retell};
-use ev_turns::ReplayFault;
 use ev_rows::{Answers, RowFault, first_word, number};
+use ev_turns::ReplayFault;
 use std::alloc::Global;
 
 /// A document, and the turns that its network made.

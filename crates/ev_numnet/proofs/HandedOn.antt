@@ -1,0 +1,113 @@
+-- The inboxes of a network's clients, handed on one by one.
+use Rattle.std.proofs.Common.{◌≡◌, ℕ, suc, ◌+◌, ◌-◌, ◌<◌, ◌≤◌, ◌==◌, cond, List, [], ◌∷◌, set, length, slice_get, slice_index_or, Some, inl, inr, sym, ap, subst, ◌∙◌, arith}
+use Rattle.std.proofs.lemmas.Option.{same_Some}
+use Rattle.ev_sets.specs.Sets.{Has}
+use Rattle.ev_sets.proofs.Numbers.{Same, Is, Not, compare}
+use Rattle.ev_model.specs.Parts.{NetParts, EntryParts}
+use Rattle.ev_model.specs.Meaning.{deliveries_of}
+use Rattle.ev_model.specs.Nets.{home_of}
+use Rattle.ev_model.specs.Sound.{IsSound}
+use Rattle.ev_wire.specs.declared.delivery.Delivery.{Delivery}
+use Rattle.ev_session.specs.Session.{SessionParts}
+use Rattle.ev_numserver.specs.Clients.{client_numbers, at_client, emptied}
+use Rattle.ev_numserver.specs.Core.{CoreParts, without_inbox}
+use Rattle.ev_numserver.proofs.Emptied.{numbers-emptied}
+use Rattle.ev_numserver.proofs.Sessions.{has-map}
+use Rattle.ev_turns.specs.Network.{moment_by, received_by}
+use Rattle.ev_numnet.specs.Kept.{IsNetwork}
+use Rattle.ev_numnet.specs.Acted.{Servers}
+use Rattle.ev_numnet.specs.Inboxes.{HaveInboxes}
+use Rattle.ev_turns.proofs.Among.{core_at}
+use Rattle.ev_numnet.proofs.Commanding.{home_low, lives_there, home_place}
+use Rattle.ev_numnet.proofs.Standing.{At, Found, get-at}
+use Rattle.ev_numnet.proofs.Turning.{set-same, set-other, set-long}
+
+-- nothing is handed on of a network
+pub have_all : (net : NetParts) (phase : ℕ) (now : Servers) → IsNetwork net phase now → HaveInboxes net now.journal 0 now.cores
+have_all net phase now kept = record {
+  all = kept.cores.all;
+  lives = λ client core l m at. lives_there net kept.sound phase (moment_by net now.journal).state now.cores kept.cores client (omega (arith, l), m) core at;
+  inbox = λ client core s l m at h e.
+      (kept.cores.states (home_of net client - 1) core at).inboxes s h
+      ∙ ap (λ z. deliveries_of (((moment_by net now.journal).state.state (suc (home_of net client - 1))).inbox z)) e
+      ∙ ap (λ z. deliveries_of (((moment_by net now.journal).state.state z).inbox client)) (home_place net kept.sound phase (moment_by net now.journal).state now.cores kept.cores client);
+}
+
+-- another client's session is as it was
+other-session : (client : ℕ) (sessions : List SessionParts) (s : SessionParts) → (s.client ≡ client → ⊥) → Has s (at_client client emptied sessions) → Has s sessions
+other-session client [] s n h = absurd h
+other-session client (t ∷ sessions) s n (inr h) = inr (other-session client sessions s n h)
+other-session client (t ∷ sessions) s n (inl e) = inl (go (compare t.client client) e)
+  where
+    go : Same t.client client → s ≡ cond (t.client == client) (emptied t) t → s ≡ t
+    go (Is q v) f = absurd (n (ap (λ (z : SessionParts). z.client) f ∙ (rw v q)))
+    go (Not m v) f = rw v at f
+
+-- at each place stands the core of before, or the one that handed on
+data Stands (before : List CoreParts) (place k client : ℕ) (core : CoreParts) : Type 0 where
+  Here : (old : CoreParts) → slice_get before k ≡ Some old → core ≡ without_inbox client old → Stands before place k client core
+  Elsewhere : slice_get before k ≡ Some core → Stands before place k client core
+
+stands : (before : List CoreParts) (place k client : ℕ) (old core : CoreParts) → place < length before → slice_get before place ≡ Some old
+    → slice_get (set before place (without_inbox client old)) k ≡ Some core → Stands before place k client core
+stands before place k client old core l at e = go (compare k place)
+  where
+    go : Same k place → Stands before place k client core
+    go (Is q v) = Here old (ap (slice_get before) q ∙ at)
+        (same_Some _ _ (sym e ∙ ap (slice_get (set before place (without_inbox client old))) q ∙ set-same before place (without_inbox client old) l))
+    go (Not n v) = Elsewhere (sym (set-other before place k (without_inbox client old) n) ∙ e)
+
+-- one more client's is handed on
+pub have_rest : (net : NetParts) (journal : List EntryParts) (done : ℕ) (before after : List CoreParts) (old : CoreParts) → HaveInboxes net journal done before
+    → slice_get before (home_of net (done + 1) - 1) ≡ Some old → home_of net (done + 1) - 1 < length before
+    → after ≡ set before (home_of net (done + 1) - 1) (without_inbox (done + 1) old) → HaveInboxes net journal (done + 1) after
+have_rest net journal done before after old have at within is = subst (HaveInboxes net journal (done + 1)) (sym is) (record {
+  all = set-long before place (without_inbox (done + 1) old) ∙ have.all;
+  lives = λ client core l m e. lives client core l m (stands before place (home_of net client - 1) (done + 1) old core within at e);
+  inbox = λ client core s l m e h c. inbox client core s l m h c (stands before place (home_of net client - 1) (done + 1) old core within at e);
+})
+  where
+    place : ℕ
+    place = home_of net (done + 1) - 1
+
+    lives : (client : ℕ) (core : CoreParts) → done + 1 < client → client ≤ length net.clients → Stands before place (home_of net client - 1) (done + 1) core
+        → Has client (client_numbers core.clients)
+    lives client core l m (Elsewhere e) = have.lives client core (omega (arith, l)) m e
+    lives client core l m (Here one e c) =
+        subst (λ (z : CoreParts). Has client (client_numbers z.clients)) (sym c)
+        (subst (Has client) (sym (numbers-emptied (done + 1) one.clients)) (have.lives client one (omega (arith, l)) m e))
+
+    inbox : (client : ℕ) (core : CoreParts) (s : SessionParts) → done + 1 < client → client ≤ length net.clients → Has s core.clients → s.client ≡ client
+        → Stands before place (home_of net client - 1) (done + 1) core → s.inbox ≡ received_by net journal client
+    inbox client core s l m h c (Elsewhere e) = have.inbox client core s (omega (arith, l)) m e h c
+    inbox client core s l m h c (Here one e is) =
+        have.inbox client one s (omega (arith, l)) m e
+        (other-session (done + 1) one.clients s (λ q. omega (arith, l, q, c)) (subst (λ (z : CoreParts). Has s z.clients) is h)) c
+
+-- what stands at the place of a home
+pub found_core : (cores : List CoreParts) (home number : ℕ) (now core : CoreParts) → home ≡ number → (1 ≤ number) × (number ≤ length cores)
+    → now ≡ slice_index_or cores (home - 1) now → slice_get cores (number - 1) ≡ Some core → now ≡ core
+found_core cores home number now core e low is at =
+    same_Some _ _ (sym (core_at cores (home - 1) now (omega (arith, e, low.0, low.1)) is) ∙ ap (λ z. slice_get cores (z - 1)) e ∙ at)
+
+-- the next client's inbox is handed on
+pub next_inbox : (net : NetParts) (journal : List EntryParts) (done : ℕ) (before after : List CoreParts) (given : List Delivery) → IsSound net
+    → HaveInboxes net journal done before → done < length net.clients
+    → ((core : CoreParts) (s : SessionParts) → slice_get before (home_of net (done + 1) - 1) ≡ Some core → Has s core.clients → s.client ≡ done + 1 → given ≡ s.inbox)
+    → ((core : CoreParts) → slice_get before (home_of net (done + 1) - 1) ≡ Some core
+    → after ≡ set before (home_of net (done + 1) - 1) (without_inbox (done + 1) core))
+    → (given ≡ received_by net journal (done + 1)) × HaveInboxes net journal (done + 1) after
+next_inbox net journal done before after given sound have more gives leaves = go (get-at before (home_of net (done + 1) - 1) within)
+  where
+    within : home_of net (done + 1) - 1 < length before
+    within =
+        let low = home_low net sound (done + 1) in
+        let all = have.all in
+        omega (arith, low.0, low.1, all)
+
+    go : At before (home_of net (done + 1) - 1) → (given ≡ received_by net journal (done + 1)) × HaveInboxes net journal (done + 1) after
+    go (Found core at) =
+        let r = has-map (λ (s : SessionParts). s.client) core.clients (done + 1) (have.lives (done + 1) core (omega arith) (omega (arith, more)) at) in (
+          gives core r.0 at r.1 (sym r.2) ∙ have.inbox (done + 1) core r.0 (omega arith) (omega (arith, more)) at r.1 (sym r.2),
+          have_rest net journal done before after core have at within (leaves core at),
+        )

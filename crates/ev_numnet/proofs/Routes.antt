@@ -1,0 +1,74 @@
+-- The routes by what a core published are those of its filters.
+use Rattle.std.proofs.Common.{◌≡◌, ◌<◌, ℕ, zero, suc, true, List, [], ◌∷◌, length, slice_get, get_or, slice_index_or, Some, inl, inr, sym, ap, subst, ◌∙◌, arith}
+use Rattle.std.specs.List.{Contains}
+use Rattle.ev_constraint.specs.Constraint.{ConstraintParts}
+use Rattle.ev_notice.specs.Notice.{Attribute, AreValues}
+use Rattle.ev_notice.specs.Cover.{matches}
+use Rattle.ev_sets.specs.Sets.{Has}
+use Rattle.ev_routing.specs.Clients.{some_pass}
+use Rattle.ev_routing.proofs.Listing.{pass-by, by-pass}
+use Rattle.ev_theory.specs.Real.{real}
+use Rattle.ev_theory.proofs.Meaning.{matches_plain}
+use Rattle.ev_wire.specs.Messages.{Lists}
+use Rattle.ev_model.specs.Parts.{NetParts}
+use Rattle.ev_catalogue.specs.Known.{known_filters}
+use Rattle.ev_matcher.specs.Matching.{matched}
+use Rattle.ev_matcher.proofs.Members.{matched-iff}
+use Rattle.ev_forwarding.specs.Published.{Published}
+use Rattle.ev_forwarding.specs.Routes.{IsRouteBy}
+use Rattle.ev_forwarding.proofs.Lists.{has-contains, contains-has}
+use Rattle.ev_numserver.specs.Routed.{IsRoute}
+use Rattle.ev_numnet.specs.Kept.{IsForwardingOf}
+
+-- a number below the count has an item, and an item has a number
+pub data Numbered (items : Lists) (k : ℕ) : Type 0 where
+  At : (f : List ConstraintParts) → slice_get items k ≡ Some f → get_or items k [] ≡ f → Numbered items k
+
+pub numbered : (items : Lists) (k : ℕ) → k < length items → Numbered items k
+numbered [] k l = absurd (omega (arith, l))
+numbered (f ∷ fs) zero l = At f cc cc
+numbered (f ∷ fs) (suc k) l = go (numbered fs k (omega (arith, l)))
+  where
+    go : Numbered fs k → Numbered (f ∷ fs) (suc k)
+    go (At g e d) = At g e d
+
+pub record NumberOf (items : Lists) (f : List ConstraintParts) : Type 0 where
+  pub number : ℕ
+  pub at : slice_get items number ≡ Some f
+  pub within : number < length items
+  pub is : get_or items number [] ≡ f
+
+pub number-of : (items : Lists) (f : List ConstraintParts) → Has f items → NumberOf items f
+number-of [] f h = absurd h
+number-of (g ∷ gs) f (inl e) = record { number = 0; at = ap Some (sym e); within = omega arith; is = sym e }
+number-of (g ∷ gs) f (inr h) =
+    let r = number-of gs f h in
+    let l = r.within in
+    record { number = suc r.number; at = r.at; within = omega (arith, l); is = r.is }
+
+module _ (net : NetParts) (interfaces : List ℕ) (published : ℕ → Lists) (forwarding : Published) (agrees : IsForwardingOf net interfaces published forwarding) where
+  pub route-is : (n : List Attribute) (r : List ℕ) → AreValues n → IsRouteBy (matched n (known_filters net.clients)) forwarding.pairs r → IsRoute n published r
+  route-is n r values by = record { rising = by.rising; exact = λ i. (onto i, from i) }
+    where
+      plain : (f : List ConstraintParts) → real.matches n f ≡ matches n f
+      plain f = ap (λ m. m f) (matches_plain n values)
+
+      onto : (i : ℕ) → Has i r → some_pass (real.matches n) (published i) ≡ true
+      onto i h =
+          let m = (by.exact i).0 (has-contains r i h) in
+          let k = (matched-iff n (known_filters net.clients) m.0).0 m.1 in
+          go m.0 (numbered (known_filters net.clients) m.0 k.0) k.1 m.2
+        where
+          go : (k : ℕ) → Numbered (known_filters net.clients) k → matches n (get_or (known_filters net.clients) k []) ≡ true → Has (i, k) forwarding.pairs
+              → some_pass (real.matches n) (published i) ≡ true
+          go k (At f e d) t p = pass-by (real.matches n) f (published i) ((agrees.pairs i k f e).0 p) (plain f ∙ (ap (matches n) (sym d) ∙ t))
+
+      from : (i : ℕ) → some_pass (real.matches n) (published i) ≡ true → Has i r
+      from i e =
+          let m = by-pass (real.matches n) (published i) e in
+          let k = number-of (known_filters net.clients) m.0 (agrees.known i m.0 m.1) in
+          contains-has r i ((by.exact i).1 (
+            k.number,
+            (matched-iff n (known_filters net.clients) k.number).1 (k.within, ap (matches n) k.is ∙ (sym (plain m.0) ∙ m.2)),
+            (agrees.pairs i k.number m.0 k.at).1 m.1,
+          ))

@@ -1,0 +1,34 @@
+-- The session of a client, at its home.
+use Rattle.std.proofs.Common.{◌≡◌, ℕ, suc, ◌-◌, Some, slice_get, refl, ap, ◌∙◌}
+use Rattle.ev_sets.specs.Sets.{Has}
+use Rattle.ev_wire.specs.declared.semantics.Semantics.{Semantics}
+use Rattle.ev_wire.specs.declared.semantics.Semantics.TheVariants.{Subscription, Advertisement}
+use Rattle.ev_control.specs.Control.{by_adverts}
+use Rattle.ev_model.specs.Parts.{NetParts}
+use Rattle.ev_model.specs.Meaning.{deliveries_of}
+use Rattle.ev_model.specs.Nets.{home_of, with_adverts}
+use Rattle.ev_session.specs.Session.{SessionParts}
+use Rattle.ev_numserver.specs.Clients.{bare}
+use Rattle.ev_numserver.specs.Core.{CoreParts}
+use Rattle.ev_turns.specs.Network.{network_parts, moment_by}
+use Rattle.ev_numnet.specs.Kept.{IsNetwork}
+use Rattle.ev_numnet.specs.Acted.{Servers}
+use Rattle.ev_turns.specs.Sessions.{IsSessionOf}
+use Rattle.ev_numnet.proofs.Commanding.{taken_there, script_there, home_place}
+
+one-semantics : (a b : Semantics) → with_adverts a ≡ by_adverts b → b ≡ a
+one-semantics Subscription Subscription e = refl
+one-semantics Advertisement Advertisement e = refl
+one-semantics Subscription Advertisement e = absurd cc
+one-semantics Advertisement Subscription e = absurd cc
+
+pub session_of : (net : NetParts) (phase : ℕ) (now : Servers) (kept : IsNetwork net phase now) (client : ℕ) (core : CoreParts) → slice_get now.cores (home_of net client - 1) ≡ Some core
+    → (s : SessionParts) → Has (bare s) core.clients → s.client ≡ client → s.semantics ≡ core.control.semantics → IsSessionOf (network_parts net now.journal) client s
+session_of net phase now kept client core at s h e semantics = record {
+  semantics = semantics ∙ one-semantics net.semantics core.control.semantics (kept.cores.states (home_of net client - 1) core at).control.adverts;
+  script = script_there net kept.sound phase (moment_by net now.journal).state now.cores kept.cores client core at (bare s) h e;
+  taken = taken_there net kept.sound phase (moment_by net now.journal).state now.cores kept.cores client core at (bare s) h e;
+  inbox = (kept.cores.states (home_of net client - 1) core at).inboxes (bare s) h
+      ∙ ap (λ z. deliveries_of (((moment_by net now.journal).state.state (suc (home_of net client - 1))).inbox z)) e
+      ∙ ap (λ z. deliveries_of (((moment_by net now.journal).state.state z).inbox client)) (home_place net kept.sound phase (moment_by net now.journal).state now.cores kept.cores client);
+}

@@ -1,0 +1,112 @@
+-- The servers of a network at its moment: each can act, since no stamp comes near the greatest.
+use Rattle.std.proofs.Common.{◌≡◌, ℕ, zero, suc, ◌-◌, ◌<◌, ◌≤◌, List, [], ◌∷◌, length, drop, inr, slice_get, Some, refl, sym, ap, subst, ◌∙◌, arith}
+use Rattle.ev_sets.specs.Sets.{Has}
+use Rattle.ev_run.specs.Machine.{Stamped}
+use Rattle.ev_routing.specs.Net.{NetLaws}
+use Rattle.ev_routing.specs.Server.{Message}
+use Rattle.ev_phases.specs.Trees.{State, net_at}
+use Rattle.ev_phases.specs.Runs.{PhasedRun}
+use Rattle.ev_phases.proofs.Nets.{net-laws as each-net}
+use Rattle.ev_routing.proofs.Listing.{map-has}
+use Rattle.ev_theory.specs.Real.{real}
+use Rattle.ev_tree.specs.Tree.{links_of}
+use Rattle.ev_numnet.specs.Links.{WaitingParts, waiting_in}
+use Rattle.ev_model.specs.Parts.{NetParts, EntryParts}
+use Rattle.ev_model.specs.Meaning.{journal_of}
+use Rattle.ev_model.specs.Nets.{phased_net, first_tree, later_trees, topology_at}
+use Rattle.ev_model.specs.Sound.{IsSound}
+use Rattle.ev_model.specs.Limits.{StaysLow}
+use Rattle.ev_model.proofs.Counted.{stays-low}
+use Rattle.ev_model.proofs.SoundNets.{net-laws, tree-map, few-servers}
+use Rattle.ev_numserver.specs.Core.{CoreParts}
+use Rattle.ev_numserver.specs.Step.{last_stamp}
+use Rattle.ev_turns.specs.Network.{moment_by, IsLegal}
+use Rattle.ev_numnet.specs.Seen.{CanAct}
+use Rattle.ev_numnet.specs.Kept.{AreServers, IsNetwork}
+use Rattle.ev_numnet.specs.Acted.{Servers}
+
+pub laws_at : (net : NetParts) → IsSound net → (phase : ℕ) → NetLaws real (net_at real (phased_net net) phase)
+laws_at net sound phase = each-net real (phased_net net) (net-laws net sound) phase
+
+pub links_at : (net : NetParts) (phase server : ℕ) → (net_at real (phased_net net) phase).links server ≡ links_of (topology_at net phase) server
+links_at net phase server = ap (λ z. z.links server) (sym (tree-map (first_tree net.trees) (later_trees net.trees) phase))
+
+-- the run of a legal journal
+abbrev pub run_of : (net : NetParts) (journal : List EntryParts) → IsSound net → IsLegal net journal → PhasedRun real
+run_of net journal sound legal = record {
+  net = phased_net net;
+  laws = net-laws net sound;
+  journal = journal_of journal;
+  end = (moment_by net journal).state;
+  last = (moment_by net journal).phase;
+  legal = legal;
+}
+
+pub low_at : (net : NetParts) (journal : List EntryParts) (sound : IsSound net) (legal : IsLegal net journal) → StaysLow (run_of net journal sound legal)
+low_at net journal sound legal = stays-low net sound (run_of net journal sound legal) refl
+
+drop-has : {T : Type 0} (xs : List T) (k : ℕ) (x : T) → Has x (drop k xs) → Has x xs
+drop-has xs zero x h = h
+drop-has [] (suc k) x h = absurd h
+drop-has (y ∷ ys) (suc k) x h = inr (drop-has ys k x h)
+
+-- a member at a place within a list
+pub data At {T : Type 0} (xs : List T) (k : ℕ) : Type 0 where
+  Found : (x : T) → slice_get xs k ≡ Some x → At xs k
+
+pub get-at : {T : Type 0} (xs : List T) (k : ℕ) → k < length xs → At xs k
+get-at [] k l = absurd (omega (arith, l))
+get-at (x ∷ xs) zero l = Found x refl
+get-at {T} (x ∷ xs) (suc k) l = go (get-at xs k (omega (arith, l)))
+  where
+    go : At xs k → At (x ∷ xs) (suc k)
+    go (Found y e) = Found y e
+
+module _ (net : NetParts) (sound : IsSound net) (phase : ℕ) (state : State real) (cores : List CoreParts) (servers : AreServers net phase state cores) where
+  -- where clocks are low, a server can act
+  pub can_act : (server : ℕ) → 1 ≤ server → server ≤ (first_tree net.trees).count → ((s : ℕ) → state.clock s < last_stamp)
+      → CanAct server (links_of (topology_at net phase) server) cores
+  can_act server counted few low = go (get-at cores (server - 1) (let all = servers.all in omega (arith, counted, few, all)))
+    where
+      place-is : suc (server - 1) ≡ server
+      place-is = omega (arith, counted)
+
+      go : At cores (server - 1) → CanAct server (links_of (topology_at net phase) server) cores
+      go (Found core e) = record {
+        counted = counted;
+        small = let most = few-servers net.trees sound.trees in omega (arith, few, most);
+        core = core;
+        here = e;
+        number = servers.number (server - 1) core e ∙ place-is;
+        low = subst (λ z. z < last_stamp) (sym (servers.clocks (server - 1) core e)) (low (suc (server - 1)));
+        net = net_at real (phased_net net) phase;
+        laws = laws_at net sound phase;
+        state = state.state (suc (server - 1));
+        stands = servers.states (server - 1) core e;
+        links = sym (links_at net phase server) ∙ ap ((net_at real (phased_net net) phase).links) (sym (servers.number (server - 1) core e ∙ place-is)) ∙ (servers.states (server - 1) core e).control.links;
+      }
+
+-- the clocks of a network are low, and so are the stamps on its links
+module _ (net : NetParts) (phase : ℕ) (now : Servers) (kept : IsNetwork net phase now) where
+  pub clocks_low : (s : ℕ) → (moment_by net now.journal).state.clock s < last_stamp
+  clocks_low s = let l = (low_at net now.journal kept.sound kept.legal).clocks s in omega (arith, l)
+
+  pub puts_low : (from to : ℕ) (m : Stamped (Message real)) → Has m ((moment_by net now.journal).state.put from to) → m.stamp < last_stamp
+  puts_low from to m h = let l = (low_at net now.journal kept.sound kept.legal).puts from to m h in omega (arith, l)
+
+  waiting-of : (from to : ℕ) (w : WaitingParts) → Has w (now.messages from to) → (m : Stamped (Message real)) × Has m ((moment_by net now.journal).state.put from to) × (w ≡ waiting_in net m)
+  waiting-of from to w h =
+      let m = map-has (waiting_in net) w (drop ((moment_by net now.journal).state.taken from to) ((moment_by net now.journal).state.put from to)) (subst (Has w) (kept.links.messages_are from to) h) in
+      (m.0, drop-has ((moment_by net now.journal).state.put from to) ((moment_by net now.journal).state.taken from to) m.0 m.1, m.2)
+
+  pub waiting_low : (from to : ℕ) (w : WaitingParts) → Has w (now.messages from to) → w.stamp < last_stamp
+  waiting_low from to w h =
+      let m = waiting-of from to w h in
+      subst (λ z. z < last_stamp) (sym (ap (λ z. z.stamp) m.2)) (puts_low from to m.0 m.1)
+
+  -- they are of the net
+  pub waiting_of_net : (from to : ℕ) (w : WaitingParts) → Has w (now.messages from to) → w.sent.net ≡ net
+  waiting_of_net from to w h = ap (λ z. z.sent.net) (waiting-of from to w h).2
+
+  pub core_of_net : (place : ℕ) (core : CoreParts) → slice_get now.cores place ≡ Some core → core.net ≡ now.run
+  core_of_net place core e = kept.cores.nets place core e ∙ sym kept.run

@@ -1,0 +1,14 @@
+use Rattle.ev_numnet.proofs.Exchanged.{raised-begins}
+use Rattle.ev_numnet.proofs.Setting.{if-ok, if-both, one-tree, two-trees}
+use Rattle.ev_numnet.proofs.begin.beginning.Goals as goal
+
+pub returns-then-trees_come : goal.returns-then-trees_come
+returns-then-trees_come c =
+    let one = one-tree c.args.tables.now c.args.last c.args.phase c.trees_come.result c.trees_come-2.result c.trees_come.ensures c.trees_come-2.ensures c.if-trees_come.true in
+    if-both (λ standings long all. raised-begins c.args.tables.now c.requires.sound c.args.last c.args.phase c.greatest-clock.result c.args.places.now standings.items one c.greatest-clock.ensures.greatest c.greatest-clock.ensures.low long all)
+    c.raised.result c.raised.ensures.long c.raised.ensures.raised
+
+pub returns-else-trees_come : goal.returns-else-trees_come
+returns-else-trees_come c =
+    let other = two-trees c.args.tables.now c.args.last c.args.phase c.trees_come.result c.trees_come-2.result c.trees_come.ensures c.trees_come-2.ensures c.if-trees_come.false in
+    if-ok (λ standings set. set c.args.last c.requires.state.0 other c.requires.state.1 c.requires.state.2) c.on_tree.result c.on_tree.ensures

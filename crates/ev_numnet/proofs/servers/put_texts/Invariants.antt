@@ -1,0 +1,11 @@
+use Rattle.std.proofs.Common.{◌≡◌, ◌≤◌, take, map, length, vec_len, vec_capacity}
+use Rattle.ev_numnet.specs.Putting.{ArePut}
+use Rattle.ev_numnet.proofs.servers.put_texts.Given as goal
+
+abbrev pub invariant-loop-sent : goal.invariant-loop-sent
+invariant-loop-sent l =
+    (l.yielded ≡ take (length l.yielded) l.fn.texts.items)
+    × (l.outs.items ≡ map (λ s. s.to) l.yielded)
+    × (vec_len l.outs ≡ length l.yielded)
+    × (length l.fn.texts.items ≤ vec_capacity l.outs)
+    × ArePut l.fn.texts.items l.fn.server l.fn.stamp l.fn.links l.links l.yielded

@@ -1,0 +1,236 @@
+//! The beginning of a later phase, all or nothing, and how it is taken back.
+ghost use Rattle.std.specs.Prelude.{◌≡◌, ◌<◌, ◌≤◌, ◌^◌, ℕ, suc, false, List, length, slice_get, Some, None, IfOk, OnErr};
+ghost use Rattle.ev_phases.specs.Trees.{State, is_one_tree, trees_by, IsAtRestOn};
+ghost use Rattle.ev_phases.specs.Moments.{begun};
+ghost use Rattle.ev_theory.specs.Real.{real};
+ghost use Rattle.ev_model.specs.Parts.{NetParts};
+ghost use Rattle.ev_model.specs.Nets.{phased_net, later_trees};
+ghost use Rattle.ev_model.specs.Sound.{IsSound};
+ghost use Rattle.ev_numheld.specs.Held.{held_in, AreHeldIn};
+ghost use Rattle.ev_numflow.specs.Homes.{NetHome};
+ghost use Rattle.ev_numserver.specs.Core.{CoreParts};
+ghost use Rattle.ev_numserver.specs.Linked.{AreHeldLinks};
+ghost use Rattle.ev_numnet.specs.Kept.{AreServers};
+ghost use Rattle.ev_numnet.specs.declared.relinking.Standing.{Standing};
+ghost use Rattle.ev_numnet.specs.Begin.{greatest_clock, CanAllTake, AreExchanged, Begins, IsUndoneBy, IsHomeOf, IsOnOtherLinks};
+
+use crate::place::Place;
+use crate::relinking::{OnLinks, Standing};
+use ev_memory::NoMemory;
+use ev_model::Net;
+use ev_numflow::{Home, flow};
+use ev_numheld::HeldLink;
+use ev_routing::LAST_LINK;
+use ev_tables::Tables;
+use std::alloc::Global;
+use std::marker::Model;
+
+/// What the beginning of a phase replaced at each server: its clock and, where the tree changed, what it had on its
+/// links.
+#[derive(Drop)]
+pub(crate) struct Before<'a> {
+    standings: Vec<Standing<'a>>,
+}
+
+impl<'a> Model for Before<'a> {
+    ghost use Rattle.std.specs.Prelude.{List};
+    ghost use Rattle.ev_numnet.specs.declared.relinking.Standing.{Standing};
+
+    ghost Value = { List Standing };
+
+    ghost view = { λ before. before.standings.items };
+}
+
+/// The greatest clock.
+fn greatest(places: &[Place<'_>]) -> u64
+    ensures greatest { result ≡ greatest_clock places.now }
+    ensures low { result < 2 ^ 62 }
+{
+    let mut greatest = 0;
+    for place in places {
+        greatest = place.core().clock().max(greatest);
+    }
+    greatest
+}
+
+/// How many of the later trees have come by a phase.
+fn trees_come(net: &Net, phase: u32) -> usize
+    requires { IsSound net.now }
+    ensures { result ≡ trees_by (later_trees net.now.trees) phase }
+{
+    let later = &net.trees[1..];
+    for (i, tree) in later.iter().enumerate() {
+        if tree.0 > phase {
+            return i;
+        }
+    }
+    later.len()
+}
+
+/// For each server that its clock is raised.
+fn raised<'a>(
+    alloc: Global,
+    clock: u64,
+    places: &[Place<'a>],
+) -> Result<Vec<Standing<'a>>, NoMemory>
+    ensures long { IfOk result (λ standings. length standings.items ≡ length places.now) }
+    ensures raised { IfOk result (λ standings. (place : ℕ) (standing : Standing) → slice_get standings.items place ≡ Some standing
+        → (standing.clock ≡ clock) × (standing.links ≡ None)) }
+{
+    let mut standings = Vec::with_capacity(alloc, places.len())?;
+    for _ in places {
+        standings.push(Standing { clock, links: None })?;
+    }
+    Ok(standings)
+}
+
+/// What the clients of a server have together.
+fn home<'a>(alloc: Global, place: &Place<'a>) -> Result<Home<'a>, NoMemory>
+    ensures { IfOk result (λ home. IsHomeOf place.now home) }
+{
+    let core = place.core();
+    let mut home = Home::new(alloc, core.tables())?;
+    for client in core.clients() {
+        let held = core.held(LAST_LINK + *client)?;
+        home.put(&held);
+    }
+    Ok(home)
+}
+
+/// Of each server what its clients have together.
+fn homes<'a>(alloc: Global, places: &[Place<'a>]) -> Result<Vec<Home<'a>>, NoMemory>
+    ensures long { IfOk result (λ homes. length homes.items ≡ length places.now) }
+    ensures homes { IfOk result (λ homes. (place : ℕ) (core : CoreParts) (home : NetHome) → slice_get places.now place ≡ Some core
+        → slice_get homes.items place ≡ Some home → IsHomeOf core home) }
+{
+    let mut homes = Vec::with_capacity(alloc, places.len())?;
+    for place in places {
+        homes.push(home(alloc, place)?)?;
+    }
+    Ok(homes)
+}
+
+/// A server's standing on other links, where this is held from them.
+fn moved<'a>(
+    alloc: Global,
+    clock: u64,
+    place: &Place<'a>,
+    held: &[HeldLink<'a>],
+) -> Result<Standing<'a>, NoMemory>
+    requires held { AreHeldLinks (held_in held.now) }
+    requires net { AreHeldIn place.now.net held.now }
+    ensures clock { IfOk result (λ standing. standing.clock ≡ clock) }
+    ensures links { IfOk result (λ standing. IsOnOtherLinks (held_in held.now) place.now standing) }
+{
+    let relinked = place.core().relinked(held)?;
+    let links = Some(OnLinks::of(alloc, relinked)?);
+    Ok(Standing { clock, links })
+}
+
+/// The standing of each server.
+fn all_moved<'a>(
+    alloc: Global,
+    clock: u64,
+    places: &[Place<'a>],
+    held: &[Vec<HeldLink<'a>>],
+) -> Result<Vec<Standing<'a>>, NoMemory>
+    requires long { length held.now ≡ length places.now }
+    requires held { (place : ℕ) (links : _) → slice_get held.now place ≡ Some links → AreHeldLinks (held_in links.items) }
+    requires net { (place : ℕ) (links : _) (core : CoreParts) → slice_get held.now place ≡ Some links → slice_get places.now place ≡ Some core
+        → AreHeldIn core.net links.items }
+    ensures long { IfOk result (λ standings. length standings.items ≡ length places.now) }
+    ensures clock { IfOk result (λ standings. (place : ℕ) (standing : Standing) → slice_get standings.items place ≡ Some standing → standing.clock ≡ clock) }
+    ensures links { IfOk result (λ standings. (place : ℕ) (links : _) (core : CoreParts) (standing : Standing) → slice_get held.now place ≡ Some links
+        → slice_get places.now place ≡ Some core → slice_get standings.items place ≡ Some standing → IsOnOtherLinks (held_in links.items) core standing) }
+{
+    let mut standings = Vec::with_capacity(alloc, places.len())?;
+    for (i, place) in places.iter().enumerate() {
+        standings.push(moved(alloc, clock, place, &held[i])?)?;
+    }
+    Ok(standings)
+}
+
+/// For each server that its clock is raised, and that it stands on the tree of a phase.
+fn on_tree<'a>(
+    alloc: Global,
+    tables: &'a Tables<'a>,
+    clock: u64,
+    places: &[Place<'a>],
+    phase: u32,
+) -> Result<Vec<Standing<'a>>, NoMemory>
+    requires sound { IsSound tables.now }
+    requires greatest { clock ≡ greatest_clock places.now }
+    requires low { clock < 2 ^ 62 }
+    requires state { (last : ℕ) × (state : State real) × AreServers tables.now last state places.now × IsAtRestOn real (phased_net tables.now) last state }
+    ensures { IfOk result (λ standings. (last : ℕ) (state : State real) → is_one_tree real (phased_net tables.now) last phase ≡ false
+        → AreServers tables.now last state places.now → IsAtRestOn real (phased_net tables.now) last state
+        → Begins tables.now last phase places.now standings.items) }
+{
+    let tree = tables.net().tree(phase);
+    tree.laws();
+    let homes = homes(alloc, places)?;
+    let held = flow(alloc, tables, tree, &homes)?;
+    all_moved(alloc, clock, places, &held)
+}
+
+/// The standings of a later phase, for all servers.
+fn beginning<'a>(
+    alloc: Global,
+    tables: &'a Tables<'a>,
+    places: &[Place<'a>],
+    last: u32,
+    phase: u32,
+) -> Result<Vec<Standing<'a>>, NoMemory>
+    requires sound { IsSound tables.now }
+    requires state { (state : State real) × AreServers tables.now last state places.now × IsAtRestOn real (phased_net tables.now) last state }
+    ensures { IfOk result (λ standings. Begins tables.now last phase places.now standings.items) }
+{
+    let net = tables.net();
+    let clock = greatest(places);
+    if trees_come(net, last) == trees_come(net, phase) {
+        raised(alloc, clock, places)
+    } else {
+        on_tree(alloc, tables, clock, places, phase)
+    }
+}
+
+/// Each server takes its standing on, which becomes what the server had. It takes no memory.
+fn exchange<'a>(places: &mut Vec<Place<'a>>, standings: &mut Vec<Standing<'a>>)
+    requires { CanAllTake standings.old.items places.old.items }
+    ensures { AreExchanged standings.old.items places.old.items standings.new.items places.new.items }
+{
+    for i in 0..places.len() {
+        places[i].exchange(&mut standings[i]);
+    }
+}
+
+/// Begins a later phase, where nothing is on its way or staged: raises every clock to the greatest, and where its tree
+/// is another one sets each server on it. All that is new is made first.
+pub(crate) fn begin<'a>(
+    alloc: Global,
+    tables: &'a Tables<'a>,
+    places: &mut Vec<Place<'a>>,
+    last: u32,
+    phase: u32,
+) -> Result<Before<'a>, NoMemory>
+    requires sound { IsSound tables.now }
+    requires state { (state : State real) × AreServers tables.now last state places.old.items × IsAtRestOn real (phased_net tables.now) last state }
+    ensures begun { IfOk result (λ _. (state : State real) → AreServers tables.now last state places.old.items → IsAtRestOn real (phased_net tables.now) last state
+        → AreServers tables.now phase (begun real (phased_net tables.now) last phase state) places.new.items) }
+    ensures back { IfOk result (λ before. IsUndoneBy before places.old.items places.new.items) }
+    ensures err { OnErr result (places.new.items ≡ places.old.items) }
+{
+    let mut standings = beginning(alloc, tables, places, last, phase)?;
+    exchange(places, &mut standings);
+    Ok(Before { standings })
+}
+
+/// Takes the beginning of a phase back, where no server made a step since. It takes no memory.
+pub(crate) fn take_back<'a>(places: &mut Vec<Place<'a>>, before: Before<'a>)
+    requires { (old : List CoreParts) × IsUndoneBy before old places.old.items }
+    ensures { (old : List CoreParts) (net : NetParts) (last : ℕ) (state : State real) → IsUndoneBy before.entry old places.old.items
+        → AreServers net last state old → AreServers net last state places.new.items }
+{
+    let mut standings = before.standings;
+    exchange(places, &mut standings);
+}

@@ -1,0 +1,22 @@
+//! A network on one thread, by the numbers of its run: the cores of its servers with what they published, and the links
+//! between them. Whatever turns it is asked for, its journal is a legal run of its net.
+//!
+//! Layer: network on one thread. The tables of the run are made before it; a turn compares no filters and writes no text.
+#![tactic(auto)]
+
+mod begin;
+mod finding;
+mod inboxes;
+mod links;
+mod making;
+mod network;
+mod place;
+mod queue;
+mod relinking;
+mod replaying;
+mod servers;
+mod trying;
+mod waiting;
+mod walking;
+
+pub use network::Network;

@@ -1,0 +1,271 @@
+//! The turns of a network: each is made where it is permitted, and else nothing changes.
+ghost use Rattle.std.specs.Prelude.{◌≡◌, ◌≤◌, ◌<◌, ◌↔◌, ℕ, [], false, length, Some, IfOk, OnOk, OnErr, IsTrue};
+ghost use Rattle.ev_sets.specs.Sets.{Has};
+ghost use Rattle.ev_phases.specs.Trees.{IsQuietOn, IsThroughOn};
+ghost use Rattle.ev_theory.specs.Real.{real};
+ghost use Rattle.ev_model.specs.Parts.{NetParts};
+ghost use Rattle.ev_model.specs.Nets.{phased_net, home_of};
+ghost use Rattle.ev_model.specs.declared.turn.Turn.TheVariants as turns;
+ghost use Rattle.ev_numserver.specs.Core.{CoreParts};
+ghost use Rattle.ev_turns.specs.Network.{moment_by, next_phase_by, received_by, refused_by};
+ghost use Rattle.ev_turns.specs.Turns.{IsTurn, IsMade};
+ghost use Rattle.ev_numnet.specs.Kept.{IsNetwork};
+ghost use Rattle.ev_numnet.specs.Seen.{seen, shown, calm_in, calm_at, AreCalmCores};
+ghost use Rattle.ev_numnet.specs.Links.{messages_at};
+ghost use Rattle.ev_turns.specs.Sessions.{IsSessionOf, is_phase_below};
+
+use crate::begin::{begin, take_back};
+use crate::place::Place;
+use crate::servers::Servers;
+use ev_memory::NoMemory;
+use ev_model::{Delivery, Net};
+use ev_numsession::Session;
+
+/// Whether a number is that of a server.
+fn has_server(servers: &Servers<'_>, server: u32) -> bool
+    ensures { IsTrue result ↔ ((1 ≤ server) × (server ≤ length servers.now.places.items)) }
+{
+    server != 0 && server as usize <= servers.places.len()
+}
+
+/// Whether a number is in a list.
+pub(crate) fn is_among(number: u32, list: &[u32]) -> bool
+    ensures { IsTrue result ↔ Has number list.now }
+{
+    list.contains(&number)
+}
+
+/// A server takes the next message from another.
+pub(crate) fn take(
+    net: &Net,
+    phase: u32,
+    servers: &mut Servers<'_>,
+    server: u32,
+    from: u32,
+) -> Result<bool, NoMemory>
+    requires kept { IsNetwork net.now phase (seen servers.old) }
+    ensures turn { IfOk result (λ made. IsTurn made (turns.Take server from) (shown net.now servers.old) (shown net.now servers.new)) }
+    ensures kept { IsNetwork net.now phase (seen servers.new) }
+    ensures err { OnErr result (servers.new.journal.items ≡ servers.old.journal.items) }
+{
+    if !has_server(servers, server) {
+        return Ok(false);
+    }
+    let neighbours = net.tree(phase).neighbours(server);
+    if !is_among(from, neighbours) {
+        return Ok(false);
+    }
+    servers.take(server, from, neighbours)
+}
+
+/// A server publishes what it has staged.
+pub(crate) fn version(
+    net: &Net,
+    phase: u32,
+    servers: &mut Servers<'_>,
+    server: u32,
+) -> Result<bool, NoMemory>
+    requires kept { IsNetwork net.now phase (seen servers.old) }
+    ensures turn { IfOk result (λ made. IsTurn made (turns.Version server) (shown net.now servers.old) (shown net.now servers.new)) }
+    ensures kept { IsNetwork net.now phase (seen servers.new) }
+    ensures err { OnErr result (servers.new.journal.items ≡ servers.old.journal.items) }
+{
+    if !has_server(servers, server) {
+        return Ok(false);
+    }
+    if is_calm(&servers.places[server as usize - 1]) {
+        return Ok(false);
+    }
+    servers.version(server)?;
+    Ok(true)
+}
+
+/// Whether a server has nothing staged.
+fn is_calm(place: &Place<'_>) -> bool
+    ensures staged { IsTrue result ↔ (place.now.staged ≡ []) }
+    ensures calm { result ≡ calm_in (Some place.now) }
+{
+    place.core().staged().is_empty()
+}
+
+/// The server of a client.
+pub(crate) fn home(net: &Net, client: u32) -> u32
+    requires { (1 ≤ client) × (client ≤ length net.now.clients) }
+    ensures { result ≡ home_of net.now client }
+{
+    net.clients[client as usize - 1].home
+}
+
+/// The session of a client.
+pub(crate) fn session<'s, 'a>(net: &Net, servers: &'s Servers<'a>, client: u32) -> &'s Session<'a>
+    requires client { (1 ≤ client) × (client ≤ length net.now.clients) }
+    requires kept { (phase : ℕ) × IsNetwork net.now phase (seen servers.now) }
+    ensures { IsSessionOf (shown net.now servers.now) client result.now.session }
+{
+    let home = home(net, client);
+    servers.places[home as usize - 1].core().session(client)
+}
+
+/// The phase of a client's next command; `None` where it has none left.
+pub(crate) fn next_phase(net: &Net, servers: &Servers<'_>, client: u32) -> Option<u32>
+    requires client { (1 ≤ client) × (client ≤ length net.now.clients) }
+    requires kept { (phase : ℕ) × IsNetwork net.now phase (seen servers.now) }
+    ensures { result ≡ next_phase_by net.now servers.now.journal.items client }
+{
+    let (phase, _) = session(net, servers, client).next()?;
+    Some(phase)
+}
+
+/// What a client received, in order.
+pub(crate) fn received<'s>(net: &Net, servers: &'s Servers<'_>, client: u32) -> &'s [Delivery]
+    requires client { (1 ≤ client) × (client ≤ length net.now.clients) }
+    requires kept { (phase : ℕ) × IsNetwork net.now phase (seen servers.now) }
+    ensures { result.now ≡ received_by net.now servers.now.journal.items client }
+{
+    session(net, servers, client).received()
+}
+
+/// The ordinals of a client's publishes that were refused, rising.
+pub(crate) fn refused<'s>(net: &Net, servers: &'s Servers<'_>, client: u32) -> &'s [u32]
+    requires client { (1 ≤ client) × (client ≤ length net.now.clients) }
+    requires kept { (phase : ℕ) × IsNetwork net.now phase (seen servers.now) }
+    ensures { result.now ≡ refused_by net.now servers.now.journal.items client }
+{
+    session(net, servers, client).refused()
+}
+
+/// A client's next command.
+pub(crate) fn command(
+    net: &Net,
+    phase: &mut u32,
+    servers: &mut Servers<'_>,
+    client: u32,
+) -> Result<bool, NoMemory>
+    requires kept { IsNetwork net.now phase.old (seen servers.old) }
+    ensures turn { IfOk result (λ made. IsTurn made (turns.Command client) (shown net.now servers.old) (shown net.now servers.new)) }
+    ensures kept { IsNetwork net.now phase.new (seen servers.new) }
+    ensures err { OnErr result (servers.new.journal.items ≡ servers.old.journal.items) }
+{
+    if client == 0 || client as usize > net.clients.len() {
+        return Ok(false);
+    }
+    let Some(own) = next_phase(net, servers, client) else {
+        return Ok(false);
+    };
+    if own == *phase {
+        command_of_phase(net, own, servers, client)?;
+        return Ok(true);
+    }
+    if own < *phase {
+        return Ok(false);
+    }
+    if !is_quiet(servers) {
+        return Ok(false);
+    }
+    if !none_below(net, servers, own) {
+        return Ok(false);
+    }
+    first_command(net, *phase, servers, client, own)?;
+    *phase = own;
+    Ok(true)
+}
+
+/// A client's next command, which is of the phase in hand.
+fn command_of_phase(
+    net: &Net,
+    phase: u32,
+    servers: &mut Servers<'_>,
+    client: u32,
+) -> Result<(), NoMemory>
+    requires kept { IsNetwork net.now phase (seen servers.old) }
+    requires client { (1 ≤ client) × (client ≤ length net.now.clients) }
+    requires next { next_phase_by net.now servers.old.journal.items client ≡ Some phase }
+    ensures made { OnOk result (IsMade (turns.Command client) (shown net.now servers.old) (shown net.now servers.new)) }
+    ensures kept { IsNetwork net.now phase (seen servers.new) }
+    ensures err { OnErr result (servers.new.journal.items ≡ servers.old.journal.items) }
+{
+    let home = home(net, client);
+    let neighbours = net.tree(phase).neighbours(home);
+    servers.command(home, client, neighbours)
+}
+
+/// A client's next command, which begins a later phase. All that is new for the phase is made first, and goes back where
+/// the command finds no memory.
+fn first_command<'a>(
+    net: &Net,
+    last: u32,
+    servers: &mut Servers<'a>,
+    client: u32,
+    own: u32,
+) -> Result<(), NoMemory>
+    requires kept { IsNetwork net.now last (seen servers.old) }
+    requires client { (1 ≤ client) × (client ≤ length net.now.clients) }
+    requires next { next_phase_by net.now servers.old.journal.items client ≡ Some own }
+    requires later { last < own }
+    requires quiet { IsQuietOn real (phased_net net.now) last (moment_by net.now servers.old.journal.items).state }
+    requires through { IsThroughOn real (phased_net net.now) last (moment_by net.now servers.old.journal.items).state own }
+    ensures made { OnOk result (IsMade (turns.Command client) (shown net.now servers.old) (shown net.now servers.new)) }
+    ensures kept { OnOk result (IsNetwork net.now own (seen servers.new)) }
+    ensures err { OnErr result (IsNetwork net.now last (seen servers.new) × (servers.new.journal.items ≡ servers.old.journal.items)) }
+{
+    let home = home(net, client);
+    let tables = servers.finder.tables();
+    let before = begin(servers.alloc, tables, &mut servers.places, last, own)?;
+    let neighbours = net.tree(own).neighbours(home);
+    if let Err(fault) = servers.command(home, client, neighbours) {
+        take_back(&mut servers.places, before);
+        return Err(fault);
+    }
+    Ok(())
+}
+
+/// Whether all links are empty and nothing is staged.
+fn is_quiet(servers: &Servers<'_>) -> bool
+    ensures { IsTrue result ↔ (((a b : ℕ) → messages_at servers.now.links a b ≡ []) × AreCalmCores servers.now.places.items) }
+{
+    servers.links.are_empty() && are_calm(&servers.places)
+}
+
+/// Whether no server has anything staged.
+fn are_calm(places: &[Place<'_>]) -> bool
+    ensures { IsTrue result ↔ AreCalmCores places.now }
+{
+    for i in 0..places.len() {
+        if !is_calm_at(places, i) {
+            return false;
+        }
+    }
+    true
+}
+
+/// Whether the server at a place has nothing staged.
+fn is_calm_at(places: &[Place<'_>], i: usize) -> bool
+    requires { i < length places.now }
+    ensures { result ≡ calm_at places.now i }
+{
+    is_calm(&places[i])
+}
+
+/// Whether no client has a command of a lower phase left.
+fn none_below(net: &Net, servers: &Servers<'_>, own: u32) -> bool
+    requires kept { (phase : ℕ) × IsNetwork net.now phase (seen servers.now) }
+    ensures { IsTrue result ↔ ((client : ℕ) → 1 ≤ client → client ≤ length net.now.clients
+        → is_phase_below (next_phase_by net.now servers.now.journal.items client) own ≡ false) }
+{
+    for client in 1..=net.clients.len() as u32 {
+        if is_below(next_phase(net, servers, client), own) {
+            return false;
+        }
+    }
+    true
+}
+
+/// Whether a next command is of a lower phase.
+fn is_below(next: Option<u32>, own: u32) -> bool
+    ensures { result ≡ is_phase_below next own }
+{
+    match next {
+        Some(phase) => phase < own,
+        None => false,
+    }
+}

@@ -1,0 +1,207 @@
+//! Networks.
+ghost use Rattle.std.specs.Prelude.{◌≡◌, ◌≤◌, ◌==◌, ◌++◌, ◌∷◌, cond, List, [], length, IfOk, OnOk, OnErr};
+ghost use Rattle.ev_sets.specs.Sets.{Has};
+ghost use Rattle.ev_phases.specs.Moments.{opening_moment};
+ghost use Rattle.ev_theory.specs.Real.{real};
+ghost use Rattle.ev_model.specs.Nets.{phased_net, first_tree, servers_in, clients_of, of_clients};
+ghost use Rattle.ev_model.specs.Sound.{IsSound};
+ghost use Rattle.ev_numnet.specs.Kept.{AreServers};
+ghost use Rattle.ev_numnet.specs.Seen.{AreClients};
+
+use crate::finding::Finder;
+use crate::inboxes::take_inboxes;
+use crate::links::Links;
+use crate::making::{command, home, next_phase, received, refused, take, version};
+use crate::place::Place;
+use crate::servers::Servers;
+use ev_memory::NoMemory;
+use ev_model::{Delivery, Entry, Net, Turn};
+use ev_tables::Tables;
+use ev_wire::Lists;
+use std::alloc::Global;
+use std::marker::Model;
+
+/// The servers and links of a net, and the journal of what was done: whatever turns it is asked for, a legal run.
+///
+/// Contracts see the net and the journal; what the servers hold, what is on the links and what was delivered follows from
+/// these.
+#[derive(Drop)]
+pub struct Network<'a> {
+    tables: &'a Tables<'a>,
+    phase: u32,
+    clients: Vec<Lists<u32>>,
+    servers: Servers<'a>,
+}
+
+impl<'a> Model for Network<'a> {
+    ghost use Rattle.ev_turns.specs.Network.{NetworkParts, network_parts};
+    ghost use Rattle.ev_numnet.specs.Kept.{IsNetwork};
+    ghost use Rattle.ev_numnet.specs.Seen.{seen, AreClients};
+
+    ghost Value = { NetworkParts };
+
+    ghost view = { λ network. network_parts network.tables.now network.servers.journal.items };
+
+    ghost invariant = { λ network. IsNetwork network.tables.now network.phase (seen network.servers) × AreClients network.tables.now network.clients.items };
+}
+
+/// Puts a client at the end of a list where it belongs there.
+fn put_where(clients: &mut Vec<u32>, client: u32, belongs: bool) -> Result<(), NoMemory>
+    ensures { OnOk result (clients.new.items ≡ clients.old.items ++ cond belongs (client ∷ []) []) }
+{
+    if belongs {
+        clients.push(client)?;
+    }
+    Ok(())
+}
+
+/// The clients of a server, rising.
+fn clients_at(alloc: Global, net: &Net, server: u32) -> Result<Lists<u32>, NoMemory>
+    requires { length net.now.clients ≤ 1024 }
+    ensures { IfOk result (λ clients. clients ≡ clients_of net.now server) }
+{
+    let mut clients = Vec::new(alloc);
+    for place in 0..net.clients.len() as u32 {
+        let client = place + 1;
+        put_where(&mut clients, client, home(net, client) == server)?;
+    }
+    Ok(Lists::of(clients))
+}
+
+/// The servers of a net before their first steps.
+fn places<'a>(alloc: Global, tables: &'a Tables<'a>, count: u32) -> Result<Vec<Place<'a>>, NoMemory>
+    requires sound { IsSound tables.now }
+    requires count { (count ≡ (first_tree tables.now.trees).count) × (count ≤ 64) }
+    ensures { IfOk result (λ places. AreServers tables.now 0 (opening_moment real (phased_net tables.now)).state places.items) }
+{
+    let mut places = Vec::with_capacity(alloc, count as usize)?;
+    for place in 0..count {
+        places.push(Place::start(alloc, tables, place + 1)?)?;
+    }
+    Ok(places)
+}
+
+/// The clients of each server.
+fn all_clients(alloc: Global, net: &Net, count: u32) -> Result<Vec<Lists<u32>>, NoMemory>
+    requires few { length net.now.clients ≤ 1024 }
+    requires count { (count ≡ (first_tree net.now.trees).count) × (count ≤ 64) }
+    ensures { IfOk result (λ clients. AreClients net.now clients.items) }
+{
+    let mut clients = Vec::with_capacity(alloc, count as usize)?;
+    for place in 0..count {
+        clients.push(clients_at(alloc, net, place + 1)?)?;
+    }
+    Ok(clients)
+}
+
+impl<'a> Network<'a> {
+    ghost use Rattle.ev_turns.specs.Network.{network_parts, moment_by, next_phase_by, IsLegal, received_by, refused_by};
+    ghost use Rattle.ev_turns.specs.Turns.{IsTurn};
+
+    /// The network of a net before its first turn, over the tables of its run.
+    pub fn start(alloc: Global, tables: &'a Tables<'a>) -> Result<Network<'a>, NoMemory>
+        requires { IsSound tables.now }
+        ensures { IfOk result (λ network. network ≡ network_parts tables.now []) }
+    {
+        let net = tables.net();
+        let count = net.tree(0).servers();
+        let servers = Servers {
+            alloc,
+            places: places(alloc, tables, count)?,
+            links: Links::new(alloc)?,
+            journal: Vec::new(alloc),
+            finder: Finder::new(alloc, tables)?,
+        };
+        Ok(Network {
+            tables,
+            phase: 0,
+            clients: all_clients(alloc, net, count)?,
+            servers,
+        })
+    }
+
+    /// What was done, in the order of the turns: always a legal run of the net.
+    pub fn journal(&self) -> &[Entry]
+        ensures journal { result.now ≡ self.now.journal }
+        ensures sound { IsSound self.now.net }
+        ensures legal { IsLegal self.now.net self.now.journal }
+    {
+        &self.servers.journal
+    }
+
+    /// What was done, and what each client received, where nothing else is wanted any more: both are handed on and not copied.
+    pub fn into_parts(self) -> Result<(Vec<Entry>, Vec<Lists<Delivery>>), NoMemory>
+        ensures journal { IfOk result (λ parts. parts.0.items ≡ self.entry.journal) }
+        ensures received { IfOk result (λ parts. parts.1.items ≡ of_clients self.entry.net (received_by self.entry.net self.entry.journal)) }
+    {
+        let Network {
+            tables,
+            mut servers,
+            ..
+        } = self;
+        let received = take_inboxes(tables.net(), &mut servers)?;
+        Ok((servers.journal, received))
+    }
+
+    /// The net.
+    pub(crate) fn net(&self) -> &'a Net
+        ensures net { result.now ≡ self.now.net }
+        ensures sound { IsSound self.now.net }
+        ensures legal { IsLegal self.now.net self.now.journal }
+    {
+        self.tables.net()
+    }
+
+    /// The phase of the last command.
+    pub(crate) fn phase(&self) -> u32
+        ensures { result ≡ (moment_by self.now.net self.now.journal).phase }
+    {
+        self.phase
+    }
+
+    /// The clients of a server, rising.
+    pub(crate) fn clients(&self, server: u32) -> &[u32]
+        requires { Has server (servers_in self.now.net) }
+        ensures { result.now ≡ clients_of self.now.net server }
+    {
+        self.clients[server as usize - 1].as_slice()
+    }
+
+    /// The phase of a client's next command; `None` where it has none left.
+    pub(crate) fn next_phase(&self, client: u32) -> Option<u32>
+        requires { (1 ≤ client) × (client ≤ length self.now.net.clients) }
+        ensures { result ≡ next_phase_by self.now.net self.now.journal client }
+    {
+        next_phase(self.tables.net(), &self.servers, client)
+    }
+
+    /// What a client received, in order.
+    pub fn received(&self, client: u32) -> &[Delivery]
+        requires { (1 ≤ client) × (client ≤ length self.now.net.clients) }
+        ensures { result.now ≡ received_by self.now.net self.now.journal client }
+    {
+        received(self.tables.net(), &self.servers, client)
+    }
+
+    /// The ordinals of a client's publishes that were refused, rising.
+    pub fn refused(&self, client: u32) -> &[u32]
+        requires { (1 ≤ client) × (client ≤ length self.now.net.clients) }
+        ensures { result.now ≡ refused_by self.now.net self.now.journal client }
+    {
+        refused(self.tables.net(), &self.servers, client)
+    }
+
+    /// Makes a turn where it is permitted, and answers whether it is. Where it is not, and after want of memory, the
+    /// network is as before.
+    pub fn turn(&mut self, turn: Turn) -> Result<bool, NoMemory>
+        ensures turn { IfOk result (λ made. IsTurn made turn self.old self.new) }
+        ensures err { OnErr result (self.new ≡ self.old) }
+    {
+        let net = self.tables.net();
+        match turn {
+            Turn::Command(client) => command(net, &mut self.phase, &mut self.servers, client),
+            Turn::Take { server, from } => take(net, self.phase, &mut self.servers, server, from),
+            Turn::Version(server) => version(net, self.phase, &mut self.servers, server),
+        }
+    }
+}

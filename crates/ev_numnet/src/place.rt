@@ -1,0 +1,206 @@
+//! A server in the network: its core, and what it published by numbers.
+ghost use Rattle.std.specs.Prelude.{◌≡◌, ◌<◌, ◌^◌, ℕ, [], length, slice_get, Some, Ok, Err, IfOk, OnErr};
+ghost use Rattle.ev_sets.specs.Sets.{Has};
+ghost use Rattle.ev_run.specs.Machine.{Does, Takes};
+ghost use Rattle.ev_routing.specs.Step.{NextCommand, Version};
+ghost use Rattle.ev_model.specs.Nets.{servers_in};
+ghost use Rattle.ev_model.specs.Sound.{IsSound};
+ghost use Rattle.ev_catalogue.specs.Known.{PublicationParts, known_publications};
+ghost use Rattle.ev_session.specs.declared.planned.Planned.TheVariants as plans;
+ghost use Rattle.ev_session.specs.Session.{SessionParts};
+ghost use Rattle.ev_session.specs.Plan.{next_plan};
+ghost use Rattle.ev_message.specs.Message.{IsLoad, meaning};
+ghost use Rattle.ev_numserver.specs.Clients.{client_numbers};
+ghost use Rattle.ev_numserver.specs.Core.{without_inbox};
+ghost use Rattle.ev_numserver.specs.Routed.{RoutesMessage};
+ghost use Rattle.ev_numserver.specs.Step.{MakesStep, last_stamp};
+ghost use Rattle.ev_numnet.specs.Kept.{IsFirst, IsSomeServer};
+
+use crate::finding::Finder;
+use crate::waiting::Waiting;
+use ev_forwarding::{Forwarding, Route};
+use ev_memory::NoMemory;
+use ev_message::Load;
+use ev_model::Delivery;
+use ev_numserver::{Core, Step, StepFault};
+use ev_tables::Tables;
+use std::alloc::Global;
+use std::marker::Model;
+
+/// A server: its core, and the pairs of numbers and interfaces that it published; contracts see the core. After a fault it is
+/// as before.
+#[derive(Drop)]
+pub(crate) struct Place<'a> {
+    pub(crate) core: Core<'a>,
+    pub(crate) forwarding: Forwarding,
+}
+
+impl<'a> Model for Place<'a> {
+    ghost use Rattle.ev_numserver.specs.Core.{CoreParts};
+    ghost use Rattle.ev_numnet.specs.Kept.{IsPlace};
+
+    ghost Value = { CoreParts };
+
+    ghost view = { λ place. place.core };
+
+    ghost invariant = { λ place. IsPlace place.core place.forwarding };
+}
+
+impl<'a> Place<'a> {
+    /// A server of a net before its first step.
+    pub(crate) fn start(
+        alloc: Global,
+        tables: &'a Tables<'a>,
+        server: u32,
+    ) -> Result<Place<'a>, NoMemory>
+        requires sound { IsSound tables.now }
+        requires among { Has server (servers_in tables.now) }
+        ensures { IfOk result (λ place. IsFirst tables.now server place) }
+    {
+        let core = Core::start(alloc, tables, server)?;
+        let catalogue = tables.catalogue();
+        catalogue.is_known();
+        let width = catalogue.filters().len() as u32;
+        let forwarding = Forwarding::new(alloc, width, core.interfaces())?;
+        Ok(Place { core, forwarding })
+    }
+
+    /// Its core.
+    pub(crate) fn core(&self) -> &Core<'a>
+        ensures { result.now ≡ self.now }
+    {
+        &self.core
+    }
+
+    /// Sets its clock.
+    pub(crate) fn raise(&mut self, clock: u64)
+        requires { clock < 2 ^ 62 }
+        ensures { self.new ≡ record self.old { clock = clock } }
+    {
+        self.core.raise(clock);
+    }
+
+    /// Hands on what was delivered to a client that lives here, whose inbox is empty then.
+    pub(crate) fn take_inbox(&mut self, client: u32) -> Vec<Delivery>
+        requires { Has client (client_numbers self.old.clients) }
+        ensures inbox { (s : SessionParts) → Has s self.old.clients → s.client ≡ client → result.items ≡ s.inbox }
+        ensures emptied { self.new ≡ without_inbox client self.old }
+    {
+        self.core.take_inbox(client)
+    }
+}
+
+impl<'a> Place<'a> {
+    /// Takes the next command of a client that lives here and has one left.
+    pub(crate) fn command(
+        &mut self,
+        alloc: Global,
+        client: u32,
+        finder: &mut Finder<'a>,
+    ) -> Result<Step<'a>, NoMemory>
+        requires lives { Has client (client_numbers self.old.clients) }
+        requires left { (s : SessionParts) → Has s self.old.clients → s.client ≡ client → s.taken < length s.script }
+        requires stands { IsSomeServer self.old }
+        requires low { self.old.clock < last_stamp }
+        requires run { finder.old ≡ self.old.net }
+        ensures step { IfOk result (λ s. MakesStep (Does (NextCommand client)) 0 self.old self.new s.stamp s.sent.items) }
+        ensures finder { finder.new ≡ finder.old }
+        ensures err { OnErr result (self.new ≡ self.old) }
+    {
+        match self.core.next_publication(client) {
+            Some(number) => self.publish(alloc, client, number, finder),
+            None => unexhausted(self.core.take_command(client)),
+        }
+    }
+
+    /// Takes the next command of a client that lives here: a publish of the publication with a number, which is accepted.
+    fn publish(
+        &mut self,
+        alloc: Global,
+        client: u32,
+        number: u32,
+        finder: &mut Finder<'a>,
+    ) -> Result<Step<'a>, NoMemory>
+        requires lives { Has client (client_numbers self.old.clients) }
+        requires left { (s : SessionParts) → Has s self.old.clients → s.client ≡ client → s.taken < length s.script }
+        requires publish { (p : PublicationParts) × (slice_get (known_publications 1 self.old.net.clients) number ≡ Some p)
+            × ((s : SessionParts) → Has s self.old.clients → s.client ≡ client → next_plan s ≡ Some (plans.Publish p.id p.notice)) }
+        requires stands { IsSomeServer self.old }
+        requires low { self.old.clock < last_stamp }
+        requires run { finder.old ≡ self.old.net }
+        ensures step { IfOk result (λ s. MakesStep (Does (NextCommand client)) 0 self.old self.new s.stamp s.sent.items) }
+        ensures finder { finder.new ≡ finder.old }
+        ensures err { OnErr result (self.new ≡ self.old) }
+    {
+        let publication = finder.publication(alloc, number)?;
+        let _ = publication.notice().attributes();
+        let route = self.forwarding.route(alloc, publication.matched())?;
+        unexhausted(
+            self.core
+                .take_publish(client, &publication, route.interfaces()),
+        )
+    }
+
+    /// Where a step routes what a message carries; nowhere where that is a change.
+    fn route(&self, alloc: Global, load: &Load) -> Result<Route, NoMemory>
+        requires { IsLoad self.now.net load.now }
+        ensures { IfOk result (λ r. RoutesMessage self.now (meaning self.now.net load.now) r) }
+    {
+        match load {
+            Load::Publication(publication) => {
+                let _ = publication.notice().attributes();
+                self.forwarding.route(alloc, publication.matched())
+            }
+            _ => Ok(Route::nowhere(alloc)),
+        }
+    }
+
+    /// Takes a message that a neighbour sent.
+    pub(crate) fn take(
+        &mut self,
+        alloc: Global,
+        from: u32,
+        waiting: &Waiting<'a>,
+    ) -> Result<Step<'a>, NoMemory>
+        requires from { Has from self.old.control.links }
+        requires stands { IsSomeServer self.old }
+        requires low { (self.old.clock < last_stamp) × (waiting.now.stamp < last_stamp) }
+        requires run { waiting.now.sent.net ≡ self.old.net }
+        ensures step { IfOk result (λ s. MakesStep (Takes from waiting.now.sent.message) waiting.now.stamp self.old self.new s.stamp s.sent.items) }
+        ensures err { OnErr result (self.new ≡ self.old) }
+    {
+        let route = self.route(alloc, waiting.message.load())?;
+        unexhausted(
+            self.core
+                .take_message(from, waiting.stamp, &waiting.message, route.interfaces()),
+        )
+    }
+
+    /// Publishes what is staged; the answer is the stamp. It takes no memory.
+    pub(crate) fn version(&mut self) -> u64
+        requires some { (self.old.staged ≡ []) → ⊥ }
+        requires stands { IsSomeServer self.old }
+        requires low { self.old.clock < last_stamp }
+        ensures { MakesStep (Does Version) 0 self.old self.new result [] }
+    {
+        self.core.is_known();
+        self.forwarding.apply(self.core.staged());
+        match self.core.publish() {
+            Ok(stamp) => stamp,
+            Err(_) => unreachable!(),
+        }
+    }
+}
+
+/// What a step answers that no stamp can keep from being made.
+fn unexhausted<T>(answer: Result<T, StepFault>) -> Result<T, NoMemory>
+    requires { (s : ℕ) → answer ≡ Err (StepFault.StampsExhausted s) → ⊥ }
+    ensures ok { IfOk result (λ x. answer ≡ Ok x) }
+    ensures err { OnErr result (answer ≡ Err StepFault.NoMemory) }
+{
+    match answer {
+        Ok(made) => Ok(made),
+        Err(StepFault::NoMemory) => Err(NoMemory),
+        Err(StepFault::StampsExhausted(_)) => unreachable!(),
+    }
+}

@@ -1,0 +1,30 @@
+//! Schedules.
+ghost use Rattle.std.specs.Prelude.{ℕ, OnOk, IsErrOf};
+ghost use Rattle.ev_turns.specs.declared.replaying.ReplayFault.TheVariants as faults;
+
+use crate::network::Network;
+use ev_model::Turn;
+use ev_turns::ReplayFault;
+
+impl<'a> Network<'a> {
+    ghost use Rattle.ev_turns.specs.Network.{IsLater};
+    ghost use Rattle.ev_turns.specs.Turns.{AreReplayed, AreBegun, StopsAt};
+
+    /// Makes turns, each with its line, in their order, up to the first that is not permitted. The turns before it, and
+    /// those before want of memory, stand, and no other was made.
+    pub fn replay(&mut self, turns: &[(u32, Turn)]) -> Result<(), ReplayFault>
+        ensures made { OnOk result (AreReplayed turns.now self.old self.new) }
+        ensures bad { (line : ℕ) → IsErrOf result (faults.BadTurn line) → StopsAt line turns.now self.old self.new }
+        ensures begun { AreBegun turns.now self.old self.new }
+        ensures later { IsLater self.old self.new }
+    {
+        for (line, turn) in turns {
+            match self.turn(*turn) {
+                Ok(true) => {}
+                Ok(false) => return Err(ReplayFault::BadTurn(*line)),
+                Err(_) => return Err(ReplayFault::NoMemory),
+            }
+        }
+        Ok(())
+    }
+}

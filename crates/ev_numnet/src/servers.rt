@@ -1,0 +1,215 @@
+//! The servers of a network with their links and their journal, and the steps of one of them.
+ghost use Rattle.std.specs.Prelude.{◌≡◌, ℕ, ◌≤◌, ◌<◌, ◌^◌, ◌-◌, ◌∷◌, ◌++◌, [], true, false, Some, slice_get, length, map, IfOk, OnOk};
+ghost use Rattle.std.specs.Prelude.{OnErr, vec_len, vec_capacity};
+ghost use Rattle.ev_sets.specs.Sets.{Has};
+ghost use Rattle.ev_sets.specs.Numbers.{IsDistinct};
+ghost use Rattle.ev_run.specs.Machine.{Does, Takes, Stamped};
+ghost use Rattle.ev_routing.specs.Server.{Message};
+ghost use Rattle.ev_routing.specs.Step.{NextCommand, Version};
+ghost use Rattle.ev_theory.specs.Real.{real};
+ghost use Rattle.ev_message.specs.Parts.{SendingParts};
+ghost use Rattle.ev_model.specs.Parts.{NetParts, entry_parts};
+ghost use Rattle.ev_model.specs.declared.turn.Act.TheVariants as acts;
+ghost use Rattle.ev_session.specs.Session.{SessionParts};
+ghost use Rattle.ev_numserver.specs.Clients.{client_numbers};
+ghost use Rattle.ev_numserver.specs.Core.{CoreParts};
+ghost use Rattle.ev_numserver.specs.Step.{last_stamp};
+ghost use Rattle.ev_numnet.specs.Acted.{IsActed};
+ghost use Rattle.ev_numnet.specs.Seen.{CanAct, seen, IsUnchanged};
+ghost use Rattle.ev_numnet.specs.Links.{WaitingParts, messages_at, messages_to, waiting_in, has_room};
+
+use crate::finding::Finder;
+use crate::links::Links;
+use crate::place::Place;
+use crate::waiting::Waiting;
+use ev_memory::NoMemory;
+use ev_message::Sending;
+use ev_model::{Act, Entry};
+use ev_numserver::Step;
+use std::alloc::Global;
+
+/// The servers by rising number, what is on the links between them, what they did, and what finds publications.
+#[derive(Drop)]
+pub(crate) struct Servers<'a> {
+    pub(crate) alloc: Global,
+    pub(crate) places: Vec<Place<'a>>,
+    pub(crate) links: Links<'a>,
+    pub(crate) journal: Vec<Entry>,
+    pub(crate) finder: Finder<'a>,
+}
+
+/// Messages that a step sends go on the links of its server, and their receivers into a list. There is room for both, so it
+/// takes no memory.
+fn put_all<'a>(
+    links: &mut Links<'a>,
+    server: u32,
+    stamp: u64,
+    sent: Vec<Sending<'a>>,
+    outs: &mut Vec<u32>,
+)
+    requires server { server ≤ 64 }
+    requires small { (s : SendingParts) → Has s sent.items → s.to ≤ 64 }
+    requires room { (s : SendingParts) → Has s sent.items → has_room links.old server s.to ≡ true }
+    requires apart { IsDistinct (map (λ s. s.to) sent.items) }
+    requires outs { (outs.old.items ≡ []) × (length sent.items ≤ vec_capacity outs.old) }
+    ensures here { (b : ℕ) → messages_at links.new server b ≡ messages_at links.old server b ++ messages_to stamp sent.entry.items b }
+    ensures others { (a b : ℕ) → (a ≡ server → ⊥) → messages_at links.new a b ≡ messages_at links.old a b }
+    ensures outs { outs.new.items ≡ map (λ s. s.to) sent.entry.items }
+{
+    for sending in sent {
+        let to = sending.to;
+        outs.push(to).unwrap();
+        let message = sending.message;
+        links.put(server, to, Waiting { stamp, message });
+    }
+}
+
+/// The same list, which keeps no room where nothing is in it.
+fn without_room(alloc: Global, list: Vec<u32>) -> Vec<u32>
+    ensures { result.items ≡ list.items }
+{
+    if list.is_empty() {
+        Vec::new(alloc)
+    } else {
+        list
+    }
+}
+
+/// What a step sends goes on the links of its server, and the step joins the journal. There is room for both, so it takes
+/// no memory.
+fn put<'a>(
+    alloc: Global,
+    links: &mut Links<'a>,
+    journal: &mut Vec<Entry>,
+    server: u32,
+    act: Act,
+    step: Step<'a>,
+    mut outs: Vec<u32>,
+)
+    requires server { server ≤ 64 }
+    requires small { (s : SendingParts) → Has s step.sent.items → s.to ≤ 64 }
+    requires room { (s : SendingParts) → Has s step.sent.items → has_room links.old server s.to ≡ true }
+    requires apart { IsDistinct (map (λ s. s.to) step.sent.items) }
+    requires stamp { step.stamp < 2 ^ 62 }
+    requires outs { (outs.items ≡ []) × (length step.sent.items ≤ vec_capacity outs) }
+    requires journal { vec_len journal.old < vec_capacity journal.old }
+    ensures here { (b : ℕ) → messages_at links.new server b ≡ messages_at links.old server b ++ messages_to step.entry.stamp step.entry.sent.items b }
+    ensures others { (a b : ℕ) → (a ≡ server → ⊥) → messages_at links.new a b ≡ messages_at links.old a b }
+    ensures entry { journal.new.items ≡ journal.old.items ++ entry_parts step.entry.stamp server act (map (λ s. s.to) step.entry.sent.items) ∷ [] }
+{
+    let stamp = step.stamp;
+    put_all(links, server, stamp, step.sent, &mut outs);
+    journal
+        .push(Entry {
+            stamp,
+            server,
+            act,
+            outs: without_room(alloc, outs),
+        })
+        .unwrap();
+}
+
+impl<'a> Servers<'a> {
+    /// Makes room for what a step of a server puts on these links, and for its entry; the answer is an empty list with room
+    /// for as many neighbours.
+    fn make_room(&mut self, server: u32, neighbours: &[u32]) -> Result<Vec<u32>, NoMemory>
+        requires server { server ≤ 64 }
+        requires small { (link : ℕ) → Has link neighbours.now → link ≤ 64 }
+        ensures outs { IfOk result (λ outs. (outs.items ≡ []) × (vec_len outs ≡ 0) × (length neighbours.now ≤ vec_capacity outs)) }
+        ensures room { OnOk result ((link : ℕ) → Has link neighbours.now → has_room self.new.links server link ≡ true) }
+        ensures journal { OnOk result (vec_len self.new.journal < vec_capacity self.new.journal) }
+        ensures same { IsUnchanged self.old self.new }
+    {
+        self.links.make_rooms(server, neighbours)?;
+        self.journal.reserve(1)?;
+        Ok(Vec::with_capacity(self.alloc, neighbours.len())?)
+    }
+
+    /// Takes the next command of a client of a server, whose neighbours are given.
+    pub(crate) fn command(
+        &mut self,
+        server: u32,
+        client: u32,
+        neighbours: &[u32],
+    ) -> Result<(), NoMemory>
+        requires able { CanAct server neighbours.now self.old.places.items }
+        requires lives { (core : CoreParts) → slice_get self.old.places.items (server - 1) ≡ Some core → Has client (client_numbers core.clients) }
+        requires left { (core : CoreParts) (s : SessionParts) → slice_get self.old.places.items (server - 1) ≡ Some core → Has s core.clients
+            → s.client ≡ client → s.taken < length s.script }
+        requires run { (core : CoreParts) → slice_get self.old.places.items (server - 1) ≡ Some core → core.net ≡ self.old.finder }
+        ensures acted { OnOk result (IsActed (server - 1) (Does (NextCommand client)) (acts.Command client) (seen self.old) (seen self.new)) }
+        ensures err { OnErr result (IsUnchanged self.old self.new) }
+    {
+        let outs = self.make_room(server, neighbours)?;
+        let place = &mut self.places[server as usize - 1];
+        let stepped = place.command(self.alloc, client, &mut self.finder)?;
+        put(
+            self.alloc,
+            &mut self.links,
+            &mut self.journal,
+            server,
+            Act::Command(client),
+            stepped,
+            outs,
+        );
+        Ok(())
+    }
+
+    /// Has a server, whose neighbours are given, take the next message from one of them.
+    pub(crate) fn take(
+        &mut self,
+        server: u32,
+        from: u32,
+        neighbours: &[u32],
+    ) -> Result<bool, NoMemory>
+        requires able { CanAct server neighbours.now self.old.places.items }
+        requires from { Has from neighbours.now }
+        requires low { (w : WaitingParts) → Has w (messages_at self.old.links from server) → w.stamp < last_stamp }
+        requires run { (w : WaitingParts) (core : CoreParts) → Has w (messages_at self.old.links from server)
+            → slice_get self.old.places.items (server - 1) ≡ Some core → w.sent.net ≡ core.net }
+        ensures acted { (net : NetParts) (m : Stamped (Message real)) → slice_get (messages_at self.old.links from server) 0 ≡ Some (waiting_in net m)
+            → IfOk result (λ made. (made ≡ true) × IsActed (server - 1) (Takes from m) (acts.Take from) (seen self.old) (seen self.new)) }
+        ensures none { messages_at self.old.links from server ≡ [] → IfOk result (λ made. (made ≡ false) × IsUnchanged self.old self.new) }
+        ensures err { OnErr result (IsUnchanged self.old self.new) }
+    {
+        if self.links.is_empty(from, server) {
+            return Ok(false);
+        }
+        let outs = self.make_room(server, neighbours)?;
+        let Some(waiting) = self.links.first(from, server) else {
+            return Ok(false);
+        };
+        let place = &mut self.places[server as usize - 1];
+        let stepped = place.take(self.alloc, from, waiting)?;
+        self.links.drop_first(from, server);
+        put(
+            self.alloc,
+            &mut self.links,
+            &mut self.journal,
+            server,
+            Act::Take(from),
+            stepped,
+            outs,
+        );
+        Ok(true)
+    }
+
+    /// Has a server publish what it has staged.
+    pub(crate) fn version(&mut self, server: u32) -> Result<(), NoMemory>
+        requires able { (neighbours : _) × CanAct server neighbours self.old.places.items }
+        requires some { (core : CoreParts) → slice_get self.old.places.items (server - 1) ≡ Some core → (core.staged ≡ []) → ⊥ }
+        ensures acted { OnOk result (IsActed (server - 1) (Does Version) acts.Version (seen self.old) (seen self.new)) }
+        ensures err { OnErr result (IsUnchanged self.old self.new) }
+    {
+        self.journal.reserve(1)?;
+        let stamp = self.places[server as usize - 1].version();
+        let entry = Entry {
+            stamp,
+            server,
+            act: Act::Version,
+            outs: Vec::new(self.alloc),
+        };
+        self.journal.push(entry).unwrap();
+        Ok(())
+    }
+}

@@ -1,0 +1,20 @@
+//! What waits on a link.
+use ev_message::Message;
+use std::marker::Model;
+
+/// A message that waits on a link to be taken, under the stamp of the step that sent it.
+#[derive(Drop)]
+pub(crate) struct Waiting<'a> {
+    /// The stamp, below 2^62.
+    pub(crate) stamp: u64,
+    /// The message.
+    pub(crate) message: Message<'a>,
+}
+
+impl<'a> Model for Waiting<'a> {
+    ghost use Rattle.ev_numnet.specs.Links.{WaitingParts, waiting_parts};
+
+    ghost Value = { WaitingParts };
+
+    ghost view = { λ w. waiting_parts w.stamp w.message };
+}
