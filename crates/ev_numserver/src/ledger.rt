@@ -1,5 +1,5 @@
 //! What a server holds from whom, what was published of it, and what changed since.
-ghost use Rattle.std.specs.Prelude.{◌≡◌, ◌<◌, ◌≤◌, ◌^◌, ℕ, nat_lt, true, [], length, take, IfOk, OnErr};
+ghost use Rattle.std.specs.Prelude.{◌≡◌, ◌<◌, ◌≤◌, ◌^◌, ℕ, nat_lt, true, [], ◌∷◌, length, take, IfOk, OnOk, OnErr};
 ghost use Rattle.ev_sets.specs.Sets.{Has, IsRising};
 ghost use Rattle.ev_order.specs.Order.{picked};
 ghost use Rattle.ev_catalogue.specs.Known.{known_filters, known_adverts};
@@ -7,15 +7,17 @@ ghost use Rattle.ev_control.specs.Control.{by_adverts, subs};
 ghost use Rattle.ev_control.specs.Holdings.{held_from};
 ghost use Rattle.ev_theory.specs.Real.{real};
 ghost use Rattle.ev_numserver.specs.Ledger.{FiltersSet, AdvertsSet};
+ghost use Rattle.ev_numserver.specs.Putting.{FiltersPut, AdvertsPut, ArePut, held_by};
 ghost use Rattle.ev_numserver.specs.Staged.{IsStaged};
 
 use crate::due::{advert_messages, filter_messages};
-use crate::effective::{held_of, unheld_of};
+use crate::effective::{held_of, row_of, unheld_of};
 use crate::staging::stage;
 use ev_forwarding::Change;
 use ev_memory::NoMemory;
 use ev_message::Sending;
 use ev_numcontrol::Control;
+use ev_numheld::HeldLink;
 use ev_tables::Tables;
 use ev_wire::Semantics;
 use std::alloc::Global;
@@ -206,6 +208,62 @@ impl<'a> Ledger<'a> {
                 Err(fault)
             }
         }
+    }
+
+    /// An interface holds the filters with these numbers too, which is staged. No message is made of it.
+    fn put_filters(&mut self, interface: u32, add: &[u32]) -> Result<(), NoMemory>
+        requires interface { Has interface self.old.interfaces }
+        requires add { (i : ℕ) → Has i add.now → i < length (known_filters self.old.net.clients) }
+        ensures { OnOk result (FiltersPut interface (picked (known_filters self.old.net.clients) add.now) self.old self.new) }
+    {
+        self.control.filters().is_known();
+        self.control.adverts().is_known();
+        let won = unheld_of(self.alloc, self.control.filters(), interface, add)?;
+        self.staged.reserve(won.len())?;
+        self.control.change_filters(interface, &[], &won);
+        self.control.filters().is_known();
+        stage(&mut self.staged, interface, &[], &won);
+        Ok(())
+    }
+
+    /// An interface holds the advertisements with these numbers too. No message is made of it.
+    fn put_adverts(&mut self, interface: u32, add: &[u32]) -> Result<(), NoMemory>
+        requires interface { Has interface self.old.interfaces }
+        requires add { (i : ℕ) → Has i add.now → i < length (known_adverts self.old.net.clients) }
+        ensures { OnOk result (AdvertsPut interface (picked (known_adverts self.old.net.clients) add.now) self.old self.new) }
+    {
+        self.control.filters().is_known();
+        self.control.adverts().is_known();
+        let won = unheld_of(self.alloc, self.control.adverts(), interface, add)?;
+        self.control.change_adverts(interface, &[], &won);
+        self.control.adverts().is_known();
+        Ok(())
+    }
+
+    /// What is given of an interface is held from it too. No message is made of it.
+    pub(crate) fn put(&mut self, held: &HeldLink<'a>) -> Result<(), NoMemory>
+        requires interface { Has held.now.held.link self.old.interfaces }
+        requires net { held.now.net ≡ self.old.net }
+        ensures { OnOk result (ArePut (held.now.held ∷ []) self.old self.new) }
+    {
+        held.adverts().is_a_set();
+        held.filters().is_a_set();
+        let adverts = held.adverts().members(self.alloc)?;
+        let filters = held.filters().members(self.alloc)?;
+        self.put_adverts(held.link(), &adverts)?;
+        self.put_filters(held.link(), &filters)
+    }
+
+    /// What is held from an interface.
+    pub(crate) fn held(&self, interface: u32) -> Result<HeldLink<'a>, NoMemory>
+        ensures net { IfOk result (λ held. held.net ≡ self.now.net) }
+        ensures held { IfOk result (λ held. held.held ≡ held_by self.now.control interface) }
+    {
+        let width = self.tables.filters().count();
+        let filters = row_of(self.alloc, self.control.filters(), interface, width)?;
+        let width = self.tables.adverts().count();
+        let adverts = row_of(self.alloc, self.control.adverts(), interface, width)?;
+        Ok(HeldLink::of(self.tables, interface, filters, adverts))
     }
 
     /// All that is held is published. It takes no memory.

@@ -41,10 +41,10 @@ const LAST_STAMP: u64 = (1 << 62) - 1;
 /// them, and the clock. After any fault it is as before.
 #[derive(Drop)]
 pub struct Core<'a> {
-    alloc: Global,
+    pub(crate) alloc: Global,
     server: u32,
-    ledger: Ledger<'a>,
-    clients: Clients<'a>,
+    pub(crate) ledger: Ledger<'a>,
+    pub(crate) clients: Clients<'a>,
     clock: u64,
 }
 
