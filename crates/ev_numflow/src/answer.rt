@@ -2,6 +2,7 @@
 ghost use Rattle.std.specs.Prelude.{◌≡◌, ℕ, suc, map, length, Some, slice_get, IfOk};
 ghost use Rattle.ev_sets.specs.Sets.{Has};
 ghost use Rattle.ev_tree.specs.Tree.{IsServer, links_of};
+ghost use Rattle.ev_catalogue.specs.Known.{known_filters, known_adverts};
 ghost use Rattle.ev_control.specs.declared.control.HeldLink.{HeldLink as Held};
 ghost use Rattle.ev_flow.specs.Flow.{IsFlow, AreGivenLinks};
 ghost use Rattle.ev_numheld.specs.Held.{NetHeld, held_in, AreHeldIn};

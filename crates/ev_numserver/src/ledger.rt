@@ -1,9 +1,10 @@
 //! What a server holds from whom, what was published of it, and what changed since.
-ghost use Rattle.std.specs.Prelude.{◌≡◌, ◌<◌, ◌≤◌, ◌^◌, ℕ, nat_lt, true, [], ◌∷◌, length, take, IfOk, OnOk, OnErr};
+ghost use Rattle.std.specs.Prelude.{◌≡◌, ◌<◌, ◌≤◌, ◌^◌, ℕ, nat_lt, true, List, [], ◌∷◌, length, take, IfOk, OnOk, OnErr};
 ghost use Rattle.ev_sets.specs.Sets.{Has, IsRising};
 ghost use Rattle.ev_order.specs.Order.{picked};
 ghost use Rattle.ev_catalogue.specs.Known.{known_filters, known_adverts};
-ghost use Rattle.ev_control.specs.Control.{by_adverts, subs};
+ghost use Rattle.ev_constraint.specs.Constraint.{ConstraintParts};
+ghost use Rattle.ev_control.specs.Control.{by_adverts, subs, advs};
 ghost use Rattle.ev_control.specs.Holdings.{held_from};
 ghost use Rattle.ev_theory.specs.Real.{real};
 ghost use Rattle.ev_numserver.specs.Ledger.{FiltersSet, AdvertsSet};
@@ -246,12 +247,25 @@ impl<'a> Ledger<'a> {
         requires net { held.now.net ≡ self.old.net }
         ensures { OnOk result (ArePut (held.now.held ∷ []) self.old self.new) }
     {
-        held.adverts().is_a_set();
-        held.filters().is_a_set();
-        let adverts = held.adverts().members(self.alloc)?;
-        let filters = held.filters().members(self.alloc)?;
-        self.put_adverts(held.link(), &adverts)?;
-        self.put_filters(held.link(), &filters)
+        let link = held.link();
+        let adverts = held.adverts();
+        adverts.is_a_set();
+        let offered = adverts.members(self.alloc)?;
+        self.put_adverts(link, &offered)?;
+        let filters = held.filters();
+        filters.is_a_set();
+        let wanted = filters.members(self.alloc)?;
+        self.put_filters(link, &wanted)?;
+        Ok(())
+    }
+
+    /// Does nothing; its contract tells that what is held is held from one of the interfaces.
+    pub(crate) fn is_known(&self)
+        ensures filters { (i : ℕ) (x : List ConstraintParts) → Has x (subs self.now.control i) → Has i self.now.interfaces }
+        ensures adverts { (i : ℕ) (x : List ConstraintParts) → Has x (advs self.now.control i) → Has i self.now.interfaces }
+    {
+        self.control.filters().is_known();
+        self.control.adverts().is_known();
     }
 
     /// What is held from an interface.
@@ -259,6 +273,8 @@ impl<'a> Ledger<'a> {
         ensures net { IfOk result (λ held. held.net ≡ self.now.net) }
         ensures held { IfOk result (λ held. held.held ≡ held_by self.now.control interface) }
     {
+        self.control.filters().is_known();
+        self.control.adverts().is_known();
         let width = self.tables.filters().count();
         let filters = row_of(self.alloc, self.control.filters(), interface, width)?;
         let width = self.tables.adverts().count();

@@ -124,6 +124,7 @@ impl<'a> Core<'a> {
     {
         self.clients.rise();
         self.ledger.is_of_net();
+        self.ledger.is_known();
         let links = links_of(self.alloc, held)?;
         let numbers = self.clients.numbers();
         let interfaces = interfaces_of(self.alloc, &links, numbers)?;

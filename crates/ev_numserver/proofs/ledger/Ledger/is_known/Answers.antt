@@ -1,0 +1,21 @@
+use Rattle.std.proofs.Common.{ℕ, List, sym, subst}
+use Rattle.ev_constraint.specs.Constraint.{ConstraintParts}
+use Rattle.ev_sets.specs.Sets.{Has}
+use Rattle.ev_control.specs.Control.{subs, advs}
+use Rattle.ev_numserver.specs.Ledger.{LedgerParts}
+use Rattle.ev_numserver.proofs.Shown.{IsKnown}
+use Rattle.ev_numserver.proofs.Changed.{known-from}
+use Rattle.ev_numserver.proofs.Putting.{known-shown, known-offered}
+use Rattle.ev_numserver.proofs.ledger.Ledger.is_known.Goals as goal
+
+pub returns-clause-filters : goal.returns-clause-filters
+returns-clause-filters c =
+    let old = c.self.inside.control in
+    let was : IsKnown old = known-from old c.filters.result.now c.adverts.result.now c.filters.ensures c.adverts.ensures c.is_known.ensures.held_from c.is_known-2.ensures.held_from in
+    subst (λ (z : LedgerParts). (i : ℕ) (x : List ConstraintParts) → Has x (subs z.control i) → Has i z.interfaces) c.self.view_is (known-shown old was)
+
+pub returns-clause-adverts : goal.returns-clause-adverts
+returns-clause-adverts c =
+    let old = c.self.inside.control in
+    let was : IsKnown old = known-from old c.filters.result.now c.adverts.result.now c.filters.ensures c.adverts.ensures c.is_known.ensures.held_from c.is_known-2.ensures.held_from in
+    subst (λ (z : LedgerParts). (i : ℕ) (x : List ConstraintParts) → Has x (advs z.control i) → Has i z.interfaces) c.self.view_is (known-offered old was c.self.invariant.same_interfaces)
