@@ -1,5 +1,5 @@
 -- What a core keeps through a step.
-use Rattle.std.proofs.Common.{◌≡◌, ℕ, ◌+◌, Bool, true, false, cond, List, [], ◌∷◌, map, slice_get, Option, Some, None, IfSome, IfNone, refl, sym, ap, subst, ◌∙◌}
+use Rattle.std.proofs.Common.{◌≡◌, ℕ, ◌+◌, Bool, true, false, cond, List, [], ◌∷◌, map, slice_get, Option, Some, None, IfSome, IfNone, refl, sym, ap, ap₂, subst, ◌∙◌}
 use Rattle.std.specs.List.Sorted.{IsStrictlyIncreasing}
 use Rattle.std.proofs.lemmas.Option.{same_Some}
 use Rattle.ev_notice.specs.Notice.{Attribute}
@@ -25,6 +25,7 @@ use Rattle.ev_numserver.specs.Ledger.{LedgerParts}
 use Rattle.ev_numserver.specs.Acting.{HasActed, HasChanged, HasOffered, clients_on, delivered, delivery_under}
 use Rattle.ev_numserver.specs.Core.{core_parts}
 use Rattle.ev_numserver.specs.Kept.{IsCore, IsKept}
+use Rattle.ev_numserver.specs.Linked.{interfaces_on}
 use Rattle.ev_numserver.proofs.Sessions.{has-map, map-has, only}
 use Rattle.ev_numserver.proofs.Plans.{plans-bare}
 use Rattle.ev_numserver.proofs.Made.{IsOwn, AddsRising}
@@ -64,6 +65,7 @@ pub keeps : (server clock clock_after : ℕ) (old new : LedgerParts) (before aft
 keeps server clock clock_after old new before after net net_after was kept same nets of links numbers = record {
   kept = kept;
   of_net = of ∙ (was.of_net ∙ sym nets);
+  whole = same ∙ (was.whole ∙ ap₂ (λ ls ns. interfaces_on ls ns) (sym links) (sym numbers));
   linked = λ l h. subst (Has l) (sym same) (was.linked l (subst (Has l) links h));
   reached = λ s h.
       let r = has-map (λ (t : SessionParts). t.client) before s.client (subst (Has s.client) numbers (map-has (λ (t : SessionParts). t.client) after s h)) in

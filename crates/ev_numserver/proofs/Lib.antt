@@ -14,3 +14,5 @@ pub mod Changed
 pub mod Plans
 pub mod Keeping
 pub mod Starting
+pub mod Putting
+pub mod Relinks

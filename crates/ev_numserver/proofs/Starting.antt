@@ -304,6 +304,7 @@ module _ (net : NetParts) (sound : IsSound net) (server : ℕ) (links : List ℕ
   is-kept rising = record {
     kept = is-core rising;
     of_net = refl;
+    whole = ap (λ z. interfaces_by links (client_numbers z)) (sym (bare-same net.semantics server 1 net.clients));
     linked = λ l h. front-has links (map (λ n. 64 + n) home-numbers) l h;
     reached = λ s h.
         let there = subst (λ z. Has s z) (bare-same net.semantics server 1 net.clients) h in

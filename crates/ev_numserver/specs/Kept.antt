@@ -7,7 +7,9 @@ use Rattle.ev_control.specs.Control.{subs, advs, by_adverts}
 use Rattle.ev_model.specs.Parts.{NetParts}
 use Rattle.ev_session.specs.Session.{SessionParts}
 use Rattle.ev_session.specs.Turn.{filter_set_at, advert_set_at}
+use Rattle.ev_numserver.specs.Clients.{client_numbers}
 use Rattle.ev_numserver.specs.Core.{CoreParts}
+use Rattle.ev_numserver.specs.Linked.{interfaces_on}
 
 -- the clock is a stamp, links rise up to 64, sessions are of the server's semantics and their clients' numbers in range, and what is held from
 -- a client are its own lists
@@ -21,9 +23,10 @@ pub record IsCore (core : CoreParts) : Type 0 where
   pub own_adverts : (s : SessionParts) → Has s core.clients → by_adverts core.control.semantics ≡ true
       → advs core.control (client_interface s.client) ≡ advert_set_at s s.taken
 
--- beside it, the sessions are of the ledger's net, and all links and all clients are among the interfaces
+-- beside it, the sessions are of the ledger's net, and the interfaces are the links and those of the clients
 pub record IsKept (interfaces : List ℕ) (net : NetParts) (core : CoreParts) : Type 0 where
   pub kept : IsCore core
   pub of_net : net ≡ core.net
+  pub whole : interfaces ≡ interfaces_on core.control.links (client_numbers core.clients)
   pub linked : (link : ℕ) → Has link core.control.links → Has link interfaces
   pub reached : (s : SessionParts) → Has s core.clients → Has (client_interface s.client) interfaces

@@ -10,3 +10,5 @@ pub mod Showing
 pub mod Due
 pub mod Keeps
 pub mod Start
+pub mod Linked
+pub mod Putting

@@ -1,9 +1,11 @@
-//! Which numbers of a change make a difference.
+//! Which numbers are held from an interface, and which of a change make a difference.
 ghost use Rattle.std.specs.Prelude.{◌≡◌, ◌<◌, ◌↔◌, ℕ, length, IfOk};
 ghost use Rattle.ev_sets.specs.Sets.{Has};
+ghost use Rattle.ev_order.specs.Order.{picked};
 ghost use Rattle.ev_stock.specs.Stock.{held_from};
 ghost use Rattle.ev_numserver.specs.Due.{IsHeldAt};
 
+use ev_bits::Row;
 use ev_memory::NoMemory;
 use ev_pool::Cover;
 use ev_stock::Stock;
@@ -48,4 +50,24 @@ pub(crate) fn unheld_of<'a, T: Cover>(
         list.push(*i)?;
     }
     Ok(list)
+}
+
+/// A row of the numbers of what is held from an interface.
+pub(crate) fn row_of<'a, T: Cover>(
+    alloc: Global,
+    stock: &Stock<'a, T>,
+    interface: u32,
+    width: u32,
+) -> Result<Row, NoMemory>
+    requires { width ≡ length stock.now.items }
+    ensures width { IfOk result (λ row. row.width ≡ length stock.now.items) }
+    ensures held { IfOk result (λ row. picked stock.now.items row.members ≡ held_from T.order interface stock.now.holdings) }
+{
+    stock.is_known();
+    let mut row = Row::new(alloc, width)?;
+    let Some(held) = stock.held(interface) else {
+        return Ok(row);
+    };
+    row.copy_from(held);
+    Ok(row)
 }

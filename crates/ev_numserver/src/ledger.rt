@@ -1,22 +1,24 @@
 //! What a server holds from whom, what was published of it, and what changed since.
-ghost use Rattle.std.specs.Prelude.{◌≡◌, ◌<◌, ◌≤◌, ◌^◌, ℕ, nat_lt, true, List, [], length, take, IfOk, OnErr};
+ghost use Rattle.std.specs.Prelude.{◌≡◌, ◌<◌, ◌≤◌, ◌^◌, ℕ, nat_lt, true, List, [], ◌∷◌, length, take, IfOk, OnOk, OnErr};
 ghost use Rattle.ev_sets.specs.Sets.{Has, IsRising};
-ghost use Rattle.ev_constraint.specs.Constraint.{ConstraintParts};
 ghost use Rattle.ev_order.specs.Order.{picked};
 ghost use Rattle.ev_catalogue.specs.Known.{known_filters, known_adverts};
-ghost use Rattle.ev_control.specs.Control.{by_adverts, subs};
+ghost use Rattle.ev_constraint.specs.Constraint.{ConstraintParts};
+ghost use Rattle.ev_control.specs.Control.{by_adverts, subs, advs};
 ghost use Rattle.ev_control.specs.Holdings.{held_from};
 ghost use Rattle.ev_theory.specs.Real.{real};
 ghost use Rattle.ev_numserver.specs.Ledger.{FiltersSet, AdvertsSet};
+ghost use Rattle.ev_numserver.specs.Putting.{FiltersPut, AdvertsPut, ArePut, held_by};
 ghost use Rattle.ev_numserver.specs.Staged.{IsStaged};
 
 use crate::due::{advert_messages, filter_messages};
-use crate::effective::{held_of, unheld_of};
+use crate::effective::{held_of, row_of, unheld_of};
 use crate::staging::stage;
 use ev_forwarding::Change;
 use ev_memory::NoMemory;
 use ev_message::Sending;
 use ev_numcontrol::Control;
+use ev_numheld::HeldLink;
 use ev_tables::Tables;
 use ev_wire::Semantics;
 use std::alloc::Global;
@@ -114,14 +116,6 @@ impl<'a> Ledger<'a> {
     {
         self.control.filters().is_known();
         self.control.filters().interfaces()
-    }
-
-    /// Does nothing; its contract tells that the filters that are held are filters of the net.
-    pub(crate) fn is_known(&self)
-        ensures { (i : ℕ) (f : List ConstraintParts) → Has f (subs self.now.control i) → Has f (known_filters self.now.net.clients) }
-    {
-        self.control.filters().is_known();
-        self.control.adverts().is_known();
     }
 
     /// Whether advertisements steer the filters.
@@ -225,6 +219,79 @@ impl<'a> Ledger<'a> {
                 Err(fault)
             }
         }
+    }
+
+    /// An interface holds the filters with these numbers too, which is staged. No message is made of it.
+    fn put_filters(&mut self, interface: u32, add: &[u32]) -> Result<(), NoMemory>
+        requires interface { Has interface self.old.interfaces }
+        requires add { (i : ℕ) → Has i add.now → i < length (known_filters self.old.net.clients) }
+        ensures { OnOk result (FiltersPut interface (picked (known_filters self.old.net.clients) add.now) self.old self.new) }
+    {
+        self.control.filters().is_known();
+        self.control.adverts().is_known();
+        let won = unheld_of(self.alloc, self.control.filters(), interface, add)?;
+        self.staged.reserve(won.len())?;
+        self.control.change_filters(interface, &[], &won);
+        self.control.filters().is_known();
+        stage(&mut self.staged, interface, &[], &won);
+        Ok(())
+    }
+
+    /// An interface holds the advertisements with these numbers too. No message is made of it.
+    fn put_adverts(&mut self, interface: u32, add: &[u32]) -> Result<(), NoMemory>
+        requires interface { Has interface self.old.interfaces }
+        requires add { (i : ℕ) → Has i add.now → i < length (known_adverts self.old.net.clients) }
+        ensures { OnOk result (AdvertsPut interface (picked (known_adverts self.old.net.clients) add.now) self.old self.new) }
+    {
+        self.control.filters().is_known();
+        self.control.adverts().is_known();
+        let won = unheld_of(self.alloc, self.control.adverts(), interface, add)?;
+        self.control.change_adverts(interface, &[], &won);
+        self.control.adverts().is_known();
+        Ok(())
+    }
+
+    /// What is given of an interface is held from it too. No message is made of it.
+    pub(crate) fn put(&mut self, held: &HeldLink<'a>) -> Result<(), NoMemory>
+        requires interface { Has held.now.held.link self.old.interfaces }
+        requires net { held.now.net ≡ self.old.net }
+        ensures { OnOk result (ArePut (held.now.held ∷ []) self.old self.new) }
+    {
+        let link = held.link();
+        let adverts = held.adverts();
+        adverts.is_a_set();
+        let offered = adverts.members(self.alloc)?;
+        self.put_adverts(link, &offered)?;
+        let filters = held.filters();
+        filters.is_a_set();
+        let wanted = filters.members(self.alloc)?;
+        self.put_filters(link, &wanted)?;
+        Ok(())
+    }
+
+    /// Does nothing; its contract tells that what is held is held from one of the interfaces, and that the filters that are held
+    /// are filters of the net.
+    pub(crate) fn is_known(&self)
+        ensures known { (i : ℕ) (f : List ConstraintParts) → Has f (subs self.now.control i) → Has f (known_filters self.now.net.clients) }
+        ensures filters { (i : ℕ) (x : List ConstraintParts) → Has x (subs self.now.control i) → Has i self.now.interfaces }
+        ensures adverts { (i : ℕ) (x : List ConstraintParts) → Has x (advs self.now.control i) → Has i self.now.interfaces }
+    {
+        self.control.filters().is_known();
+        self.control.adverts().is_known();
+    }
+
+    /// What is held from an interface.
+    pub(crate) fn held(&self, interface: u32) -> Result<HeldLink<'a>, NoMemory>
+        ensures net { IfOk result (λ held. held.net ≡ self.now.net) }
+        ensures held { IfOk result (λ held. held.held ≡ held_by self.now.control interface) }
+    {
+        self.control.filters().is_known();
+        self.control.adverts().is_known();
+        let width = self.tables.filters().count();
+        let filters = row_of(self.alloc, self.control.filters(), interface, width)?;
+        let width = self.tables.adverts().count();
+        let adverts = row_of(self.alloc, self.control.adverts(), interface, width)?;
+        Ok(HeldLink::of(self.tables, interface, filters, adverts))
     }
 
     /// All that is held is published. It takes no memory.

@@ -9,6 +9,7 @@ mod clients;
 mod due;
 mod effective;
 mod ledger;
+mod linking;
 mod moving;
 mod server;
 mod spreading;
@@ -16,5 +17,6 @@ mod staging;
 mod start;
 mod stepped;
 
+pub use linking::Relinked;
 pub use server::Core;
 pub use stepped::{Step, StepFault};

@@ -42,10 +42,10 @@ const LAST_STAMP: u64 = (1 << 62) - 1;
 /// them, and the clock. After any fault it is as before.
 #[derive(Drop)]
 pub struct Core<'a> {
-    alloc: Global,
+    pub(crate) alloc: Global,
     server: u32,
-    ledger: Ledger<'a>,
-    clients: Clients<'a>,
+    pub(crate) ledger: Ledger<'a>,
+    pub(crate) clients: Clients<'a>,
     clock: u64,
 }
 
@@ -234,6 +234,14 @@ impl<'a> Core<'a> {
         ensures few { length self.now.interfaces < 2 ^ 32 }
     {
         self.ledger.interfaces()
+    }
+
+    /// The clients that live here, rising.
+    pub fn clients(&self) -> &[u32]
+        ensures clients { result.now ≡ client_numbers self.now.clients }
+        ensures low { (n : ℕ) → Has n (client_numbers self.now.clients) → n ≤ 1024 }
+    {
+        self.clients.numbers()
     }
 
     /// Does nothing; its contract tells that the filters that are held are filters of the net.

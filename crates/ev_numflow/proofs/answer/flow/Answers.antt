@@ -1,0 +1,37 @@
+use Rattle.std.proofs.Common.{suc, subst, sym, ap, ◌∙◌}
+use Rattle.ev_flow.proofs.Answering.{given-links}
+use Rattle.ev_numflow.specs.Homes.{homes_in}
+use Rattle.ev_numflow.proofs.Answering.{held-net, flow-is}
+use Rattle.ev_numflow.proofs.answer.flow.Goals as goal
+
+pub advert_table-requires-clause-all : goal.advert_table-requires-clause-all
+advert_table-requires-clause-all c = λ a b m. rw c.deref.ensures.value (c.in_ok-order.ensures.all a b m)
+
+pub advert_table-requires-clause-order : goal.advert_table-requires-clause-order
+advert_table-requires-clause-order c = rw c.deref.ensures.value c.in_ok-order.ensures.order
+
+pub filter_table-requires-clause-all : goal.filter_table-requires-clause-all
+filter_table-requires-clause-all c = λ a b m. rw c.deref-2.ensures.value (c.in_ok-order.ensures.all a b m)
+
+pub filter_table-requires-clause-order : goal.filter_table-requires-clause-order
+filter_table-requires-clause-order c = rw c.deref-2.ensures.value c.in_ok-order.ensures.order
+
+pub all_links-requires-clause-filters : goal.all_links-requires-clause-filters
+all_links-requires-clause-filters c = c.in_ok-table.ensures.wide
+
+pub all_links-requires-clause-adverts : goal.all_links-requires-clause-adverts
+all_links-requires-clause-adverts c = c.in_ok-offers.ensures.wide
+
+pub returns-clause-net : goal.returns-clause-net
+returns-clause-net c = λ place links e. held-net c.args.tables.now c.in_ok-table.table c.in_ok-offers.offers (suc place) links.items (c.in_ok-held.ensures.held place links e)
+
+pub returns-clause-flow : goal.returns-clause-flow
+returns-clause-flow c = λ place links e link m.
+    flow-is c.args.tables.now c.args.tree.now (homes_in c.args.homes.now) c.in_ok-table.table c.in_ok-offers.offers c.in_ok-table.ensures c.in_ok-offers.ensures (suc place) links.items
+    (c.in_ok-held.ensures.links place links e) (c.in_ok-held.ensures.held place links e) link m
+
+pub returns-clause-given : goal.returns-clause-given
+returns-clause-given c = λ place links e.
+    given-links c.args.tables.now.semantics c.args.tree.now c.laws.ensures (homes_in c.args.homes.now) (suc place) _ (c.in_ok-held.ensures.links place links e)
+    (λ link m. flow-is c.args.tables.now c.args.tree.now (homes_in c.args.homes.now) c.in_ok-table.table c.in_ok-offers.offers c.in_ok-table.ensures c.in_ok-offers.ensures (suc place) links.items
+    (c.in_ok-held.ensures.links place links e) (c.in_ok-held.ensures.held place links e) link m)

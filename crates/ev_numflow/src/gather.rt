@@ -1,0 +1,63 @@
+//! Unions of rows.
+ghost use Rattle.std.specs.Prelude.{◌≡◌, ◌↔◌, ◌<◌, ℕ, [], length, IfOk};
+ghost use Rattle.ev_sets.specs.Sets.{Has};
+ghost use Rattle.ev_tree.specs.Tree.{IsServer, links_of};
+ghost use Rattle.ev_numcontrol.specs.Offering.{row_of, IsUnion};
+ghost use Rattle.ev_numflow.specs.Rows.{row_at, IsNeeded};
+
+use crate::table::Table;
+use ev_bits::Row;
+use ev_memory::NoMemory;
+use ev_tree::Tree;
+use std::alloc::Global;
+
+/// A row of the same members.
+pub(crate) fn copied(alloc: Global, row: &Row) -> Result<Row, NoMemory>
+    ensures { IfOk result (λ copy. copy ≡ row.now) }
+{
+    row.is_a_set();
+    let mut copy = Row::new(alloc, row.width())?;
+    copy.copy_from(row);
+    Ok(copy)
+}
+
+/// The numbers of what a server has of its own and of its neighbours but one.
+pub(crate) fn needed(
+    alloc: Global,
+    tree: &Tree,
+    own: &Row,
+    table: &Table,
+    at: u32,
+    of: u32,
+) -> Result<Row, NoMemory>
+    requires of { IsServer tree.now of }
+    requires wide { (c : ℕ) → Has c (links_of tree.now of) → (c ≡ at → ⊥) → (row_at table.now of c).width ≡ own.now.width }
+    ensures width { IfOk result (λ row. row.width ≡ own.now.width) }
+    ensures members { IfOk result (λ row. (k : ℕ) → Has k row.members ↔ IsNeeded tree.now own.now.members table.now at of k) }
+{
+    tree.laws();
+    let mut row = copied(alloc, own)?;
+    for next in tree.neighbours(of) {
+        if *next == at {
+            continue;
+        }
+        row.insert_all(table.row(of, *next));
+    }
+    Ok(row)
+}
+
+/// Puts the members of each of these rows in whose place is held.
+pub(crate) fn unite(held: &Row, rows: &[Row], row: &mut Row)
+    requires held { held.now.width ≡ length rows.now }
+    requires width { (a : ℕ) → a < length rows.now → (row_of rows.now a).width ≡ row.old.width }
+    requires empty { row.old.members ≡ [] }
+    ensures width { row.new.width ≡ row.old.width }
+    ensures union { IsUnion held.now.members rows.now row.new.members }
+{
+    held.is_a_set();
+    let mut at = 0;
+    while let Some(a) = held.first_from(at) {
+        row.insert_all(&rows[a as usize]);
+        at = a + 1;
+    }
+}
