@@ -42,10 +42,10 @@ const LAST_STAMP: u64 = (1 << 62) - 1;
 #[derive(Drop)]
 pub struct Core<'a> {
     pub(crate) alloc: Global,
-    server: u32,
+    pub(crate) server: u32,
     pub(crate) ledger: Ledger<'a>,
     pub(crate) clients: Clients<'a>,
-    clock: u64,
+    pub(crate) clock: u64,
 }
 
 impl<'a> Model for Core<'a> {
