@@ -45,12 +45,12 @@ filter_row-requires-clause-wide c =
     let link = get_or c.args.order.now c.loop-link.link-index (0, 0) in
     earlier-wide c.args.tree.now c.args.order.now c.requires.order c.loop-link.link-index link.0 link.1 (length (known_filters c.args.tables.now.clients)) (slice_get-get_or c.args.order.now c.loop-link.link-index (0, 0) c.loop-link-test.true) c.loop-link.table c.loop-link.invariant.wide
 
-pub row-requires-clause-at : goal.row-requires-clause-at
-row-requires-clause-at c =
+pub row-offered-requires-clause-at : goal.row-offered-requires-clause-at
+row-offered-requires-clause-at c =
     to-small c.args.tree.now c.laws.ensures _ _ (link-at c.args.tree.now c.laws.ensures c.args.order.now c.requires.order c.loop-link.link-index c.loop-link-test.true)
 
-pub row-requires-clause-of : goal.row-requires-clause-of
-row-requires-clause-of c =
+pub row-offered-requires-clause-of : goal.row-offered-requires-clause-of
+row-offered-requires-clause-of c =
     from-small c.args.tree.now c.laws.ensures _ _ (link-at c.args.tree.now c.laws.ensures c.args.order.now c.requires.order c.loop-link.link-index c.loop-link-test.true)
 
 pub filter_row-requires-clause-offered : goal.filter_row-requires-clause-offered
