@@ -1,7 +1,6 @@
 -- Unions of rows, and the roots of the items that they are of.
-use Rattle.std.proofs.Common.{◌≡◌, ◌⊎◌, ◌↔◌, inl, inr, ℕ, suc, ◌+◌, ◌<◌, ◌≤◌, ◌||◌, not, nat_lt, Bool, true, false, List, [], ◌∷◌, ◌++◌, length, take, slice_get, Some, refl, sym, ap, subst, ◌∙◌, arith}
+use Rattle.std.proofs.Common.{◌≡◌, ◌⊎◌, ◌↔◌, inl, inr, ℕ, ◌+◌, ◌≤◌, ◌||◌, nat_lt, Bool, true, List, [], ◌∷◌, length, take, slice_get, Some, refl, sym, ap, subst, ◌∙◌}
 use Rattle.std.specs.List.{list_any}
-use Rattle.std.proofs.lemmas.Option.{same_Some}
 use Rattle.ev_constraint.specs.Constraint.{ConstraintParts}
 use Rattle.ev_notice.specs.Cover.{overlaps}
 use Rattle.ev_sets.specs.Laws.{CoverLaws}
@@ -14,7 +13,6 @@ use Rattle.ev_order.specs.Order.{picked}
 use Rattle.ev_order.proofs.Moves.{in-has, has-in}
 use Rattle.ev_stock.proofs.Shown.{picked-has, has-picked, picked-rising, one-number}
 use Rattle.ev_wire.specs.Messages.{Lists}
-use Rattle.ev_wire.specs.declared.semantics.Semantics.{Semantics}
 use Rattle.ev_wire.specs.declared.semantics.Semantics.TheVariants.{Advertisement}
 use Rattle.ev_tree.specs.Tree.{Topology, links_of}
 use Rattle.ev_routing.specs.Clients.{some_pass}

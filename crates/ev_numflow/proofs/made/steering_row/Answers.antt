@@ -1,6 +1,5 @@
 use Rattle.std.proofs.Common.{◌≡◌, ◌<◌, ℕ, length, sym, ap, subst, ◌∙◌}
 use Rattle.ev_sets.specs.Sets.{Has, IsRising, roots}
-use Rattle.ev_bits.specs.Rows.{Numbers}
 use Rattle.ev_notice.specs.Before.{list_before}
 use Rattle.ev_notice.specs.Cover.{advert_covers}
 use Rattle.ev_cover.specs.Laws.{ad_laws}
