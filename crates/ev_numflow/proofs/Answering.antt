@@ -1,5 +1,5 @@
 -- What the rows are of, as what servers hold of their neighbours.
-use Rattle.std.proofs.Common.{◌≡◌, inl, inr, ℕ, zero, suc, ◌+◌, ◌-◌, ◌≤◌, List, [], ◌∷◌, ◌++◌, Some, map, take, slice_get, sym, ap, subst, ◌∙◌, arith, add-one}
+use Rattle.std.proofs.Common.{◌≡◌, inl, inr, ℕ, zero, suc, ◌+◌, ◌-◌, ◌≤◌, List, [], ◌∷◌, ◌++◌, Some, map, take, slice_get, refl, sym, ap, subst, ◌∙◌, arith, add-one}
 use Rattle.std.proofs.lemmas.Option.{same_Some}
 use Rattle.ev_sets.specs.Sets.{Has}
 use Rattle.ev_bits.specs.Rows.{Numbers}
@@ -11,10 +11,13 @@ use Rattle.ev_control.specs.declared.control.HeldLink.{HeldLink}
 use Rattle.ev_control.proofs.Taken.{take-some}
 use Rattle.ev_flow.specs.declared.home.Home.{Home}
 use Rattle.ev_flow.specs.Flow.{home_at, home_filters, home_adverts, filters_of, adverts_of, IsFlow}
-use Rattle.ev_flow.proofs.Answering.{map-push}
 use Rattle.ev_numheld.specs.Held.{NetHeld, net_held, held_in, AreHeldIn}
 use Rattle.ev_numflow.specs.Homes.{NetHome, homes_in}
 use Rattle.ev_numflow.specs.Rows.{row_at, AreAdverts, AreFilters, IsHeldOf}
+
+map-push : {A B : Type 0} (f : A → B) (xs : List A) (x : A) → map f (xs ++ x ∷ []) ≡ map f xs ++ f x ∷ []
+map-push f [] x = refl
+map-push f (y ∷ ys) x = ap (λ z. f y ∷ z) (map-push f ys x)
 
 -- one more link
 pub links-step : (xs new : List NetHeld) (h : NetHeld) (links : List ℕ) (n : ℕ) → new ≡ xs ++ h ∷ [] → slice_get links n ≡ Some h.held.link

@@ -1,7 +1,7 @@
 -- Rows of a table that are of what flows.
-use Rattle.std.proofs.Common.{◌≡◌, ◌⊎◌, ◌↔◌, inl, inr, ℕ, suc, ◌+◌, ◌-◌, ◌<◌, ◌≤◌, ◌==◌, ◌&&◌, ◌||◌, not, Bool, true, false, cond, List, [], ◌∷◌, length, map, filter, Some, take, slice_get, refl, sym, ap, subst, ◌∙◌, arith}
+use Rattle.std.proofs.Common.{◌≡◌, ◌⊎◌, ◌↔◌, inl, inr, ℕ, ◌+◌, ◌<◌, ◌==◌, ◌&&◌, ◌||◌, not, Bool, true, false, cond, List, [], length, filter, Some, take, slice_get, refl, sym, ap, subst, ◌∙◌, arith}
 use Rattle.std.proofs.lemmas.Bool.Decides.{nat_tests}
-use Rattle.ev_sets.specs.Sets.{Has, IsRising, roots}
+use Rattle.ev_sets.specs.Sets.{Has, roots}
 use Rattle.ev_sets.proofs.Roots.{filter-iff}
 use Rattle.ev_sets.proofs.Sets.{rising-filter}
 use Rattle.ev_bits.specs.Rows.{Numbers}
@@ -26,7 +26,7 @@ use Rattle.ev_flow.specs.Flow.{IsNetOn, IsUnionOfClients, filters_of, adverts_of
 use Rattle.ev_flow.specs.Rows.{IsOrder}
 use Rattle.ev_flow.proofs.Ordering.{to-small, in-order}
 use Rattle.ev_flow.proofs.Solving.{rising-except, ad-is, sub-is, made-has}
-use Rattle.ev_numflow.specs.Rows.{row_at, IsNeededItem, IsWantedToo, PicksRootsOf, AdvertsFor, AreAdverts, FiltersFor, AreFilters}
+use Rattle.ev_numflow.specs.Rows.{row_at, IsNeededItem, IsWantedToo, PicksRootsOf, AdvertsFor, AreAdverts, FiltersFor}
 
 -- what holds of the rows for the links so far holds of one more
 fill-step : (P : ℕ → ℕ → Numbers → Type 0) (order : List (ℕ × ℕ)) (i at of : ℕ) (table new : List Numbers) (row : Numbers)
@@ -112,7 +112,7 @@ module _ (known : NetParts) (tree : Topology) (laws : TreeLaws tree) (homes : Li
 
   pub filter-step : (offers : List Numbers) → AreAdverts known tree homes offers → row.width ≡ length (known_filters known.clients)
       → PicksRootsOf filter_covers list_before (known_filters known.clients) row.members (IsWantedToo (IsNeededItem tree (known_filters known.clients) (filters_of homes of) table at of)
-        (is_wanted known.semantics (picked (known_adverts known.clients) (row_at offers of at).members)))
+      (is_wanted known.semantics (picked (known_adverts known.clients) (row_at offers of at).members)))
       → FiltersFor known tree homes (λ a b. Has (a, b) (take i order)) table → FiltersFor known tree homes (λ a b. Has (a, b) (take (i + 1) order)) new
   filter-step offers advs wide made before = record {
     wide = fill-step (λ a b (r : Numbers). r.width ≡ length (known_filters known.clients)) order i at of table new row is small set before.wide wide;

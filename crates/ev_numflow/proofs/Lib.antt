@@ -1,3 +1,4 @@
+pub mod Wanted
 pub mod Needed
 pub mod Filling
 pub mod Answering

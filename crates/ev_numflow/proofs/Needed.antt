@@ -1,7 +1,6 @@
 -- Unions of rows, and the roots of the items that they are of.
-use Rattle.std.proofs.Common.{◌≡◌, ◌⊎◌, ◌↔◌, inl, inr, ℕ, suc, ◌+◌, ◌<◌, ◌≤◌, ◌||◌, not, nat_lt, Bool, true, false, List, [], ◌∷◌, ◌++◌, length, take, slice_get, Some, refl, sym, ap, subst, ◌∙◌, arith}
+use Rattle.std.proofs.Common.{◌≡◌, ◌⊎◌, ◌↔◌, inl, inr, ℕ, ◌+◌, ◌≤◌, ◌||◌, nat_lt, Bool, true, List, [], ◌∷◌, length, take, slice_get, Some, refl, sym, ap, subst, ◌∙◌}
 use Rattle.std.specs.List.{list_any}
-use Rattle.std.proofs.lemmas.Option.{same_Some}
 use Rattle.ev_constraint.specs.Constraint.{ConstraintParts}
 use Rattle.ev_notice.specs.Cover.{overlaps}
 use Rattle.ev_sets.specs.Laws.{CoverLaws}
@@ -12,18 +11,16 @@ use Rattle.ev_bits.specs.Rows.{Numbers, is_in, common}
 use Rattle.ev_bits.proofs.Passing.{nat_laws}
 use Rattle.ev_order.specs.Order.{picked}
 use Rattle.ev_order.proofs.Moves.{in-has, has-in}
-use Rattle.ev_stock.proofs.Shown.{picked-has, has-picked, picked-rising, picked-one, one-number}
+use Rattle.ev_stock.proofs.Shown.{picked-has, has-picked, picked-rising, one-number}
 use Rattle.ev_wire.specs.Messages.{Lists}
-use Rattle.ev_wire.specs.declared.semantics.Semantics.{Semantics}
 use Rattle.ev_wire.specs.declared.semantics.Semantics.TheVariants.{Advertisement}
 use Rattle.ev_tree.specs.Tree.{Topology, links_of}
 use Rattle.ev_routing.specs.Clients.{some_pass}
 use Rattle.ev_control.specs.Control.{is_wanted}
 use Rattle.ev_control.proofs.Taken.{has-next, take-all}
 use Rattle.ev_catalogue.specs.Related.{overlap_rows}
-use Rattle.ev_numcontrol.specs.Offering.{IsUnion}
-use Rattle.ev_numcontrol.proofs.Wanted.{union-offers}
-use Rattle.ev_numflow.specs.Rows.{row_at, IsNeeded, IsNeededItem, IsWantedToo, PicksRootsOf}
+use Rattle.ev_numflow.specs.Rows.{row_at, IsUnion, IsNeeded, IsNeededItem, PicksRootsOf}
+use Rattle.ev_numflow.proofs.Wanted.{union-offers}
 
 -- the numbers so far: a server's own, and those of the first of its links but one
 module _ (table : List Numbers) (at of : ℕ) (own : List ℕ) where
@@ -118,6 +115,10 @@ module _ {T : Type 0} {covers before : T → T → Bool} (laws : CoverLaws cover
 any-is : (test : List ConstraintParts → Bool) (xs : Lists) → some_pass test xs ≡ list_any test xs
 any-is test [] = refl
 any-is test (x ∷ xs) = ap (λ b. test x || b) (any-is test xs)
+
+-- an item's number is the only one
+picked-one : {T : Type 0} {covers before : T → T → Bool} → CoverLaws covers before → (items : List T) → IsRising before items → (ns : List ℕ) (k : ℕ) (x : T) → slice_get items k ≡ Some x → Has x (picked items ns) → Has k ns
+picked-one laws items rising ns k x at m = let r = picked-has items ns x m in subst (λ z. Has z ns) (one-number laws items rising r.0 k x r.2 at) r.1
 
 common-iff : (xs ys : List ℕ) (k : ℕ) → Has k (common xs ys) ↔ (Has k xs × Has k ys)
 common-iff xs ys k = (

@@ -1,5 +1,5 @@
 -- What contracts inside this crate see: rows of numbers by link, and what they are to stand for.
-use Rattle.std.specs.Prelude.{◌≡◌, ℕ, ◌+◌, ◌*◌, ◌×◌, ◌⊎◌, ◌↔◌, Bool, true, List, [], length, slice_get, Some}
+use Rattle.std.specs.Prelude.{◌≡◌, ℕ, ◌+◌, ◌*◌, ◌⊎◌, ◌↔◌, Bool, true, List, [], length}
 use Rattle.std.proofs.Math.ListN.{get_or}
 use Rattle.ev_sets.specs.Sets.{Has, IsRising, roots}
 use Rattle.ev_bits.specs.Rows.{Numbers}
@@ -19,6 +19,15 @@ use Rattle.ev_numheld.specs.Held.{NetHeld, net_held}
 -- no numbers
 abbrev pub no_numbers : Numbers
 no_numbers = record { width = 0; members = [] }
+
+-- the row at a place
+abbrev pub row_of : List Numbers → ℕ → Numbers
+row_of rows a = get_or rows a no_numbers
+
+-- the numbers are those of the rows whose places are held
+pub record IsUnion (held : List ℕ) (rows : List Numbers) (numbers : List ℕ) : Type 0 where
+  pub from : (k : ℕ) → Has k numbers → (a : ℕ) × Has a held × Has k (row_of rows a).members
+  pub to : (a k : ℕ) → Has a held → Has k (row_of rows a).members → Has k numbers
 
 -- the row of a table for two servers
 abbrev pub row_at : List Numbers → ℕ → ℕ → Numbers

@@ -2,8 +2,7 @@
 ghost use Rattle.std.specs.Prelude.{◌≡◌, ◌↔◌, ◌<◌, ℕ, [], length, IfOk};
 ghost use Rattle.ev_sets.specs.Sets.{Has};
 ghost use Rattle.ev_tree.specs.Tree.{IsServer, links_of};
-ghost use Rattle.ev_numcontrol.specs.Offering.{row_of, IsUnion};
-ghost use Rattle.ev_numflow.specs.Rows.{row_at, IsNeeded};
+ghost use Rattle.ev_numflow.specs.Rows.{row_at, row_of, IsUnion, IsNeeded};
 
 use crate::table::Table;
 use ev_bits::Row;

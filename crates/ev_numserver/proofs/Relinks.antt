@@ -25,6 +25,7 @@ use Rattle.ev_numserver.specs.Linked.{SuitsCore, AreHeldLinks, IsLinked, interfa
 use Rattle.ev_numserver.specs.Putting.{IsGiven, ArePut, held_by, held_by_clients}
 use Rattle.ev_numserver.proofs.Putting.{put-none}
 use Rattle.ev_numserver.proofs.Sessions.{map-has, has-map}
+use Rattle.ev_numserver.proofs.Starting.{front-has, back-has}
 
 above-links : (core : CoreParts) → IsCore core → (s : SessionParts) → Has s core.clients → 64 < 64 + s.client
 above-links core kept s m = let low = (kept.ids s m).0 in omega (arith, low)
@@ -48,19 +49,10 @@ module _ (server clock : ℕ) (old new : LedgerParts) (clients : List SessionPar
     kept = relinked-core;
     of_net = kept.of_net ∙ sym suits.net;
     whole = suits.interfaces;
-    linked = λ l m. subst (Has l) (sym suits.interfaces) (front new.control.links (map (λ n. 64 + n) (client_numbers clients)) l m);
+    linked = λ l m. subst (Has l) (sym suits.interfaces) (front-has new.control.links (map (λ n. 64 + n) (client_numbers clients)) l m);
     reached = λ s m. subst (Has (64 + s.client)) (sym suits.interfaces)
-        (back new.control.links (map (λ n. 64 + n) (client_numbers clients)) (64 + s.client) (map-has (λ n. 64 + n) (client_numbers clients) s.client (map-has (λ (z : SessionParts). z.client) clients s m)));
+        (back-has new.control.links (map (λ n. 64 + n) (client_numbers clients)) (64 + s.client) (map-has (λ n. 64 + n) (client_numbers clients) s.client (map-has (λ (z : SessionParts). z.client) clients s m)));
   }
-    where
-      front : (links ys : List ℕ) (l : ℕ) → Has l links → Has l (links ++ ys)
-      front [] ys l h = absurd h
-      front (x ∷ links) ys l (inl e) = inl e
-      front (x ∷ links) ys l (inr h) = inr (front links ys l h)
-
-      back : (links ys : List ℕ) (l : ℕ) → Has l ys → Has l (links ++ ys)
-      back [] ys l h = h
-      back (x ∷ links) ys l h = inr (back links ys l h)
 
   -- what it had suits it then
   pub suits-back : old.interfaces ≡ interfaces → SuitsCore (core_parts server new clients clock) old
@@ -150,6 +142,16 @@ by-clients of c ns old same i x = (to, from)
 none-from : (i : ℕ) (hs : List (Holding (List ConstraintParts))) (x : List ConstraintParts) → hs ≡ [] → Has x (held_from list_before i hs) → ⊥
 none-from i hs x e m = subst (λ z. Has x (held_from list_before i z)) e m
 
+-- links that may be given are small
+pub small-links : (held : List HeldLink) → ((h : HeldLink) → Has h held → h.link ≤ 64) → (link : ℕ) → Has link (map (λ h. h.link) held) → link ≤ 64
+small-links [] low link m = absurd m
+small-links (h ∷ held) low link (inl q) = let l = low h (inl refl) in omega (arith, l, q)
+small-links (h ∷ held) low link (inr m) = small-links held (λ k n. low k (inr n)) link m
+
+pub links-first : (xs ys : List ℕ) → length xs ≤ length (xs ++ ys)
+links-first [] ys = omega arith
+links-first (x ∷ xs) ys = let l = links-first xs ys in omega (arith, l)
+
 -- the clients' numbers
 pub range-of : (core : CoreParts) → IsCore core → (n : ℕ) → Has n (client_numbers core.clients) → (1 ≤ n) × (n ≤ 1024)
 range-of core kept n m = let r = has-map (λ (s : SessionParts). s.client) core.clients n m in let w = kept.ids r.0 r.1 in let e = r.2 in (omega (arith, w.0, e), omega (arith, w.1, e))
@@ -200,11 +202,6 @@ module _ (core : CoreParts) (held : List HeldLink) (first mid new : LedgerParts)
     client_filters = made-linked.filters.clients;
     client_adverts = made-linked.adverts.clients;
   }
-    where
-      small-links : (held : List HeldLink) → ((h : HeldLink) → Has h held → h.link ≤ 64) → (link : ℕ) → Has link (map (λ h. h.link) held) → link ≤ 64
-      small-links [] low link m = absurd m
-      small-links (h ∷ held) low link (inl q) = let l = low h (inl refl) in omega (arith, l, q)
-      small-links (h ∷ held) low link (inr m) = small-links held (λ k n. low k (inr n)) link m
 
 -- lists that are gone over
 pub held-at : (held : List NetHeld) (n : ℕ) (h : NetHeld) → slice_get held n ≡ Some h → slice_get (held_in held) n ≡ Some h.held

@@ -231,12 +231,12 @@ first-links [] ys = none ys
     none (z ∷ zs) = refl
 first-links (l ∷ links) ys = ap (λ z. l ∷ z) (first-links links ys)
 
-front-has : (links ys : List ℕ) (l : ℕ) → Has l links → Has l (links ++ ys)
+pub front-has : (links ys : List ℕ) (l : ℕ) → Has l links → Has l (links ++ ys)
 front-has [] ys l h = absurd h
 front-has (x ∷ links) ys l (inl e) = inl e
 front-has (x ∷ links) ys l (inr h) = inr (front-has links ys l h)
 
-back-has : (links ys : List ℕ) (l : ℕ) → Has l ys → Has l (links ++ ys)
+pub back-has : (links ys : List ℕ) (l : ℕ) → Has l ys → Has l (links ++ ys)
 back-has [] ys l h = h
 back-has (x ∷ links) ys l h = inr (back-has links ys l h)
 

@@ -26,7 +26,7 @@ use std::mem::replace;
 /// What a core has on other links, made beside it: what is held, published and staged there.
 #[derive(Drop)]
 pub struct Relinked<'a> {
-    pub(crate) ledger: Ledger<'a>,
+    ledger: Ledger<'a>,
 }
 
 impl<'a> Model for Relinked<'a> {

@@ -1,5 +1,5 @@
 //! Cores of servers.
-ghost use Rattle.std.specs.Prelude.{◌≡◌, ◌<◌, ◌^◌, ◌↔◌, ◌+◌, ℕ, nat_lt, [], max, List, length, map, Some, slice_get, IfOk, OnOk, OnErr, IsErrOf, IfSome, IfNone};
+ghost use Rattle.std.specs.Prelude.{◌≡◌, ◌<◌, ◌≤◌, ◌^◌, ◌↔◌, ◌+◌, ℕ, nat_lt, [], max, List, length, map, Some, slice_get, IfOk, OnOk, OnErr, IsErrOf, IfSome, IfNone};
 ghost use Rattle.ev_constraint.specs.Constraint.{ConstraintParts};
 ghost use Rattle.ev_sets.specs.Sets.{Has, IsRising};
 ghost use Rattle.ev_notice.specs.Notice.{Attribute};
@@ -43,10 +43,10 @@ const LAST_STAMP: u64 = (1 << 62) - 1;
 #[derive(Drop)]
 pub struct Core<'a> {
     pub(crate) alloc: Global,
-    server: u32,
+    pub(crate) server: u32,
     pub(crate) ledger: Ledger<'a>,
     pub(crate) clients: Clients<'a>,
-    clock: u64,
+    pub(crate) clock: u64,
 }
 
 impl<'a> Model for Core<'a> {

@@ -1,4 +1,4 @@
-use Rattle.std.proofs.Common.{suc, subst, sym, ap, ◌∙◌}
+use Rattle.std.proofs.Common.{suc}
 use Rattle.ev_flow.proofs.Answering.{given-links}
 use Rattle.ev_numflow.specs.Homes.{homes_in}
 use Rattle.ev_numflow.proofs.Answering.{held-net, flow-is}

@@ -1,4 +1,4 @@
-use Rattle.std.proofs.Common.{◌≡◌, ◌⊎◌, ◌↔◌, ℕ, take}
+use Rattle.std.proofs.Common.{◌≡◌, ◌↔◌, ℕ}
 use Rattle.ev_sets.specs.Sets.{Has}
 use Rattle.ev_numflow.proofs.Needed.{IsSoFar}
 use Rattle.ev_numflow.proofs.gather.needed.Given as goal

@@ -1,6 +1,6 @@
 use Rattle.std.proofs.Common.{ap, sym, ◌∙◌, arith, ◌<◌, length}
 use Rattle.ev_bits.specs.Rows.{Numbers}
-use Rattle.ev_numcontrol.proofs.Wanted.{unite-from, unite-to, row-read}
+use Rattle.ev_numflow.proofs.Wanted.{unite-from, unite-to, row-read}
 use Rattle.ev_numflow.proofs.gather.unite.Goals as goal
 
 pub bounds-rows-a : goal.bounds-rows-a

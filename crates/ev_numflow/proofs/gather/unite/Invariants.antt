@@ -1,6 +1,6 @@
 use Rattle.std.proofs.Common.{◌≡◌, ◌-◌, ◌<◌, ◌≤◌, ℕ, length}
 use Rattle.ev_sets.specs.Sets.{Has}
-use Rattle.ev_numcontrol.specs.Offering.{row_of}
+use Rattle.ev_numflow.specs.Rows.{row_of}
 use Rattle.ev_numflow.proofs.gather.unite.Given as goal
 
 abbrev pub invariant-loop-a : goal.invariant-loop-a

@@ -1,7 +1,6 @@
-use Rattle.std.proofs.Common.{◌≡◌, ◌-◌, ◌≤◌, ℕ, List, true, length, slice_get, get_or, subst, sym, ap, arith}
+use Rattle.std.proofs.Common.{◌≡◌, true, length, get_or, subst, sym, arith}
 use Rattle.std.proofs.lemmas.Option.{slice_get-get_or}
 use Rattle.ev_sets.specs.Sets.{Has}
-use Rattle.ev_constraint.specs.Constraint.{ConstraintParts}
 use Rattle.ev_notice.specs.Before.{list_before}
 use Rattle.ev_notice.specs.Cover.{advert_covers}
 use Rattle.ev_poset.proofs.Pairs.{at-has}
@@ -9,7 +8,7 @@ use Rattle.ev_wire.specs.Messages.{Lists}
 use Rattle.ev_catalogue.specs.Known.{known_adverts}
 use Rattle.ev_control.specs.Control.{by_adverts}
 use Rattle.ev_control.proofs.Taken.{take-all}
-use Rattle.ev_flow.proofs.Ordering.{link-at, from-server, to-server, to-small, from-small}
+use Rattle.ev_flow.proofs.Ordering.{link-at, to-server, to-small, from-small}
 use Rattle.ev_numflow.specs.Homes.{homes_in}
 use Rattle.ev_numflow.specs.Rows.{PicksRootsOf, IsNeededItem}
 use Rattle.ev_numflow.proofs.Filling.{earlier-wide, advert-step}

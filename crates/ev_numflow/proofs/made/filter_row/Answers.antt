@@ -1,6 +1,5 @@
 use Rattle.std.proofs.Common.{◌≡◌, ◌<◌, ℕ, length, sym, ap, subst, ◌∙◌}
 use Rattle.ev_sets.specs.Sets.{Has, IsRising, roots}
-use Rattle.ev_bits.specs.Rows.{Numbers}
 use Rattle.ev_notice.specs.Before.{list_before}
 use Rattle.ev_notice.specs.Cover.{filter_covers}
 use Rattle.ev_cover.specs.Laws.{sub_laws}
@@ -12,8 +11,8 @@ use Rattle.ev_catalogue.specs.Known.{known_filters, known_adverts}
 use Rattle.ev_numflow.proofs.Needed.{picks-wanted}
 use Rattle.ev_numflow.proofs.made.filter_row.Goals as goal
 
-pub needed-due-requires-clause-wide : goal.needed-due-requires-clause-wide
-needed-due-requires-clause-wide c d m n =
+pub needed-requires-clause-wide : goal.needed-requires-clause-wide
+needed-requires-clause-wide c d m n =
     c.requires.wide d m n ∙ sym (c.filters.ensures.width ∙ ap (λ (z : NetParts). length (known_filters z.clients)) c.requires.net)
 
 pub keep_wanted-requires-clause-due : goal.keep_wanted-requires-clause-due

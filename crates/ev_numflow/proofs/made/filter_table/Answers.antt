@@ -1,8 +1,7 @@
-use Rattle.std.proofs.Common.{◌≡◌, ◌-◌, ◌≤◌, ℕ, length, slice_get, get_or, subst, sym, ap, ◌∙◌, arith}
+use Rattle.std.proofs.Common.{length, get_or, subst, sym, ap, ◌∙◌, arith}
 use Rattle.std.proofs.lemmas.Option.{slice_get-get_or}
 use Rattle.ev_sets.specs.Sets.{Has}
 use Rattle.ev_bits.specs.Rows.{Numbers}
-use Rattle.ev_constraint.specs.Constraint.{ConstraintParts}
 use Rattle.ev_notice.specs.Before.{list_before}
 use Rattle.ev_notice.specs.Cover.{filter_covers}
 use Rattle.ev_order.specs.Order.{picked}
@@ -11,7 +10,7 @@ use Rattle.ev_wire.specs.Messages.{Lists}
 use Rattle.ev_catalogue.specs.Known.{known_filters, known_adverts}
 use Rattle.ev_control.specs.Control.{is_wanted}
 use Rattle.ev_control.proofs.Taken.{take-all}
-use Rattle.ev_flow.proofs.Ordering.{link-at, from-server, to-server, to-small, from-small}
+use Rattle.ev_flow.proofs.Ordering.{link-at, to-server, to-small, from-small}
 use Rattle.ev_numflow.specs.Homes.{homes_in}
 use Rattle.ev_numflow.specs.Rows.{row_at, PicksRootsOf, IsNeededItem, IsWantedToo}
 use Rattle.ev_numflow.proofs.Filling.{earlier-wide, filter-step}
@@ -45,12 +44,12 @@ filter_row-requires-clause-wide c =
     let link = get_or c.args.order.now c.loop-link.link-index (0, 0) in
     earlier-wide c.args.tree.now c.args.order.now c.requires.order c.loop-link.link-index link.0 link.1 (length (known_filters c.args.tables.now.clients)) (slice_get-get_or c.args.order.now c.loop-link.link-index (0, 0) c.loop-link-test.true) c.loop-link.table c.loop-link.invariant.wide
 
-pub row-requires-clause-at : goal.row-requires-clause-at
-row-requires-clause-at c =
+pub row-offered-requires-clause-at : goal.row-offered-requires-clause-at
+row-offered-requires-clause-at c =
     to-small c.args.tree.now c.laws.ensures _ _ (link-at c.args.tree.now c.laws.ensures c.args.order.now c.requires.order c.loop-link.link-index c.loop-link-test.true)
 
-pub row-requires-clause-of : goal.row-requires-clause-of
-row-requires-clause-of c =
+pub row-offered-requires-clause-of : goal.row-offered-requires-clause-of
+row-offered-requires-clause-of c =
     from-small c.args.tree.now c.laws.ensures _ _ (link-at c.args.tree.now c.laws.ensures c.args.order.now c.requires.order c.loop-link.link-index c.loop-link-test.true)
 
 pub filter_row-requires-clause-offered : goal.filter_row-requires-clause-offered

@@ -1,14 +1,15 @@
-use Rattle.std.proofs.Common.{◌≡◌, ◌<◌, ℕ, List, length, refl, sym, ap, subst, ◌∙◌}
+use Rattle.std.proofs.Common.{◌≡◌, ◌↔◌, true, List, length, sym, ap, subst, ◌∙◌}
 use Rattle.ev_sets.specs.Sets.{Has, IsRising}
 use Rattle.ev_bits.specs.Rows.{Numbers}
 use Rattle.ev_notice.specs.Before.{list_before}
 use Rattle.ev_cover.specs.Laws.{sub_laws}
 use Rattle.ev_order.specs.Order.{picked}
+use Rattle.ev_wire.specs.declared.semantics.Semantics.{Semantics}
+use Rattle.ev_wire.specs.declared.semantics.Semantics.TheVariants.{Advertisement}
 use Rattle.ev_control.specs.Control.{is_wanted}
 use Rattle.ev_catalogue.specs.Known.{known_filters, known_adverts}
-use Rattle.ev_catalogue.specs.Related.{overlap_rows}
-use Rattle.ev_numcontrol.specs.Offering.{row_of, IsUnion}
-use Rattle.ev_numcontrol.proofs.Wanted.{overlap-widths, overlaps-long}
+use Rattle.ev_numflow.specs.Rows.{IsUnion}
+use Rattle.ev_numflow.proofs.Wanted.{overlap-widths, overlaps-long}
 use Rattle.ev_numflow.proofs.Needed.{wanted-kept}
 use Rattle.ev_numflow.proofs.made.keep_wanted.Goals as goal
 
@@ -19,4 +20,14 @@ unite-requires-clause-held c =
 pub unite-requires-clause-width : goal.unite-requires-clause-width
 unite-requires-clause-width c a l =
     overlap-widths (known_filters c.args.tables.now.clients) (known_adverts c.args.tables.now.clients) c.overlaps.result.now c.overlaps.ensures a l
-    ∙ sym (c.in_ok-wanted.ensures.width ∙ (c.count.ensures ∙ ap length c.filters.ensures))
+    ∙ sym (c.in_ok-wanted-in-Advertisement.ensures.width ∙ (c.count.ensures ∙ ap length c.filters-filters.ensures))
+
+pub returns-in_ok-wanted-in-Advertisement-clause-members : goal.returns-in_ok-wanted-in-Advertisement-clause-members
+returns-in_ok-wanted-in-Advertisement-clause-members c k x at =
+    let filters = known_filters c.args.tables.now.clients in
+    let adverts = known_adverts c.args.tables.now.clients in
+    let steered : c.args.tables.now.semantics ≡ Advertisement = sym c.semantics.ensures ∙ c.in-Advertisement.is in
+    let union = subst (λ (z : List Numbers). IsUnion c.args.offered.now.members z c.unite.new.row.members) c.overlaps.ensures c.unite.ensures.union in
+    subst (λ (z : Semantics). Has k c.keep_all.new.self.members ↔ (Has k c.args.due.now.members × (is_wanted z (picked (known_adverts c.args.tables.now.clients) c.args.offered.now.members) x ≡ true))) (sym steered)
+    (wanted-kept sub_laws filters adverts (subst (IsRising list_before) c.filters-filters.ensures c.is_a_set.ensures.rising) c.args.offered.now.members c.unite.new.row.members union c.args.due.now.members c.keep_all.new.self.members
+    c.keep_all.ensures.members k x at)

@@ -1,6 +1,5 @@
 use Rattle.std.proofs.Common.{◌≡◌, ◌<◌, ℕ, length, sym, ap, subst, ◌∙◌}
 use Rattle.ev_sets.specs.Sets.{Has, IsRising, roots}
-use Rattle.ev_bits.specs.Rows.{Numbers}
 use Rattle.ev_notice.specs.Before.{list_before}
 use Rattle.ev_notice.specs.Cover.{advert_covers}
 use Rattle.ev_cover.specs.Laws.{ad_laws}
@@ -11,8 +10,8 @@ use Rattle.ev_catalogue.specs.Known.{known_adverts}
 use Rattle.ev_numflow.proofs.Needed.{picks-needed}
 use Rattle.ev_numflow.proofs.made.steering_row.Goals as goal
 
-pub needed-due-requires-clause-wide : goal.needed-due-requires-clause-wide
-needed-due-requires-clause-wide c d m n =
+pub needed-requires-clause-wide : goal.needed-requires-clause-wide
+needed-requires-clause-wide c d m n =
     c.requires.wide d m n ∙ sym (c.adverts.ensures.width ∙ ap (λ (z : NetParts). length (known_adverts z.clients)) c.requires.net)
 
 pub roots-requires-clause-of : goal.roots-requires-clause-of
