@@ -1,6 +1,10 @@
 -- Lists that grow by one.
-use Rattle.std.proofs.Common.{◌≡◌, ℕ, zero, suc, ◌+◌, List, [], ◌∷◌, ◌++◌, length, Some, slice_get, sym, ap, subst, arith}
+use Rattle.std.proofs.Common.{◌≡◌, ◌⊎◌, ◌↔◌, inl, inr, ℕ, ◌+◌, List, [], ◌∷◌, ◌++◌, take, length, Some, slice_get, refl, sym, ap, subst, arith}
 use Rattle.std.proofs.lemmas.List.{length-append}
+use Rattle.ev_sets.specs.Sets.{Has}
+use Rattle.ev_constraint.specs.Constraint.{ConstraintParts}
+use Rattle.ev_wire.specs.Messages.{Lists}
+use Rattle.ev_control.proofs.Taken.{has-next}
 use Rattle.ev_numnet.proofs.Starting.{each_more}
 
 pub push-step : {X : Type 0} (P : ℕ → X → Type 0) (xs new : List X) (x : X) → new ≡ xs ++ x ∷ [] → P (length xs) x
@@ -9,3 +13,25 @@ push-step P xs new x is here before place y e = each_more P xs x before here pla
 
 pub push-long : {X : Type 0} (xs new : List X) (x : X) (n : ℕ) → new ≡ xs ++ x ∷ [] → length xs ≡ n → length new ≡ n + 1
 push-long xs new x n is long = omega (arith, long, ap length is, length-append xs (x ∷ []))
+
+-- what the first so many clients have together
+pub home-none : (filters : Lists) → filters ≡ [] → {sets : ℕ → Lists} → {clients : List ℕ} → (f : List ConstraintParts) → Has f filters ↔ ((client : ℕ) × Has client (take 0 clients) × Has f (sets client))
+home-none filters none f = (λ m. absurd (subst (Has f) none m), λ r. absurd r.1)
+
+pub home-step : (sets : ℕ → Lists) (clients : List ℕ) (n x : ℕ) → slice_get clients n ≡ Some x → {old new held : Lists} → held ≡ sets x
+    → ((f : List ConstraintParts) → Has f new ↔ (Has f old ⊎ Has f held))
+    → ((f : List ConstraintParts) → Has f old ↔ ((client : ℕ) × Has client (take n clients) × Has f (sets client)))
+    → (f : List ConstraintParts) → Has f new ↔ ((client : ℕ) × Has client (take (n + 1) clients) × Has f (sets client))
+home-step sets clients n x at {old} {new} {held} is step before f = (to, from)
+  where
+    to : Has f new → (client : ℕ) × Has client (take (n + 1) clients) × Has f (sets client)
+    to m = elim ((step f).0 m) [
+      | inl k ↦ (let r = (before f).0 k in (r.0, (has-next clients n x r.0 at).1 (inl r.1), r.2))
+      | inr k ↦ (x, (has-next clients n x x at).1 (inr refl), subst (Has f) is k)
+    ]
+
+    from : (client : ℕ) × Has client (take (n + 1) clients) × Has f (sets client) → Has f new
+    from (client, m, k) = elim ((has-next clients n x client at).0 m) [
+      | inl h ↦ (step f).1 (inl ((before f).1 (client, h, k)))
+      | inr e ↦ (step f).1 (inr (subst (Has f) (sym is) (subst (λ z. Has f (sets z)) e k)))
+    ]

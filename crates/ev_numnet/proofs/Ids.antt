@@ -8,7 +8,11 @@ use Rattle.ev_wire.specs.declared.command.Command.{Command}
 use Rattle.ev_wire.specs.declared.command.Command.TheVariants.{Subscribe, Unsubscribe, Advertise, Unadvertise, Publish}
 use Rattle.ev_model.specs.Parts.{ClientParts, NetParts}
 use Rattle.ev_model.specs.Sound.{IsSound}
-use Rattle.ev_catalogue.specs.Known.{PublicationParts, publication, publishes_after, published_by, script_publications, known_publications}
+use Rattle.ev_catalogue.specs.Known.{known_filters, PublicationParts, publication, publishes_after, published_by, script_publications, known_publications}
+use Rattle.ev_bits.specs.Rows.{Numbers}
+use Rattle.ev_matcher.specs.Matching.{matched}
+use Rattle.ev_message.specs.Parts.{PublicationParts as FoundParts}
+use Rattle.ev_numnet.specs.Finding.{IsFound}
 use Rattle.ev_numnet.proofs.Sending.{length-append}
 
 -- of a client, with ordinals from one number up to another
@@ -72,3 +76,12 @@ pub number-below : {T : Type 0} (xs : List T) (k : ℕ) (x : T) → slice_get xs
 number-below [] k x e = absurd cc
 number-below (y ∷ ys) zero x e = omega arith
 number-below (y ∷ ys) (suc k) x e = let l = number-below ys k x e in omega (arith, l)
+
+-- a publication with what it matches
+pub found-of : (net : NetParts) (p : PublicationParts) (found : FoundParts) (row : Numbers) → IsId p.id → found.id ≡ p.id → found.notice ≡ p.notice → found.matched ≡ row
+    → row.width ≡ length (known_filters net.clients) → row.members ≡ matched p.notice (known_filters net.clients) → IsFound net p found
+found-of net p found row ok id notice is width members = record {
+  id = id;
+  notice = notice;
+  load = (subst IsId (sym id) ok, is ∙ (λ i. record { width = width i; members = (members ∙ ap (λ n. matched n (known_filters net.clients)) (sym notice)) i }));
+}

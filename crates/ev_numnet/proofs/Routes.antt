@@ -1,5 +1,5 @@
 -- The routes by what a core published are those of its filters.
-use Rattle.std.proofs.Common.{◌≡◌, ◌<◌, ℕ, zero, suc, true, List, [], ◌∷◌, length, slice_get, get_or, slice_index_or, Some, inl, inr, sym, ap, subst, ◌∙◌, arith}
+use Rattle.std.proofs.Common.{◌≡◌, ◌<◌, ℕ, zero, suc, true, List, [], ◌∷◌, length, slice_get, get_or, slice_index_or, Some, Result, Ok, Err, IfOk, inl, inr, sym, ap, subst, ◌∙◌, arith}
 use Rattle.std.specs.List.{Contains}
 use Rattle.ev_constraint.specs.Constraint.{ConstraintParts}
 use Rattle.ev_notice.specs.Notice.{Attribute, AreValues}
@@ -17,8 +17,13 @@ use Rattle.ev_matcher.proofs.Members.{matched-iff}
 use Rattle.ev_forwarding.specs.Published.{Published}
 use Rattle.ev_forwarding.specs.Routes.{IsRouteBy}
 use Rattle.ev_forwarding.proofs.Lists.{has-contains, contains-has}
+use Rattle.ev_bits.specs.Rows.{Numbers}
+use Rattle.ev_message.specs.Parts.{PublicationParts as FoundParts}
+use Rattle.ev_message.specs.Message.{IsLoad}
+use Rattle.ev_message.specs.declared.load.Load.TheVariants as loads
+use Rattle.ev_numserver.specs.Core.{CoreParts, published_from}
 use Rattle.ev_numserver.specs.Routed.{IsRoute}
-use Rattle.ev_numnet.specs.Kept.{IsForwardingOf}
+use Rattle.ev_numnet.specs.Kept.{IsForwardingOf, IsPlace}
 
 -- a number below the count has an item, and an item has a number
 pub data Numbered (items : Lists) (k : ℕ) : Type 0 where
@@ -72,3 +77,12 @@ module _ (net : NetParts) (interfaces : List ℕ) (published : ℕ → Lists) (f
             (matched-iff n (known_filters net.clients) k.number).1 (k.within, ap (matches n) k.is ∙ (sym (plain m.0) ∙ m.2)),
             (agrees.pairs i k.number m.0 k.at).1 m.1,
           ))
+
+-- of a publication that has what it matches
+module _ (core : CoreParts) (f : Published) (agrees : IsPlace core f) (p : FoundParts) (values : AreValues p.notice) (load : IsLoad core.net (loads.Publication p)) where
+  pub route-of-load : (r : List ℕ) → IsRouteBy p.matched.members f.pairs r → IsRoute p.notice (published_from core) r
+  route-of-load r by = route-is core.net core.interfaces (published_from core) f agrees p.notice r values (subst (λ (m : Numbers). IsRouteBy m.members f.pairs r) load.1 by)
+
+  pub route-answered : {E : Type 0} (answer : Result (List ℕ) E) → IfOk answer (λ r. IsRouteBy p.matched.members f.pairs r) → IfOk answer (λ r. IsRoute p.notice (published_from core) r)
+  route-answered (Ok r) by = route-of-load r by
+  route-answered (Err e) by = tt

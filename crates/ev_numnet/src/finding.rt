@@ -67,6 +67,7 @@ impl<'a> Finder<'a> {
         ensures same { self.new ≡ self.old }
     {
         let catalogue = self.tables.catalogue();
+        catalogue.is_known();
         catalogue.matched(number, &mut self.scratch, &mut self.row)?;
         let known = &catalogue.publications()[number as usize];
         let notice = known.notice.copy(alloc)?;

@@ -1,11 +1,11 @@
 //! A server in the network: its core, and what it published by numbers.
-ghost use Rattle.std.specs.Prelude.{◌≡◌, ◌<◌, ◌^◌, ℕ, [], length, slice_get, Some, Ok, Err, IfOk, OnErr};
-ghost use Rattle.ev_sets.specs.Sets.{Has};
+ghost use Rattle.std.specs.Prelude.{◌≡◌, ◌<◌, ◌^◌, ℕ, nat_lt, [], length, slice_get, Some, Ok, Err, IfOk, OnErr};
+ghost use Rattle.ev_sets.specs.Sets.{Has, IsRising};
 ghost use Rattle.ev_run.specs.Machine.{Does, Takes};
 ghost use Rattle.ev_routing.specs.Step.{NextCommand, Version};
 ghost use Rattle.ev_model.specs.Nets.{servers_in};
 ghost use Rattle.ev_model.specs.Sound.{IsSound};
-ghost use Rattle.ev_catalogue.specs.Known.{PublicationParts, known_publications};
+ghost use Rattle.ev_catalogue.specs.Known.{PublicationParts, known_filters, known_publications};
 ghost use Rattle.ev_session.specs.declared.planned.Planned.TheVariants as plans;
 ghost use Rattle.ev_session.specs.Session.{SessionParts};
 ghost use Rattle.ev_session.specs.Plan.{next_plan};
@@ -46,6 +46,24 @@ impl<'a> Model for Place<'a> {
     ghost invariant = { λ place. IsPlace place.core place.forwarding };
 }
 
+/// The forwarding of a server with these interfaces, of which nothing is published.
+pub(crate) fn unpublished(
+    alloc: Global,
+    tables: &Tables<'_>,
+    interfaces: &[u32],
+) -> Result<Forwarding, NoMemory>
+    requires rising { IsRising nat_lt interfaces.now }
+    requires few { length interfaces.now < 2 ^ 32 }
+    ensures width { IfOk result (λ f. f.width ≡ length (known_filters tables.now.clients)) }
+    ensures interfaces { IfOk result (λ f. f.interfaces ≡ interfaces.now) }
+    ensures pairs { IfOk result (λ f. f.pairs ≡ []) }
+{
+    let catalogue = tables.catalogue();
+    catalogue.is_known();
+    let width = catalogue.filters().len() as u32;
+    Forwarding::new(alloc, width, interfaces)
+}
+
 impl<'a> Place<'a> {
     /// A server of a net before its first step.
     pub(crate) fn start(
@@ -58,10 +76,7 @@ impl<'a> Place<'a> {
         ensures { IfOk result (λ place. IsFirst tables.now server place) }
     {
         let core = Core::start(alloc, tables, server)?;
-        let catalogue = tables.catalogue();
-        catalogue.is_known();
-        let width = catalogue.filters().len() as u32;
-        let forwarding = Forwarding::new(alloc, width, core.interfaces())?;
+        let forwarding = unpublished(alloc, tables, core.interfaces())?;
         Ok(Place { core, forwarding })
     }
 

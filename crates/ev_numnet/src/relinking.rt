@@ -1,10 +1,10 @@
 //! What a server has by the tree of a phase, exchanged at its place.
-ghost use Rattle.std.specs.Prelude.{◌≡◌, IfOk};
+ghost use Rattle.std.specs.Prelude.{◌≡◌, [], IfOk};
 ghost use Rattle.ev_control.specs.Control.{subs};
 ghost use Rattle.ev_numserver.specs.Linked.{IsOnLinks, ledger_of};
 ghost use Rattle.ev_numnet.specs.Begin.{FitsCore, FitsWhere, IsOn, given_back, CanTake, IsExchanged};
 
-use crate::place::Place;
+use crate::place::{Place, unpublished};
 use ev_forwarding::Forwarding;
 use ev_memory::NoMemory;
 use ev_numserver::Relinked;
@@ -44,11 +44,8 @@ impl<'a> OnLinks<'a> {
         requires { relinked.published ≡ [] }
         ensures { IfOk result (λ on. on ≡ relinked.entry) }
     {
-        let catalogue = relinked.tables().catalogue();
-        catalogue.is_known();
         relinked.is_known();
-        let width = catalogue.filters().len() as u32;
-        let mut forwarding = Forwarding::new(alloc, width, relinked.interfaces())?;
+        let mut forwarding = unpublished(alloc, relinked.tables(), relinked.interfaces())?;
         forwarding.apply(relinked.staged());
         Ok(OnLinks {
             relinked,

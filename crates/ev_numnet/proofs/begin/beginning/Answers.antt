@@ -1,14 +1,18 @@
+use Rattle.std.proofs.Common.{sym, ap, subst, ◌∙◌}
+use Rattle.ev_phases.specs.Trees.{trees_by}
+use Rattle.ev_model.specs.Parts.{NetParts}
+use Rattle.ev_model.specs.Nets.{later_trees}
 use Rattle.ev_numnet.proofs.Exchanged.{raised-begins}
 use Rattle.ev_numnet.proofs.Setting.{if-ok, if-both, one-tree, two-trees}
 use Rattle.ev_numnet.proofs.begin.beginning.Goals as goal
 
 pub returns-then-trees_come : goal.returns-then-trees_come
 returns-then-trees_come c =
-    let one = one-tree c.args.tables.now c.args.last c.args.phase c.trees_come.result c.trees_come-2.result c.trees_come.ensures c.trees_come-2.ensures c.if-trees_come.true in
+    let one = one-tree c.args.tables.now c.args.last c.args.phase c.trees_come.result c.trees_come-2.result (c.trees_come.ensures ∙ ap (λ (n : NetParts). trees_by (later_trees n.trees) c.args.last) c.net-net.ensures) (c.trees_come-2.ensures ∙ ap (λ (n : NetParts). trees_by (later_trees n.trees) c.args.phase) c.net-net.ensures) c.if-trees_come.true in
     if-both (λ standings long all. raised-begins c.args.tables.now c.requires.sound c.args.last c.args.phase c.greatest-clock.result c.args.places.now standings.items one c.greatest-clock.ensures.greatest c.greatest-clock.ensures.low long all)
     c.raised.result c.raised.ensures.long c.raised.ensures.raised
 
 pub returns-else-trees_come : goal.returns-else-trees_come
 returns-else-trees_come c =
-    let other = two-trees c.args.tables.now c.args.last c.args.phase c.trees_come.result c.trees_come-2.result c.trees_come.ensures c.trees_come-2.ensures c.if-trees_come.false in
+    let other = two-trees c.args.tables.now c.args.last c.args.phase c.trees_come.result c.trees_come-2.result (c.trees_come.ensures ∙ ap (λ (n : NetParts). trees_by (later_trees n.trees) c.args.last) c.net-net.ensures) (c.trees_come-2.ensures ∙ ap (λ (n : NetParts). trees_by (later_trees n.trees) c.args.phase) c.net-net.ensures) c.if-trees_come.false in
     if-ok (λ standings set. set c.args.last c.requires.state.0 other c.requires.state.1 c.requires.state.2) c.on_tree.result c.on_tree.ensures
