@@ -32,8 +32,8 @@ loop-client-preserved c =
 pub returns : goal.returns
 returns c = subst (λ z. ArePut z c.args.ledger.now c.loop-client.ledger) (all-clients c.args.from.now.control c.args.clients.now c.loop-client.client-index c.loop-client-test.false) c.loop-client.invariant
 
-pub overflow_add-held : goal.overflow_add-held
-overflow_add-held c =
+pub overflow_add-client : goal.overflow_add-client
+overflow_add-client c =
     let n = get_or c.args.clients.now c.loop-client.client-index 0 in
     let at = slice_get-get_or c.args.clients.now c.loop-client.client-index 0 c.loop-client-test.true in
     let few = c.requires.few n (at-has c.args.clients.now c.loop-client.client-index n at) in
