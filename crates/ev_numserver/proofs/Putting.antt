@@ -1,5 +1,5 @@
 -- What is given of interfaces is held from them too, and nobody is told.
-use Rattle.std.proofs.Common.{◌≡◌, ◌≢◌, ◌⊎◌, ◌↔◌, inl, inr, ℕ, ◌+◌, ◌<◌, ◌==◌, Bool, true, false, List, [], ◌∷◌, ◌++◌, length, map, filter, take, slice_get, Some, refl, sym, ap, subst, ◌∙◌, arith, add-one, eqb-true}
+use Rattle.std.proofs.Common.{◌≡◌, ◌≢◌, ◌⊎◌, ◌↔◌, inl, inr, ℕ, ◌+◌, ◌<◌, ◌==◌, Bool, true, false, List, [], ◌∷◌, ◌++◌, length, map, filter, take, slice_get, Some, refl, sym, ap, subst, ◌∙◌, add-one, eqb-true}
 use Rattle.std.proofs.lemmas.Bool.{cases_eq}
 use Rattle.ev_constraint.specs.Constraint.{ConstraintParts}
 use Rattle.ev_notice.specs.Before.{list_before}
@@ -28,9 +28,9 @@ use Rattle.ev_numserver.specs.Due.{IsHeldAt}
 use Rattle.ev_numserver.specs.Ledger.{LedgerParts}
 use Rattle.ev_numserver.specs.Showing.{shown, holdings_by}
 use Rattle.ev_numserver.specs.Keeps.{IsLedger}
-use Rattle.ev_numserver.specs.Putting.{IsGiven, ArePut, held_by, held_by_clients, FiltersPut, AdvertsPut}
+use Rattle.ev_numserver.specs.Putting.{IsGiven, ArePut, FiltersPut, AdvertsPut}
 use Rattle.ev_numserver.proofs.Sieving.{Sieved, sieve-none}
-use Rattle.ev_numserver.proofs.Shown.{IsKnown, subs-shown, advs-shown, stock-rises, holdings-alike}
+use Rattle.ev_numserver.proofs.Shown.{IsKnown, subs-shown, advs-shown, stock-rises}
 use Rattle.ev_numserver.proofs.Turned.{changed-alike}
 use Rattle.ev_numserver.proofs.Changed.{AreFiltersChanged, AreAdvertsChanged, set}
 use Rattle.ev_numserver.proofs.Starting.{ledger_parts}

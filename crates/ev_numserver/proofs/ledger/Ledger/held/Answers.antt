@@ -1,17 +1,15 @@
-use Rattle.std.proofs.Common.{◌≡◌, length, sym, ap, subst, ◌∙◌, List}
+use Rattle.std.proofs.Common.{length, sym, ap, ◌∙◌, List}
 use Rattle.ev_constraint.specs.Constraint.{ConstraintParts}
 use Rattle.ev_order.specs.Order.{picked}
 use Rattle.ev_stock.specs.Stock.{Stocked, held_from}
 use Rattle.ev_notice.specs.Before.{list_before}
 use Rattle.ev_wire.specs.Messages.{Lists}
-use Rattle.ev_catalogue.specs.Known.{known_filters, known_adverts}
-use Rattle.ev_control.specs.declared.control.HeldLink.{HeldLink}
 use Rattle.ev_numheld.specs.Held.{NetHeld}
 use Rattle.ev_numserver.specs.Ledger.{LedgerParts}
 use Rattle.ev_numserver.specs.Putting.{held_by}
 use Rattle.ev_numserver.proofs.Shown.{IsKnown, subs-shown, advs-shown}
 use Rattle.ev_numserver.proofs.Changed.{known-from}
-use Rattle.ev_numserver.proofs.Putting.{link_parts, links-same}
+use Rattle.ev_numserver.proofs.Putting.{links-same}
 use Rattle.ev_numserver.proofs.ledger.Ledger.held.Goals as goal
 
 pub row_of-requires : goal.row_of-requires

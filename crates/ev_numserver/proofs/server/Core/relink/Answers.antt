@@ -1,7 +1,6 @@
-use Rattle.std.proofs.Common.{◌≡◌, map, refl, sym, ap, subst, ◌∙◌}
+use Rattle.std.proofs.Common.{map, refl, sym, subst}
 use Rattle.ev_numserver.specs.Clients.{bare}
 use Rattle.ev_numserver.specs.Core.{CoreParts, core_parts}
-use Rattle.ev_numserver.specs.Ledger.{LedgerParts}
 use Rattle.ev_numserver.specs.Linked.{SuitsCore}
 use Rattle.ev_numserver.proofs.Relinks.{published-suits, relinked-kept, suits-back}
 use Rattle.ev_numserver.proofs.server.Core.relink.Goals as goal

@@ -1,14 +1,13 @@
-use Rattle.std.proofs.Common.{◌≡◌, ℕ, ◌+◌, ◌<◌, ◌≤◌, nat_lt, List, [], length, map, take, sym, ap, ap₂, subst, ◌∙◌, arith}
+use Rattle.std.proofs.Common.{◌≡◌, ℕ, ◌+◌, ◌<◌, ◌≤◌, nat_lt, List, length, map, take, sym, ap, ap₂, subst, ◌∙◌, arith}
 use Rattle.std.specs.List.Sorted.{IsStrictlyIncreasing}
 use Rattle.ev_constraint.specs.Constraint.{ConstraintParts}
 use Rattle.ev_sets.specs.Sets.{Has, IsRising}
 use Rattle.ev_model.specs.Parts.{NetParts}
 use Rattle.ev_control.specs.declared.control.HeldLink.{HeldLink}
 use Rattle.ev_control.specs.Control.{Controlled, subs, advs}
-use Rattle.ev_numheld.specs.Held.{held_in, AreHeldIn}
-use Rattle.ev_numserver.specs.Clients.{ClientsParts, bare, client_numbers}
+use Rattle.ev_numheld.specs.Held.{held_in}
+use Rattle.ev_numserver.specs.Clients.{bare, client_numbers}
 use Rattle.ev_numserver.specs.Core.{CoreParts, core_parts}
-use Rattle.ev_numserver.specs.Ledger.{LedgerParts}
 use Rattle.ev_numserver.specs.Linked.{interfaces_on, SuitsCore, IsLinked}
 use Rattle.ev_numserver.specs.Putting.{ArePut, held_by_clients}
 use Rattle.ev_numserver.proofs.Commands.{numbers-bare}
