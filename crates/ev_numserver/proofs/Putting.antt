@@ -1,5 +1,5 @@
 -- What is given of interfaces is held from them too, and nobody is told.
-use Rattle.std.proofs.Common.{◌≡◌, ◌≢◌, ◌⊎◌, ◌↔◌, inl, inr, ℕ, ◌+◌, ◌<◌, ◌==◌, Bool, true, false, List, [], ◌∷◌, ◌++◌, length, map, filter, take, slice_get, Some, refl, sym, ap, subst, ◌∙◌, arith, add-one, eqb-true}
+use Rattle.std.proofs.Common.{◌≡◌, ◌≢◌, ◌⊎◌, ◌↔◌, inl, inr, ℕ, ◌+◌, ◌<◌, ◌==◌, Bool, true, false, List, [], ◌∷◌, ◌++◌, length, map, filter, take, slice_get, Some, refl, sym, ap, subst, ◌∙◌, add-one, eqb-true}
 use Rattle.std.proofs.lemmas.Bool.{cases_eq}
 use Rattle.ev_constraint.specs.Constraint.{ConstraintParts}
 use Rattle.ev_notice.specs.Before.{list_before}
@@ -28,11 +28,12 @@ use Rattle.ev_numserver.specs.Due.{IsHeldAt}
 use Rattle.ev_numserver.specs.Ledger.{LedgerParts}
 use Rattle.ev_numserver.specs.Showing.{shown, holdings_by}
 use Rattle.ev_numserver.specs.Keeps.{IsLedger}
-use Rattle.ev_numserver.specs.Putting.{IsGiven, ArePut, held_by, held_by_clients, FiltersPut, AdvertsPut}
+use Rattle.ev_numserver.specs.Putting.{IsGiven, ArePut, FiltersPut, AdvertsPut}
 use Rattle.ev_numserver.proofs.Sieving.{Sieved, sieve-none}
-use Rattle.ev_numserver.proofs.Shown.{IsKnown, subs-shown, advs-shown, stock-rises, holdings-alike}
+use Rattle.ev_numserver.proofs.Shown.{IsKnown, subs-shown, advs-shown, stock-rises}
 use Rattle.ev_numserver.proofs.Turned.{changed-alike}
-use Rattle.ev_numserver.proofs.Changed.{AreFiltersChanged, AreAdvertsChanged, ledger, set}
+use Rattle.ev_numserver.proofs.Changed.{AreFiltersChanged, AreAdvertsChanged, set}
+use Rattle.ev_numserver.proofs.Starting.{ledger_parts}
 
 pub minus-none : (xs : Lists) → minus list_before xs [] ≡ xs
 minus-none [] = refl
@@ -46,8 +47,8 @@ module _ (net : NetParts) (links : List ℕ) (old published : Numbered) (staged 
   -- filters
   module _ (rising : IsRising list_before old.filters.items) (there : Has interface old.filters.interfaces) (add-known : (i : ℕ) → Has i add → i < length old.filters.items)
       (won-are : Sieved (λ k. IsHeldAt old.filters.items (subs old interface) k → ⊥) add won) (new : Numbered) (now : IsKnown new) (changed : AreFiltersChanged interface [] won old new) where
-    pub filters-put : FiltersPut interface (picked (known_filters net.clients) add) (ledger net old.filters.interfaces (shown old) (shown published).filters staged)
-        (ledger net new.filters.interfaces (shown new) (shown published).filters (staged ++ (map (λ i. Take i interface) [] ++ map (λ i. Put i interface) won)))
+    pub filters-put : FiltersPut interface (picked (known_filters net.clients) add) (ledger_parts net old.filters.interfaces (shown old) (shown published).filters staged)
+        (ledger_parts net new.filters.interfaces (shown new) (shown published).filters (staged ++ (map (λ i. Take i interface) [] ++ map (λ i. Put i interface) won)))
     filters-put =
         let s = set net links old published staged is was rising interface there [] add [] won (λ i m. absurd m) add-known (λ i m n. absurd m) (none-sieved (λ k. IsHeldAt old.filters.items (subs old interface) k)) won-are
         new now changed (sent_by net (changes_to (shown old) (shown new)) links) refl in
@@ -65,8 +66,8 @@ module _ (net : NetParts) (links : List ℕ) (old published : Numbered) (staged 
   -- advertisements
   module _ (rising : IsRising list_before old.adverts.items) (add-known : (i : ℕ) → Has i add → i < length old.adverts.items)
       (won-are : Sieved (λ k. IsHeldAt old.adverts.items (advs old interface) k → ⊥) add won) (new : Numbered) (now : IsKnown new) (changed : AreAdvertsChanged interface [] won old new) where
-    pub adverts-put : AdvertsPut interface (picked (known_adverts net.clients) add) (ledger net old.filters.interfaces (shown old) (shown published).filters staged)
-        (ledger net new.filters.interfaces (shown new) (shown published).filters staged)
+    pub adverts-put : AdvertsPut interface (picked (known_adverts net.clients) add) (ledger_parts net old.filters.interfaces (shown old) (shown published).filters staged)
+        (ledger_parts net new.filters.interfaces (shown new) (shown published).filters staged)
     adverts-put = record {
       net = refl;
       interfaces = changed.filter_interfaces;
@@ -174,8 +175,8 @@ link_parts link filters adverts = record { link = link; filters = filters; adver
 pub links-same : (i : ℕ) (f g a b : Lists) → f ≡ g → a ≡ b → link_parts i f a ≡ link_parts i g b
 links-same i f g a b d e = ap (λ z. link_parts i z a) d ∙ ap (λ z. link_parts i g z) e
 
-pub puts-as : (h : HeldLink) (link : ℕ) (fs as : Lists) (a b c : LedgerParts) → link ≡ h.link → fs ≡ h.filters → as ≡ h.adverts → AdvertsPut link as a b → FiltersPut link fs b c → ArePut (h ∷ []) a c
-puts-as h link fs as a b c d e f ads put = put-both h a b c (subst (λ z. AdvertsPut z h.adverts a b) d (subst (λ z. AdvertsPut link z a b) f ads)) (subst (λ z. FiltersPut z h.filters b c) d (subst (λ z. FiltersPut link z b c) e put))
+pub puts-as : (h : HeldLink) (link : ℕ) (fs os : Lists) (a b c : LedgerParts) → link ≡ h.link → fs ≡ h.filters → os ≡ h.adverts → AdvertsPut link os a b → FiltersPut link fs b c → ArePut (h ∷ []) a c
+puts-as h link fs os a b c d e f ads put = put-both h a b c (subst (λ z. AdvertsPut z h.adverts a b) d (subst (λ z. AdvertsPut link z a b) f ads)) (subst (λ z. FiltersPut z h.filters b c) d (subst (λ z. FiltersPut link z b c) e put))
 
 -- what a control by numbers holds is held from its interfaces
 pub known-shown : (c : Numbered) → IsKnown c → (i : ℕ) (x : List ConstraintParts) → Has x (control.subs (shown c) i) → Has i c.filters.interfaces

@@ -212,7 +212,7 @@ held-at (x ∷ held) (suc n) h e = held-at held n h e
 all-mapped : {A B : Type 0} (f : A → B) (xs : List A) (n : ℕ) → length xs ≤ n → take n (map f xs) ≡ map f xs
 all-mapped f [] n l = none n
   where
-    none : {X : Type 0} (n : ℕ) → take {X} n [] ≡ []
+    none : (n : ℕ) → take n (map f []) ≡ map f []
     none zero = refl
     none (suc n) = refl
 all-mapped f (x ∷ xs) zero l = absurd (omega (arith, l))

@@ -41,7 +41,11 @@ impl<'a> Core<'a> {
 }
 
 /// The interfaces of a server with these links and clients, rising.
-pub(crate) fn interfaces_of(alloc: Global, links: &[u32], clients: &[u32]) -> Result<Vec<u32>, NoMemory>
+pub(crate) fn interfaces_of(
+    alloc: Global,
+    links: &[u32],
+    clients: &[u32],
+) -> Result<Vec<u32>, NoMemory>
     requires { (n : ℕ) → Has n clients.now → n ≤ 1024 }
     ensures { IfOk result (λ list. list.items ≡ links.now ++ map (λ n. 64 + n) clients.now) }
 {

@@ -1,7 +1,5 @@
-use Rattle.std.proofs.Common.{◌≡◌, ℕ, List, [], ◌∷◌, inl, refl, sym, ap, ◌∙◌, absurd}
-use Rattle.ev_sets.specs.Sets.{Has}
+use Rattle.std.proofs.Common.{sym, ap, ◌∙◌}
 use Rattle.ev_order.specs.Order.{picked}
-use Rattle.ev_stock.specs.Stock.{held_from}
 use Rattle.ev_numserver.proofs.Putting.{held-nowhere}
 use Rattle.ev_numserver.proofs.effective.row_of.Goals as goal
 

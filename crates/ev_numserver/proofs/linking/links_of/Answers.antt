@@ -2,7 +2,7 @@ use Rattle.std.proofs.Common.{◌++◌, ◌∷◌, [], map, refl, ap, ◌∙◌}
 use Rattle.std.proofs.lemmas.Option.{slice_get_read}
 use Rattle.ev_control.specs.declared.control.HeldLink.{HeldLink}
 use Rattle.ev_control.proofs.Relinking.{map-next}
-use Rattle.ev_numheld.specs.Held.{NetHeld, held_in}
+use Rattle.ev_numheld.specs.Held.{held_in}
 use Rattle.ev_numserver.proofs.Relinks.{held-at, all-held}
 use Rattle.ev_numserver.proofs.linking.links_of.Goals as goal
 

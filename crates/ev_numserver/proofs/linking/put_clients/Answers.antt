@@ -1,4 +1,4 @@
-use Rattle.std.proofs.Common.{◌≡◌, ◌∷◌, [], ◌+◌, ◌<◌, get_or, length, map, refl, subst, sym, ap, ◌∙◌, arith}
+use Rattle.std.proofs.Common.{◌∷◌, [], ◌+◌, get_or, subst, sym, ◌∙◌, arith}
 use Rattle.std.proofs.lemmas.Option.{slice_get-get_or}
 use Rattle.ev_sets.specs.Sets.{Has}
 use Rattle.ev_poset.proofs.Pairs.{at-has}
@@ -32,8 +32,8 @@ loop-client-preserved c =
 pub returns : goal.returns
 returns c = subst (λ z. ArePut z c.args.ledger.now c.loop-client.ledger) (all-clients c.args.from.now.control c.args.clients.now c.loop-client.client-index c.loop-client-test.false) c.loop-client.invariant
 
-pub overflow_add-held : goal.overflow_add-held
-overflow_add-held c =
+pub overflow_add-client : goal.overflow_add-client
+overflow_add-client c =
     let n = get_or c.args.clients.now c.loop-client.client-index 0 in
     let at = slice_get-get_or c.args.clients.now c.loop-client.client-index 0 c.loop-client-test.true in
     let few = c.requires.few n (at-has c.args.clients.now c.loop-client.client-index n at) in

@@ -1,4 +1,4 @@
-use Rattle.std.proofs.Common.{◌≡◌, map, refl, subst, sym, ap, ◌∙◌}
+use Rattle.std.proofs.Common.{refl, subst, sym, ◌∙◌}
 use Rattle.std.proofs.lemmas.Option.{slice_get_read}
 use Rattle.ev_sets.specs.Sets.{Has}
 use Rattle.ev_poset.proofs.Pairs.{at-has}
@@ -6,7 +6,7 @@ use Rattle.ev_routing.proofs.Listing.{has-map}
 use Rattle.ev_control.specs.declared.control.HeldLink.{HeldLink}
 use Rattle.ev_numheld.specs.Held.{NetHeld, held_in}
 use Rattle.ev_numserver.specs.Putting.{ArePut}
-use Rattle.ev_numserver.proofs.Putting.{put-none, put-next}
+use Rattle.ev_numserver.proofs.Putting.{put-next}
 use Rattle.ev_numserver.proofs.Relinks.{held-at, all-held, put-begin}
 use Rattle.ev_numserver.proofs.linking.put_links.Goals as goal
 

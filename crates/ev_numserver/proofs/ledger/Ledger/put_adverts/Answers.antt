@@ -1,4 +1,4 @@
-use Rattle.std.proofs.Common.{◌≡◌, ◌<◌, ℕ, List, [], length, refl, sym, subst, ◌∙◌}
+use Rattle.std.proofs.Common.{◌<◌, ℕ, List, [], length, refl, sym, subst}
 use Rattle.ev_constraint.specs.Constraint.{ConstraintParts}
 use Rattle.ev_notice.specs.Before.{list_before}
 use Rattle.ev_sets.specs.Sets.{Has, IsRising}
@@ -12,7 +12,8 @@ use Rattle.ev_numserver.specs.Showing.{shown}
 use Rattle.ev_numserver.specs.Putting.{AdvertsPut}
 use Rattle.ev_numserver.proofs.Shown.{IsKnown}
 use Rattle.ev_numserver.proofs.Sieving.{Sieved}
-use Rattle.ev_numserver.proofs.Changed.{AreAdvertsChanged, ledger, known-from, known-then, sieved-of, adverts-by, won-ads, kept-ads}
+use Rattle.ev_numserver.proofs.Changed.{AreAdvertsChanged, known-from, known-then, sieved-of, adverts-by, won-ads, kept-ads}
+use Rattle.ev_numserver.proofs.Starting.{ledger_parts}
 use Rattle.ev_numserver.proofs.Putting.{none-sieved, adverts-put}
 use Rattle.ev_numserver.proofs.ledger.Ledger.put_adverts.Goals as goal
 
@@ -101,5 +102,5 @@ returns c =
     }) in
     let now : IsKnown new = known-then old new c.adverts-3.result.now was e.filter_interfaces e.filters c.adverts-3.ensures c.is_known-3.ensures.held_from in
     subst (λ (z : LedgerParts). AdvertsPut c.args.interface (picked (known_adverts z.net.clients) c.args.add.now) z
-    (ledger c.self.inside.tables.now new.filters.interfaces (shown new) (shown c.self.inside.published.value).filters c.self.inside.staged.items)) c.self.view_is
+    (ledger_parts c.self.inside.tables.now new.filters.interfaces (shown new) (shown c.self.inside.published.value).filters c.self.inside.staged.items)) c.self.view_is
     (adverts-put c.self.inside.tables.now c.self.inside.links.items old c.self.inside.published.value c.self.inside.staged.items is was c.args.interface c.args.add.now c.in_ok-won.won.items rising adds won-are new now changed)

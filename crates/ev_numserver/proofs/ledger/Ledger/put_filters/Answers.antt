@@ -14,7 +14,8 @@ use Rattle.ev_numserver.specs.Keeps.{IsLedger}
 use Rattle.ev_numserver.specs.Putting.{FiltersPut}
 use Rattle.ev_numserver.proofs.Shown.{IsKnown}
 use Rattle.ev_numserver.proofs.Sieving.{Sieved}
-use Rattle.ev_numserver.proofs.Changed.{AreFiltersChanged, ledger, known-from, sieved-of, filters-by, won-known, kept}
+use Rattle.ev_numserver.proofs.Changed.{AreFiltersChanged, known-from, sieved-of, filters-by, won-known, kept}
+use Rattle.ev_numserver.proofs.Starting.{ledger_parts}
 use Rattle.ev_numserver.proofs.Putting.{none-sieved, filters-put}
 use Rattle.ev_numserver.proofs.ledger.Ledger.put_filters.Goals as goal
 
@@ -44,8 +45,8 @@ change_filters-requires-clause-add c =
     sieved-of (λ items held k. IsHeldAt items held k → ⊥) c.args.interface c.args.add.now c.in_ok-won.won.items c.filters-2.result.now old.filters c.filters-2.ensures c.in_ok-won.ensures in
     subst (λ z. (i : ℕ) → Has i z → i < length old.filters.items) (sym c.deref.ensures.value) (won-known c.self.inside.tables.now c.self.inside.links.items old c.self.inside.published.value c.self.inside.staged.items is was rising c.args.interface there [] c.args.add.now [] c.in_ok-won.won.items (λ i m. absurd m) adds (λ i m n. absurd m) (none-sieved (λ k. IsHeldAt old.filters.items (subs old c.args.interface) k)) won-are)
 
-pub invariant_of-self : goal.invariant_of-self
-invariant_of-self c =
+pub invariant_of-self-2 : goal.invariant_of-self-2
+invariant_of-self-2 c =
     let old = c.self.inside.control in
     let is = c.self.invariant in
     let was : IsKnown old = known-from old c.filters.result.now c.adverts.result.now c.filters.ensures c.adverts.ensures c.is_known.ensures.held_from c.is_known-2.ensures.held_from in
@@ -105,8 +106,8 @@ returns c =
     c.stage.ensures ∙ (ap (λ z. z ++ (map (λ i. Take i c.args.interface) [] ++ map (λ i. Put i c.args.interface) c.deref-2.result.now)) c.in_ok-reserve.ensures.items
     ∙ ap (λ z. c.self.inside.staged.items ++ (map (λ i. Take i c.args.interface) [] ++ map (λ i. Put i c.args.interface) z)) c.deref-2.ensures.value) in
     subst (λ (z : LedgerParts). FiltersPut c.args.interface (picked (known_filters z.net.clients) c.args.add.now) z
-    (ledger c.self.inside.tables.now new.filters.interfaces (shown new) (shown c.self.inside.published.value).filters c.stage.new.staged.items)) c.self.view_is
+    (ledger_parts c.self.inside.tables.now new.filters.interfaces (shown new) (shown c.self.inside.published.value).filters c.stage.new.staged.items)) c.self.view_is
     (subst (λ z. FiltersPut c.args.interface (picked (known_filters c.self.inside.tables.now.clients) c.args.add.now)
-    (ledger c.self.inside.tables.now old.filters.interfaces (shown old) (shown c.self.inside.published.value).filters c.self.inside.staged.items)
-    (ledger c.self.inside.tables.now new.filters.interfaces (shown new) (shown c.self.inside.published.value).filters z)) (sym more)
+    (ledger_parts c.self.inside.tables.now old.filters.interfaces (shown old) (shown c.self.inside.published.value).filters c.self.inside.staged.items)
+    (ledger_parts c.self.inside.tables.now new.filters.interfaces (shown new) (shown c.self.inside.published.value).filters z)) (sym more)
     (filters-put c.self.inside.tables.now c.self.inside.links.items old c.self.inside.published.value c.self.inside.staged.items is was c.args.interface c.args.add.now c.in_ok-won.won.items rising there adds won-are new now changed))

@@ -1,21 +1,20 @@
-use Rattle.std.proofs.Common.{◌≡◌, ℕ, ◌+◌, ◌<◌, ◌≤◌, nat_lt, List, [], length, map, take, sym, ap, ap₂, subst, ◌∙◌, arith}
+use Rattle.std.proofs.Common.{◌≡◌, ℕ, ◌+◌, ◌<◌, ◌≤◌, nat_lt, List, length, map, take, sym, ap, ap₂, subst, ◌∙◌, arith}
 use Rattle.std.specs.List.Sorted.{IsStrictlyIncreasing}
 use Rattle.ev_constraint.specs.Constraint.{ConstraintParts}
 use Rattle.ev_sets.specs.Sets.{Has, IsRising}
 use Rattle.ev_model.specs.Parts.{NetParts}
 use Rattle.ev_control.specs.declared.control.HeldLink.{HeldLink}
 use Rattle.ev_control.specs.Control.{Controlled, subs, advs}
-use Rattle.ev_numheld.specs.Held.{held_in, AreHeldIn}
-use Rattle.ev_numserver.specs.Clients.{ClientsParts, bare, client_numbers}
+use Rattle.ev_numheld.specs.Held.{held_in}
+use Rattle.ev_numserver.specs.Clients.{bare, client_numbers}
 use Rattle.ev_numserver.specs.Core.{CoreParts, core_parts}
-use Rattle.ev_numserver.specs.Ledger.{LedgerParts}
 use Rattle.ev_numserver.specs.Linked.{interfaces_on, SuitsCore, IsLinked}
 use Rattle.ev_numserver.specs.Putting.{ArePut, held_by_clients}
 use Rattle.ev_numserver.proofs.Commands.{numbers-bare}
 use Rattle.ev_numserver.proofs.Starting.{first-links, front-has, back-has, interfaces-rise, interfaces-few}
 use Rattle.ev_numserver.proofs.Sessions.{map-has}
 use Rattle.ev_numserver.proofs.Relinks.{range-of, small-links, links-first, made-linked, made-suits}
-use Rattle.ev_numserver.proofs.linking.Core.relinked.Goals as goal
+use Rattle.ev_numserver.proofs.server.Core.relinked.Goals as goal
 
 pub interfaces_of-requires : goal.interfaces_of-requires
 interfaces_of-requires c =
@@ -69,7 +68,7 @@ new-requires-clause-links c =
     let links : c.in_ok-links.links.items ≡ map (λ (h : HeldLink). h.link) (held_in c.args.held.now) = c.in_ok-links.ensures in
     let interfaces : c.deref-2.result.now ≡ interfaces_on (map (λ (h : HeldLink). h.link) (held_in c.args.held.now)) (client_numbers (map bare c.self.inside.clients.sessions)) =
     c.deref-2.ensures.value ∙ (c.in_ok-interfaces.ensures ∙ ap₂ (λ ls xs. interfaces_on ls xs) (c.deref.ensures.value ∙ links) numbers) in
-    subst (λ z. c.len.result ≤ length z) (sym interfaces) (subst (λ z. z ≤ length (interfaces_on given ns)) (sym (c.len.ensures ∙ ap length links)) (links-first given (map (λ n. 64 + n) ns)))
+    subst (λ z. c.len.result ≤ length z) (sym interfaces) (subst (λ z. z ≤ length (interfaces_on given ns)) (sym (c.len.ensures ∙ (sym c.deref.ensures.len ∙ (ap length c.deref.ensures.value ∙ ap length links)))) (links-first given (map (λ n. 64 + n) ns)))
 
 pub put_links-requires-clause-interfaces : goal.put_links-requires-clause-interfaces
 put_links-requires-clause-interfaces c =
@@ -167,7 +166,7 @@ returns-clause-linked c =
     let known-adverts : (i : ℕ) (x : List ConstraintParts) → Has x (advs c.self.inside.ledger.control i) → Has i (interfaces_on c.self.inside.ledger.control.links (client_numbers (map bare c.self.inside.clients.sessions))) =
     λ i x m. subst (Has i) c.self.invariant.whole (c.is_known.ensures.adverts i x m) in
     let first-are : c.in_ok-ledger.ledger.control.links ≡ map (λ (h : HeldLink). h.link) (held_in c.args.held.now) =
-    ap (λ (z : Controlled). z.links) e.control ∙ (ap₂ (λ n xs. take n xs) (c.len.ensures ∙ ap length links) interfaces ∙ first-links given (map (λ n. 64 + n) ns)) in
+    ap (λ (z : Controlled). z.links) e.control ∙ (ap₂ (λ n xs. take n xs) (c.len.ensures ∙ (sym c.deref.ensures.len ∙ (ap length c.deref.ensures.value ∙ ap length links))) interfaces ∙ first-links given (map (λ n. 64 + n) ns)) in
     let clients : ArePut (held_by_clients c.self.inside.ledger.control (client_numbers (map bare c.self.inside.clients.sessions))) c.put_links.new.ledger c.put_clients.new.ledger =
     subst (λ z. ArePut (held_by_clients c.self.inside.ledger.control z) c.put_links.new.ledger c.put_clients.new.ledger) numbers c.in_ok-put_clients.ensures in
     subst (λ (z : CoreParts). IsLinked (held_in c.args.held.now) z.control new.control) c.self.view_is (made-linked core (held_in c.args.held.now) first mid new ok kept known-filters known-adverts (ap (λ (z : Controlled). z.filters) e.control) (ap (λ (z : Controlled). z.adverts) e.control) first-are c.in_ok-put_links.ensures clients)
@@ -194,7 +193,7 @@ returns-clause-suits c =
     let known-adverts : (i : ℕ) (x : List ConstraintParts) → Has x (advs c.self.inside.ledger.control i) → Has i (interfaces_on c.self.inside.ledger.control.links (client_numbers (map bare c.self.inside.clients.sessions))) =
     λ i x m. subst (Has i) c.self.invariant.whole (c.is_known.ensures.adverts i x m) in
     let first-are : c.in_ok-ledger.ledger.control.links ≡ map (λ (h : HeldLink). h.link) (held_in c.args.held.now) =
-    ap (λ (z : Controlled). z.links) e.control ∙ (ap₂ (λ n xs. take n xs) (c.len.ensures ∙ ap length links) interfaces ∙ first-links given (map (λ n. 64 + n) ns)) in
+    ap (λ (z : Controlled). z.links) e.control ∙ (ap₂ (λ n xs. take n xs) (c.len.ensures ∙ (sym c.deref.ensures.len ∙ (ap length c.deref.ensures.value ∙ ap length links))) interfaces ∙ first-links given (map (λ n. 64 + n) ns)) in
     let clients : ArePut (held_by_clients c.self.inside.ledger.control (client_numbers (map bare c.self.inside.clients.sessions))) c.put_links.new.ledger c.put_clients.new.ledger =
     subst (λ z. ArePut (held_by_clients c.self.inside.ledger.control z) c.put_links.new.ledger c.put_clients.new.ledger) numbers c.in_ok-put_clients.ensures in
     subst (λ (z : CoreParts). SuitsCore z new) c.self.view_is (made-suits core (held_in c.args.held.now) first mid new ok kept known-filters known-adverts (ap (λ (z : Controlled). z.filters) e.control) (ap (λ (z : Controlled). z.adverts) e.control) first-are c.in_ok-put_links.ensures clients net (ap (λ (z : Controlled). z.semantics) e.control ∙ (ap (λ (z : NetParts). z.semantics) c.tables-tables.ensures ∙ sym c.is_of_net.ensures)) whole)
