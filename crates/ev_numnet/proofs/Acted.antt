@@ -1,5 +1,5 @@
 -- A step of one server's core is the step of the network: its turn makes this entry, and cores and links stand for the next state.
-use Rattle.std.proofs.Common.{◌≡◌, ℕ, zero, suc, ◌≤◌, ◌==◌, ◌&&◌, ◌⊎◌, cond, Bool, true, false, List, [], ◌∷◌, ◌++◌, length, map, drop, inl, inr, slice_get, slice_set, Some, refl, sym, ap, subst, ◌∙◌, arith, eq-eqb, ne_eqb}
+use Rattle.std.proofs.Common.{◌≡◌, ℕ, zero, suc, ◌≤◌, ◌==◌, ◌&&◌, cond, Bool, true, false, List, [], ◌∷◌, ◌++◌, length, map, drop, slice_get, slice_set, Some, refl, sym, ap, subst, ◌∙◌, arith, eq-eqb, ne_eqb}
 use Rattle.ev_sets.specs.Sets.{Has}
 use Rattle.ev_sets.specs.Numbers.{IsDistinct}
 use Rattle.ev_sets.proofs.Numbers.{Same, Is, Not, compare}
@@ -7,13 +7,12 @@ use Rattle.ev_tree.specs.Hops.{side_size}
 use Rattle.ev_run.specs.Machine.{Does, Takes, Outcome, Stamped, at, stamped, receivers, unstamped, next_stamp, act_of as machine_act}
 use Rattle.ev_run.specs.Load.{MeasureLaws}
 use Rattle.ev_run.specs.Network.{IsAvailable, network_after, taken_after}
-use Rattle.ev_run.proofs.Lists.{has-append, append-nothing}
+use Rattle.ev_run.proofs.Lists.{append-nothing}
 use Rattle.ev_routing.specs.Net.{NetLaws}
 use Rattle.ev_routing.specs.Server.{Message, ServerState, is_among}
 use Rattle.ev_routing.specs.Step.{local_step, full_effect}
 use Rattle.ev_routing.specs.Routing.{routing_machine, Network, measure}
 use Rattle.ev_routing.proofs.Along.{strict-of, tree}
-use Rattle.ev_routing.proofs.Laws.{one-has}
 use Rattle.ev_routing.proofs.Spreading.{spreads}
 use Rattle.ev_routing.proofs.Working.{served}
 use Rattle.ev_phases.specs.Trees.{State, off, net_at, at_phase}

@@ -15,14 +15,14 @@ pub push-long : {X : Type 0} (xs new : List X) (x : X) (n : ℕ) → new ≡ xs 
 push-long xs new x n is long = omega (arith, long, ap length is, length-append xs (x ∷ []))
 
 -- what the first so many clients have together
-pub home-none : (filters : Lists) → filters ≡ [] → {sets : ℕ → Lists} → {clients : List ℕ} → (f : List ConstraintParts) → Has f filters ↔ ((client : ℕ) × Has client (take 0 clients) × Has f (sets client))
-home-none filters none f = (λ m. absurd (subst (Has f) none m), λ r. absurd r.1)
+pub home-none : (sets : ℕ → Lists) (clients : List ℕ) (filters : Lists) → filters ≡ [] → (f : List ConstraintParts) → Has f filters ↔ ((client : ℕ) × Has client (take 0 clients) × Has f (sets client))
+home-none sets clients filters none f = (λ m. absurd (subst (Has f) none m), λ r. absurd r.1)
 
-pub home-step : (sets : ℕ → Lists) (clients : List ℕ) (n x : ℕ) → slice_get clients n ≡ Some x → {old new held : Lists} → held ≡ sets x
+pub home-step : (sets : ℕ → Lists) (clients : List ℕ) (n x : ℕ) → slice_get clients n ≡ Some x → (old new held : Lists) → held ≡ sets x
     → ((f : List ConstraintParts) → Has f new ↔ (Has f old ⊎ Has f held))
     → ((f : List ConstraintParts) → Has f old ↔ ((client : ℕ) × Has client (take n clients) × Has f (sets client)))
     → (f : List ConstraintParts) → Has f new ↔ ((client : ℕ) × Has client (take (n + 1) clients) × Has f (sets client))
-home-step sets clients n x at {old} {new} {held} is step before f = (to, from)
+home-step sets clients n x at old new held is step before f = (to, from)
   where
     to : Has f new → (client : ℕ) × Has client (take (n + 1) clients) × Has f (sets client)
     to m = elim ((step f).0 m) [

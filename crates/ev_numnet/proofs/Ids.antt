@@ -1,6 +1,5 @@
 -- The ids of a net's publications are in their range.
-use Rattle.std.proofs.Common.{◌≡◌, ℕ, zero, suc, ◌+◌, ◌≤◌, ◌<◌, List, [], ◌∷◌, ◌++◌, length, slice_get, Some, inl, inr, refl, sym, ap, subst, ◌∙◌, ◌⊎◌, arith}
-use Rattle.std.specs.Int.{IsInRange}
+use Rattle.std.proofs.Common.{◌≡◌, ℕ, zero, suc, ◌+◌, ◌≤◌, ◌<◌, List, [], ◌∷◌, ◌++◌, length, slice_get, Some, inl, inr, sym, ap, subst, ◌∙◌, ◌⊎◌, arith}
 use Rattle.ev_sets.specs.Sets.{Has}
 use Rattle.ev_run.proofs.Lists.{has-append, get-has}
 use Rattle.ev_wire.specs.MessageText.{IsId}
@@ -8,7 +7,7 @@ use Rattle.ev_wire.specs.declared.command.Command.{Command}
 use Rattle.ev_wire.specs.declared.command.Command.TheVariants.{Subscribe, Unsubscribe, Advertise, Unadvertise, Publish}
 use Rattle.ev_model.specs.Parts.{ClientParts, NetParts}
 use Rattle.ev_model.specs.Sound.{IsSound}
-use Rattle.ev_catalogue.specs.Known.{known_filters, PublicationParts, publication, publishes_after, published_by, script_publications, known_publications}
+use Rattle.ev_catalogue.specs.Known.{known_filters, PublicationParts, script_publications, known_publications}
 use Rattle.ev_bits.specs.Rows.{Numbers}
 use Rattle.ev_matcher.specs.Matching.{matched}
 use Rattle.ev_message.specs.Parts.{PublicationParts as FoundParts}
@@ -50,18 +49,18 @@ record IsAmongAll (number : ℕ) (clients : List ClientParts) (p : PublicationPa
 
 among-all : (number : ℕ) (clients : List ClientParts) (p : PublicationParts) → Has p (known_publications number clients) → IsAmongAll number clients p
 among-all number [] p h = absurd h
-among-all number (client ∷ clients) p h = go (has-append p (script_publications number 0 client.script) (known_publications (suc number) clients) h)
+among-all number (client ∷ clients) p h = go (among-all (suc number) clients p) (has-append p (script_publications number 0 client.script) (known_publications (suc number) clients) h)
   where
     sum : length (script_publications number 0 client.script ++ known_publications (suc number) clients) ≡ length (script_publications number 0 client.script) + length (known_publications (suc number) clients)
     sum = length-append (script_publications number 0 client.script) (known_publications (suc number) clients)
 
-    go : Has p (script_publications number 0 client.script) ⊎ Has p (known_publications (suc number) clients) → IsAmongAll number (client ∷ clients) p
-    go (inl a) =
+    go : (Has p (known_publications (suc number) clients) → IsAmongAll (suc number) clients p) → Has p (script_publications number 0 client.script) ⊎ Has p (known_publications (suc number) clients) → IsAmongAll number (client ∷ clients) p
+    go ih (inl a) =
         let r = in-script number 0 client.script p a in
         let e = r.publisher in let u = r.above in let d = r.below in
         record { low = omega (arith, e); high = omega (arith, e); counted = omega (arith, u); few = omega (arith, d, sum) }
-    go (inr b) =
-        let r = among-all (suc number) clients p b in
+    go ih (inr b) =
+        let r = ih b in
         let l = r.low in let k = r.high in let f = r.few in
         record { low = omega (arith, l); high = omega (arith, k); counted = r.counted; few = omega (arith, f, sum) }
 

@@ -1,5 +1,5 @@
 -- After each step of a core its pairs are those of what it published.
-use Rattle.std.proofs.Common.{◌≡◌, ◌↔◌, ◌<◌, max, ℕ, List, [], ◌∷◌, length, inl, inr, Result, Ok, Err, IfOk, OnOk, OnErr, IsErrOf, slice_get, Some, sym, ap, subst, ◌∙◌, arith}
+use Rattle.std.proofs.Common.{◌≡◌, ◌↔◌, ◌<◌, max, ℕ, List, [], ◌∷◌, length, inl, inr, Result, Ok, Err, IfOk, OnOk, OnErr, IsErrOf, sym, subst, ◌∙◌, arith}
 use Rattle.ev_sets.specs.Sets.{Has}
 use Rattle.ev_constraint.specs.Constraint.{ConstraintParts}
 use Rattle.ev_run.specs.Machine.{Does, Takes}

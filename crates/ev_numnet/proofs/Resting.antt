@@ -1,5 +1,5 @@
 -- A core at rest: nothing is staged, and all that it holds is published.
-use Rattle.std.proofs.Common.{◌≡◌, ℕ, ◌+◌, Bool, true, false, List, [], ◌∷◌, map, refl, sym, ap, ◌∙◌}
+use Rattle.std.proofs.Common.{◌≡◌, ℕ, ◌+◌, Bool, true, false, List, [], ◌∷◌, map, refl, sym, ◌∙◌}
 use Rattle.ev_sets.specs.Sets.{Has}
 use Rattle.ev_routing.specs.Net.{Net}
 use Rattle.ev_routing.specs.Server.{is_among, interfaces}

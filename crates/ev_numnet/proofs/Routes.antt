@@ -1,6 +1,5 @@
 -- The routes by what a core published are those of its filters.
-use Rattle.std.proofs.Common.{◌≡◌, ◌<◌, ℕ, zero, suc, true, List, [], ◌∷◌, length, slice_get, get_or, slice_index_or, Some, Result, Ok, Err, IfOk, inl, inr, sym, ap, subst, ◌∙◌, arith}
-use Rattle.std.specs.List.{Contains}
+use Rattle.std.proofs.Common.{◌≡◌, ◌<◌, ℕ, zero, suc, true, List, [], ◌∷◌, length, slice_get, get_or, Some, Result, Ok, Err, IfOk, inl, inr, refl, sym, ap, subst, ◌∙◌, arith}
 use Rattle.ev_constraint.specs.Constraint.{ConstraintParts}
 use Rattle.ev_notice.specs.Notice.{Attribute, AreValues}
 use Rattle.ev_notice.specs.Cover.{matches}
@@ -31,7 +30,7 @@ pub data Numbered (items : Lists) (k : ℕ) : Type 0 where
 
 pub numbered : (items : Lists) (k : ℕ) → k < length items → Numbered items k
 numbered [] k l = absurd (omega (arith, l))
-numbered (f ∷ fs) zero l = At f cc cc
+numbered (f ∷ fs) zero l = At f refl refl
 numbered (f ∷ fs) (suc k) l = go (numbered fs k (omega (arith, l)))
   where
     go : Numbered fs k → Numbered (f ∷ fs) (suc k)
@@ -60,7 +59,7 @@ module _ (net : NetParts) (interfaces : List ℕ) (published : ℕ → Lists) (f
 
       onto : (i : ℕ) → Has i r → some_pass (real.matches n) (published i) ≡ true
       onto i h =
-          let m = (by.exact i).0 (has-contains r i h) in
+          let m = (by.exact i).0 (has-contains i r h) in
           let k = (matched-iff n (known_filters net.clients) m.0).0 m.1 in
           go m.0 (numbered (known_filters net.clients) m.0 k.0) k.1 m.2
         where
@@ -72,7 +71,7 @@ module _ (net : NetParts) (interfaces : List ℕ) (published : ℕ → Lists) (f
       from i e =
           let m = by-pass (real.matches n) (published i) e in
           let k = number-of (known_filters net.clients) m.0 (agrees.known i m.0 m.1) in
-          contains-has r i ((by.exact i).1 (
+          contains-has i r ((by.exact i).1 (
             k.number,
             (matched-iff n (known_filters net.clients) k.number).1 (k.within, ap (matches n) k.is ∙ (sym (plain m.0) ∙ m.2)),
             (agrees.pairs i k.number m.0 k.at).1 m.1,

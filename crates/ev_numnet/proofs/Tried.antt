@@ -2,7 +2,6 @@
 use Rattle.std.proofs.Common.{◌≡◌, ℕ, zero, suc, ◌-◌, ◌≤◌, Bool, true, false, List, [], ◌∷◌, map, drop, slice_get, Option, Some, None, Result, Ok, Err, IfOk, OnErr, refl, sym, ap, subst, ◌∙◌, arith}
 use Rattle.ev_sets.specs.Sets.{Has}
 use Rattle.ev_run.specs.Machine.{Does, Takes, Did, Took, Stamped}
-use Rattle.ev_run.proofs.Lists.{get-has}
 use Rattle.ev_routing.specs.Server.{Message}
 use Rattle.ev_routing.specs.Step.{Version}
 use Rattle.ev_phases.specs.Trees.{State, net_at}
@@ -88,7 +87,7 @@ module _ (net : NetParts) (phase : ℕ) (old new : Servers) (kept : IsNetwork ne
   taken_none server from none = taking_barred server from (λ a b m e. none a b)
 
   pub taken_turn : (server from : ℕ) → 1 ≤ server → (answer : Result Bool NoMemory)
-      → ((m : Stamped (Message real)) → slice_get (old.messages from server) 0 ≡ Some (framed m) → IsMessageText (message_text (wired m.message)) (wired m.message)
+      → ((of : NetParts) (m : Stamped (Message real)) → slice_get (old.messages from server) 0 ≡ Some (waiting_in of m)
       → IfOk answer (λ made. (made ≡ true) × IsActed (server - 1) (Takes from m) (acts.Take from) old new))
       → (old.messages from server ≡ [] → IfOk answer (λ made. (made ≡ false) × IsSame old new))
       → OnErr answer (IsSame old new)
@@ -115,8 +114,7 @@ module _ (net : NetParts) (phase : ℕ) (old new : Servers) (kept : IsNetwork ne
       }
         where
           a : (made ≡ true) × IsActed (server - 1) (Takes from m) (acts.Take from) old new
-          a = acted m (ap (λ z. slice_get z 0) (kept.links.messages_are from server) ∙ first-left (waiting_in net) (state.put from server) (state.taken from server) m e)
-              (kept.links.readable from server m (get-has (state.put from server) (state.taken from server) m e))
+          a = acted net m (ap (λ z. slice_get z 0) (kept.links.messages_are from server) ∙ first-left (waiting_in net) (state.put from server) (state.taken from server) m e)
 
           here : a.1.core.server ≡ server
           here = kept.cores.number (server - 1) a.1.core a.1.here ∙ omega (arith, counted)

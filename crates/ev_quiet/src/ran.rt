@@ -13,7 +13,8 @@ use crate::words::Schedule;
 use ev_input::Fault;
 use ev_memory::NoMemory;
 use ev_model::{Delivery, Entry, Net, Turn};
-use ev_net::Network;
+use ev_numnet::Network;
+use ev_tables::Tables;
 use ev_wire::Lists;
 use std::alloc::Global;
 
@@ -40,16 +41,20 @@ fn turns_first(net: &Net, schedule: Schedule) -> &[(u32, Turn)]
 }
 
 // The network after the turns of a schedule and the walk.
-fn through<'a>(alloc: Global, net: &'a Net, schedule: Schedule) -> Result<Network<'a>, Refusal>
-    requires sound { IsSound net.now }
+fn through<'a>(
+    alloc: Global,
+    tables: &'a Tables<'a>,
+    schedule: Schedule,
+) -> Result<Network<'a>, Refusal>
+    requires sound { IsSound tables.now }
     requires quiet { is_quiet schedule ≡ true }
-    ensures through { IfOk result (λ network. IsRunThrough schedule net.now network) }
+    ensures through { IfOk result (λ network. IsRunThrough schedule tables.now network) }
     ensures bad { (line : ℕ) (kind : Fault) → IsErrOf result (Refusal.BadInput line kind)
-        → (kind ≡ Fault.BadTurn) × StopsAtLine net.now [] (turns_first schedule net.now) line }
+        → (kind ≡ Fault.BadTurn) × StopsAtLine tables.now [] (turns_first schedule tables.now) line }
     ensures unread { IsErrOf result Refusal.ReadFault → ⊥ }
 {
-    let mut network = Network::start(alloc, net)?;
-    network.replay(turns_first(net, schedule))?;
+    let mut network = Network::start(alloc, tables)?;
+    network.replay(turns_first(tables.net(), schedule))?;
     network.walk()?;
     Ok(network)
 }
@@ -95,7 +100,8 @@ pub fn make_run(alloc: Global, net: &Net, schedule: Schedule) -> Result<Ran, Ref
         → (kind ≡ Fault.BadTurn) × StopsAtLine net.now [] (turns_first schedule net.now) line }
     ensures unread { IsErrOf result Refusal.ReadFault → ⊥ }
 {
-    let network = through(alloc, net, schedule)?;
+    let tables = Tables::of(alloc, net)?;
+    let network = through(alloc, &tables, schedule)?;
     let refused = refused(alloc, &network, clients(net))?;
     let (journal, received) = network.into_parts()?;
     Ok(Ran {

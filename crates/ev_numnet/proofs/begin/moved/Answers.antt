@@ -1,4 +1,4 @@
-use Rattle.std.proofs.Common.{refl, sym, subst}
+use Rattle.std.proofs.Common.{Some, sym, ap, subst}
 use Rattle.ev_numheld.specs.Held.{held_in, AreHeldIn}
 use Rattle.ev_numserver.specs.Core.{CoreParts}
 use Rattle.ev_numserver.specs.Linked.{SuitsCore, IsLinked}
@@ -10,7 +10,7 @@ relinked-requires-clause-net c = subst (λ (z : CoreParts). AreHeldIn z.net c.ar
 pub returns-clause-links : goal.returns-clause-links
 returns-clause-links c = record {
   ledger = c.in_ok-relinked.relinked;
-  given = refl;
+  given = ap Some c.in_ok-of.ensures;
   linked = subst (λ (z : CoreParts). IsLinked (held_in c.args.held.now) z.control c.in_ok-relinked.relinked.control) c.core.ensures c.in_ok-relinked.ensures.linked;
   suits = subst (λ (z : CoreParts). SuitsCore z c.in_ok-relinked.relinked) c.core.ensures c.in_ok-relinked.ensures.suits;
 }

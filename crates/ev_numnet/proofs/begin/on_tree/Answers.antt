@@ -1,14 +1,11 @@
 use Rattle.std.proofs.Common.{◌≡◌, ℕ, suc, map, length, slice_get, Some, Vec, Global, sym, ap, subst, ◌∙◌}
 use Rattle.ev_sets.specs.Sets.{Has}
 use Rattle.ev_tree.specs.Tree.{Topology, links_of}
-use Rattle.ev_model.specs.Parts.{NetParts}
 use Rattle.ev_model.specs.Nets.{topology_at}
 use Rattle.ev_control.specs.declared.control.HeldLink.{HeldLink}
 use Rattle.ev_flow.specs.Flow.{IsFlow}
 use Rattle.ev_numheld.specs.Held.{NetHeld, held_in, AreHeldIn}
-use Rattle.ev_numflow.specs.Homes.{NetHome, homes_in, AreHomesIn}
-use Rattle.ev_numserver.specs.Core.{CoreParts}
-use Rattle.ev_numnet.specs.Begin.{IsHomeOf}
+use Rattle.ev_numflow.specs.Homes.{homes_in, AreHomesIn}
 use Rattle.ev_numnet.proofs.Beginning.{homes-of-net}
 use Rattle.ev_numnet.proofs.Setting.{if-all, same-count, held-links, all-set}
 use Rattle.ev_numnet.proofs.begin.on_tree.Goals as goal

@@ -1,4 +1,4 @@
-use Rattle.std.proofs.Common.{◌≡◌, IfOk, sym, subst}
+use Rattle.std.proofs.Common.{IfOk, sym, subst}
 use Rattle.ev_bits.specs.Rows.{Numbers}
 use Rattle.ev_notice.specs.Notice.{AreValues}
 use Rattle.ev_forwarding.specs.Routes.{IsRouteBy}
@@ -13,7 +13,7 @@ pub returns-in-Publication : goal.returns-in-Publication
 returns-in-Publication c =
     let core = c.self.inside.core in
     let load : IsLoad core.net c.args.load.now = subst (λ (z : CoreParts). IsLoad z.net c.args.load.now) (sym c.self.view_is) c.requires in
-    let p = c.in-Publication.publication.now in
+    let p = c.in-Publication.publication in
     subst (λ (z : CoreParts). IfOk c.route.result (λ r. RoutesMessage z (meaning z.net c.args.load.now) r)) c.self.view_is
     (subst (λ (l : Load). IfOk c.route.result (λ r. RoutesMessage core (meaning core.net l) r)) (sym c.in-Publication.is)
     (route-answered core c.self.inside.forwarding c.self.invariant p (subst AreValues c.notice.ensures c.attributes.ensures.whole.values) (subst (IsLoad core.net) c.in-Publication.is load) c.route.result

@@ -1,11 +1,10 @@
-use Rattle.std.proofs.Common.{◌≡◌, [], length, sym, ap, subst, ◌∙◌}
+use Rattle.std.proofs.Common.{◌≡◌, length, sym, ap, subst, ◌∙◌}
 use Rattle.ev_control.specs.Holdings.{held_from}
 use Rattle.ev_control.specs.Control.{subs}
 use Rattle.ev_theory.specs.Real.{real}
 use Rattle.ev_catalogue.specs.Known.{known_filters}
 use Rattle.ev_forwarding.specs.Published.{AreKnown, all_changed}
 use Rattle.ev_model.specs.Parts.{NetParts}
-use Rattle.ev_numnet.specs.Kept.{IsForwardingOf}
 use Rattle.ev_numnet.proofs.Placed.{forwarding-none, staged_known, forwarding_turned}
 use Rattle.ev_numnet.proofs.relinking.OnLinks.of.Goals as goal
 

@@ -105,7 +105,7 @@ returns-clause-acted c = λ net m first.
     c.in_ok-stepped.ensures.step) in (
       refl,
       acted_by (c.args.server - 1) c.args.server (Takes c.args.from m) (acts.Take c.args.from) _ _ c.requires.able.core c.take.new.self c.in_ok-stepped.stepped.stamp
-          c.in_ok-stepped.stepped.sent.items c.requires.able.here c.requires.able.number step (search (rules, c.make_room.ensures.same.run)) (search (rules, c.make_room.ensures.same.cores))
+          c.in_ok-stepped.stepped.sent.items c.requires.able.here c.requires.able.number step c.make_room.ensures.same.run (search (rules, c.make_room.ensures.same.cores))
           (c.put.ensures.entry ∙ ap (λ z. z ++ entry_parts c.in_ok-stepped.stepped.stamp c.args.server (acts.Take c.args.from) (map (λ (s : SendingParts). s.to) c.in_ok-stepped.stepped.sent.items) ∷ []) c.make_room.ensures.same.journal)
           (messages_at c.drop_first.new.self)
           (first_left c.args.self.now.links c.make_room.new.self.links c.drop_first.new.self c.args.server c.args.from m c.make_room.ensures.same.messages c.drop_first.ensures.here c.drop_first.ensures.others)
