@@ -91,6 +91,25 @@ pub fn walked(alloc: Global, net: &Net) -> Result<Ran, NoMemory>
     }
 }
 
+// The run of a net over its tables.
+fn run_over(alloc: Global, tables: &Tables<'_>, schedule: Schedule) -> Result<Ran, Refusal>
+    requires sound { IsSound tables.now }
+    requires quiet { is_quiet schedule ≡ true }
+    ensures ran { IfOk result (λ ran. IsRan schedule tables.now ran) }
+    ensures bad { (line : ℕ) (kind : Fault) → IsErrOf result (Refusal.BadInput line kind)
+        → (kind ≡ Fault.BadTurn) × StopsAtLine tables.now [] (turns_first schedule tables.now) line }
+    ensures unread { IsErrOf result Refusal.ReadFault → ⊥ }
+{
+    let network = through(alloc, tables, schedule)?;
+    let refused = refused(alloc, &network, clients(tables.net()))?;
+    let (journal, received) = network.into_parts()?;
+    Ok(Ran {
+        journal,
+        refused,
+        received,
+    })
+}
+
 /// The run of a net on one thread, by the turns of a schedule and the walk.
 pub fn make_run(alloc: Global, net: &Net, schedule: Schedule) -> Result<Ran, Refusal>
     requires sound { IsSound net.now }
@@ -101,12 +120,5 @@ pub fn make_run(alloc: Global, net: &Net, schedule: Schedule) -> Result<Ran, Ref
     ensures unread { IsErrOf result Refusal.ReadFault → ⊥ }
 {
     let tables = Tables::of(alloc, net)?;
-    let network = through(alloc, &tables, schedule)?;
-    let refused = refused(alloc, &network, clients(net))?;
-    let (journal, received) = network.into_parts()?;
-    Ok(Ran {
-        journal,
-        refused,
-        received,
-    })
+    run_over(alloc, &tables, schedule)
 }

@@ -1,6 +1,21 @@
-use Rattle.std.proofs.Common.{arith}
-use Rattle.std.proofs.lemmas.Grind.{common_steps}
+use Rattle.std.proofs.Common.{◌≡◌, ℕ, [], IfOk, IsErrOf, sym, subst}
+use Rattle.ev_model.specs.Parts.{NetParts}
+use Rattle.ev_model.specs.Sound.{IsSound}
+use Rattle.ev_input.specs.declared.fault.Fault.{Fault}
+use Rattle.ev_input.specs.declared.fault.Fault.TheVariants.{BadTurn}
+use Rattle.ev_quiet.specs.Faults.{StopsAtLine}
+use Rattle.ev_quiet.specs.Ran.{IsRan}
+use Rattle.ev_quiet.specs.Runs.{turns_first}
+use Rattle.ev_quiet.specs.declared.refusal.Refusal.TheVariants as refusals
 use Rattle.ev_quiet.proofs.ran.make_run.Goals as goal
 
-pub returns-in_err-network-clause-bad : goal.returns-in_err-network-clause-bad
-returns-in_err-network-clause-bad c = λ line kind e. c.in_err-network.ensures.bad line kind (grind (arith, common_steps, e, c.from_residual.ensures.1))
+pub run_over-requires-clause-sound : goal.run_over-requires-clause-sound
+run_over-requires-clause-sound c = subst IsSound (sym c.in_ok-tables.ensures) c.requires.sound
+
+pub returns-clause-ran : goal.returns-clause-ran
+returns-clause-ran c = subst (λ (n : NetParts). IfOk c.run_over.result (λ ran. IsRan c.args.schedule n ran)) c.in_ok-tables.ensures c.run_over.ensures.ran
+
+pub returns-clause-bad : goal.returns-clause-bad
+returns-clause-bad c = λ line kind e.
+    let b = c.run_over.ensures.bad line kind e in
+    (b.0, subst (λ (n : NetParts). StopsAtLine n [] (turns_first c.args.schedule n) line) c.in_ok-tables.ensures b.1)
