@@ -2,3 +2,4 @@ pub mod Sorting
 pub mod Filters
 pub mod Stepping
 pub mod Counting
+pub mod Asked

@@ -2,3 +2,4 @@ pub mod Known
 pub mod Numbered
 pub mod Numbering
 pub mod Related
+pub mod Words

@@ -12,6 +12,7 @@ mod numbered;
 mod publication;
 mod related;
 mod scripts;
+mod words;
 
 pub use catalogue::Catalogue;
 pub use numbered::NumberedCommand;

@@ -4,6 +4,7 @@ ghost use Rattle.ev_notice.specs.Cover.{overlaps};
 ghost use Rattle.ev_catalogue.specs.Related.{overlap_row, overlap_rows};
 
 use crate::catalogue::Catalogue;
+use crate::words::text_words;
 use ev_bits::Row;
 use ev_cover::{Ad, Sub};
 use ev_memory::NoMemory;
@@ -76,7 +77,8 @@ impl<'a> Catalogue<'a> {
         ensures { IfOk result (λ order. order ≡ known_filters self.now.clients) }
     {
         self.is_known();
-        Order::new(alloc, copied_subs(alloc, self.filters())?)
+        let words = text_words(alloc, self.filters())?;
+        Order::narrowed(alloc, copied_subs(alloc, self.filters())?, words)
     }
 
     /// The advertisements by their numbers, with the rows that tell which covers which.

@@ -15,6 +15,12 @@ may_have sign bit = (sign == 0) || (bit_at sign bit == 1)
 abbrev pub MayCover : ℕ → ℕ → Type 0
 MayCover sign other = (sign ≡ 0) ⊎ ((other ≡ 0) ⊎ (bit_and sign other ≡ sign))
 
+-- each item has a word, by which it may cover what it covers
+pub record Narrows {T : Type 0} (covers : T → T → Bool) (items : List T) (words : List ℕ) : Type 0 where
+  pub long : length words ≡ length items
+  pub never_misses : (i j : ℕ) → i < length items → j < length items → covers_at covers items i j ≡ true
+      → MayCover (slice_index words i) (slice_index words j)
+
 -- the numbers of the items whose signature may have the bit
 abbrev pub column_row : List ℕ → ℕ → Numbers
 column_row signs bit = record { width = length signs; members = passing (λ j. may_have (slice_index signs j) bit) (length signs) }

@@ -9,6 +9,25 @@ use crate::put::put_if;
 use ev_bits::Row;
 use ev_memory::NoMemory;
 use std::alloc::Global;
+use std::marker::Model;
+
+/// A word for each item, with the rows of the bits: they tell of most items that one does not cover the other.
+#[derive(Drop)]
+pub(crate) struct Hints {
+    words: Vec<u64>,
+    columns: Vec<Row>,
+}
+
+impl Model for Hints {
+    ghost use Rattle.std.specs.Prelude.{◌≡◌, ℕ, List};
+    ghost use Rattle.ev_order.specs.Columns.{column_rows};
+
+    ghost Value = { List ℕ };
+
+    ghost view = { λ h. h.words.items };
+
+    ghost invariant = { λ h. h.columns.items ≡ column_rows h.words.items 64 };
+}
 
 /// Whether a signature has a bit.
 fn has_bit(sign: u64, bit: u32) -> bool
@@ -41,7 +60,7 @@ fn column(alloc: Global, signs: &[u64], bit: u32) -> Result<Row, NoMemory>
 }
 
 /// For each bit of a signature the numbers of the items that may have it.
-pub(crate) fn columns(alloc: Global, signs: &[u64]) -> Result<Vec<Row>, NoMemory>
+fn columns(alloc: Global, signs: &[u64]) -> Result<Vec<Row>, NoMemory>
     requires { length signs.now < 2 ^ 32 }
     ensures { IfOk result (λ columns. columns.items ≡ column_rows signs.now 64) }
 {
@@ -75,7 +94,7 @@ fn keep_if(row: &mut Row, other: &Row, holds: bool)
 }
 
 /// Takes out of a row numbers of items that an item with this signature doesn't cover, as the bits of the signatures tell.
-pub(crate) fn narrow(columns: &[Row], signs: &[u64], sign: u64, row: &mut Row)
+fn narrow(columns: &[Row], signs: &[u64], sign: u64, row: &mut Row)
     requires columns { columns.now ≡ column_rows signs.now 64 }
     requires width { row.old.width ≡ length signs.now }
     ensures width { row.new.width ≡ row.old.width }
@@ -85,5 +104,27 @@ pub(crate) fn narrow(columns: &[Row], signs: &[u64], sign: u64, row: &mut Row)
     for bit in 0..64_u32 {
         let holds = has_bit(sign, bit);
         keep_if(row, &columns[bit as usize], holds);
+    }
+}
+
+impl Hints {
+    /// The hints of these words.
+    pub(crate) fn of(alloc: Global, words: Vec<u64>) -> Result<Hints, NoMemory>
+        requires { length words.items < 2 ^ 32 }
+        ensures { IfOk result (λ hints. hints ≡ words.items) }
+    {
+        let columns = columns(alloc, &words)?;
+        Ok(Hints { words, columns })
+    }
+
+    /// Takes out of a row numbers of items that an item doesn't cover, as the words tell.
+    pub(crate) fn narrow(&self, i: usize, row: &mut Row)
+        requires there { i < length self.now }
+        requires width { row.old.width ≡ length self.now }
+        ensures width { row.new.width ≡ row.old.width }
+        ensures kept { (j : ℕ) → Has j row.old.members → j < length self.now → MayCover (slice_index self.now i) (slice_index self.now j)
+            → Has j row.new.members }
+    {
+        narrow(&self.columns, &self.words, self.words[i], row);
     }
 }
