@@ -23,3 +23,6 @@ pub mod Sessions
 pub mod Starting
 pub mod Gathered
 pub mod HandedOn
+pub mod Picked
+pub mod Last
+pub mod Told

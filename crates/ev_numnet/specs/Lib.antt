@@ -6,3 +6,4 @@ pub mod Seen
 pub mod Putting
 pub mod Begin
 pub mod Inboxes
+pub mod Last

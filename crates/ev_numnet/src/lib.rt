@@ -14,9 +14,13 @@ mod place;
 mod queue;
 mod relinking;
 mod replaying;
+mod retelling;
 mod servers;
+mod telling;
+mod texts;
 mod trying;
 mod waiting;
 mod walking;
 
 pub use network::Network;
+pub use retelling::{retell, turn_of};

@@ -1,5 +1,5 @@
 //! The links between servers.
-ghost use Rattle.std.specs.Prelude.{◌≡◌, ℕ, ◌≤◌, ◌<◌, drop, true, [], ◌∷◌, ◌++◌, Some, slice_get, length, IfOk, OnOk, IfSome, IfNone};
+ghost use Rattle.std.specs.Prelude.{◌≡◌, ℕ, ◌≤◌, ◌<◌, ◌-◌, drop, true, [], ◌∷◌, ◌++◌, Some, slice_get, length, IfOk, OnOk, IfSome, IfNone};
 ghost use Rattle.std.specs.Prelude.{IsTrue, ◌↔◌};
 ghost use Rattle.ev_sets.specs.Sets.{Has};
 ghost use Rattle.ev_numnet.specs.Links.{link_place, messages_at, has_room, AreSame};
@@ -69,6 +69,15 @@ impl<'a> Links<'a> {
         ensures { IsTrue result → messages_at self.now from to ≡ [] }
     {
         self.first(from, to).is_none()
+    }
+
+    /// The last message on a link.
+    pub(crate) fn last(&self, from: u32, to: u32) -> Option<&Waiting<'a>>
+        requires { (from ≤ 64) × (to ≤ 64) }
+        ensures some { IfSome result (λ last. slice_get (messages_at self.now from to) (length (messages_at self.now from to) - 1) ≡ Some last.now) }
+        ensures none { IfNone result (messages_at self.now from to ≡ []) }
+    {
+        self.queues[place(from, to)].last()
     }
 
     /// Makes room for one more message on a link.

@@ -1,12 +1,15 @@
 //! Networks.
 ghost use Rattle.std.specs.Prelude.{◌≡◌, ◌≤◌, ◌==◌, ◌++◌, ◌∷◌, cond, List, [], length, IfOk, OnOk, OnErr};
 ghost use Rattle.ev_sets.specs.Sets.{Has};
-ghost use Rattle.ev_phases.specs.Moments.{opening_moment};
+ghost use Rattle.ev_phases.specs.Moments.{opening_moment, found_of};
 ghost use Rattle.ev_theory.specs.Real.{real};
+ghost use Rattle.ev_model.specs.Meaning.{journal_of};
+ghost use Rattle.ev_model.specs.Parts.{EntryParts};
 ghost use Rattle.ev_model.specs.Nets.{phased_net, first_tree, servers_in, clients_of, of_clients};
 ghost use Rattle.ev_model.specs.Sound.{IsSound};
 ghost use Rattle.ev_numnet.specs.Kept.{AreServers};
 ghost use Rattle.ev_numnet.specs.Seen.{AreClients};
+ghost use Rattle.ev_turns.specs.Told.{told_of};
 
 use crate::finding::Finder;
 use crate::inboxes::take_inboxes;
@@ -14,8 +17,9 @@ use crate::links::Links;
 use crate::making::{command, home, next_phase, received, refused, take, version};
 use crate::place::Place;
 use crate::servers::Servers;
+use crate::telling::last_told;
 use ev_memory::NoMemory;
-use ev_model::{Delivery, Entry, Net, Turn};
+use ev_model::{Delivery, Entry, Net, Sent, Turn};
 use ev_tables::Tables;
 use ev_wire::Lists;
 use std::alloc::Global;
@@ -189,6 +193,14 @@ impl<'a> Network<'a> {
         ensures { result.now ≡ refused_by self.now.net self.now.journal client }
     {
         refused(self.tables.net(), &self.servers, client)
+    }
+
+    /// The texts of the messages of the last turn, by rising neighbour.
+    pub fn last_told(&self) -> Result<Lists<Sent>, NoMemory>
+        ensures { IfOk result (λ told. (before : List EntryParts) (entry : EntryParts) → self.now.journal ≡ before ++ entry ∷ []
+            → told ≡ told_of self.now.net (found_of real (phased_net self.now.net) (journal_of self.now.journal) (length before)) entry) }
+    {
+        last_told(self.tables, &self.servers)
     }
 
     /// Makes a turn where it is permitted, and answers whether it is. Where it is not, and after want of memory, the

@@ -1,5 +1,5 @@
 //! The queue of a link.
-ghost use Rattle.std.specs.Prelude.{◌≡◌, true, false, drop, ◌∷◌, ◌++◌, [], IfSome, IfNone, OnOk, OnErr, slice_get, Some};
+ghost use Rattle.std.specs.Prelude.{◌≡◌, ◌-◌, true, false, drop, ◌∷◌, ◌++◌, [], length, IfSome, IfNone, OnOk, OnErr, slice_get, Some};
 
 use crate::waiting::Waiting;
 use ev_memory::NoMemory;
@@ -64,6 +64,14 @@ impl<'a> Queue<'a> {
         ensures none { IfNone result (self.now.messages ≡ []) }
     {
         self.messages.front()
+    }
+
+    /// The last message.
+    pub(crate) fn last(&self) -> Option<&Waiting<'a>>
+        ensures some { IfSome result (λ last. slice_get self.now.messages (length self.now.messages - 1) ≡ Some last.now) }
+        ensures none { IfNone result (self.now.messages ≡ []) }
+    {
+        self.messages.back()
     }
 
     /// Gives up the next message.

@@ -1,0 +1,17 @@
+-- What lies last on the links of a server, and its texts.
+use Rattle.std.specs.Prelude.{◌≡◌, ℕ, List, [], ◌∷◌, ◌++◌, map}
+use Rattle.ev_sets.specs.Sets.{Has}
+use Rattle.ev_wire.specs.declared.sent.Sent.{Sent}
+use Rattle.ev_control.specs.Control.{sent_to}
+use Rattle.ev_message.specs.Parts.{SendingParts}
+use Rattle.ev_numnet.specs.Links.{WaitingParts, waiting_as}
+
+-- on each of these links of a server the message for it lies last
+pub record LieLast (messages : ℕ → ℕ → List WaitingParts) (server : ℕ) (outs : List ℕ) (sent : List SendingParts) : Type 0 where
+  pub stamp : ℕ
+  pub receivers : outs ≡ map (λ s. s.to) sent
+  pub last : (s : SendingParts) → Has s sent → (before : List WaitingParts) × (messages server s.to ≡ before ++ waiting_as stamp s ∷ [])
+
+-- the text of a message on its way to a neighbour
+abbrev pub text_of_sending : SendingParts → Sent
+text_of_sending s = sent_to s.to s.sent.message

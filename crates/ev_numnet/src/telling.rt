@@ -1,0 +1,82 @@
+//! What the last step of a network sent.
+ghost use Rattle.std.specs.Prelude.{◌≡◌, ◌≤◌, ℕ, List, [], ◌∷◌, ◌++◌, length, map, IfOk};
+ghost use Rattle.ev_sets.specs.Sets.{Has};
+ghost use Rattle.ev_phases.specs.Moments.{found_of};
+ghost use Rattle.ev_theory.specs.Real.{real};
+ghost use Rattle.ev_control.specs.Control.{sent_to};
+ghost use Rattle.ev_message.specs.Parts.{SendingParts};
+ghost use Rattle.ev_model.specs.Meaning.{journal_of};
+ghost use Rattle.ev_model.specs.Nets.{phased_net};
+ghost use Rattle.ev_model.specs.Parts.{EntryParts};
+ghost use Rattle.ev_turns.specs.Told.{told_of};
+ghost use Rattle.ev_numnet.specs.Kept.{IsNetwork};
+ghost use Rattle.ev_numnet.specs.Last.{LieLast, text_of_sending};
+ghost use Rattle.ev_numnet.specs.Links.{WaitingParts, messages_at};
+ghost use Rattle.ev_numnet.specs.Seen.{seen};
+
+use crate::links::Links;
+use crate::servers::Servers;
+use crate::texts::text_of;
+use ev_memory::NoMemory;
+use ev_model::Sent;
+use ev_tables::Tables;
+use ev_wire::{Lists, SentText};
+use std::alloc::Global;
+
+/// The text of the message that was last sent on a link; empty where nothing lies on it.
+fn last_sent(
+    alloc: Global,
+    tables: &Tables<'_>,
+    links: &Links<'_>,
+    from: u32,
+    to: u32,
+) -> Result<Sent, NoMemory>
+    requires small { (from ≤ 64) × (to ≤ 64) }
+    requires run { (w : WaitingParts) → Has w (messages_at links.now from to) → w.sent.net ≡ tables.now }
+    ensures { (before : List WaitingParts) (last : WaitingParts) → messages_at links.now from to ≡ before ++ last ∷ []
+        → IfOk result (λ sent. sent ≡ sent_to to last.sent.message) }
+{
+    match links.last(from, to) {
+        Some(waiting) => {
+            let bytes = text_of(alloc, tables, waiting.message.load())?;
+            Ok(Sent { to, bytes })
+        }
+        None => {
+            let bytes = SentText::written(Vec::new(alloc));
+            Ok(Sent { to, bytes })
+        }
+    }
+}
+
+/// The texts of the messages that lie last on these links of a server, one for each.
+fn last_on(
+    alloc: Global,
+    tables: &Tables<'_>,
+    links: &Links<'_>,
+    server: u32,
+    outs: &[u32],
+) -> Result<Lists<Sent>, NoMemory>
+    requires small { (to : ℕ) → Has to outs.now → (server ≤ 64) × (to ≤ 64) }
+    requires run { (to : ℕ) (w : WaitingParts) → Has w (messages_at links.now server to) → w.sent.net ≡ tables.now }
+    ensures { IfOk result (λ told. (sent : List SendingParts) → LieLast (messages_at links.now) server outs.now sent → told ≡ map text_of_sending sent) }
+{
+    let mut told = Vec::with_capacity(alloc, outs.len())?;
+    for to in outs {
+        let sent = last_sent(alloc, tables, links, server, *to)?;
+        told.push(sent)?;
+    }
+    Ok(Lists::of(told))
+}
+
+/// The texts of the messages of the last entry, by rising neighbour.
+pub(crate) fn last_told(tables: &Tables<'_>, servers: &Servers<'_>) -> Result<Lists<Sent>, NoMemory>
+    requires kept { (phase : ℕ) × IsNetwork tables.now phase (seen servers.now) }
+    ensures { IfOk result (λ told. (before : List EntryParts) (entry : EntryParts) → servers.now.journal.items ≡ before ++ entry ∷ []
+        → told ≡ told_of tables.now (found_of real (phased_net tables.now) (journal_of servers.now.journal.items) (length before)) entry) }
+{
+    let alloc = servers.alloc;
+    match servers.journal.last() {
+        Some(entry) => last_on(alloc, tables, &servers.links, entry.server, &entry.outs),
+        None => Ok(Lists::of(Vec::new(alloc))),
+    }
+}
