@@ -25,8 +25,9 @@ use ev_audit::{Claim, read_claim};
 use ev_input::law::net_is_sound;
 use ev_memory::NoMemory;
 use ev_model::{Entry, Net, Turn};
-use ev_net::Network;
+use ev_numnet::Network;
 use ev_report::total;
+use ev_tables::Tables;
 use std::alloc::Global;
 
 /// A run that is what was claimed.
@@ -55,47 +56,47 @@ fn left(network: Network<'_>) -> Result<(Vec<Entry>, u64), NoMemory>
 // at that place the turns are made again.
 fn compare(
     alloc: Global,
-    net: &Net,
+    tables: &Tables<'_>,
     network: &Network<'_>,
     text: &mut Comparing<'_>,
     traced: &Comparing<'_>,
     at: usize,
 ) -> Result<(), NoMemory>
-    requires sound { IsSound net.now }
-    requires same { network.now.net ≡ net.now }
+    requires sound { IsSound tables.now }
+    requires same { network.now.net ≡ tables.now }
     requires part { traced.now.claimed ≡ drop at text.old.claimed }
     requires within { at ≤ length text.old.claimed }
-    requires compared { IsComparedTo traced.now (trace_text net.now network.now.journal (told_by net.now network.now.journal)) }
-    ensures { OnOk result (GoesOn text.old text.new (traced_text net.now network.now.journal)) }
+    requires compared { IsComparedTo traced.now (trace_text tables.now network.now.journal (told_by tables.now network.now.journal)) }
+    ensures { OnOk result (GoesOn text.old text.new (traced_text tables.now network.now.journal)) }
 {
-    compare_deliveries(alloc, text, net, network)?;
+    compare_deliveries(alloc, text, tables, network)?;
     if text.follow(traced, at) {
         return Ok(());
     }
-    compare_trace(alloc, text, net, network.journal())
+    compare_trace(alloc, text, tables, network.journal())
 }
 
 // The network after turns, whose text was compared with an output.
 fn made<'a, 'b>(
     alloc: Global,
-    net: &'a Net,
+    tables: &'a Tables<'a>,
     turns: &[(u32, Turn)],
     output: &'b [u8],
 ) -> Result<(Network<'a>, Comparing<'b>), AuditFault>
-    requires { IsSound net.now }
-    ensures made { TellsMade (λ p. p.0) net.now turns.now result }
+    requires { IsSound tables.now }
+    ensures made { TellsMade (λ p. p.0) tables.now turns.now result }
     ensures claimed { IfOk result (λ p. p.1.claimed ≡ output.now) }
-    ensures compared { IfOk result (λ p. IsComparedTo p.1 (traced_text net.now p.0.journal)) }
+    ensures compared { IfOk result (λ p. IsComparedTo p.1 (traced_text tables.now p.0.journal)) }
 {
     let at = trace_at(output);
     let (_, trace) = output.split_at(at);
     let mut traced = Comparing::new(trace);
-    let network = match make_compared(alloc, &mut traced, net, turns) {
+    let network = match make_compared(alloc, &mut traced, tables, turns) {
         Ok(network) => network,
         Err(fault) => return Err(fault),
     };
     let mut text = Comparing::new(output);
-    compare(alloc, net, &network, &mut text, &traced, at)?;
+    compare(alloc, tables, &network, &mut text, &traced, at)?;
     Ok((network, text))
 }
 
@@ -128,7 +129,33 @@ fn concluded(
     }
 }
 
-// The journal of the run that turns make, and how many deliveries there were, where the output is its text.
+// The journal of the run that turns make, and how many deliveries there were, where the output is its text; by the tables of the run.
+fn run_over(
+    alloc: Global,
+    tables: &Tables<'_>,
+    turns: &[(u32, Turn)],
+    first: u32,
+    end: u32,
+    output: &[u8],
+) -> Result<(Vec<Entry>, u64), AuditFault>
+    requires sound { IsSound tables.now }
+    requires first { first ≤ 268435458 }
+    requires short { length output.now ≤ 268435456 }
+    ensures { TellsRun (λ p. p.0.items) (λ p. p.1) tables.now first end output.now turns.now result }
+{
+    let (mut network, text) = match made(alloc, tables, turns, output) {
+        Ok(made) => made,
+        Err(fault) => return Err(fault),
+    };
+    network.journal();
+    let drained = is_drained(&mut network)?;
+    match concluded(&text, first, end, output, drained) {
+        Ok(()) => Ok(left(network)?),
+        Err(fault) => Err(fault),
+    }
+}
+
+// The same by the net.
 fn run(
     alloc: Global,
     net: &Net,
@@ -142,16 +169,8 @@ fn run(
     requires short { length output.now ≤ 268435456 }
     ensures { TellsRun (λ p. p.0.items) (λ p. p.1) net.now first end output.now turns.now result }
 {
-    let (mut network, text) = match made(alloc, net, turns, output) {
-        Ok(made) => made,
-        Err(fault) => return Err(fault),
-    };
-    network.journal();
-    let drained = is_drained(&mut network)?;
-    match concluded(&text, first, end, output, drained) {
-        Ok(()) => Ok(left(network)?),
-        Err(fault) => Err(fault),
-    }
+    let tables = Tables::of(alloc, net)?;
+    run_over(alloc, &tables, turns, first, end, output)
 }
 
 // The answer to what is claimed.

@@ -10,8 +10,9 @@ ghost use Rattle.ev_audited.specs.Comparing.{GoesOn};
 use crate::comparing::Comparing;
 use ev_memory::NoMemory;
 use ev_model::{Client, Delivery, Net};
-use ev_net::Network;
+use ev_numnet::Network;
 use ev_report::{push_client, push_delivery, push_refused};
+use ev_tables::Tables;
 use std::alloc::Global;
 
 // The line of a delivery, put together in a buffer.
@@ -63,8 +64,8 @@ fn compare_section(
     compare_received(text, line, clients, received)
 }
 
-/// Compares what the clients of a network have received, client by client in the order of its net, each delivery in the order received.
-pub fn compare_deliveries(
+// Client by client in the order of a net.
+fn compare_sections(
     alloc: Global,
     text: &mut Comparing<'_>,
     net: &Net,
@@ -88,4 +89,19 @@ pub fn compare_deliveries(
         )?;
     }
     Ok(())
+}
+
+/// Compares what the clients of a network have received, client by client in the order of its net, each delivery in the order received.
+pub fn compare_deliveries(
+    alloc: Global,
+    text: &mut Comparing<'_>,
+    tables: &Tables<'_>,
+    network: &Network<'_>,
+) -> Result<(), NoMemory>
+    requires few { length tables.now.clients ≤ 1024 }
+    requires same { network.now.net ≡ tables.now }
+    ensures { OnOk result (GoesOn text.old text.new (deliveries_text tables.now
+        (of_clients tables.now (refused_by tables.now network.now.journal)) (of_clients tables.now (received_by tables.now network.now.journal)) false)) }
+{
+    compare_sections(alloc, text, tables.net(), network)
 }

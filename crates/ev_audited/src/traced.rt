@@ -11,9 +11,10 @@ ghost use Rattle.ev_audited.specs.Answers.{TellsDrained, TellsMade};
 use crate::comparing::Comparing;
 use crate::fault::{AuditFault, AuditKind};
 use ev_memory::NoMemory;
-use ev_model::{Client, Entry, Net, Sent, Turn};
-use ev_net::{Network, turn_of};
+use ev_model::{Client, Entry, Sent, Turn};
+use ev_numnet::{Network, turn_of};
 use ev_report::{push_trace_entry, push_trace_head};
+use ev_tables::Tables;
 use std::alloc::Global;
 
 // The line of an entry with those of its messages, put together in a buffer.
@@ -42,23 +43,31 @@ fn compare_head(alloc: Global, text: &mut Comparing<'_>, entries: usize) -> Resu
     Ok(())
 }
 
+// The clients of the net of a run.
+fn clients_of<'t>(tables: &'t Tables<'_>) -> &'t [Client]
+    ensures { result.now ≡ tables.now.clients }
+{
+    &tables.net().clients
+}
+
 // Makes the turns of a run again, and compares each entry with its messages.
 fn compare_entries(
     alloc: Global,
     text: &mut Comparing<'_>,
-    net: &Net,
+    tables: &Tables<'_>,
     journal: &[Entry],
 ) -> Result<(), NoMemory>
-    requires sound { IsSound net.now }
-    requires legal { IsLegal net.now journal.now }
-    ensures { OnOk result (GoesOn text.old text.new (entries_text net.now.clients journal.now (told_by net.now journal.now))) }
+    requires sound { IsSound tables.now }
+    requires legal { IsLegal tables.now journal.now }
+    ensures { OnOk result (GoesOn text.old text.new (entries_text tables.now.clients journal.now (told_by tables.now journal.now))) }
 {
     let mut lines = Vec::new(alloc);
-    let mut network = Network::start(alloc, net)?;
+    let mut network = Network::start(alloc, tables)?;
+    let clients = clients_of(tables);
     for entry in journal {
         network.turn(turn_of(entry))?;
         let told = network.last_told()?;
-        compare_entry(text, &mut lines, &net.clients, entry, told.as_slice())?;
+        compare_entry(text, &mut lines, clients, entry, told.as_slice())?;
     }
     Ok(())
 }
@@ -81,15 +90,15 @@ pub fn is_drained(network: &mut Network<'_>) -> Result<bool, NoMemory>
 pub fn compare_trace(
     alloc: Global,
     text: &mut Comparing<'_>,
-    net: &Net,
+    tables: &Tables<'_>,
     journal: &[Entry],
 ) -> Result<(), NoMemory>
-    requires sound { IsSound net.now }
-    requires legal { IsLegal net.now journal.now }
-    ensures { OnOk result (GoesOn text.old text.new (trace_text net.now journal.now (told_by net.now journal.now))) }
+    requires sound { IsSound tables.now }
+    requires legal { IsLegal tables.now journal.now }
+    ensures { OnOk result (GoesOn text.old text.new (trace_text tables.now journal.now (told_by tables.now journal.now))) }
 {
     compare_head(alloc, text, journal.len())?;
-    compare_entries(alloc, text, net, journal)
+    compare_entries(alloc, text, tables, journal)
 }
 
 // The last entry of a run with its messages.
@@ -132,18 +141,19 @@ fn make_turn(
 pub fn make_compared<'a>(
     alloc: Global,
     text: &mut Comparing<'_>,
-    net: &'a Net,
+    tables: &'a Tables<'a>,
     turns: &[(u32, Turn)],
 ) -> Result<Network<'a>, AuditFault>
-    requires { IsSound net.now }
-    ensures made { TellsMade (λ network. network) net.now turns.now result }
-    ensures compared { IfOk result (λ network. GoesOn text.old text.new (trace_text net.now network.journal (told_by net.now network.journal))) }
+    requires { IsSound tables.now }
+    ensures made { TellsMade (λ network. network) tables.now turns.now result }
+    ensures compared { IfOk result (λ network. GoesOn text.old text.new (trace_text tables.now network.journal (told_by tables.now network.journal))) }
 {
     compare_head(alloc, text, turns.len())?;
     let mut lines = Vec::new(alloc);
-    let mut network = Network::start(alloc, net)?;
+    let mut network = Network::start(alloc, tables)?;
+    let clients = clients_of(tables);
     for (line, turn) in turns {
-        if !make_turn(text, &mut lines, &net.clients, &mut network, *turn)? {
+        if !make_turn(text, &mut lines, clients, &mut network, *turn)? {
             return Err(AuditFault::Refuted {
                 line: *line,
                 kind: AuditKind::BadTurn,

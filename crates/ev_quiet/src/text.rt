@@ -14,19 +14,30 @@ use crate::ran::Ran;
 use crate::words::Shown;
 use ev_memory::NoMemory;
 use ev_model::{Entry, Net};
-use ev_net::retell;
+use ev_numnet::retell;
 use ev_report::trace_text;
+use ev_tables::Tables;
 use std::alloc::Global;
 
-// The trace of a journal with its messages.
+// The trace of a journal with its messages, by the tables of its run.
 #[tactic(auto, using(crate::proofs::Told::told_length))]
+fn trace_over(alloc: Global, tables: &Tables<'_>, journal: &[Entry]) -> Result<Vec<u8>, NoMemory>
+    requires sound { IsSound tables.now }
+    requires legal { IsLegal tables.now journal.now }
+    ensures { IfOk result (λ text. text.items ≡ trace_text tables.now journal.now (told_by tables.now journal.now)) }
+{
+    let told = retell(alloc, tables, journal)?;
+    trace_text(alloc, tables.net(), journal, &told)
+}
+
+// The trace of a journal with its messages.
 fn trace(alloc: Global, net: &Net, journal: &[Entry]) -> Result<Vec<u8>, NoMemory>
     requires sound { IsSound net.now }
     requires legal { IsLegal net.now journal.now }
     ensures { IfOk result (λ text. text.items ≡ trace_text net.now journal.now (told_by net.now journal.now)) }
 {
-    let told = retell(alloc, net, journal)?;
-    trace_text(alloc, net, journal, &told)
+    let tables = Tables::of(alloc, net)?;
+    trace_over(alloc, &tables, journal)
 }
 
 // The same where it is wanted.

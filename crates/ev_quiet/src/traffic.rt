@@ -18,18 +18,19 @@ use crate::words::Query;
 use ev_input::Fault;
 use ev_memory::NoMemory;
 use ev_model::{Entry, Net};
-use ev_net::{Network, turn_of};
+use ev_numnet::{Network, turn_of};
+use ev_tables::Tables;
 use ev_traffic::law::beside_flooding;
 use ev_traffic::{Carried, Traffic};
 use std::alloc::Global;
 
-// What the entries of a journal put on each link, told turn by turn.
-fn carried(alloc: Global, net: &Net, journal: &[Entry]) -> Result<Carried, NoMemory>
-    requires sound { IsSound net.now }
-    requires legal { IsLegal net.now journal.now }
-    ensures { IfOk result (λ carried. Carries carried journal.now (told_by net.now journal.now)) }
+// What the entries of a journal put on each link, told turn by turn, by the tables of its run.
+fn carried_over(alloc: Global, tables: &Tables<'_>, journal: &[Entry]) -> Result<Carried, NoMemory>
+    requires sound { IsSound tables.now }
+    requires legal { IsLegal tables.now journal.now }
+    ensures { IfOk result (λ carried. Carries carried journal.now (told_by tables.now journal.now)) }
 {
-    let mut network = Network::start(alloc, net)?;
+    let mut network = Network::start(alloc, tables)?;
     let mut carried = Carried::none(alloc)?;
     for entry in journal {
         network.turn(turn_of(entry))?;
@@ -37,6 +38,16 @@ fn carried(alloc: Global, net: &Net, journal: &[Entry]) -> Result<Carried, NoMem
         carried.add(alloc, entry, sent.as_slice())?;
     }
     Ok(carried)
+}
+
+// What the entries of a journal put on each link.
+fn carried(alloc: Global, net: &Net, journal: &[Entry]) -> Result<Carried, NoMemory>
+    requires sound { IsSound net.now }
+    requires legal { IsLegal net.now journal.now }
+    ensures { IfOk result (λ carried. Carries carried journal.now (told_by net.now journal.now)) }
+{
+    let tables = Tables::of(alloc, net)?;
+    carried_over(alloc, &tables, journal)
 }
 
 // What is printed of a net's walk.

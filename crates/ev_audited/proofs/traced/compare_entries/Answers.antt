@@ -12,18 +12,18 @@ use Rattle.ev_audited.proofs.Runs.{entries_more}
 use Rattle.ev_audited.proofs.traced.compare_entries.Goals as goal
 
 pub loop-entry-init : goal.loop-entry-init
-loop-entry-init c = ([], retold-none c.args.net.now c.args.journal.now c.in_ok-network.network [] c.in_ok-network.ensures refl, goes_nowhere c.args.text.now)
+loop-entry-init c = ([], retold-none c.args.tables.now c.args.journal.now c.in_ok-network.network [] c.in_ok-network.ensures refl, goes_nowhere c.args.text.now)
 
 pub loop-entry-preserved : goal.loop-entry-preserved
 loop-entry-preserved c =
     let (told, again, went) = c.loop-entry.invariant in
     let i = c.loop-entry.entry-index in
-    let net = c.args.net.now in
+    let net = c.args.tables.now in
     let journal = c.args.journal.now in
     let entry = c.entry-item.result in
     let turn-is : c.turn_of.result ≡ turn_of_entry (get_or journal i entry) = c.turn_of.ensures ∙ ap turn_of_entry c.entry-item.is in
     let last : List Sent = c.in_ok-told.told in
-    let clients-are : c.deref.result.now ≡ net.clients = c.deref.ensures.value ∙ ap (λ n. n.clients) c.net.view_is in
+    let clients-are : c.clients_of-clients.result.now ≡ net.clients = c.clients_of-clients.ensures in
     let text : GoesOn c.loop-entry.text c.compare_entry.new.text (entry_text net.clients (get_or journal i entry) last) =
     subst (λ z. GoesOn c.loop-entry.text c.compare_entry.new.text (entry_text net.clients z last)) c.entry-item.is
     (rw (clients-are, c.as_slice.ensures) at c.in_ok-compare_entry.ensures) in (
@@ -39,7 +39,7 @@ pub returns : goal.returns
 returns c =
     let whole : c.loop-entry.entry-index ≡ length c.args.journal.now = omega (arith, c.loop-entry-test.false, c.loop-entry.auto.entry-index-end) in
     let (told, again, went) = c.loop-entry.invariant in
-    let all : told ≡ told_by c.args.net.now c.args.journal.now = retold-all c.args.net.now c.args.journal.now c.loop-entry.entry-index c.loop-entry.network told whole again in
+    let all : told ≡ told_by c.args.tables.now c.args.journal.now = retold-all c.args.tables.now c.args.journal.now c.loop-entry.entry-index c.loop-entry.network told whole again in
     subst (GoesOn c.args.text.now c.loop-entry.text)
-    (ap (λ z. entries_text c.args.net.now.clients z told) (ap (λ n. take n c.args.journal.now) whole ∙ take-length c.args.journal.now)
-    ∙ ap (entries_text c.args.net.now.clients c.args.journal.now) all) went
+    (ap (λ z. entries_text c.args.tables.now.clients z told) (ap (λ n. take n c.args.journal.now) whole ∙ take-length c.args.journal.now)
+    ∙ ap (entries_text c.args.tables.now.clients c.args.journal.now) all) went

@@ -7,5 +7,5 @@ use Rattle.ev_audited.proofs.traced.compare_entries.Given as goal
 
 -- so far the journal was made again, its messages were told, and the text of both was compared
 abbrev pub invariant-loop-entry : goal.invariant-loop-entry
-invariant-loop-entry l = (told : List (List Sent)) × IsRetoldTo l.entry-index l.net l.journal l.network told
-    × GoesOn l.initial.text l.text (entries_text l.net.clients (take l.entry-index l.journal) told)
+invariant-loop-entry l = (told : List (List Sent)) × IsRetoldTo l.entry-index l.fn.tables l.journal l.network told
+    × GoesOn l.initial.text l.text (entries_text l.fn.tables.clients (take l.entry-index l.journal) told)
