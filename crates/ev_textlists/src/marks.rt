@@ -1,42 +1,77 @@
-//! Marks of the pairs of neighbouring bytes of a text.
+//! Marks of the pairs and fours of neighbouring bytes of a text.
 ghost use Rattle.std.specs.Prelude.{◌≡◌, ◌≢◌, ◌+◌, ◌*◌, ◌^◌, ◌<◌, ◌≤◌, ◌==◌, ℕ, length};
 ghost use Rattle.ev_bits.specs.Words.{bit};
-ghost use Rattle.ev_textindex.specs.Heads.{last_bytes};
-ghost use Rattle.ev_textlists.specs.Marks.{first_mark, last_mark, AreMarked};
+ghost use Rattle.ev_textlists.specs.Marks.{pair, four, first_mark, first_pair, last_mark, last_pair, AreMarked};
 ghost use Rattle.ev_textlists.specs.Groups.{mark_of};
 
-/// The place of all that is shorter than two bytes, behind those of pairs.
-pub(crate) const SHORT: u32 = 4096;
+/// The place of all that is shorter than two bytes, behind those of pairs and of fours.
+pub(crate) const SHORT: u32 = 8192;
 
 /// So many words have a bit for each place.
-pub(crate) const WORDS: usize = 65;
+pub(crate) const WORDS: usize = 129;
 
-/// Where the first two bytes of a pattern fall, and the last two.
+/// Where the first four bytes of a pattern fall, and the last four; of a pattern of two or three bytes the first two and the
+/// last two.
 #[derive(Clone, Copy)]
 pub struct Mark {
     pub(crate) first: u32,
     pub(crate) last: u32,
 }
 
-/// The place of the first two bytes.
-pub(crate) fn first_mark(x: &[u8]) -> u32
-    ensures value { result ≡ first_mark x.now }
-    ensures within { result ≤ 4096 }
+/// The place of two bytes.
+#[inline]
+fn pair(a: u8, b: u8) -> u32
+    ensures value { result ≡ pair a b }
+    ensures within { result < 4096 }
 {
-    let Some((a, rest)) = x.split_first() else {
-        return SHORT;
-    };
-    let Some((b, _)) = rest.split_first() else {
-        return SHORT;
-    };
-    64 * (u32::from(*a) % 64) + u32::from(*b) % 64
+    64 * (u32::from(a) % 64) + u32::from(b) % 64
 }
 
-/// The place of the last two bytes.
+/// The place of four bytes, behind those of two.
+#[inline]
+fn four(a: u8, b: u8, c: u8, d: u8) -> u32
+    ensures value { result ≡ four a b c d }
+    ensures within { result < 8192 }
+{
+    4096 + (u32::from(a) + 37 * u32::from(b) + 331 * u32::from(c) + 2741 * u32::from(d)) % 4096
+}
+
+/// The place of the first four bytes, or of the first two where there are no more than three.
+pub(crate) fn first_mark(x: &[u8]) -> u32
+    ensures value { result ≡ first_mark x.now }
+    ensures within { result ≤ 8192 }
+{
+    match x {
+        [a, b, c, d, ..] => four(*a, *b, *c, *d),
+        [a, b, ..] => pair(*a, *b),
+        _ => SHORT,
+    }
+}
+
+/// The place of the first two bytes alone.
+pub(crate) fn first_pair(x: &[u8]) -> u32
+    ensures value { result ≡ first_pair x.now }
+    ensures within { result ≤ 8192 }
+{
+    match x {
+        [a, b, ..] => pair(*a, *b),
+        _ => SHORT,
+    }
+}
+
+/// The place of the last four bytes, or of the last two where there are no more than three.
 pub(crate) fn last_mark(x: &[u8]) -> u32
     ensures { result ≡ last_mark x.now }
 {
-    first_mark(&x[x.len().saturating_sub(2)..])
+    let count = if x.len() < 4 { 2 } else { 4 };
+    first_mark(&x[x.len().saturating_sub(count)..])
+}
+
+/// The place of the last two bytes alone.
+pub(crate) fn last_pair(x: &[u8]) -> u32
+    ensures { result ≡ last_pair x.now }
+{
+    first_pair(&x[x.len().saturating_sub(2)..])
 }
 
 /// The marks of a pattern.
@@ -71,15 +106,16 @@ fn put(words: &mut [u64], i: u32)
     words[(i / 64) as usize] |= 1 << (i % 64);
 }
 
-/// Marks the places of all pairs of a text.
+/// Marks the places of all pairs and fours of a text.
 pub(crate) fn mark_all(words: &mut [u64], x: &[u8])
-    requires { length words.old ≡ 65 }
-    ensures long { length words.new ≡ 65 }
+    requires { length words.old ≡ 129 }
+    ensures long { length words.new ≡ 129 }
     ensures marked { AreMarked words.new x.now }
 {
     let mut left = x;
     while let Some((_, rest)) = left.split_first() {
         put(words, first_mark(left));
+        put(words, first_pair(left));
         left = rest;
     }
     put(words, SHORT);

@@ -3,11 +3,13 @@ ghost use Rattle.std.specs.Prelude.{◌≡◌, ◌++◌, [], cond, OnOk, length}
 ghost use Rattle.ev_constraint.specs.Bytes.{has_prefix, has_suffix, has_part};
 ghost use Rattle.ev_index.specs.Lines.{ids_with};
 ghost use Rattle.ev_textlists.specs.Groups.{mark_of, marks_of, groups_pairs};
-ghost use Rattle.ev_textlists.specs.Marks.{first_mark, last_mark, AreMarked};
+ghost use Rattle.ev_textlists.specs.Marks.{first_mark, first_pair, last_mark, last_pair, AreMarked};
 
 use crate::bytes::{begins_with, ends_with, has_part};
 use crate::group::Group;
-use crate::marks::{Mark, SHORT, WORDS, first_mark, is_marked, last_mark, mark_all};
+use crate::marks::{
+    Mark, SHORT, WORDS, first_mark, first_pair, is_marked, last_mark, last_pair, mark_all,
+};
 use ev_index::append_ids;
 use ev_memory::NoMemory;
 
@@ -24,12 +26,13 @@ fn append_if(found: &mut Vec<u32>, asked: bool, ids: &[u32]) -> Result<(), NoMem
 
 /// Whether a text begins with a pattern.
 #[inline]
-fn is_prefix(mark: Mark, key: &[u8], first: u32, x: &[u8]) -> bool
+fn is_prefix(mark: Mark, key: &[u8], first: u32, pair: u32, x: &[u8]) -> bool
     requires marked { mark ≡ mark_of key.now }
     requires first { first ≡ first_mark x.now }
+    requires pair { pair ≡ first_pair x.now }
     ensures { result ≡ has_prefix x.now key.now }
 {
-    if mark.first != first && mark.first != SHORT {
+    if mark.first != first && mark.first != pair && mark.first != SHORT {
         return false;
     }
     begins_with(x, key)
@@ -46,21 +49,27 @@ pub(crate) fn meet_prefixes(
     ensures { OnOk result (found.new.items ≡ found.old.items ++ ids_with (λ k. has_prefix x.now k) (groups_pairs groups.now)) }
 {
     let first = first_mark(x);
+    let pair = first_pair(x);
     for (i, mark) in marks.iter().enumerate() {
         let group = &groups[i];
-        append_if(found, is_prefix(*mark, &group.key, first, x), &group.ids)?;
+        append_if(
+            found,
+            is_prefix(*mark, &group.key, first, pair, x),
+            &group.ids,
+        )?;
     }
     Ok(())
 }
 
 /// Whether a text ends with a pattern.
 #[inline]
-fn is_suffix(mark: Mark, key: &[u8], last: u32, x: &[u8]) -> bool
+fn is_suffix(mark: Mark, key: &[u8], last: u32, pair: u32, x: &[u8]) -> bool
     requires marked { mark ≡ mark_of key.now }
     requires last { last ≡ last_mark x.now }
+    requires pair { pair ≡ last_pair x.now }
     ensures { result ≡ has_suffix x.now key.now }
 {
-    if mark.last != last && mark.last != SHORT {
+    if mark.last != last && mark.last != pair && mark.last != SHORT {
         return false;
     }
     ends_with(x, key)
@@ -77,9 +86,14 @@ pub(crate) fn meet_suffixes(
     ensures { OnOk result (found.new.items ≡ found.old.items ++ ids_with (λ k. has_suffix x.now k) (groups_pairs groups.now)) }
 {
     let last = last_mark(x);
+    let pair = last_pair(x);
     for (i, mark) in marks.iter().enumerate() {
         let group = &groups[i];
-        append_if(found, is_suffix(*mark, &group.key, last, x), &group.ids)?;
+        append_if(
+            found,
+            is_suffix(*mark, &group.key, last, pair, x),
+            &group.ids,
+        )?;
     }
     Ok(())
 }
@@ -88,7 +102,7 @@ pub(crate) fn meet_suffixes(
 #[inline]
 fn is_part(mark: Mark, key: &[u8], words: &[u64], x: &[u8]) -> bool
     requires marked { mark ≡ mark_of key.now }
-    requires long { length words.now ≡ 65 }
+    requires long { length words.now ≡ 129 }
     requires places { AreMarked words.now x.now }
     ensures { result ≡ has_part x.now key.now }
 {
@@ -110,7 +124,7 @@ fn meet_marked(
     found: &mut Vec<u32>,
 ) -> Result<(), NoMemory>
     requires marked { marks.now ≡ marks_of groups.now }
-    requires long { length words.now ≡ 65 }
+    requires long { length words.now ≡ 129 }
     requires places { AreMarked words.now x.now }
     ensures { OnOk result (found.new.items ≡ found.old.items ++ ids_with (λ k. has_part x.now k) (groups_pairs groups.now)) }
 {

@@ -6,7 +6,7 @@ use Rattle.ev_textlists.proofs.marks.mark_all.Given as goal
 
 abbrev pub invariant-loop-rest : goal.invariant-loop-rest
 invariant-loop-rest l = record {
-  long : length l.words ≡ 65;
+  long : length l.words ≡ 129;
   marked : (k : ℕ) → IsIn k (slots l.x) → (bit l.words k ≡ 1) ⊎ IsIn k (slots l.left);
 }
 
