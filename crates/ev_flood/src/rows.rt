@@ -64,14 +64,39 @@ fn push_rows(
     push_row(all, &met.others, allowed)
 }
 
-// No rows of so many clients.
-fn no_rows(alloc: Global, count: usize) -> Result<Vec<Vec<OwedRow>>, NoMemory>
-    ensures count { IfOk result (λ all. length all.items ≡ count) }
+// Counts each of these places once more.
+fn count_all(counts: &mut [usize], places: &[u32])
+    ensures { length counts.new ≡ length counts.old }
+{
+    for place in places {
+        let place = *place as usize;
+        if place < counts.len() {
+            counts[place] = counts[place].saturating_add(1);
+        }
+    }
+}
+
+// How many rows each of so many clients gets: room for just as many is taken before they come.
+fn counted(alloc: Global, count: usize, mets: &[Met]) -> Result<Vec<usize>, NoMemory>
+    ensures { IfOk result (λ counts. length counts.items ≡ count) }
+{
+    let mut counts = vec![in alloc; 0; count]?;
+    for met in mets {
+        count_all(&mut counts, met.every.interfaces());
+        count_all(&mut counts, &met.others);
+    }
+    Ok(counts)
+}
+
+// No rows yet of each client, with room for so many.
+fn no_rows(alloc: Global, counts: &[usize]) -> Result<Vec<Vec<OwedRow>>, NoMemory>
+    ensures count { IfOk result (λ all. length all.items ≡ length counts.now) }
     ensures none { IfOk result (λ all. (i : ℕ) → rows_at all.items i ≡ []) }
 {
-    let mut all = Vec::with_capacity(alloc, count)?;
-    for _ in 0..count {
-        all.push(Vec::new(alloc))?;
+    let mut all = Vec::with_capacity(alloc, counts.len())?;
+    for count in counts {
+        let rows = Vec::with_capacity(alloc, *count)?;
+        all.push(rows)?;
     }
     Ok(all)
 }
@@ -86,7 +111,8 @@ fn rows_of_each(
     requires { AllMeet clients.now publications.now mets.now }
     ensures { IfOk result (λ all. map (λ rows. rows.items) all.items ≡ all_rows_of clients.now publications.now) }
 {
-    let mut all = no_rows(alloc, clients.len())?;
+    let counts = counted(alloc, clients.len(), mets)?;
+    let mut all = no_rows(alloc, &counts)?;
     for (k, publication) in publications.iter().enumerate() {
         push_rows(&mut all, publication, &mets[k])?;
     }
