@@ -1,5 +1,5 @@
 -- A client goes on to a phase, and so do the tables.
-use Rattle.std.proofs.Common.{◌≡◌, ℕ, zero, suc, ◌+◌, ◌-◌, ◌<◌, ◌≤◌, inl, inr, List, [], ◌∷◌, ◌++◌, length, take, drop, slice_get, slice_set, Some, refl, sym, ap, subst, ◌∙◌, arith}
+use Rattle.std.proofs.Common.{◌≡◌, ℕ, zero, suc, ◌+◌, ◌-◌, ◌<◌, ◌≤◌, true, inl, inr, List, [], ◌∷◌, ◌++◌, length, take, drop, slice_get, slice_set, Some, refl, sym, ap, subst, ◌∙◌, arith}
 use Rattle.std.proofs.lemmas.Bool.{cases_order}
 use Rattle.std.proofs.lemmas.Option.{same_Some}
 use Rattle.ev_sets.specs.Sets.{Has}
@@ -8,7 +8,7 @@ use Rattle.ev_wire.specs.Messages.{Lists}
 use Rattle.ev_flood.specs.declared.filters.ClientFilters.{ClientFilters}
 use Rattle.ev_flood.specs.declared.tables.Tables.{Tables}
 use Rattle.ev_flood.specs.Numbers.{Steps, AreNumbers, IsAt, IsSized, number_step, numbers_held}
-use Rattle.ev_flood.specs.Tables.{ShowsRow, IsBrought, AreGoing, IsReady, IsOfPhase, AllUpTo, AreAll, AreTables}
+use Rattle.ev_flood.specs.Tables.{ShowsRow, IsBrought, AreGoing, IsReady, IsOfPhase, AllUpTo, AreSteady, AreAll, AreTables}
 use Rattle.ev_flood.proofs.Finding.{set_same, set_other, same_or, length_set}
 
 -- members of a slice
@@ -136,8 +136,9 @@ pub all_of : (known : Lists) (phase place : ℕ) (scripts : List Steps) (clients
 all_of known phase place scripts clients l upto q steps c at has = upto q steps c (omega (arith, within_of scripts q steps at, l)) at has
 
 pub tables_of : (known : Lists) (scripts : List Steps) (phase : ℕ) (old new : Tables) → new.phase ≡ Some phase → new.every ≡ old.every → new.ever ≡ old.ever
-    → new.clients ≡ old.clients → IsReady known scripts old → AreAll known phase scripts old.clients.items → AreTables known scripts new
-tables_of known scripts phase old new e every ever clients r all = record {
+    → new.clients ≡ old.clients → IsReady known scripts old → AreAll known phase scripts old.clients.items
+    → (new.steady ≡ true → AreSteady old.clients.items) → AreTables known scripts new
+tables_of known scripts phase old new e every ever clients r all steady = record {
   ready = record {
     count = ap (λ z. length z.items) clients ∙ r.count;
     going = subst (λ z. AreGoing known scripts z.items) (sym clients) r.going;
@@ -147,5 +148,6 @@ tables_of known scripts phase old new e every ever clients r all = record {
     every_places = ap (λ z. z.interfaces) every ∙ r.every_places;
     ever_places = ap (λ z. z.interfaces) ever ∙ r.ever_places;
   };
+  steady = λ s. subst (λ z. AreSteady z.items) (sym clients) (steady s);
   current = λ p same. subst (λ z. AreAll known p scripts z.items) (sym clients) (subst (λ z. AreAll known z scripts old.clients.items) (same_Some _ _ (sym e ∙ same)) all);
 }

@@ -192,7 +192,7 @@ apart i every passing =
 pub apart_by : (left a b c d : List ℕ) → left ≡ filter (λ x. not (is_found x b)) a → a ≡ c → b ≡ d → left ≡ filter (λ x. not (is_found x d)) c
 apart_by left a b c d e p q = e ∙ ap (λ z. filter (λ x. not (is_found x z)) a) q ∙ ap (filter (λ x. not (is_found x d))) p
 
-list_at : {X : Type 0} (xs : List X) (k : ℕ) → k < length xs → (x : X) × (slice_get xs k ≡ Some x)
+pub list_at : {X : Type 0} (xs : List X) (k : ℕ) → k < length xs → (x : X) × (slice_get xs k ≡ Some x)
 list_at [] k l = absurd (omega (arith, l))
 list_at (x ∷ xs) zero l = (x, refl)
 list_at (x ∷ xs) (suc k) l = list_at xs k (omega (arith, l))

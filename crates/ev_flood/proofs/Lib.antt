@@ -9,6 +9,7 @@ pub mod Publishing
 pub mod RowsOf
 pub mod Numbered
 pub mod Showing
+pub mod Steady
 pub mod Finding
 pub mod Gathering
 pub mod Flooded

@@ -1,5 +1,5 @@
 -- The places of clients, and tables before any phase.
-use Rattle.std.proofs.Common.{◌≡◌, ℕ, zero, suc, ◌+◌, ◌<◌, ◌≤◌, nat_lt, inl, inr, List, [], ◌∷◌, ◌++◌, map, take, length, slice_get, Some, None, refl, sym, ap, subst, ◌∙◌, arith}
+use Rattle.std.proofs.Common.{◌≡◌, ℕ, zero, suc, ◌+◌, ◌<◌, ◌≤◌, nat_lt, true, false, inl, inr, List, [], ◌∷◌, ◌++◌, map, take, length, slice_get, Some, None, refl, sym, ap, subst, ◌∙◌, arith}
 use Rattle.std.specs.List.{range_with_len}
 use Rattle.std.proofs.lemmas.Bool.Decides.{nat_tests}
 use Rattle.std.proofs.lemmas.List.FromFn.{length-range_with_len, get_or-range_with_len, map-range_with_len_more}
@@ -69,6 +69,7 @@ tables_first known scripts tables none_yet = record {
     every_places = none_yet.every_places;
     ever_places = none_yet.ever_places;
   };
+  steady = λ e. absurd (unsteady (sym none_yet.steady ∙ e));
   current = λ phase same. absurd (lost phase (sym none_yet.phase ∙ same));
 }
   where
@@ -78,6 +79,9 @@ tables_first known scripts tables none_yet = record {
     nothing : {X : Type 0} (xs : List X) → take 0 xs ≡ []
     nothing [] = refl
     nothing (x ∷ xs) = refl
+
+    unsteady : false ≡ true → ⊥
+    unsteady e = absurd cc
 
     lost : (phase : ℕ) → None ≡ Some phase → ⊥
     lost phase e = absurd cc

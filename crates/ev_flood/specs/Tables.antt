@@ -1,10 +1,11 @@
 -- Tables that have each client's filters at its place; no promise to a caller speaks of it.
-use Rattle.std.specs.Prelude.{◌≡◌, ◌<◌, ◌↔◌, ℕ, ◌+◌, Bool, ◌&&◌, not, nat_eq, List, [], ◌∷◌, Some, None, length, slice_get}
+use Rattle.std.specs.Prelude.{◌≡◌, ◌<◌, ◌↔◌, ◌⊎◌, ℕ, ◌+◌, Bool, true, false, ◌&&◌, not, nat_eq, List, [], ◌∷◌, Some, None, filter, length, slice_get}
 use Rattle.std.specs.List.{list_any, range_with_len}
 use Rattle.std.specs.List.Sorted.{IsStrictlyIncreasing}
 use Rattle.ev_sets.specs.Sets.{Has}
 use Rattle.ev_notice.specs.Notice.{Attribute}
 use Rattle.ev_forwarding.specs.Published.{Pair}
+use Rattle.ev_forwarding.specs.Routes.{IsRouteBy}
 use Rattle.ev_model.specs.Parts.{ClientParts}
 use Rattle.ev_wire.specs.Messages.{Lists}
 use Rattle.ev_flood.specs.Held.{Script, every_filters, some_filters}
@@ -68,6 +69,7 @@ pub record IsReady (known : Lists) (scripts : List Steps) (tables : Tables) : Ty
 -- tables of so many clients without filters, before any phase
 pub record AreNoTables (clients wide : ℕ) (tables : Tables) : Type 0 where
   pub phase : tables.phase ≡ None
+  pub steady : tables.steady ≡ false
   pub count : length tables.clients.items ≡ clients
   pub none : (client : ClientFilters) → Has client tables.clients.items → IsNone wide client
   pub every_width : tables.every.width ≡ wide
@@ -93,14 +95,33 @@ AreAll known phase scripts clients =
     (place : ℕ) (steps : Steps) (client : ClientFilters) → slice_get scripts place ≡ Some steps → slice_get clients place ≡ Some client
     → IsOfPhase known phase steps client
 
+-- a client has the same numbers at some moment of a phase as at every moment of it
+abbrev pub IsSteady : ClientFilters → Type 0
+IsSteady client = (i : ℕ) → Has i client.every.members ↔ Has i client.ever.members
+
+-- so do those before a place
+abbrev pub SteadyUpTo : ℕ → List ClientFilters → Type 0
+SteadyUpTo count clients = (place : ℕ) (client : ClientFilters) → place < count → slice_get clients place ≡ Some client → IsSteady client
+
+-- and all clients
+abbrev pub AreSteady : List ClientFilters → Type 0
+AreSteady clients = (place : ℕ) (client : ClientFilters) → slice_get clients place ≡ Some client → IsSteady client
+
 -- the tables have numbers of all clients, and once there is a phase those of the phase
 pub record AreTables (known : Lists) (scripts : List Steps) (tables : Tables) : Type 0 where
   pub ready : IsReady known scripts tables
+  pub steady : tables.steady ≡ true → AreSteady tables.clients.items
   pub current : (phase : ℕ) → tables.phase ≡ Some phase → AreAll known phase scripts tables.clients.items
 
 -- the place is among these
 abbrev pub is_found : ℕ → List ℕ → Bool
 is_found place places = list_any (λ y. nat_eq y place) places
+
+-- places besides those of every moment: none where all clients are steady, and else those of some moment that are not among them
+abbrev pub AreOthers : Tables → List ℕ → List ℕ → List ℕ → Type 0
+AreOthers tables numbers every others =
+    ((tables.steady ≡ true) × (others ≡ []))
+    ⊎ ((ever : List ℕ) × IsRouteBy numbers tables.ever.pairs ever × (others ≡ filter (λ x. not (is_found x every)) ever))
 
 -- the places are exactly those of clients of whose lists some filter matches the notice
 abbrev pub FindsClients : (Script → Lists) → List ClientParts → List Attribute → List ℕ → Type 0

@@ -5,10 +5,11 @@ ghost use Rattle.ev_model.specs.Parts.{ClientParts};
 ghost use Rattle.ev_catalogue.specs.Known.{known_filters};
 ghost use Rattle.ev_catalogue.specs.Numbered.{AllNumbered, catalogued};
 ghost use Rattle.ev_flood.specs.Numbers.{Steps};
-ghost use Rattle.ev_flood.specs.Tables.{IsRoom, AreTables, is_found, Meets, AllMeet, ordered_from};
+ghost use Rattle.ev_flood.specs.Tables.{IsRoom, AreTables, is_found, AreOthers, Meets, AllMeet, ordered_from};
 
 use crate::publication::Publication;
 use crate::tables::{Room, Tables, enter_phase, first_tables, make_room};
+use ev_bits::Row;
 use ev_catalogue::Catalogue;
 use ev_forwarding::Route;
 use ev_matcher::Matcher;
@@ -46,6 +47,24 @@ fn without(alloc: Global, places: &[u32], others: &[u32]) -> Result<Vec<u32>, No
     Ok(left)
 }
 
+// Those that have a matching filter at some moment of the tables' phase and not at every moment.
+fn others_met(
+    alloc: Global,
+    tables: &Tables,
+    matched: &Row,
+    every: &[u32],
+) -> Result<Vec<u32>, NoMemory>
+    requires rising { IsStrictlyIncreasing every.now }
+    requires width { matched.now.width ≡ tables.now.ever.width }
+    ensures { IfOk result (λ others. AreOthers tables.now matched.now.members every.now others.items) }
+{
+    if tables.steady {
+        return Ok(Vec::new(alloc));
+    }
+    let ever = tables.ever.route(alloc, matched)?;
+    without(alloc, ever.interfaces(), every)
+}
+
 // Whom a publication of the tables' phase meets.
 fn met_by(
     alloc: Global,
@@ -62,10 +81,11 @@ fn met_by(
         → AreTables matcher.now scripts tables.now → tables.now.phase ≡ Some publication.now.phase → IfOk result (Meets clients publication.now) }
 {
     let _ = publication.notice.attributes();
+    tables.every.is_published();
+    tables.ever.is_published();
     matcher.matched(&publication.notice, &mut room.counting, &mut room.matched)?;
     let every = tables.every.route(alloc, &room.matched)?;
-    let ever = tables.ever.route(alloc, &room.matched)?;
-    let others = without(alloc, ever.interfaces(), every.interfaces())?;
+    let others = others_met(alloc, tables, &room.matched, every.interfaces())?;
     Ok(Met { every, others })
 }
 

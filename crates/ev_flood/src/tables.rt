@@ -1,9 +1,9 @@
 //! Which clients have which filters within a phase, and whom a publication meets.
-ghost use Rattle.std.specs.Prelude.{◌≡◌, ◌<◌, ◌≤◌, ◌↔◌, ◌⊎◌, ℕ, List, Some, [], length, slice_get, IfOk};
+ghost use Rattle.std.specs.Prelude.{◌≡◌, ◌<◌, ◌≤◌, ◌↔◌, ◌⊎◌, ◌&&◌, ℕ, true, List, Some, [], length, slice_get, IfOk};
 ghost use Rattle.std.specs.List.{range_with_len};
 ghost use Rattle.ev_sets.specs.Sets.{Has};
 ghost use Rattle.ev_forwarding.specs.Published.{IsOfSame};
-ghost use Rattle.ev_flood.specs.Tables.{ShowsRow, IsBrought, IsRoom, IsNone, AreAllNumbers, AreNoTables, IsReady, IsOfPhase, AreAll, AreTables};
+ghost use Rattle.ev_flood.specs.Tables.{ShowsRow, IsBrought, IsRoom, IsNone, AreAllNumbers, AreNoTables, IsReady, IsOfPhase, IsSteady, AreSteady, AreAll, AreTables};
 ghost use Rattle.ev_flood.specs.Numbers.{Steps};
 ghost use Rattle.ev_flood.specs.declared.filters.ClientFilters.{ClientFilters};
 
@@ -28,6 +28,8 @@ pub(crate) struct Tables {
     pub ever: Forwarding,
     /// The same for each client, as the tables have them.
     pub clients: Vec<ClientFilters>,
+    /// Whether it is known that each client has the same filters all through the phase, so that both tables are alike.
+    pub steady: bool,
 }
 
 /// Rows to work in, each as wide as there are filters.
@@ -129,6 +131,28 @@ fn bring(table: &mut Forwarding, place: u32, old: &Row, new: &Row, change: &mut 
     put_all(table, place, change);
 }
 
+// Whether a row has all that another one has.
+fn has_all(row: &Row, other: &Row, change: &mut Row) -> bool
+    requires row { row.now.width ≡ change.old.width }
+    requires other { other.now.width ≡ change.old.width }
+    ensures change { change.new.width ≡ change.old.width }
+    ensures all { result ≡ true → (i : ℕ) → Has i other.now.members → Has i row.now.members }
+{
+    change.copy_from(other);
+    change.remove_all(row);
+    change.is_empty()
+}
+
+// Whether two rows have the same numbers.
+fn are_same(one: &Row, other: &Row, change: &mut Row) -> bool
+    requires one { one.now.width ≡ change.old.width }
+    requires other { other.now.width ≡ change.old.width }
+    ensures change { change.new.width ≡ change.old.width }
+    ensures same { result ≡ true → (i : ℕ) → Has i one.now.members ↔ Has i other.now.members }
+{
+    has_all(one, other, change) && has_all(other, one, change)
+}
+
 // Tables of so many clients before any phase.
 fn no_tables(alloc: Global, clients: u32, count: u32) -> Result<Tables, NoMemory>
     ensures { IfOk result (AreNoTables clients count) }
@@ -139,6 +163,7 @@ fn no_tables(alloc: Global, clients: u32, count: u32) -> Result<Tables, NoMemory
         every: Forwarding::new(alloc, count, &places)?,
         ever: Forwarding::new(alloc, count, &places)?,
         clients: no_clients(alloc, clients, count)?,
+        steady: false,
     })
 }
 
@@ -155,7 +180,7 @@ pub(crate) fn first_tables(
     no_tables(alloc, scripts.len() as u32, filters.len() as u32)
 }
 
-// A client enters a phase.
+// A client enters a phase, and tells whether it is known that it has the same filters all through it.
 fn enter(
     tables: &mut Tables,
     filters: &[Sub],
@@ -163,7 +188,7 @@ fn enter(
     place: usize,
     phase: u32,
     room: &mut Room,
-)
+) -> bool
     requires few_scripts { length scripts.now ≤ 1024 }
     requires numbers { AreAllNumbers (length filters.now) scripts.now }
     requires ready { IsReady filters.now scripts.now tables.old }
@@ -174,6 +199,7 @@ fn enter(
     ensures others { (q : ℕ) → (q ≡ place → ⊥) → slice_get tables.new.clients.items q ≡ slice_get tables.old.clients.items q }
     ensures mine { (client : ClientFilters) (steps : Steps) → slice_get tables.new.clients.items place ≡ Some client
         → slice_get scripts.now place ≡ Some steps → IsOfPhase filters.now phase steps client }
+    ensures steady { result ≡ true → (client : ClientFilters) → slice_get tables.new.clients.items place ≡ Some client → IsSteady client }
 {
     room.every.copy_from(&tables.clients[place].every);
     room.ever.copy_from(&tables.clients[place].ever);
@@ -194,16 +220,17 @@ fn enter(
         &client.ever,
         &mut room.change,
     );
+    are_same(&client.every, &client.ever, &mut room.change)
 }
 
-// All clients enter a phase.
+// All clients enter a phase; whether it is known that each has the same filters all through it.
 fn enter_all(
     tables: &mut Tables,
     filters: &[Sub],
     scripts: &[Lists<(u32, NumberedCommand)>],
     phase: u32,
     room: &mut Room,
-)
+) -> bool
     requires few_scripts { length scripts.now ≤ 1024 }
     requires numbers { AreAllNumbers (length filters.now) scripts.now }
     requires ready { IsReady filters.now scripts.now tables.old }
@@ -211,10 +238,14 @@ fn enter_all(
     ensures room { IsRoom (length filters.now) room.new }
     ensures ready { IsReady filters.now scripts.now tables.new }
     ensures all { AreAll filters.now phase scripts.now tables.new.clients.items }
+    ensures steady { result ≡ true → AreSteady tables.new.clients.items }
 {
+    let mut steady = true;
     for place in 0..scripts.len() {
-        enter(tables, filters, scripts, place, phase, room);
+        let own = enter(tables, filters, scripts, place, phase, room);
+        steady &= own;
     }
+    steady
 }
 
 /// Makes the tables those of a phase.
@@ -236,6 +267,7 @@ pub(crate) fn enter_phase(
     if tables.phase == Some(phase) {
         return;
     }
-    enter_all(tables, filters, scripts, phase, room);
+    let steady = enter_all(tables, filters, scripts, phase, room);
+    tables.steady = steady;
     tables.phase = Some(phase);
 }

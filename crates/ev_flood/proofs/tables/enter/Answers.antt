@@ -4,7 +4,7 @@ use Rattle.ev_sets.specs.Sets.{Has}
 use Rattle.ev_routing.proofs.Listing.{get-has}
 use Rattle.ev_flood.specs.declared.filters.ClientFilters.{ClientFilters}
 use Rattle.ev_flood.specs.Numbers.{IsAt}
-use Rattle.ev_flood.specs.Tables.{ShowsRow, IsBrought, IsOfPhase}
+use Rattle.ev_flood.specs.Tables.{ShowsRow, IsBrought, IsSteady, IsOfPhase}
 use Rattle.ev_flood.proofs.Finding.{set_same, set_other, length_set}
 use Rattle.ev_flood.proofs.Places.{place_there}
 use Rattle.ev_flood.proofs.Entering.{ready_next}
@@ -47,7 +47,7 @@ bring-requires-2-clause-shown c =
     let at = slice_get_read clients (length clients) c.args.place c.index-2.result.now refl (omega (arith, c.requires.place, c.requires.ready.count)) c.index-2.ensures in
     subst (ShowsRow c.args.tables.now.ever.pairs c.args.place) (sym c.copy_from-2.ensures.members) (c.requires.ready.shown.at_some c.args.place c.index-2.result.now at)
 
-client : (c : goal.After-bring-2) → c.index-client.result.now ≡ c.enter.new.self
+client : (c : goal.After-are_same) → c.index-client.result.now ≡ c.enter.new.self
 client c =
     let clients = slice_set c.args.tables.now.clients.items c.args.place c.enter.new.self in
     let long : c.args.place < length clients = omega (arith, c.requires.place, c.requires.ready.count, length_set c.args.tables.now.clients.items c.args.place c.enter.new.self) in
@@ -62,7 +62,7 @@ returns-clause-ready c =
     c.enter.ensures.sized
     (λ steps at. subst (λ z. IsAt c.args.filters.now z c.enter.new.self) (same_Some _ _ (sym (script_at c) ∙ at)) c.enter.ensures.at) c.requires.ready
   where
-    script_at : (c : goal.After-bring-2) → slice_get c.args.scripts.now c.args.place ≡ Some c.as_slice.result.now
+    script_at : (c : goal.After-are_same) → slice_get c.args.scripts.now c.args.place ≡ Some c.as_slice.result.now
     script_at c = subst (λ z. slice_get c.args.scripts.now c.args.place ≡ Some z) (sym c.as_slice.ensures)
         (slice_get_read c.args.scripts.now (length c.args.scripts.now) c.args.place c.index-scripts-place.result refl c.requires.place c.index-scripts-place.is)
 
@@ -74,6 +74,10 @@ returns-clause-mine c = λ client steps at of.
     subst (λ (z : ClientFilters). IsOfPhase c.args.filters.now c.args.phase steps z) (sym (set_same c.args.tables.now.clients.items c.args.place c.enter.new.self client at))
     (subst (λ z. IsOfPhase c.args.filters.now c.args.phase z c.enter.new.self) (same_Some _ _ (sym (script_at c) ∙ of)) (record { every = c.enter.ensures.every; ever = c.enter.ensures.ever }))
   where
-    script_at : (c : goal.After-bring-2) → slice_get c.args.scripts.now c.args.place ≡ Some c.as_slice.result.now
+    script_at : (c : goal.After-are_same) → slice_get c.args.scripts.now c.args.place ≡ Some c.as_slice.result.now
     script_at c = subst (λ z. slice_get c.args.scripts.now c.args.place ≡ Some z) (sym c.as_slice.ensures)
         (slice_get_read c.args.scripts.now (length c.args.scripts.now) c.args.place c.index-scripts-place.result refl c.requires.place c.index-scripts-place.is)
+
+pub returns-clause-steady : goal.returns-clause-steady
+returns-clause-steady c e one at =
+    subst IsSteady (client c ∙ sym (set_same c.args.tables.now.clients.items c.args.place c.enter.new.self one at)) (c.are_same.ensures.same e)

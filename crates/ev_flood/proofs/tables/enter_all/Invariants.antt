@@ -1,5 +1,5 @@
-use Rattle.std.proofs.Common.{length}
-use Rattle.ev_flood.specs.Tables.{IsRoom, IsReady, AllUpTo}
+use Rattle.std.proofs.Common.{◌≡◌, true, length}
+use Rattle.ev_flood.specs.Tables.{IsRoom, IsReady, AllUpTo, SteadyUpTo}
 use Rattle.ev_flood.proofs.tables.enter_all.Given as goal
 
 abbrev pub invariant-loop-place : goal.invariant-loop-place
@@ -7,4 +7,5 @@ invariant-loop-place l = record {
   room : IsRoom (length l.filters) l.room;
   ready : IsReady l.filters l.scripts l.tables;
   upto : AllUpTo l.filters l.place l.phase l.scripts l.tables.clients.items;
+  steady : l.steady ≡ true → SteadyUpTo l.place l.tables.clients.items;
 }
