@@ -2,4 +2,5 @@ pub mod TokenLaws
 pub mod IntLaws
 pub mod CommandLaws
 pub mod PartsLoop
+pub mod HeadLaws
 pub mod UniqueLaws
