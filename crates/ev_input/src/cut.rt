@@ -2,7 +2,8 @@
 ghost use Rattle.std.specs.Prelude.{◌≡◌, ◌≢◌, ◌∷◌, [], ◌<◌, ◌≤◌, length, IfSome, MatchOption, slice_index, ℕ, true, false};
 ghost use Rattle.ev_input.specs.Lines.{IsFirstLine, is_blank, lines, without_return, words};
 
-fn is_blank(byte: u8) -> bool
+/// Whether the byte is a space or a tab.
+pub(crate) fn is_blank(byte: u8) -> bool
     ensures { result ≡ is_blank byte }
 {
     byte == b' ' || byte == b'\t'
