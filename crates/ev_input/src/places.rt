@@ -16,7 +16,7 @@ use crate::schedule::{command_turn, take_turn, version_turn};
 use crate::scripts::{barrier, command, schedule, script};
 use crate::state::{Place, State};
 use crate::version::Version;
-use ev_script::{Line, verb_named};
+use ev_script::{Line, is_same, verb_named};
 use std::alloc::Global;
 
 // Behind a client.
@@ -24,11 +24,11 @@ use std::alloc::Global;
 fn at_clients(alloc: Global, state: &mut State, word: &[u8], rest: &[u8]) -> Result<(), LineFault>
     ensures { StepsByRule result state.new (at_clients state.old word.now (words rest.now)) }
 {
-    if word == b"client".as_slice() {
+    if is_same(word, b"client") {
         client(alloc, state, rest)
-    } else if word == b"script".as_slice() {
+    } else if is_same(word, b"script") {
         script(state, word, rest)
-    } else if word == b"schedule".as_slice() {
+    } else if is_same(word, b"schedule") {
         schedule(state, word, rest)
     } else {
         Err(LineFault::Bad(Fault::Order))
@@ -39,7 +39,7 @@ fn at_clients(alloc: Global, state: &mut State, word: &[u8], rest: &[u8]) -> Res
 fn begins_phase(version: Version, word: &[u8]) -> bool
     ensures { result ≡ (bytes_eq word.now (codes "phase") && nat_eq (version_number version) 2) }
 {
-    word == b"phase".as_slice() && version.number() == 2
+    is_same(word, b"phase") && version.number() == 2
 }
 
 // Behind `servers`, an edge or a phase.
@@ -47,7 +47,7 @@ fn begins_phase(version: Version, word: &[u8]) -> bool
 fn at_edges(alloc: Global, state: &mut State, word: &[u8], rest: &[u8]) -> Result<(), LineFault>
     ensures { StepsByRule result state.new (at_edges state.old word.now (words rest.now)) }
 {
-    if word == b"edge".as_slice() {
+    if is_same(word, b"edge") {
         return edge(state, rest);
     }
     if state.trees.is_apart() {
@@ -68,13 +68,13 @@ fn at_section(state: &mut State, token: &[u8], line: &[u8]) -> Result<(), LineFa
     let Some((word, rest)) = next_word(line) else {
         return Ok(());
     };
-    if token == b"barrier".as_slice() {
+    if is_same(token, b"barrier") {
         return barrier(state, word, rest);
     }
-    if token == b"script".as_slice() {
+    if is_same(token, b"script") {
         return script(state, word, rest);
     }
-    if token == b"schedule".as_slice() {
+    if is_same(token, b"schedule") {
         return schedule(state, word, rest);
     }
     Err(LineFault::Bad(Fault::Order))
@@ -104,11 +104,11 @@ fn in_script(alloc: Global, state: &mut State, line: &[u8]) -> Result<(), LineFa
 fn at_schedule(state: &mut State, number: u32, word: &[u8], rest: &[u8]) -> Result<(), LineFault>
     ensures { StepsByRule result state.new (at_schedule state.old number word.now (words rest.now)) }
 {
-    if word == b"command".as_slice() {
+    if is_same(word, b"command") {
         command_turn(state, number, rest)
-    } else if word == b"take".as_slice() {
+    } else if is_same(word, b"take") {
         take_turn(state, number, rest)
-    } else if word == b"version".as_slice() {
+    } else if is_same(word, b"version") {
         version_turn(state, number, rest)
     } else {
         Err(LineFault::Bad(Fault::Order))

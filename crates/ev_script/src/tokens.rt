@@ -58,9 +58,10 @@ impl<'a> Tokens<'a> {
         self.cutter.more()
     }
 
-    /// For how many parts to make room: one more than there are semicolons, but at most 64.
+    /// For how many parts to make room: one more than there are semicolons in the next 1,024 bytes, but at most 64.
     pub(crate) fn room(&self) -> usize {
         let bytes = self.cutter.rest;
+        let bytes = &bytes[..bytes.len().min(1024)];
         let mut semicolons: usize = 0;
         for b in bytes {
             semicolons += (*b == b';') as usize;
