@@ -3,4 +3,5 @@ pub mod IntLaws
 pub mod CommandLaws
 pub mod PartsLoop
 pub mod HeadLaws
+pub mod KeptLaws
 pub mod UniqueLaws

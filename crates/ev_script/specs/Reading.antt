@@ -1,5 +1,5 @@
 -- How the code follows the definitions over tokens; no promise to a caller speaks of it.
-use Rattle.std.specs.Prelude.{◌≡◌, ◌<◌, Bool, List, [], ◌∷◌, ℕ, length, Some, None, Ok, Err}
+use Rattle.std.specs.Prelude.{◌≡◌, ◌<◌, ◌≤◌, Bool, List, [], ◌∷◌, ℕ, length, Some, None, Ok, Err}
 use Rattle.std.specs.List.{filter_map, list_any}
 use Rattle.std.specs.declared.option.Option.{Option}
 use Rattle.std.specs.declared.result.Result.{Result}
@@ -20,11 +20,16 @@ FailsOnTokens e read = ⊥
 abbrev pub ReadsTokens : {X Y : Type 0} → (X → Y) → Result X ScriptFault → Option (Y × List Token) → List Token → Type 0
 ReadsTokens view result read left = ReadsAs FailsOnTokens view result read left
 
--- of parts, of which there is one at least, these are within the limits, and it is told whether a value is beyond them and
--- whether a pattern is empty
-pub record IsGathered {P I : Type 0} (inside : P → Option I) (is_beyond is_empty : P → Bool) (inner : List I) (has_beyond has_empty : Bool) (parts : List P) : Type 0 where
+-- of at most 64 items all are kept, and of more than 64 there are more than 64 kept
+pub record KeepsFew {I : Type 0} (inner given : List I) : Type 0 where
+  pub few : length given ≤ 64 → inner ≡ given
+  pub many : 64 < length given → 64 < length inner
+
+-- of parts, of which there is one at least, these are kept of what is within the limits, and it is told whether a value is
+-- beyond them and whether a pattern is empty
+pub record IsGathered {P I : Type 0} (keeps : List I → List I → Type 0) (inside : P → Option I) (is_beyond is_empty : P → Bool) (inner : List I) (has_beyond has_empty : Bool) (parts : List P) : Type 0 where
   pub some : 0 < length parts
-  pub kept : inner ≡ filter_map inside parts
+  pub kept : keeps inner (filter_map inside parts)
   pub beyond : has_beyond ≡ list_any is_beyond parts
   pub empty : has_empty ≡ list_any is_empty parts
 

@@ -1,7 +1,8 @@
 //! The two sorts of parts that commands have: constraints and attributes.
-ghost use Rattle.std.specs.Prelude.{◌≡◌, [], false, IfOk};
+ghost use Rattle.std.specs.Prelude.{◌≡◌, false};
 ghost use Rattle.ev_script.specs.Command.{fit_of, is_beyond, is_empty, is_wide, whole_of};
 ghost use Rattle.ev_script.specs.Form.{attribute_in, constraint_in};
+ghost use Rattle.ev_script.specs.Reading.{KeepsFew};
 
 use crate::fault::ScriptFault;
 use crate::form::{Given, Part};
@@ -11,10 +12,10 @@ use ev_memory::NoMemory;
 use ev_values::{Name, Value};
 use std::alloc::Global;
 
-/// The parts of a command, as far as they are within the limits, and whether others are there.
+/// The parts of a command, as far as they are within the limits and needed, and whether others are there.
 #[derive(Drop)]
 pub(crate) struct Parts<T> {
-    /// Those within the limits, in order.
+    /// Those within the limits, in order; of attributes at most 65.
     pub(crate) kept: Vec<T>,
     /// Whether a value is beyond the limits.
     pub(crate) has_beyond: bool,
@@ -22,24 +23,9 @@ pub(crate) struct Parts<T> {
     pub(crate) has_empty: bool,
 }
 
-impl<T> Parts<T> {
-    /// No part, and room for so many.
-    pub(crate) fn new(alloc: Global, room: usize) -> Result<Parts<T>, NoMemory>
-        ensures kept { IfOk result (λ p. p.kept.items ≡ []) }
-        ensures beyond { IfOk result (λ p. p.has_beyond ≡ false) }
-        ensures empty { IfOk result (λ p. p.has_empty ≡ false) }
-    {
-        Ok(Parts {
-            kept: Vec::with_capacity(alloc, room)?,
-            has_beyond: false,
-            has_empty: false,
-        })
-    }
-}
-
 /// What stands between the semicolons of a command.
 pub(crate) trait CommandPart: Drop {
-    ghost use Rattle.std.specs.Prelude.{◌≡◌, ◌||◌, ◌++◌, ◌∷◌, [], ℕ, Bool, List, OnOk};
+    ghost use Rattle.std.specs.Prelude.{◌≡◌, ◌||◌, ◌++◌, ◌∷◌, [], ℕ, Bool, List, false, IfOk, OnOk};
     ghost use Rattle.std.specs.List.{filter_map};
     ghost use Rattle.std.specs.declared.option.Option.{Option};
     ghost use Rattle.ev_script.specs.Tokens.{Token};
@@ -56,13 +42,21 @@ pub(crate) trait CommandPart: Drop {
 
     ghost is_empty: { Self → Bool };
 
+    ghost keeps: { List Self.Inside → List Self.Inside → Type 0 };
+
+    /// No part, and room for so many.
+    fn begin(alloc: Global, room: usize) -> Result<Parts<Self::Inside>, NoMemory>
+        ensures kept { IfOk result (λ p. keeps p.kept.items []) }
+        ensures beyond { IfOk result (λ p. p.has_beyond ≡ false) }
+        ensures empty { IfOk result (λ p. p.has_empty ≡ false) };
+
     /// A part in front of what is left of the line, in documents of the version.
     fn read(left: &mut Tokens<'_>, alloc: Global, version: u32) -> Result<Self, ScriptFault>
         ensures { ReadsTokens (λ p. p) result (front version left.old) left.new };
 
     /// Puts it behind the others.
     fn put(self, parts: &mut Parts<Self::Inside>) -> Result<(), NoMemory>
-        ensures kept { OnOk result (parts.new.kept.items ≡ parts.old.kept.items ++ filter_map inside (self ∷ [])) }
+        ensures kept { (before : List Self.Inside) → keeps parts.old.kept.items before → OnOk result (keeps parts.new.kept.items (before ++ filter_map inside (self ∷ []))) }
         ensures beyond { OnOk result (parts.new.has_beyond ≡ (parts.old.has_beyond || is_beyond self)) }
         ensures empty { OnOk result (parts.new.has_empty ≡ (parts.old.has_empty || is_empty self)) };
 }
@@ -77,6 +71,16 @@ impl CommandPart for Part {
     ghost is_beyond = { is_beyond };
 
     ghost is_empty = { is_empty };
+
+    ghost keeps = { λ kept given. kept ≡ given };
+
+    fn begin(alloc: Global, room: usize) -> Result<Parts<Constraint>, NoMemory> {
+        Ok(Parts {
+            kept: Vec::with_capacity(alloc, room)?,
+            has_beyond: false,
+            has_empty: false,
+        })
+    }
 
     fn read(left: &mut Tokens<'_>, alloc: Global, version: u32) -> Result<Part, ScriptFault> {
         left.constraint(alloc, version)
@@ -103,6 +107,16 @@ impl CommandPart for (Name, Given) {
 
     ghost is_empty = { λ _. false };
 
+    ghost keeps = { KeepsFew };
+
+    fn begin(alloc: Global, room: usize) -> Result<Parts<(Name, Value)>, NoMemory> {
+        Ok(Parts {
+            kept: Vec::with_capacity(alloc, room)?,
+            has_beyond: false,
+            has_empty: false,
+        })
+    }
+
     fn read(
         left: &mut Tokens<'_>,
         alloc: Global,
@@ -114,7 +128,11 @@ impl CommandPart for (Name, Given) {
     fn put(self, parts: &mut Parts<(Name, Value)>) -> Result<(), NoMemory> {
         let (name, given) = self;
         match given {
-            Given::Fit(value) => parts.kept.push((name, value))?,
+            Given::Fit(value) => {
+                if parts.kept.len() <= 64 {
+                    parts.kept.push((name, value))?;
+                }
+            }
             Given::Wide => parts.has_beyond = true,
         }
         Ok(())
