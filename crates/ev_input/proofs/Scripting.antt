@@ -9,7 +9,7 @@ use Rattle.ev_constraint.proofs.BytesLemmas.{bytes_eq-tells}
 use Rattle.ev_script.specs.Form.{verb_named}
 use Rattle.ev_script.specs.Tokens.{first_word, tokens}
 use Rattle.ev_input.specs.Lines.{at_word_end, before_first, is_blank, words}
-use Rattle.ev_input.specs.Rules.{Answer, command_rule}
+use Rattle.ev_input.specs.Rules.{command_rule}
 use Rattle.ev_input.specs.Places.{at_place, at_section, at_token, is_comment, is_script, is_skipped, line_rule, words_rule}
 use Rattle.ev_input.specs.declared.fault.Fault.TheVariants as is
 use Rattle.ev_input.specs.declared.state.State.{State}

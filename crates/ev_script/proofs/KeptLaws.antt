@@ -1,5 +1,5 @@
 -- What is kept of attributes, of which more than 64 are too many.
-use Rattle.std.proofs.Common.{◌≡◌, ◌<◌, ◌≤◌, ◌+◌, ℕ, refl, sym, ap, subst, ◌∙◌, arith, inl, inr, ◌⊎◌, List, [], ◌∷◌, ◌++◌, length}
+use Rattle.std.proofs.Common.{◌≡◌, ◌<◌, ◌≤◌, ℕ, ap, arith, inl, inr, ◌⊎◌, List, length}
 use Rattle.ev_script.specs.Reading.{KeepsFew}
 
 split : (n : ℕ) → (n ≤ 64) ⊎ (64 < n)

@@ -1,4 +1,4 @@
-use Rattle.std.proofs.Common.{◌≡◌, true, false}
+use Rattle.std.proofs.Common.{◌≡◌, false}
 use Rattle.ev_input.specs.Lines.{words}
 use Rattle.ev_input.specs.Places.{is_skipped}
 use Rattle.ev_input.specs.declared.state.Place.TheVariants as at
