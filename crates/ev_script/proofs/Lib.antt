@@ -4,4 +4,5 @@ pub mod CommandLaws
 pub mod PartsLoop
 pub mod HeadLaws
 pub mod KeptLaws
+pub mod DistinctLaws
 pub mod UniqueLaws

@@ -3,6 +3,8 @@ use Rattle.std.specs.Prelude.{◌≡◌, ◌<◌, ◌≤◌, Bool, List, [], ◌
 use Rattle.std.specs.List.{filter_map, list_any}
 use Rattle.std.specs.declared.option.Option.{Option}
 use Rattle.std.specs.declared.result.Result.{Result}
+use Rattle.ev_constraint.specs.Constraint.{ConstraintParts}
+use Rattle.ev_notice.specs.Canonical.{canonical}
 use Rattle.ev_wire.specs.Reading.{ReadsAs}
 use Rattle.ev_script.specs.declared.fault.ScriptFault.{ScriptFault}
 use Rattle.ev_script.specs.declared.fault.ScriptFault.TheVariants as faults
@@ -24,6 +26,10 @@ ReadsTokens view result read left = ReadsAs FailsOnTokens view result read left
 pub record KeepsFew {I : Type 0} (inner given : List I) : Type 0 where
   pub few : length given ≤ 64 → inner ≡ given
   pub many : 64 < length given → 64 < length inner
+
+-- repeats and order aside, the constraints that are kept are those that were given
+abbrev pub KeepsDistinct : List ConstraintParts → List ConstraintParts → Type 0
+KeepsDistinct inner given = canonical inner ≡ canonical given
 
 -- of parts, of which there is one at least, these are kept of what is within the limits, and it is told whether a value is
 -- beyond them and whether a pattern is empty

@@ -4,7 +4,7 @@ ghost use Rattle.ev_script.specs.declared.verb.Verb.{Verb};
 ghost use Rattle.ev_script.specs.Form.{control_in, form_in, publish_in};
 ghost use Rattle.ev_script.specs.Form.CommandForm.{control};
 ghost use Rattle.ev_script.specs.Command.{AnswersLine, IsCommandOf, IsVersion, Spells, fault_in, is_beyond, is_empty, script_fault, whole_of};
-ghost use Rattle.ev_script.specs.Reading.{IsGathered, Judges};
+ghost use Rattle.ev_script.specs.Reading.{IsGathered, Judges, KeepsDistinct};
 ghost use Rattle.ev_script.specs.declared.form.Part.{Part};
 
 use crate::fault::ScriptFault;
@@ -22,7 +22,7 @@ use std::alloc::Global;
 // The command of a control command's parts.
 fn control(verb: Verb, parts: Parts<Constraint>) -> Result<Command, ScriptFault>
     requires { verb ≢ Verb.Publish }
-    ensures { (given : List Part) → IsGathered (λ kept given. kept ≡ given) whole_of is_beyond is_empty parts.kept.items parts.has_beyond parts.has_empty given
+    ensures { (given : List Part) → IsGathered KeepsDistinct whole_of is_beyond is_empty parts.kept.items parts.has_beyond parts.has_empty given
         → Judges (Spells (control verb given)) result (fault_in (control verb given)) }
 {
     match verb {

@@ -3,6 +3,7 @@
 
 mod command;
 mod cutter;
+mod distinct;
 mod fault;
 mod form;
 mod law;

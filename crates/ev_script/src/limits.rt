@@ -3,7 +3,7 @@ ghost use Rattle.std.specs.Prelude.{◌≡◌, ℕ, List, false, IsPermutation};
 ghost use Rattle.ev_notice.specs.Canonical.{canonical};
 ghost use Rattle.ev_notice.specs.Notice.{AreRising};
 ghost use Rattle.ev_script.specs.Command.{control_fault, fit_of, fits, is_beyond, is_empty, is_wide, publish_fault, whole_of, wholes};
-ghost use Rattle.ev_script.specs.Reading.{IsGathered, Judges, KeepsFew};
+ghost use Rattle.ev_script.specs.Reading.{IsGathered, Judges, KeepsDistinct, KeepsFew};
 ghost use Rattle.ev_script.specs.declared.form.Given.{Given};
 ghost use Rattle.ev_script.specs.declared.form.Part.{Part};
 
@@ -53,7 +53,7 @@ impl Limited for Advert {
 
 /// What a control command's parts make.
 pub(crate) fn list_of<L: Limited>(parts: Parts<Constraint>) -> Result<L, ScriptFault>
-    ensures { (given : List Part) → IsGathered (λ kept given. kept ≡ given) whole_of is_beyond is_empty parts.kept.items parts.has_beyond parts.has_empty given
+    ensures { (given : List Part) → IsGathered KeepsDistinct whole_of is_beyond is_empty parts.kept.items parts.has_beyond parts.has_empty given
         → Judges (λ x. L.constraints x ≡ canonical (wholes given)) result (control_fault L.most given) }
 {
     if parts.has_beyond {

@@ -2,8 +2,9 @@
 ghost use Rattle.std.specs.Prelude.{◌≡◌, false};
 ghost use Rattle.ev_script.specs.Command.{fit_of, is_beyond, is_empty, is_wide, whole_of};
 ghost use Rattle.ev_script.specs.Form.{attribute_in, constraint_in};
-ghost use Rattle.ev_script.specs.Reading.{KeepsFew};
+ghost use Rattle.ev_script.specs.Reading.{KeepsDistinct, KeepsFew};
 
+use crate::distinct::make_room;
 use crate::fault::ScriptFault;
 use crate::form::{Given, Part};
 use crate::tokens::Tokens;
@@ -15,7 +16,7 @@ use std::alloc::Global;
 /// The parts of a command, as far as they are within the limits and needed, and whether others are there.
 #[derive(Drop)]
 pub(crate) struct Parts<T> {
-    /// Those within the limits, in order; of attributes at most 65.
+    /// Those within the limits: attributes in order, but at most 65, and constraints, of which equal ones may be one.
     pub(crate) kept: Vec<T>,
     /// Whether a value is beyond the limits.
     pub(crate) has_beyond: bool,
@@ -72,7 +73,7 @@ impl CommandPart for Part {
 
     ghost is_empty = { is_empty };
 
-    ghost keeps = { λ kept given. kept ≡ given };
+    ghost keeps = { KeepsDistinct };
 
     fn begin(alloc: Global, room: usize) -> Result<Parts<Constraint>, NoMemory> {
         Ok(Parts {
@@ -88,7 +89,10 @@ impl CommandPart for Part {
 
     fn put(self, parts: &mut Parts<Constraint>) -> Result<(), NoMemory> {
         match self {
-            Part::Whole(constraint) => parts.kept.push(constraint)?,
+            Part::Whole(constraint) => {
+                make_room(&mut parts.kept)?;
+                parts.kept.push(constraint)?;
+            }
             Part::Beyond => parts.has_beyond = true,
             Part::Empty => parts.has_empty = true,
         }
