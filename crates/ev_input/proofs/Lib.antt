@@ -14,3 +14,4 @@ pub mod SoundDocuments
 pub mod Built
 pub mod Faultless
 pub mod Reading
+pub mod Scripting

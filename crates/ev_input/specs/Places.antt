@@ -73,6 +73,21 @@ abbrev pub words_rule : State → ℕ → List ℕ → List (List ℕ) → Answe
 words_rule s n line [] = Ok s
 words_rule s n line (w ∷ ws) = if is_comment w then Ok s else at_place s.place s n line w ws
 
+-- in a script
+abbrev pub is_script : Place → Bool
+is_script at.Scripts = true
+is_script place = false
+
+-- the words are those of a line that is skipped
+abbrev pub is_skipped : List (List ℕ) → Bool
+is_skipped [] = true
+is_skipped (w ∷ ws) = is_comment w
+
+-- in a script, a line with these words, by its first token
+abbrev pub at_section : State → List ℕ → Option (List ℕ) → List (List ℕ) → Answer
+at_section s line token [] = Ok s
+at_section s line token (w ∷ ws) = at_token s line w ws token
+
 -- line n
 unfoldable pub line_rule : State → ℕ → List ℕ → Answer
 line_rule s n line = words_rule s n line (words line)

@@ -2,7 +2,10 @@
 ghost use Rattle.std.specs.Prelude.{◌≡◌, ◌≢◌, ◌∷◌, [], ◌<◌, ◌≤◌, length, IfSome, MatchOption, slice_index, ℕ, true, false};
 ghost use Rattle.ev_input.specs.Lines.{IsFirstLine, is_blank, lines, without_return, words};
 
-fn is_blank(byte: u8) -> bool
+use memchr::memchr;
+
+/// Whether the byte is a space or a tab.
+pub(crate) fn is_blank(byte: u8) -> bool
     ensures { result ≡ is_blank byte }
 {
     byte == b' ' || byte == b'\t'
@@ -14,12 +17,10 @@ fn line_len(bytes: &[u8]) -> usize
     ensures before { (k : ℕ) → k < result → slice_index bytes.now k ≢ 10 }
     ensures at { result < length bytes.now → slice_index bytes.now result ≡ 10 }
 {
-    for (i, b) in bytes.iter().enumerate() {
-        if *b == b'\n' {
-            return i;
-        }
+    match memchr(b'\n', bytes) {
+        Some(i) => i,
+        None => bytes.len(),
     }
-    bytes.len()
 }
 
 fn without_return(line: &[u8]) -> &[u8]

@@ -10,6 +10,7 @@ use crate::state::{Place, State};
 use crate::trees::Trees;
 use crate::version::version_named;
 use crate::words::{name_and_number, one, one_number, two_numbers};
+use ev_script::is_same;
 use ev_tree::EdgeFault;
 use ev_wire::Semantics;
 use std::alloc::Global;
@@ -31,9 +32,9 @@ pub fn are_servers(servers: u32, a: u64, b: u64) -> bool
 fn semantics_named(word: &[u8]) -> Option<Semantics>
     ensures { result ≡ semantics_named word.now }
 {
-    if word == b"subscription".as_slice() {
+    if is_same(word, b"subscription") {
         Some(Semantics::Subscription)
-    } else if word == b"advertisement".as_slice() {
+    } else if is_same(word, b"advertisement") {
         Some(Semantics::Advertisement)
     } else {
         None
@@ -45,7 +46,7 @@ fn semantics_named(word: &[u8]) -> Option<Semantics>
 pub fn header(state: &mut State, word: &[u8], rest: &[u8]) -> Result<(), LineFault>
     ensures { StepsByRule result state.new (header_rule state.old word.now (words rest.now)) }
 {
-    if word != b"siena".as_slice() {
+    if !is_same(word, b"siena") {
         return Err(LineFault::Bad(Fault::Header));
     }
     let Some(word) = one(rest) else {
@@ -64,7 +65,7 @@ pub fn header(state: &mut State, word: &[u8], rest: &[u8]) -> Result<(), LineFau
 pub fn semantics(state: &mut State, word: &[u8], rest: &[u8]) -> Result<(), LineFault>
     ensures { StepsByRule result state.new (semantics_rule state.old word.now (words rest.now)) }
 {
-    if word != b"semantics".as_slice() {
+    if !is_same(word, b"semantics") {
         return Err(LineFault::Bad(Fault::Order));
     }
     let Some(word) = one(rest) else {
@@ -83,7 +84,7 @@ pub fn semantics(state: &mut State, word: &[u8], rest: &[u8]) -> Result<(), Line
 pub fn servers(alloc: Global, state: &mut State, word: &[u8], rest: &[u8]) -> Result<(), LineFault>
     ensures { StepsByRule result state.new (servers_rule state.old word.now (words rest.now)) }
 {
-    if word != b"servers".as_slice() {
+    if !is_same(word, b"servers") {
         return Err(LineFault::Bad(Fault::Order));
     }
     let Some(n) = one_number(rest) else {

@@ -1,21 +1,22 @@
 //! Which rule a line is read by.
-ghost use Rattle.std.specs.Prelude.{◌≡◌, ◌≤◌, ◌&&◌, OnOk, codes, false, length, nat_eq};
+ghost use Rattle.std.specs.Prelude.{◌≡◌, ◌≤◌, ◌&&◌, ℕ, List, None, OnOk, Some, codes, false, length, nat_eq};
 ghost use Rattle.std.specs.Str.{bytes_eq};
 ghost use Rattle.ev_input.specs.Rules.{version_number};
 ghost use Rattle.ev_script.specs.Tokens.{first_word, tokens};
 ghost use Rattle.ev_input.specs.Lines.{words};
 ghost use Rattle.ev_input.specs.Answer.{StepsByRule};
 ghost use Rattle.ev_input.specs.Drawn.{is_apart};
-ghost use Rattle.ev_input.specs.Places.{at_clients, at_edges, at_schedule, at_token, end_rule, has_servers, is_comment, line_rule};
+ghost use Rattle.ev_input.specs.Places.{at_clients, at_edges, at_place, at_schedule, at_section, end_rule, has_servers, is_script, is_skipped, line_rule};
+ghost use Rattle.ev_script.specs.Form.{verb_named};
 
-use crate::cut::next_word;
+use crate::cut::{is_blank, next_word};
 use crate::fault::{Fault, LineFault};
 use crate::network::{client, edge, header, phase, semantics, servers};
 use crate::schedule::{command_turn, take_turn, version_turn};
 use crate::scripts::{barrier, command, schedule, script};
 use crate::state::{Place, State};
 use crate::version::Version;
-use ev_script::{Line, verb_named};
+use ev_script::{Line, is_same, verb_named};
 use std::alloc::Global;
 
 // Behind a client.
@@ -23,11 +24,11 @@ use std::alloc::Global;
 fn at_clients(alloc: Global, state: &mut State, word: &[u8], rest: &[u8]) -> Result<(), LineFault>
     ensures { StepsByRule result state.new (at_clients state.old word.now (words rest.now)) }
 {
-    if word == b"client".as_slice() {
+    if is_same(word, b"client") {
         client(alloc, state, rest)
-    } else if word == b"script".as_slice() {
+    } else if is_same(word, b"script") {
         script(state, word, rest)
-    } else if word == b"schedule".as_slice() {
+    } else if is_same(word, b"schedule") {
         schedule(state, word, rest)
     } else {
         Err(LineFault::Bad(Fault::Order))
@@ -38,7 +39,7 @@ fn at_clients(alloc: Global, state: &mut State, word: &[u8], rest: &[u8]) -> Res
 fn begins_phase(version: Version, word: &[u8]) -> bool
     ensures { result ≡ (bytes_eq word.now (codes "phase") && nat_eq (version_number version) 2) }
 {
-    word == b"phase".as_slice() && version.number() == 2
+    is_same(word, b"phase") && version.number() == 2
 }
 
 // Behind `servers`, an edge or a phase.
@@ -46,7 +47,7 @@ fn begins_phase(version: Version, word: &[u8]) -> bool
 fn at_edges(alloc: Global, state: &mut State, word: &[u8], rest: &[u8]) -> Result<(), LineFault>
     ensures { StepsByRule result state.new (at_edges state.old word.now (words rest.now)) }
 {
-    if word == b"edge".as_slice() {
+    if is_same(word, b"edge") {
         return edge(state, rest);
     }
     if state.trees.is_apart() {
@@ -58,51 +59,44 @@ fn at_edges(alloc: Global, state: &mut State, word: &[u8], rest: &[u8]) -> Resul
     at_clients(alloc, state, word, rest)
 }
 
-// In a script, by the line with its first token cut off.
+// In a script, by the words of a line whose first token is this word and no command's first word.
 #[tactic(auto, unfolding(crate::specs::Places::at_token))]
-fn at_token(
-    alloc: Global,
-    state: &mut State,
-    line: Line<'_>,
-    bytes: usize,
-    word: &[u8],
-    rest: &[u8],
-) -> Result<(), LineFault>
-    requires bytes { bytes ≡ length line }
-    requires short { bytes ≤ 4194304 }
-    ensures { StepsByRule result state.new (at_token state.old line.entry word.now (words rest.now) (first_word (tokens line.entry))) }
+fn at_section(state: &mut State, token: &[u8], line: &[u8]) -> Result<(), LineFault>
+    requires { verb_named token.now ≡ None }
+    ensures { StepsByRule result state.new (at_section state.old line.now (Some token.now) (words line.now)) }
 {
-    let Some(token) = line.first_word() else {
-        return Err(LineFault::Bad(Fault::Order));
+    let Some((word, rest)) = next_word(line) else {
+        return Ok(());
     };
-    if token == b"barrier".as_slice() {
+    if is_same(token, b"barrier") {
         return barrier(state, word, rest);
     }
-    if token == b"script".as_slice() {
+    if is_same(token, b"script") {
         return script(state, word, rest);
     }
-    if token == b"schedule".as_slice() {
+    if is_same(token, b"schedule") {
         return schedule(state, word, rest);
-    }
-    if verb_named(token).is_some() {
-        return command(alloc, state, line, bytes);
     }
     Err(LineFault::Bad(Fault::Order))
 }
 
-// In a script.
-fn in_script(
-    alloc: Global,
-    state: &mut State,
-    line: &[u8],
-    word: &[u8],
-    rest: &[u8],
-) -> Result<(), LineFault>
-    requires { length line.now ≤ 4194304 }
-    ensures { StepsByRule result state.new (at_token state.old line.now word.now (words rest.now) (first_word (tokens line.now))) }
+// In a script, a line that isn't skipped.
+fn in_script(alloc: Global, state: &mut State, line: &[u8]) -> Result<(), LineFault>
+    requires short { length line.now ≤ 4194304 }
+    requires kept { is_skipped (words line.now) ≡ false }
+    ensures { StepsByRule result state.new (at_section state.old line.now (first_word (tokens line.now)) (words line.now)) }
 {
     let cut = Line::cut(alloc, line)?;
-    at_token(alloc, state, cut, line.len(), word, rest)
+    match cut.first_word() {
+        Some(token) => {
+            if verb_named(token).is_some() {
+                command(alloc, state, cut, line.len())
+            } else {
+                at_section(state, token, line)
+            }
+        }
+        None => Err(LineFault::Bad(Fault::Order)),
+    }
 }
 
 // In the schedule.
@@ -110,46 +104,75 @@ fn in_script(
 fn at_schedule(state: &mut State, number: u32, word: &[u8], rest: &[u8]) -> Result<(), LineFault>
     ensures { StepsByRule result state.new (at_schedule state.old number word.now (words rest.now)) }
 {
-    if word == b"command".as_slice() {
+    if is_same(word, b"command") {
         command_turn(state, number, rest)
-    } else if word == b"take".as_slice() {
+    } else if is_same(word, b"take") {
         take_turn(state, number, rest)
-    } else if word == b"version".as_slice() {
+    } else if is_same(word, b"version") {
         version_turn(state, number, rest)
     } else {
         Err(LineFault::Bad(Fault::Order))
     }
 }
 
-fn is_comment(word: &[u8]) -> bool
-    ensures { result ≡ is_comment word.now }
+fn is_script(place: Place) -> bool
+    ensures { result ≡ is_script place }
 {
-    match word {
-        [] => false,
-        [first, ..] => *first == b'#',
+    match place {
+        Place::Scripts => true,
+        Place::Header | Place::Semantics | Place::Servers => false,
+        Place::Edges | Place::Clients | Place::Schedule => false,
     }
 }
 
-/// Takes a line with its number, or tells its first fault.
-#[tactic(auto, unfolding(crate::specs::Places::line_rule))]
-pub fn line(alloc: Global, state: &mut State, number: u32, line: &[u8]) -> Result<(), LineFault>
-    requires { length line.now ≤ 4194304 }
-    ensures { StepsByRule result state.new (line_rule state.old number line.now) }
+// Whether a line has no words or is a comment.
+fn is_skipped(line: &[u8]) -> bool
+    ensures { result ≡ is_skipped (words line.now) }
 {
-    let Some((word, rest)) = next_word(line) else {
-        return Ok(());
-    };
-    if is_comment(word) {
-        return Ok(());
+    for (i, b) in line.iter().enumerate() {
+        if !is_blank(*b) {
+            return *b == b'#';
+        }
     }
+    true
+}
+
+// Outside of scripts, a line by its words.
+fn by_words(
+    alloc: Global,
+    state: &mut State,
+    number: u32,
+    word: &[u8],
+    rest: &[u8],
+) -> Result<(), LineFault>
+    requires { is_script state.old.place ≡ false }
+    ensures { (line : List ℕ) → StepsByRule result state.new (at_place state.old.place state.old number line word.now (words rest.now)) }
+{
     match state.place {
         Place::Header => header(state, word, rest),
         Place::Semantics => semantics(state, word, rest),
         Place::Servers => servers(alloc, state, word, rest),
         Place::Edges => at_edges(alloc, state, word, rest),
         Place::Clients => at_clients(alloc, state, word, rest),
-        Place::Scripts => in_script(alloc, state, line, word, rest),
+        Place::Scripts => Err(LineFault::Bad(Fault::Order)),
         Place::Schedule => at_schedule(state, number, word, rest),
+    }
+}
+
+/// Takes a line with its number, or tells its first fault.
+pub fn line(alloc: Global, state: &mut State, number: u32, line: &[u8]) -> Result<(), LineFault>
+    requires { length line.now ≤ 4194304 }
+    ensures { StepsByRule result state.new (line_rule state.old number line.now) }
+{
+    if is_skipped(line) {
+        return Ok(());
+    }
+    if is_script(state.place) {
+        return in_script(alloc, state, line);
+    }
+    match next_word(line) {
+        Some((word, rest)) => by_words(alloc, state, number, word, rest),
+        None => Ok(()),
     }
 }
 

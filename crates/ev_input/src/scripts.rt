@@ -11,7 +11,7 @@ use crate::state::{Place, State};
 use crate::tally::Tally;
 use crate::version::Version;
 use crate::words::one_name;
-use ev_script::{Line, ScriptFault};
+use ev_script::{Line, ScriptFault, is_same};
 use ev_wire::Command;
 use std::alloc::Global;
 
@@ -20,7 +20,7 @@ use std::alloc::Global;
 pub fn script(state: &mut State, word: &[u8], rest: &[u8]) -> Result<(), LineFault>
     ensures { StepsByRule result state.new (script_rule state.old word.now (words rest.now)) }
 {
-    if word != b"script".as_slice() {
+    if !is_same(word, b"script") {
         return Err(LineFault::Bad(Fault::Words));
     }
     let Some(name) = one_name(rest) else {
@@ -43,7 +43,7 @@ pub fn script(state: &mut State, word: &[u8], rest: &[u8]) -> Result<(), LineFau
 pub fn barrier(state: &mut State, word: &[u8], rest: &[u8]) -> Result<(), LineFault>
     ensures { StepsByRule result state.new (barrier_rule state.old word.now (words rest.now)) }
 {
-    if word != b"barrier".as_slice() || next_word(rest).is_some() {
+    if !is_same(word, b"barrier") || next_word(rest).is_some() {
         return Err(LineFault::Bad(Fault::Words));
     }
     if state.clients.barriers(state.client) >= 4095 {
@@ -58,7 +58,7 @@ pub fn barrier(state: &mut State, word: &[u8], rest: &[u8]) -> Result<(), LineFa
 pub fn schedule(state: &mut State, word: &[u8], rest: &[u8]) -> Result<(), LineFault>
     ensures { StepsByRule result state.new (schedule_rule state.old word.now (words rest.now)) }
 {
-    if word != b"schedule".as_slice() || next_word(rest).is_some() {
+    if !is_same(word, b"schedule") || next_word(rest).is_some() {
         return Err(LineFault::Bad(Fault::Words));
     }
     state.place = Place::Schedule;

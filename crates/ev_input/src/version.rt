@@ -3,6 +3,8 @@ ghost use Rattle.std.specs.Prelude.{◌≡◌};
 ghost use Rattle.ev_script.specs.Command.{IsVersion};
 ghost use Rattle.ev_input.specs.Rules.{version_named, version_number};
 
+use ev_script::is_same;
+
 /// The version of a document.
 #[derive(Clone, Copy, Debug, PartialEq, Eq)]
 pub enum Version {
@@ -29,9 +31,9 @@ impl Version {
 pub fn version_named(word: &[u8]) -> Option<Version>
     ensures { result ≡ version_named word.now }
 {
-    if word == b"1".as_slice() {
+    if is_same(word, b"1") {
         Some(Version::One)
-    } else if word == b"2".as_slice() {
+    } else if is_same(word, b"2") {
         Some(Version::Two)
     } else {
         None

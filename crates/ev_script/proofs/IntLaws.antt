@@ -1,13 +1,14 @@
 -- Ints and times of a command line: std reads them, exactly where they are within i64 and u64.
 use Rattle.std.proofs.Common.{◌≡◌, ◌<◌, ◌-◌, ◌^◌, ℕ, zero, suc, ℤ, Bool, true, false, cond, refl, sym, ap, subst, ◌∙◌, arith, List, [], ◌∷◌, length, drop, FitsSigned, to_z, of_z}
-use Rattle.std.specs.Prelude.{Some, nat_le, nat_lt, ◌==◌}
+use Rattle.std.specs.Prelude.{Some, None, nat_le, nat_lt, ◌==◌, ◌&&◌, ◌≤◌, pos, neg_ℤ}
+use Rattle.std.proofs.Math.Nat.{pow-le-pow_right}
 use Rattle.std.specs.declared.result.Result.{Result}
 use Rattle.std.specs.declared.result.Result.TheVariants.{Ok, Err}
 use Rattle.std.specs.Int.{w64}
 use Rattle.std.specs.List.{list_all}
 use Rattle.std.specs.Char.{digit_value}
 use Rattle.std.specs.Str.{IsAscii, IsUtf8}
-use Rattle.std.specs.Str.Parse.{AllDigits, IsNumeral, ParsesSigned, ParsesUnsigned, digits_value, without_leading_plus, without_leading_sign, signed_digits_value}
+use Rattle.std.specs.Str.Parse.{AllDigits, IsNumeral, ParsesSigned, ParsesUnsigned, digits_value, starts_with_minus, without_leading_plus, without_leading_sign, signed_digits_value}
 use Rattle.std.proofs.lemmas.Str.{IsUtf8-from_ascii}
 use Rattle.std.proofs.lemmas.Str.Parse.{without_leading_plus_none}
 use Rattle.std.proofs.lemmas.Int.{to_z-of_z}
@@ -129,3 +130,48 @@ wide_time {E = E} w text f r e same h err =
     go : (b : Bool) → nat_lt (digits_value 10 w) (2 ^ 64) ≡ b → (IsNumeral 10 (without_leading_plus w) × (digits_value 10 (without_leading_plus w) < 2 ^ 64) → ⊥) → b ≡ false
     go true p k = absurd (k (subst (IsNumeral 10) (sym (plain w e)) (digits_numeral w e), subst (λ (x : List ℕ). digits_value 10 x < 2 ^ 64) (sym (plain w e)) (below (digits_value 10 w) p)))
     go false p k = refl
+
+-- Numbers of few digits.
+
+pub small_pow : (i : ℕ) (n : ℕ) → i < 19 → n < 10 ^ i → n < 10 ^ 18
+small_pow i n l s = let p : 10 ^ i ≤ 10 ^ 18 = pow-le-pow_right {n = 10} (omega arith) {i = i} {j = 18} (omega (arith, l)) in omega (arith, s, p)
+
+pub small_given : (i : ℕ) (n : ℕ) → i ≤ 18 → n < 10 ^ i → n < 10 ^ 18
+small_given i n l s = small_pow i n (omega (arith, l)) s
+
+pub small_nineteen : (i : ℕ) (n : ℕ) → i ≤ 19 → n < 10 ^ i → n < 10 ^ 19
+small_nineteen i n l s = let p : 10 ^ i ≤ 10 ^ 19 = pow-le-pow_right {n = 10} (omega arith) {i = i} {j = 19} (omega (arith, l)) in omega (arith, s, p)
+
+pub no_int : (w ds : List ℕ) → ds ≡ without_leading_sign w → list_all is_digit ds ≡ false → None ≡ int_given w
+unfolding int_given
+no_int w ds d a =
+    let e : are_digits (without_leading_sign w) ≡ false = go (nat_lt 0 (length (without_leading_sign w))) (subst (λ (x : List ℕ). list_all is_digit x ≡ false) d a) in
+    rw e refl
+  where
+    go : (p : Bool) → list_all is_digit (without_leading_sign w) ≡ false → (p && list_all is_digit (without_leading_sign w)) ≡ false
+    go true e = e
+    go false e = refl
+
+small_fits : (m : Bool) (n : ℕ) → n < 10 ^ 18 → fits_i64 (cond m (neg_ℤ (pos n)) (pos n)) ≡ true
+small_fits true zero s = refl
+small_fits true (suc k) s = let b : k < 2 ^ 63 = omega (arith, s) in below k b
+  where
+    below : (k : ℕ) → k < 2 ^ 63 → nat_lt k (2 ^ 63) ≡ true
+    below k b = grind (arith, nat_tests)
+small_fits false n s = let b : n < 2 ^ 63 = omega (arith, s) in below n b
+  where
+    below : (k : ℕ) → k < 2 ^ 63 → nat_lt k (2 ^ 63) ≡ true
+    below k b = grind (arith, nat_tests)
+
+pub short_given : (w ds : List ℕ) (n : ℕ) (m : Bool) (z : ℤ) → ds ≡ without_leading_sign w → 0 < length ds → list_all is_digit ds ≡ true → n ≡ digits_value 10 ds → n < 10 ^ 18 → m ≡ starts_with_minus w → z ≡ cond m (neg_ℤ (pos n)) (pos n) → Some (Fit (values.Int (to_z w64 (of_z w64 z)))) ≡ int_given w
+unfolding int_given
+short_given w ds n m z d l a v s k e =
+    let some : nat_lt 0 (length ds) ≡ true = grind (arith, nat_tests) in
+    let digits : are_digits ds ≡ true = rw (some, a) refl in
+    let t : are_digits (without_leading_sign w) ≡ true = subst (λ (x : List ℕ). are_digits x ≡ true) d digits in
+    let value : n ≡ digits_value 10 (without_leading_sign w) = v ∙ ap (digits_value 10) d in
+    let same : z ≡ signed_digits_value 10 w = e ∙ ap (λ (x : Bool). cond x (neg_ℤ (pos n)) (pos n)) k ∙ ap (λ (x : ℕ). cond (starts_with_minus w) (neg_ℤ (pos x)) (pos x)) value in
+    let fits : fits_i64 (signed_digits_value 10 w) ≡ true = subst (λ (x : ℤ). fits_i64 x ≡ true) (sym e ∙ same) (small_fits m n s) in
+    let back : to_z w64 (of_z w64 z) ≡ z = to_z-of_z w64 z (fits_tells z (subst (λ (x : ℤ). fits_i64 x ≡ true) (sym e) (small_fits m n s))) in
+    let whole : to_z w64 (of_z w64 z) ≡ signed_digits_value 10 w = back ∙ same in
+    rw (t, fits, whole) refl

@@ -1,55 +1,104 @@
 -- Reading parts one after the other, as a loop does.
-use Rattle.std.proofs.Common.{◌≡◌, ℕ, suc, ◌-◌, ◌+◌, ◌≤◌, ◌<◌, true, false, List, [], ◌∷◌, ◌++◌, refl, sym, ◌∙◌, arith}
-use Rattle.std.specs.Prelude.{Some, None}
+use Rattle.std.proofs.Common.{◌≡◌, ℕ, suc, ◌-◌, ◌+◌, ◌≤◌, ◌<◌, Bool, true, false, List, [], ◌∷◌, ◌++◌, length, refl, sym, ap, subst, ◌∙◌, arith}
+use Rattle.std.specs.Prelude.{Some, None, ◌||◌}
+use Rattle.std.specs.List.{filter_map, list_any}
 use Rattle.std.specs.declared.option.Option.{Option}
+use Rattle.std.proofs.lemmas.List.Elements.{filter_map-append}
+use Rattle.std.proofs.lemmas.List.Folds.{list_any-append}
 use Rattle.ev_script.specs.declared.fault.ScriptFault.{ScriptFault}
 use Rattle.ev_script.specs.declared.fault.ScriptFault.TheVariants as faults
 use Rattle.ev_script.specs.Tokens.{Token}
 use Rattle.ev_script.specs.Form.{more_in, parts_in}
-use Rattle.ev_script.specs.Reading.{FailsOnTokens}
+use Rattle.ev_script.specs.Reading.{FailsOnTokens, IsGathered}
 
-pub goes_on : {A : Type 0} (one : List Token → Option (A × List Token)) (most i : ℕ) (read : List A) (ts : List Token) (x : A) (after left : List Token) (total : Option (List A)) → i < most → one ts ≡ Some (x, after) → more_in after ≡ Some (true, left)
-    → parts_in one (most - i) read ts ≡ total → parts_in one (most - (i + 1)) (read ++ x ∷ []) left ≡ total
-unfolding parts_in
-goes_on one most i read ts x after left total lt h m so_far =
-    let k : most - i ≡ suc (most - (i + 1)) = omega arith in
-    let step : parts_in one (most - i) read ts ≡ parts_in one (most - (i + 1)) (read ++ x ∷ []) left = rw (k, h, m) refl in
-    sym step ∙ so_far
+-- parts were read of which so much is kept, and what is left gives the whole with them
+pub record AreRead {P I : Type 0} (one : List Token → Option (P × List Token)) (keeps : List I → List I → Type 0) (inside : P → Option I) (is_beyond is_empty : P → Bool) (most : ℕ) (ts : List Token) (total : Option (List P)) (inner : List I) (has_beyond has_empty : Bool) : Type 0 where
+  pub read : List P
+  pub rest : parts_in one most read ts ≡ total
+  pub kept : keeps inner (filter_map inside read)
+  pub beyond : has_beyond ≡ list_any is_beyond read
+  pub empty : has_empty ≡ list_any is_empty read
 
-pub stops : {A : Type 0} (one : List Token → Option (A × List Token)) (most i : ℕ) (read : List A) (ts : List Token) (x : A) (after left : List Token) (total : Option (List A)) → i < most → one ts ≡ Some (x, after) → more_in after ≡ Some (false, left)
-    → parts_in one (most - i) read ts ≡ total → total ≡ Some (read ++ x ∷ [])
-unfolding parts_in
-stops one most i read ts x after left total lt h m so_far =
-    let k : most - i ≡ suc (most - (i + 1)) = omega arith in
-    let step : parts_in one (most - i) read ts ≡ Some (read ++ x ∷ []) = rw (k, h, m) refl in
-    sym so_far ∙ step
+pub none_read : {P I : Type 0} (one : List Token → Option (P × List Token)) (keeps : List I → List I → Type 0) (inside : P → Option I) (is_beyond is_empty : P → Bool) (most : ℕ) (ts : List Token) (kept : List I) (has_beyond has_empty : Bool)
+    → keeps kept [] → has_beyond ≡ false → has_empty ≡ false → AreRead one keeps inside is_beyond is_empty most ts (parts_in one most [] ts) kept has_beyond has_empty
+none_read one keeps inside is_beyond is_empty most ts kept has_beyond has_empty k b e = record { read = []; rest = refl; kept = k; beyond = b; empty = e }
 
-pub ends : {A : Type 0} (e : ScriptFault) (one : List Token → Option (A × List Token)) (most i : ℕ) (read : List A) (ts : List Token) (total : Option (List A)) → i < most → FailsOnTokens e (one ts)
-    → parts_in one (most - i) read ts ≡ total → FailsOnTokens e total
-unfolding parts_in
-ends faults.NoMemory one most i read ts total lt h so_far = tt
-ends faults.Syntax one most i read ts total lt h so_far =
-    let k : most - i ≡ suc (most - (i + 1)) = omega arith in
-    let step : parts_in one (most - i) read ts ≡ None = rw (k, h) refl in
-    sym so_far ∙ step
-ends faults.Value one most i read ts total lt h so_far = absurd h
-ends faults.Operand one most i read ts total lt h so_far = absurd h
-ends faults.Count one most i read ts total lt h so_far = absurd h
-ends faults.Repeat one most i read ts total lt h so_far = absurd h
+long : {P : Type 0} (read : List P) (x : P) → 0 < length (read ++ x ∷ [])
+long [] x = omega arith
+long (y ∷ read) x = omega arith
 
-pub breaks : {A : Type 0} (e : ScriptFault) (one : List Token → Option (A × List Token)) (most i : ℕ) (read : List A) (ts : List Token) (x : A) (after : List Token) (total : Option (List A)) → i < most → one ts ≡ Some (x, after) → FailsOnTokens e (more_in after)
-    → parts_in one (most - i) read ts ≡ total → FailsOnTokens e total
-unfolding parts_in
-breaks faults.NoMemory one most i read ts x after total lt h m so_far = tt
-breaks faults.Syntax one most i read ts x after total lt h m so_far =
-    let k : most - i ≡ suc (most - (i + 1)) = omega arith in
-    let step : parts_in one (most - i) read ts ≡ None = rw (k, h, m) refl in
-    sym so_far ∙ step
-breaks faults.Value one most i read ts x after total lt h m so_far = absurd m
-breaks faults.Operand one most i read ts x after total lt h m so_far = absurd m
-breaks faults.Count one most i read ts x after total lt h m so_far = absurd m
-breaks faults.Repeat one most i read ts x after total lt h m so_far = absurd m
+or_last : (a : Bool) → (a || false) ≡ a
+or_last true = refl
+or_last false = refl
 
-pub runs_out : {A : Type 0} (one : List Token → Option (A × List Token)) (most i : ℕ) (read : List A) (ts : List Token) (total : Option (List A)) → most ≤ i → parts_in one (most - i) read ts ≡ total → total ≡ None
+any_more : {P : Type 0} (p : P → Bool) (read : List P) (x : P) (before after : Bool) → before ≡ list_any p read → after ≡ (before || p x) → after ≡ list_any p (read ++ x ∷ [])
+any_more p read x before after b a = a ∙ ap (λ (z : Bool). z || p x) b ∙ ap (λ (z : Bool). list_any p read || z) (sym (or_last (p x))) ∙ sym (list_any-append p read (x ∷ []))
+
+kept_more : {P I : Type 0} (keeps : List I → List I → Type 0) (inside : P → Option I) (read : List P) (x : P) (after : List I) → keeps after (filter_map inside read ++ filter_map inside (x ∷ [])) → keeps after (filter_map inside (read ++ x ∷ []))
+kept_more {I = I} keeps inside read x after k = subst (λ (z : List I). keeps after z) (sym (filter_map-append inside read (x ∷ []))) k
+
+step : {P : Type 0} (one : List Token → Option (P × List Token)) (most i : ℕ) (read : List P) (ts : List Token) (x : P) (after left : List Token) → i < most → one ts ≡ Some (x, after) → more_in after ≡ Some (true, left)
+    → parts_in one (most - i) read ts ≡ parts_in one (most - (i + 1)) (read ++ x ∷ []) left
 unfolding parts_in
-runs_out one most i read ts total le so_far = let k : most - i ≡ 0 = omega arith in let step : parts_in one (most - i) read ts ≡ None = rw k refl in sym so_far ∙ step
+step one most i read ts x after left lt h m = let k : most - i ≡ suc (most - (i + 1)) = omega arith in rw (k, h, m) refl
+
+last : {P : Type 0} (one : List Token → Option (P × List Token)) (most i : ℕ) (read : List P) (ts : List Token) (x : P) (after left : List Token) → i < most → one ts ≡ Some (x, after) → more_in after ≡ Some (false, left)
+    → parts_in one (most - i) read ts ≡ Some (read ++ x ∷ [])
+unfolding parts_in
+last one most i read ts x after left lt h m = let k : most - i ≡ suc (most - (i + 1)) = omega arith in rw (k, h, m) refl
+
+no_part : {P : Type 0} (one : List Token → Option (P × List Token)) (most i : ℕ) (read : List P) (ts : List Token) → i < most → one ts ≡ None → parts_in one (most - i) read ts ≡ None
+unfolding parts_in
+no_part one most i read ts lt h = let k : most - i ≡ suc (most - (i + 1)) = omega arith in rw (k, h) refl
+
+no_end : {P : Type 0} (one : List Token → Option (P × List Token)) (most i : ℕ) (read : List P) (ts : List Token) (x : P) (after : List Token) → i < most → one ts ≡ Some (x, after) → more_in after ≡ None → parts_in one (most - i) read ts ≡ None
+unfolding parts_in
+no_end one most i read ts x after lt h m = let k : most - i ≡ suc (most - (i + 1)) = omega arith in rw (k, h, m) refl
+
+none_left : {P : Type 0} (one : List Token → Option (P × List Token)) (most i : ℕ) (read : List P) (ts : List Token) → most ≤ i → parts_in one (most - i) read ts ≡ None
+unfolding parts_in
+none_left one most i read ts le = let k : most - i ≡ 0 = omega arith in rw k refl
+
+pub goes_on : {P I : Type 0} (one : List Token → Option (P × List Token)) (keeps : List I → List I → Type 0) (inside : P → Option I) (is_beyond is_empty : P → Bool) (most i : ℕ) (ts : List Token) (x : P) (after left : List Token) (total : Option (List P)) (kept kept' : List I) (b b' e e' : Bool)
+    → i < most → one ts ≡ Some (x, after) → more_in after ≡ Some (true, left) → AreRead one keeps inside is_beyond is_empty (most - i) ts total kept b e
+    → ((before : List I) → keeps kept before → keeps kept' (before ++ filter_map inside (x ∷ []))) → b' ≡ (b || is_beyond x) → e' ≡ (e || is_empty x) → AreRead one keeps inside is_beyond is_empty (most - (i + 1)) left total kept' b' e'
+goes_on one keeps inside is_beyond is_empty most i ts x after left total kept kept' b b' e e' lt h m s k' n' l' =
+    record {
+      read = s.read ++ x ∷ [];
+      rest = sym (step one most i s.read ts x after left lt h m) ∙ s.rest;
+      kept = kept_more keeps inside s.read x kept' (k' (filter_map inside s.read) s.kept);
+      beyond = any_more is_beyond s.read x b b' s.beyond n';
+      empty = any_more is_empty s.read x e e' s.empty l';
+    }
+
+pub stops : {P I : Type 0} (one : List Token → Option (P × List Token)) (keeps : List I → List I → Type 0) (inside : P → Option I) (is_beyond is_empty : P → Bool) (most i : ℕ) (ts : List Token) (x : P) (after left : List Token) (total : Option (List P)) (kept kept' : List I) (b b' e e' : Bool)
+    → i < most → one ts ≡ Some (x, after) → more_in after ≡ Some (false, left) → AreRead one keeps inside is_beyond is_empty (most - i) ts total kept b e
+    → ((before : List I) → keeps kept before → keeps kept' (before ++ filter_map inside (x ∷ []))) → b' ≡ (b || is_beyond x) → e' ≡ (e || is_empty x)
+    → (parts : List P) × (total ≡ Some parts) × IsGathered keeps inside is_beyond is_empty kept' b' e' parts
+stops one keeps inside is_beyond is_empty most i ts x after left total kept kept' b b' e e' lt h m s k' n' l' = (
+  s.read ++ x ∷ [],
+  sym s.rest ∙ last one most i s.read ts x after left lt h m,
+  record {
+    some = long s.read x;
+    kept = kept_more keeps inside s.read x kept' (k' (filter_map inside s.read) s.kept);
+    beyond = any_more is_beyond s.read x b b' s.beyond n';
+    empty = any_more is_empty s.read x e e' s.empty l';
+  },
+)
+
+pub ends : {P I : Type 0} (fault : ScriptFault) (one : List Token → Option (P × List Token)) (keeps : List I → List I → Type 0) (inside : P → Option I) (is_beyond is_empty : P → Bool) (most i : ℕ) (ts : List Token) (total : Option (List P)) (kept : List I) (b e : Bool)
+    → i < most → FailsOnTokens fault (one ts) → AreRead one keeps inside is_beyond is_empty (most - i) ts total kept b e → FailsOnTokens fault total
+ends faults.NoMemory one keeps inside is_beyond is_empty most i ts total kept b e lt h s = tt
+ends faults.Syntax one keeps inside is_beyond is_empty most i ts total kept b e lt h s = sym s.rest ∙ no_part one most i s.read ts lt h
+ends faults.Value one keeps inside is_beyond is_empty most i ts total kept b e lt h s = absurd h
+ends faults.Operand one keeps inside is_beyond is_empty most i ts total kept b e lt h s = absurd h
+ends faults.Count one keeps inside is_beyond is_empty most i ts total kept b e lt h s = absurd h
+ends faults.Repeat one keeps inside is_beyond is_empty most i ts total kept b e lt h s = absurd h
+
+pub breaks : {P I : Type 0} (one : List Token → Option (P × List Token)) (keeps : List I → List I → Type 0) (inside : P → Option I) (is_beyond is_empty : P → Bool) (most i : ℕ) (ts : List Token) (x : P) (after : List Token) (total : Option (List P)) (kept : List I) (b e : Bool)
+    → i < most → one ts ≡ Some (x, after) → more_in after ≡ None → AreRead one keeps inside is_beyond is_empty (most - i) ts total kept b e → total ≡ None
+breaks one keeps inside is_beyond is_empty most i ts x after total kept b e lt h m s = sym s.rest ∙ no_end one most i s.read ts x after lt h m
+
+pub runs_out : {P I : Type 0} (one : List Token → Option (P × List Token)) (keeps : List I → List I → Type 0) (inside : P → Option I) (is_beyond is_empty : P → Bool) (most i : ℕ) (ts : List Token) (total : Option (List P)) (kept : List I) (b e : Bool)
+    → most ≤ i → AreRead one keeps inside is_beyond is_empty (most - i) ts total kept b e → total ≡ None
+runs_out one keeps inside is_beyond is_empty most i ts total kept b e le s = sym s.rest ∙ none_left one most i s.read ts le

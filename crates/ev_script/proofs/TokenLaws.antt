@@ -1,12 +1,18 @@
 -- Tokens one after the other are the tokens of the line.
 use Rattle.std.proofs.Common.{◌≡◌, ◌≤◌, ◌<◌, ℕ, zero, suc, Bool, true, false, cond, refl, sym, ap, ◌∙◌, arith, List, [], ◌∷◌, ◌++◌, ◌-◌, length, take, drop, get_or}
-use Rattle.std.specs.Prelude.{Some, None, ◌==◌, ◌||◌}
+use Rattle.std.specs.Prelude.{Some, None, ◌==◌, ◌||◌, nat_lt}
+use Rattle.std.proofs.lemmas.Bool.Decides.{nat_tests}
+use Rattle.ev_constraint.specs.declared.op.Op.{Op}
+use Rattle.ev_wire.specs.Filters.{op_named}
+use Rattle.ev_script.specs.Form.{more_in, op_in, word_in}
+use Rattle.ev_script.specs.Reading.{TakesFront}
+use Rattle.ev_script.specs.Tokens.{is_string, string_seen}
 use Rattle.std.specs.declared.option.Option.{Option}
 use Rattle.ev_constraint.specs.declared.op.Op.TheVariants as ops
 use Rattle.ev_wire.specs.Values.{plain}
 use Rattle.ev_wire.proofs.Options.{bind_some, pair_in, none_not}
 use Rattle.ev_script.specs.Tokens.{Token, is_word_byte, run_at, quoted_at, string_token, equals_at, sign_token, token_at, skip, cut_by, tokens_in, tokens}
-use Rattle.ev_script.specs.Tokens.Token.{sign, bad}
+use Rattle.ev_script.specs.Tokens.Token.{word, sign, string, long, semicolon, bad}
 
 run_short : (read bytes : List ℕ) → length (run_at read bytes).1 ≤ length bytes
 run_short read [] = omega arith
@@ -127,3 +133,93 @@ first_and_rest (x ∷ xs) l = let e : length (x ∷ xs) - 1 ≡ length xs = omeg
 
 pub next_cut : (bytes left : List ℕ) (first : ℕ) (after more : List ℕ) (t : Token) → (t, more) ≡ token_at first after → left ≡ skip bytes → left ≡ first ∷ after → tokens bytes ≡ t ∷ tokens more
 next_cut bytes left first after more t c e f = cut_off bytes first after more t (sym e ∙ f) c
+
+-- What stands in front, by its first byte.
+
+pub cut_here : (bytes left : List ℕ) → left ≡ skip bytes → tokens bytes ≡ cut_by tokens left
+cut_here bytes [] e = nothing_left bytes (sym e)
+cut_here bytes (b ∷ rest) e = cut_off bytes b rest (token_at b rest).1 (token_at b rest).0 (sym e) refl
+
+by_test : (P : Token → Type 0) (p : Bool) (x y : Token × List ℕ) → (p ≡ true → P x.0) → (p ≡ false → P y.0) → P (cond p x y).0
+by_test P true x y h k = h refl
+by_test P false x y h k = k refl
+
+by_sign : (P : Token → Type 0) (x : Bool × List ℕ) (t u : Token) → P t → P u → P (sign_token x t u).0
+by_sign P (true, rest) t u h k = h
+by_sign P (false, rest) t u h k = k
+
+by_bytes : (P : Token → Type 0) (t : List ℕ) → P (string t) → P long → P bad → P (string_seen t)
+by_bytes P t h l k = go (is_string t) (nat_lt 1024 (length t))
+  where
+    go : (p q : Bool) → P (cond p (cond q long (string t)) bad)
+    go true true = l
+    go true false = h
+    go false q = k
+
+by_string : (P : Token → Type 0) (quoted : Option (List ℕ × List ℕ)) (rest : List ℕ) → ((t : List ℕ) → P (string t)) → P long → P bad → P (string_token quoted rest).0
+by_string P None rest h l k = k
+by_string P (Some x) rest h l k = by_bytes P x.0 (h x.0) l k
+
+by_token : (P : Token → Type 0) (b : ℕ) (rest : List ℕ) → (is_word_byte b ≡ true → (w : List ℕ) → P (word w)) → ((op : Op) → P (sign op)) → ((t : List ℕ) → P (string t)) → P long
+    → ((b == 59) ≡ true → P semicolon) → P bad → P (token_at b rest).0
+unfolding token_at
+by_token P b rest w s t l m k =
+    by_test P (is_word_byte b) _ _ (λ e. w e (run_at [] (b ∷ rest)).0)
+    (λ e. by_test P (b == 34) _ _ (λ e. by_string P (quoted_at [] false rest) rest t l k)
+    (λ e. by_test P (b == 59) _ _ (λ e. m e)
+    (λ e. by_test P (b == 61) _ _ (λ e. s ops.Eq)
+    (λ e. by_test P (b == 60) _ _ (λ e. by_sign P (equals_at rest) (sign ops.Le) (sign ops.Lt) (s ops.Le) (s ops.Lt))
+    (λ e. by_test P (b == 62) _ _ (λ e. by_sign P (equals_at rest) (sign ops.Ge) (sign ops.Gt) (s ops.Ge) (s ops.Gt))
+    (λ e. by_test P (b == 33) _ _ (λ e. by_sign P (equals_at rest) (sign ops.Ne) bad (s ops.Ne) k) (λ e. k)))))))
+
+chosen : {A : Type 0} (p : Bool) (x y : A) → p ≡ true → x ≡ cond p x y
+chosen true x y e = refl
+chosen false x y e = absurd cc
+
+token_word : (b : ℕ) (rest w more : List ℕ) → is_word_byte b ≡ true → (w, more) ≡ run_at [] (b ∷ rest) → (word w, more) ≡ token_at b rest
+unfolding token_at
+token_word b rest w more p r =
+    let one : (word w, more) ≡ (word (run_at [] (b ∷ rest)).0, (run_at [] (b ∷ rest)).1) = ap (λ (z : List ℕ × List ℕ). (word z.0, z.1)) r in
+    one ∙ chosen (is_word_byte b) _ _ p
+
+pub word_cut : (bytes left w more : List ℕ) → left ≡ skip bytes → 1 ≤ length left → is_word_byte (get_or left 0 0) ≡ true → (w, more) ≡ run_at [] left → tokens bytes ≡ word w ∷ tokens more
+word_cut bytes [] w more s l p r = absurd (omega (arith, l))
+word_cut bytes (b ∷ rest) w more s l p r = cut_off bytes b rest more (word w) (sym s) (token_word b rest w more p r)
+
+pub no_word : (bytes left : List ℕ) → left ≡ skip bytes → 1 ≤ length left → is_word_byte (get_or left 0 0) ≡ false → word_in (tokens bytes) ≡ None
+no_word bytes [] s l p = absurd (omega (arith, l))
+no_word bytes (b ∷ rest) s l p = ap word_in (cut_here bytes (b ∷ rest) s) ∙ by_token (λ t. word_in (t ∷ tokens (token_at b rest).1) ≡ None) b rest (λ e w. absurd (differ (is_word_byte b) e p)) (λ op. refl) (λ t. refl) refl (λ e. refl) refl
+  where
+    differ : (x : Bool) → x ≡ true → x ≡ false → ⊥
+    differ true e f = cc
+    differ false e f = cc
+
+pub none_word : (bytes left : List ℕ) → left ≡ skip bytes → length left < 1 → word_in (tokens bytes) ≡ None
+none_word bytes left s l = ap word_in (at_end bytes left s l).0
+
+pub no_more : (bytes left : List ℕ) → left ≡ skip bytes → 1 ≤ length left → (get_or left 0 0 ≡ 59 → ⊥) → more_in (tokens bytes) ≡ None
+no_more bytes [] s l n = absurd (omega (arith, l))
+no_more bytes (b ∷ rest) s l n = ap more_in (cut_here bytes (b ∷ rest) s) ∙ by_token (λ t. more_in (t ∷ tokens (token_at b rest).1) ≡ None) b rest (λ e w. refl) (λ op. refl) (λ t. refl) refl (λ e. absurd (n (same b e))) refl
+  where
+    same : (b : ℕ) → (b == 59) ≡ true → b ≡ 59
+    same b e = grind (arith, nat_tests)
+
+token_semicolon : (rest : List ℕ) → token_at 59 rest ≡ (semicolon, rest)
+unfolding token_at
+token_semicolon rest = refl
+
+pub semicolon_cut : (bytes left after : List ℕ) → left ≡ skip bytes → left ≡ 59 ∷ after → more_in (tokens bytes) ≡ Some (true, tokens after)
+semicolon_cut bytes left after s l = ap more_in (cut_off bytes 59 after after semicolon (sym s ∙ l) (sym (token_semicolon after)))
+
+pub end_cut : (bytes left : List ℕ) → left ≡ skip bytes → length left < 1 → more_in (tokens bytes) ≡ Some (false, tokens left)
+end_cut bytes left s l = let e = at_end bytes left s l in ap more_in e.0 ∙ ap (λ (z : List Token). Some (false, z)) (sym e.1)
+
+pub none_op : (bytes left : List ℕ) → left ≡ skip bytes → length left < 1 → op_in (tokens bytes) ≡ None
+none_op bytes left s l = ap op_in (at_end bytes left s l).0
+
+pub word_op : (result : Option Op) (bytes left w more : List ℕ) → result ≡ op_named w → left ≡ skip bytes → 1 ≤ length left → is_word_byte (get_or left 0 0) ≡ true → (w, more) ≡ run_at [] left → TakesFront (λ o. o) result (op_in (tokens bytes)) (tokens more)
+word_op None bytes left w more o s l p r = rw (word_cut bytes left w more s l p r, ← o) refl
+word_op (Some op) bytes left w more o s l p r = rw (word_cut bytes left w more s l p r, ← o) refl
+
+pub sign_op : (result : Option Op) (bytes left : List ℕ) (b : ℕ) (after more : List ℕ) → left ≡ skip bytes → left ≡ b ∷ after → TakesFront (λ o. o) result (op_in (cut_by tokens (b ∷ after))) (tokens more) → TakesFront (λ o. o) result (op_in (tokens bytes)) (tokens more)
+sign_op result bytes left b after more s l t = rw (cut_here bytes left s, l) t

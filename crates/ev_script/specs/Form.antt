@@ -63,6 +63,10 @@ kind_of_version version kind = Some kind
 abbrev pub kind_by : ℕ → List ℕ → Option Kind
 kind_by version w = kind_named w >>= kind_of_version version
 
+-- a word that is a kind
+abbrev pub kind_in : ℕ → List Token → Option (Kind × List Token)
+kind_in version ts = word_in ts >>= λ k. kind_by version k.0 >>= λ kind. Some (kind, k.1)
+
 -- a name and a kind
 unfoldable pub head_in : ℕ → List Token → Option ((List ℕ × Kind) × List Token)
 head_in version ts = word_in ts >>= λ n. word_in n.1 >>= λ k. kind_by version k.0 >>= λ kind. if is_name n.0 then Some ((n.0, kind), k.1) else None

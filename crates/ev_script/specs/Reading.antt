@@ -1,8 +1,11 @@
 -- How the code follows the definitions over tokens; no promise to a caller speaks of it.
-use Rattle.std.specs.Prelude.{◌≡◌, List, [], ◌∷◌, ℕ, Some, None, Ok, Err}
+use Rattle.std.specs.Prelude.{◌≡◌, ◌<◌, ◌≤◌, Bool, List, [], ◌∷◌, ℕ, length, Some, None, Ok, Err}
+use Rattle.std.specs.List.{filter_map, list_any}
 use Rattle.std.specs.declared.option.Option.{Option}
 use Rattle.std.specs.declared.result.Result.{Result}
-use Rattle.ev_wire.specs.Reading.{GivesAs, ReadsAs}
+use Rattle.ev_constraint.specs.Constraint.{ConstraintParts}
+use Rattle.ev_notice.specs.Canonical.{canonical}
+use Rattle.ev_wire.specs.Reading.{ReadsAs}
 use Rattle.ev_script.specs.declared.fault.ScriptFault.{ScriptFault}
 use Rattle.ev_script.specs.declared.fault.ScriptFault.TheVariants as faults
 use Rattle.ev_script.specs.declared.token.Token.{Token as Read}
@@ -15,13 +18,31 @@ FailsOnTokens faults.NoMemory read = Unit {0}
 FailsOnTokens faults.Syntax read = read ≡ None
 FailsOnTokens e read = ⊥
 
--- the result, seen by view, is what reading gives, unless memory ran out
-abbrev pub GivesFromTokens : {X Y : Type 0} → (X → Y) → Result X ScriptFault → Option Y → Type 0
-GivesFromTokens view result read = GivesAs FailsOnTokens view result read
-
--- the same, and the tokens that are left then
+-- the result, seen by view, is what reading gives, with the tokens that are left then, unless memory ran out
 abbrev pub ReadsTokens : {X Y : Type 0} → (X → Y) → Result X ScriptFault → Option (Y × List Token) → List Token → Type 0
 ReadsTokens view result read left = ReadsAs FailsOnTokens view result read left
+
+-- of at most 64 items all are kept, and of more than 64 there are more than 64 kept
+pub record KeepsFew {I : Type 0} (inner given : List I) : Type 0 where
+  pub few : length given ≤ 64 → inner ≡ given
+  pub many : 64 < length given → 64 < length inner
+
+-- repeats and order aside, the constraints that are kept are those that were given
+abbrev pub KeepsDistinct : List ConstraintParts → List ConstraintParts → Type 0
+KeepsDistinct inner given = canonical inner ≡ canonical given
+
+-- of parts, of which there is one at least, these are kept of what is within the limits, and it is told whether a value is
+-- beyond them and whether a pattern is empty
+pub record IsGathered {P I : Type 0} (keeps : List I → List I → Type 0) (inside : P → Option I) (is_beyond is_empty : P → Bool) (inner : List I) (has_beyond has_empty : Bool) (parts : List P) : Type 0 where
+  pub some : 0 < length parts
+  pub kept : keeps inner (filter_map inside parts)
+  pub beyond : has_beyond ≡ list_any is_beyond parts
+  pub empty : has_empty ≡ list_any is_empty parts
+
+-- the result is so of the parts that are there, unless memory ran out
+abbrev pub GathersTokens : {X P : Type 0} → (X → List P → Type 0) → Result X ScriptFault → Option (List P) → Type 0
+GathersTokens is (Ok x) read = (parts : List _) × (read ≡ Some parts) × is x parts
+GathersTokens is (Err e) read = FailsOnTokens e read
 
 -- the token in front is told, unless memory ran out
 abbrev pub Cuts : {E : Type 0} → Result Read E → Token × List ℕ → List ℕ → Type 0
@@ -33,6 +54,11 @@ abbrev pub Nexts : {E : Type 0} → Result (Option Read) E → List Token → Li
 Nexts (Ok None) before after = (before ≡ []) × (after ≡ [])
 Nexts (Ok (Some t)) before after = before ≡ seen t ∷ after
 Nexts (Err e) before after = Unit {0}
+
+-- what stands in front is told with the tokens that are left then, or that there is no such thing
+abbrev pub TakesFront : {X Y : Type 0} → (X → Y) → Option X → Option (Y × List Token) → List Token → Type 0
+TakesFront view None front after = front ≡ None
+TakesFront view (Some x) front after = front ≡ Some (view x, after)
 
 -- the decoded bytes of a string and what follows it are told, or that there is none
 abbrev pub Quotes : {E X : Type 0} → (X → List ℕ) → Result (Option X) E → Option (List ℕ × List ℕ) → List ℕ → List ℕ → Type 0

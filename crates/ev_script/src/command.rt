@@ -1,31 +1,35 @@
 //! The command of a line.
-ghost use Rattle.std.specs.Prelude.{◌≡◌, ◌≢◌, ◌<◌, length, Some, IfOk, IsErrOf};
+ghost use Rattle.std.specs.Prelude.{◌≡◌, ◌≢◌, List, Some, IfOk, IsErrOf};
 ghost use Rattle.ev_script.specs.declared.verb.Verb.{Verb};
 ghost use Rattle.ev_script.specs.Form.{control_in, form_in, publish_in};
 ghost use Rattle.ev_script.specs.Form.CommandForm.{control};
-ghost use Rattle.ev_script.specs.Command.{AnswersLine, IsCommandOf, IsVersion, Spells, fault_in, script_fault};
-ghost use Rattle.ev_script.specs.Reading.{Judges};
+ghost use Rattle.ev_script.specs.Command.{AnswersLine, IsCommandOf, IsVersion, Spells, fault_in, is_beyond, is_empty, script_fault, whole_of};
+ghost use Rattle.ev_script.specs.Reading.{IsGathered, Judges, KeepsDistinct};
+ghost use Rattle.ev_script.specs.declared.form.Part.{Part};
 
 use crate::fault::ScriptFault;
-use crate::form::Part;
+use crate::form::{Given, Part};
 use crate::limits::{list_of, notice_of};
 use crate::line::Line;
+use crate::part::Parts;
 use crate::tokens::Tokens;
 use crate::verb::Verb;
+use ev_constraint::Constraint;
+use ev_values::Name;
 use ev_wire::Command;
 use std::alloc::Global;
 
 // The command of a control command's parts.
-fn control(alloc: Global, verb: Verb, parts: Vec<Part>) -> Result<Command, ScriptFault>
-    requires some { 0 < length parts.items }
-    requires verb { verb ≢ Verb.Publish }
-    ensures { Judges (Spells (control verb parts.items)) result (fault_in (control verb parts.items)) }
+fn control(verb: Verb, parts: Parts<Constraint>) -> Result<Command, ScriptFault>
+    requires { verb ≢ Verb.Publish }
+    ensures { (given : List Part) → IsGathered KeepsDistinct whole_of is_beyond is_empty parts.kept.items parts.has_beyond parts.has_empty given
+        → Judges (Spells (control verb given)) result (fault_in (control verb given)) }
 {
     match verb {
-        Verb::Subscribe => Ok(Command::Subscribe(list_of(alloc, parts)?)),
-        Verb::Unsubscribe => Ok(Command::Unsubscribe(list_of(alloc, parts)?)),
-        Verb::Advertise => Ok(Command::Advertise(list_of(alloc, parts)?)),
-        Verb::Unadvertise => Ok(Command::Unadvertise(list_of(alloc, parts)?)),
+        Verb::Subscribe => Ok(Command::Subscribe(list_of(parts)?)),
+        Verb::Unsubscribe => Ok(Command::Unsubscribe(list_of(parts)?)),
+        Verb::Advertise => Ok(Command::Advertise(list_of(parts)?)),
+        Verb::Unadvertise => Ok(Command::Unadvertise(list_of(parts)?)),
         Verb::Publish => Err(ScriptFault::Syntax),
     }
 }
@@ -41,8 +45,8 @@ fn control_command(
     requires { verb ≢ Verb.Publish }
     ensures { AnswersLine result (control_in version most verb left.entry) }
 {
-    let parts = left.parts(alloc, version, most)?;
-    control(alloc, verb, parts)
+    let parts = left.parts::<Part>(alloc, version, most)?;
+    control(verb, parts)
 }
 
 // The publish command of what follows its first word.
@@ -54,8 +58,8 @@ fn publish_command(
 ) -> Result<Command, ScriptFault>
     ensures { AnswersLine result (publish_in version most left.entry) }
 {
-    let parts = left.parts(alloc, version, most)?;
-    let notice = notice_of(alloc, parts)?;
+    let parts = left.parts::<(Name, Given)>(alloc, version, most)?;
+    let notice = notice_of(parts)?;
     Ok(Command::Publish(notice))
 }
 

@@ -1,17 +1,18 @@
 //! How a token is cut off a line.
-ghost use Rattle.std.specs.Prelude.{◌≡◌, ◌∷◌, [], false, IfOk, Some, None};
+ghost use Rattle.std.specs.Prelude.{◌≡◌, ◌≤◌, ◌∷◌, [], false, length, take, drop, IfOk, Some, None};
 ghost use Rattle.std.specs.List.{list_all};
 ghost use Rattle.std.specs.Str.{is_utf8};
 ghost use Rattle.ev_values.specs.Text.{is_open_byte};
-ghost use Rattle.ev_script.specs.Tokens.{equals_at, is_string, is_word_byte, quoted_at, run_at, skip, string_seen, string_token, token_at, tokens};
+ghost use Rattle.ev_script.specs.Tokens.{cut_by, equals_at, is_string, is_word_byte, quoted_at, run_at, skip, string_seen, string_token, token_at, tokens};
 ghost use Rattle.ev_script.specs.Seen.{seen};
-ghost use Rattle.ev_script.specs.Reading.{Cuts, Nexts, Quotes};
+ghost use Rattle.ev_script.specs.Form.{more_in, op_in, word_in};
+ghost use Rattle.ev_script.specs.Reading.{Cuts, Nexts, Quotes, TakesFront};
 
 use crate::token::Token;
 use ev_constraint::Op;
 use ev_memory::NoMemory;
-use ev_values::Text;
-use ev_wire::unescape;
+use ev_values::{Text, TextFault};
+use ev_wire::{op_named, unescape};
 use std::alloc::Global;
 
 /// The bytes of a line that are still to be cut.
@@ -21,13 +22,21 @@ pub(crate) struct Cutter<'a> {
     pub(crate) rest: &'a [u8],
 }
 
+// Each byte of a word stands at its own place, and a comma at every other place.
+static WORD_MAP: [u8; 256] = *b"\
+    ,,,,,,,,,,,,,,,,,,,,,,,,,,,,,,,,\
+    ,,,,,,,,,,,+,-.,0123456789,,,,,,\
+    ,ABCDEFGHIJKLMNOPQRSTUVWXYZ,,,,_\
+    ,abcdefghijklmnopqrstuvwxyz,,,,,\
+    ,,,,,,,,,,,,,,,,,,,,,,,,,,,,,,,,\
+    ,,,,,,,,,,,,,,,,,,,,,,,,,,,,,,,,\
+    ,,,,,,,,,,,,,,,,,,,,,,,,,,,,,,,,\
+    ,,,,,,,,,,,,,,,,,,,,,,,,,,,,,,,,";
+
 fn is_word_byte(b: u8) -> bool
     ensures { result ≡ is_word_byte b }
 {
-    match b {
-        b'a'..=b'z' | b'A'..=b'Z' | b'0'..=b'9' | b'_' | b'.' | b'-' | b'+' => true,
-        _ => false,
-    }
+    WORD_MAP[b as usize] != b','
 }
 
 fn is_open(b: u8) -> bool
@@ -76,6 +85,26 @@ fn string_seen<'a>(bytes: Vec<u8>) -> Token<'a>
             Some(text) => Token::Str(text),
             None => Token::Bad,
         }
+    }
+}
+
+// The token of a string's bytes, none of which is decoded.
+fn plain_seen<'a>(alloc: Global, bytes: &[u8]) -> Result<Token<'a>, NoMemory>
+    ensures { IfOk result (λ t. seen t ≡ string_seen bytes.now) }
+{
+    if bytes.len() > 1024 {
+        return Ok(if is_string(bytes) {
+            Token::Long
+        } else {
+            Token::Bad
+        });
+    }
+    match Text::read(alloc, bytes) {
+        Ok(text) => Ok(Token::Str(text)),
+        Err(TextFault::TooLong) => Ok(Token::Long),
+        Err(TextFault::BadUtf8(_)) => Ok(Token::Bad),
+        Err(TextFault::Control(_)) => Ok(Token::Bad),
+        Err(TextFault::NoMemory) => Err(NoMemory),
     }
 }
 
@@ -137,12 +166,41 @@ impl<'a> Cutter<'a> {
         Ok(None)
     }
 
-    fn string(&mut self, alloc: Global) -> Result<Token<'a>, NoMemory>
+    // How many bytes stand before the first closing mark, backslash or newline, or in all where there is none.
+    fn plain_len(&self) -> usize
+        ensures within { result ≤ length self.now.rest.now }
+        ensures quoted { quoted_at (take result self.now.rest.now) false (drop result self.now.rest.now) ≡ quoted_at [] false self.now.rest.now }
+    {
+        let bytes = self.rest;
+        for (i, b) in bytes.iter().enumerate() {
+            if *b == b'"' || *b == b'\\' || *b == b'\n' {
+                return i;
+            }
+        }
+        bytes.len()
+    }
+
+    // A string up to its closing mark, of which bytes are decoded.
+    fn escaped(&mut self, alloc: Global) -> Result<Token<'a>, NoMemory>
         ensures { Cuts result (string_token (quoted_at [] false self.old.rest.now) self.old.rest.now) self.new.rest.now }
     {
         match self.quoted(alloc)? {
             Some(bytes) => Ok(string_seen(bytes)),
             None => Ok(Token::Bad),
+        }
+    }
+
+    fn string(&mut self, alloc: Global) -> Result<Token<'a>, NoMemory>
+        ensures { Cuts result (string_token (quoted_at [] false self.old.rest.now) self.old.rest.now) self.new.rest.now }
+    {
+        let (plain, back) = self.rest.split_at(self.plain_len());
+        match back {
+            [b'"', after @ ..] => {
+                let token = plain_seen(alloc, plain)?;
+                self.rest = after;
+                Ok(token)
+            }
+            _ => self.escaped(alloc),
         }
     }
 
@@ -181,6 +239,74 @@ impl<'a> Cutter<'a> {
                 Token::Bad
             }),
             _ => Ok(Token::Bad),
+        }
+    }
+
+    /// The word in front; where none stands there what is left has no meaning.
+    pub(crate) fn word(&mut self) -> Option<&'a [u8]>
+        ensures { TakesFront (λ w. w.now) result (word_in (tokens self.old.rest.now)) (tokens self.new.rest.now) }
+    {
+        self.skip();
+        match self.rest {
+            [] => None,
+            [first, ..] => {
+                if is_word_byte(*first) {
+                    Some(self.run())
+                } else {
+                    None
+                }
+            }
+        }
+    }
+
+    // The sign that begins with the first byte, which was read.
+    #[tactic(auto, unfolding(crate::specs::Tokens::token_at))]
+    fn sign(&mut self, first: u8) -> Option<Op>
+        requires { is_word_byte first ≡ false }
+        ensures { TakesFront (λ o. o) result (op_in (cut_by tokens (first ∷ self.old.rest.now))) (tokens self.new.rest.now) }
+    {
+        match first {
+            b'=' => Some(Op::Eq),
+            b'<' => Some(if self.equals() { Op::Le } else { Op::Lt }),
+            b'>' => Some(if self.equals() { Op::Ge } else { Op::Gt }),
+            b'!' => { if self.equals() { Some(Op::Ne) } else { None } }
+            _ => None,
+        }
+    }
+
+    /// The operator in front; where none stands there what is left has no meaning.
+    pub(crate) fn op(&mut self) -> Option<Op>
+        ensures { TakesFront (λ o. o) result (op_in (tokens self.old.rest.now)) (tokens self.new.rest.now) }
+    {
+        self.skip();
+        match self.rest {
+            [] => None,
+            [first, after @ ..] => {
+                if is_word_byte(*first) {
+                    op_named(self.run())
+                } else {
+                    self.rest = after;
+                    self.sign(*first)
+                }
+            }
+        }
+    }
+
+    /// Whether a semicolon stands in front, and not the end of the line; where neither does what is left has no meaning.
+    pub(crate) fn more(&mut self) -> Option<bool>
+        ensures { TakesFront (λ m. m) result (more_in (tokens self.old.rest.now)) (tokens self.new.rest.now) }
+    {
+        self.skip();
+        match self.rest {
+            [] => Some(false),
+            [first, after @ ..] => {
+                if *first == b';' {
+                    self.rest = after;
+                    Some(true)
+                } else {
+                    None
+                }
+            }
         }
     }
 

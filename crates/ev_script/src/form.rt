@@ -1,17 +1,19 @@
 //! The form of a command, read from its tokens.
-ghost use Rattle.std.specs.Prelude.{◌≡◌, ◌<◌, [], length, IfOk};
-ghost use Rattle.ev_script.specs.Form.{attribute_in, constraint_in, given_in, head_in, kind_by, more_in, op_in, operand_in, part_of, parts_in, word_in};
-ghost use Rattle.ev_script.specs.Reading.{GivesFromTokens, ReadsTokens};
+ghost use Rattle.std.specs.Prelude.{◌≡◌, ◌≢◌, ◌<◌, [], length, IfOk};
+ghost use Rattle.ev_wire.specs.Words.{kind_named};
+ghost use Rattle.ev_script.specs.Form.{attribute_in, constraint_in, given_in, head_in, kind_by, kind_in, operand_in, part_of, parts_in};
+ghost use Rattle.ev_script.specs.Reading.{GathersTokens, IsGathered, ReadsTokens, TakesFront};
 
 use crate::fault::ScriptFault;
 use crate::number::int_given;
-use crate::part::CommandPart;
+use crate::part::{CommandPart, Parts};
+use crate::same::is_same;
 use crate::time::time_given;
 use crate::token::Token;
 use crate::tokens::Tokens;
 use ev_constraint::{BadConstraint, Constraint, Op, has_op};
-use ev_values::{Kind, Name, Value, is_name};
-use ev_wire::{kind_named, op_named, truth_named};
+use ev_values::{Kind, Name, NameFault, Value};
+use ev_wire::truth_named;
 use std::alloc::Global;
 
 /// A value as a line gives it.
@@ -32,6 +34,22 @@ pub enum Part {
     Beyond,
     /// A pattern whose operand is empty.
     Empty,
+}
+
+fn kind_named(word: &[u8]) -> Option<Kind>
+    ensures { result ≡ kind_named word.now }
+{
+    if is_same(word, b"bool") {
+        Some(Kind::Bool)
+    } else if is_same(word, b"int") {
+        Some(Kind::Int)
+    } else if is_same(word, b"str") {
+        Some(Kind::Str)
+    } else if is_same(word, b"time") {
+        Some(Kind::Time)
+    } else {
+        None
+    }
 }
 
 // The kind of the word in documents of the version.
@@ -67,13 +85,13 @@ fn part_of(name: Name, kind: Kind, op: Op, operand: Option<Given>) -> Option<Par
 }
 
 impl<'a> Tokens<'a> {
-    /// A word.
-    pub(crate) fn word(&mut self, alloc: Global) -> Result<&'a [u8], ScriptFault>
-        ensures { ReadsTokens (λ w. w.now) result (word_in self.old) self.new }
+    // The kind in front, in documents of the version.
+    fn kind(&mut self, version: u32) -> Option<Kind>
+        ensures { TakesFront (λ k. k) result (kind_in version self.old) self.new }
     {
-        match self.next(alloc)? {
-            Some(Token::Word(word)) => Ok(word),
-            _ => Err(ScriptFault::Syntax),
+        match self.word() {
+            Some(word) => kind_by(version, word),
+            None => None,
         }
     }
 
@@ -82,28 +100,47 @@ impl<'a> Tokens<'a> {
     fn head(&mut self, alloc: Global, version: u32) -> Result<(Name, Kind), ScriptFault>
         ensures { ReadsTokens (λ x. x) result (head_in version self.old) self.new }
     {
-        let word = self.word(alloc)?;
-        let Some(kind) = kind_by(version, self.word(alloc)?) else {
+        let Some(word) = self.word() else {
             return Err(ScriptFault::Syntax);
         };
-        if !is_name(word) {
+        let Some(kind) = self.kind(version) else {
             return Err(ScriptFault::Syntax);
-        }
+        };
         match Name::read(alloc, word) {
             Ok(name) => Ok((name, kind)),
-            Err(_) => Err(ScriptFault::NoMemory),
+            Err(NameFault::Empty) => Err(ScriptFault::Syntax),
+            Err(NameFault::TooLong) => Err(ScriptFault::Syntax),
+            Err(NameFault::BadByte(_)) => Err(ScriptFault::Syntax),
+            Err(NameFault::NoMemory) => Err(ScriptFault::NoMemory),
         }
     }
 
-    fn op(&mut self, alloc: Global) -> Result<Op, ScriptFault>
-        ensures { ReadsTokens (λ o. o) result (op_in self.old) self.new }
+    // A value that a word spells.
+    fn spelled(&mut self, kind: Kind) -> Option<Given>
+        requires { kind ≢ Kind.Str }
+        ensures { TakesFront (λ g. g) result (given_in kind self.old) self.new }
+    {
+        let Some(word) = self.word() else {
+            return None;
+        };
+        match kind {
+            Kind::Bool => match truth_named(word) {
+                Some(b) => Some(Given::Fit(Value::Bool(b))),
+                None => None,
+            },
+            Kind::Int => int_given(word),
+            Kind::Time => time_given(word),
+            Kind::Str => None,
+        }
+    }
+
+    // A string.
+    fn string(&mut self, alloc: Global) -> Result<Given, ScriptFault>
+        ensures { ReadsTokens (λ g. g) result (given_in Kind.Str self.old) self.new }
     {
         match self.next(alloc)? {
-            Some(Token::Word(word)) => match op_named(word) {
-                Some(op) => Ok(op),
-                None => Err(ScriptFault::Syntax),
-            },
-            Some(Token::Sign(op)) => Ok(op),
+            Some(Token::Str(text)) => Ok(Given::Fit(Value::Str(text))),
+            Some(Token::Long) => Ok(Given::Wide),
             _ => Err(ScriptFault::Syntax),
         }
     }
@@ -112,19 +149,10 @@ impl<'a> Tokens<'a> {
     fn given(&mut self, alloc: Global, kind: Kind) -> Result<Given, ScriptFault>
         ensures { ReadsTokens (λ g. g) result (given_in kind self.old) self.new }
     {
-        let token = self.next(alloc)?;
-        let given = match (kind, token) {
-            (Kind::Bool, Some(Token::Word(word))) => match truth_named(word) {
-                Some(b) => Some(Given::Fit(Value::Bool(b))),
-                None => None,
-            },
-            (Kind::Int, Some(Token::Word(word))) => int_given(word),
-            (Kind::Time, Some(Token::Word(word))) => time_given(word),
-            (Kind::Str, Some(Token::Str(text))) => Some(Given::Fit(Value::Str(text))),
-            (Kind::Str, Some(Token::Long)) => Some(Given::Wide),
-            _ => None,
-        };
-        match given {
+        if kind.is(Kind::Str) {
+            return self.string(alloc);
+        }
+        match self.spelled(kind) {
             Some(given) => Ok(given),
             None => Err(ScriptFault::Syntax),
         }
@@ -145,7 +173,9 @@ impl<'a> Tokens<'a> {
         ensures { ReadsTokens (λ p. p) result (constraint_in version self.old) self.new }
     {
         let (name, kind) = self.head(alloc, version)?;
-        let op = self.op(alloc)?;
+        let Some(op) = self.op() else {
+            return Err(ScriptFault::Syntax);
+        };
         let operand = self.operand(alloc, kind, op)?;
         match part_of(name, kind, op, operand) {
             Some(part) => Ok(part),
@@ -167,34 +197,23 @@ impl<'a> Tokens<'a> {
         Ok((name, given))
     }
 
-    // Whether a semicolon follows, and not the end of the line.
-    fn more(&mut self, alloc: Global) -> Result<bool, ScriptFault>
-        ensures { ReadsTokens (λ m. m) result (more_in self.old) self.new }
-    {
-        match self.next(alloc)? {
-            None => Ok(false),
-            Some(Token::Semicolon) => Ok(true),
-            _ => Err(ScriptFault::Syntax),
-        }
-    }
-
     /// The parts of a command, up to the end of the line; at most so many are read.
     pub(crate) fn parts<P: CommandPart>(
         &mut self,
         alloc: Global,
         version: u32,
         most: usize,
-    ) -> Result<Vec<P>, ScriptFault>
-        ensures parts { GivesFromTokens (λ v. v.items) result (parts_in (P.front version) most [] self.old) }
-        ensures some { IfOk result (λ v. 0 < length v.items) }
+    ) -> Result<Parts<P::Inside>, ScriptFault>
+        ensures { GathersTokens (λ k ps. IsGathered P.keeps P.inside P.is_beyond P.is_empty k.kept.items k.has_beyond k.has_empty ps) result (parts_in (P.front version) most [] self.old) }
     {
-        let mut read = Vec::new(alloc);
+        let mut parts = P::begin(alloc, self.room())?;
         for _ in 0..most {
             let part = P::read(self, alloc, version)?;
-            read.push(part)?;
-            let more = self.more(alloc)?;
-            if !more {
-                return Ok(read);
+            part.put(&mut parts)?;
+            match self.more() {
+                Some(true) => {}
+                Some(false) => return Ok(parts),
+                None => return Err(ScriptFault::Syntax),
             }
         }
         Err(ScriptFault::Syntax)

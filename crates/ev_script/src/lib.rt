@@ -3,6 +3,7 @@
 
 mod command;
 mod cutter;
+mod distinct;
 mod fault;
 mod form;
 mod law;
@@ -10,6 +11,7 @@ mod limits;
 mod line;
 mod number;
 mod part;
+mod same;
 mod time;
 mod token;
 mod tokens;
@@ -20,6 +22,7 @@ pub use fault::ScriptFault;
 pub use law::one_command;
 pub use line::Line;
 pub use number::are_digits;
+pub use same::is_same;
 pub use token::Token;
 pub use tokens::Tokens;
 pub use verb::{Verb, verb_named};

@@ -1,18 +1,17 @@
 //! The filter, the advertisement or the notice of a command's parts, or the first fault.
-ghost use Rattle.std.specs.Prelude.{◌≡◌, ◌<◌, length, IsPermutation};
-ghost use Rattle.std.specs.List.{list_any};
+ghost use Rattle.std.specs.Prelude.{◌≡◌, ℕ, List, false, IsPermutation};
 ghost use Rattle.ev_notice.specs.Canonical.{canonical};
 ghost use Rattle.ev_notice.specs.Notice.{AreRising};
-ghost use Rattle.ev_script.specs.Command.{control_fault, fits, is_beyond, is_empty, is_wide, publish_fault, wholes};
-ghost use Rattle.ev_script.specs.Reading.{Judges};
+ghost use Rattle.ev_script.specs.Command.{control_fault, fit_of, fits, is_beyond, is_empty, is_wide, publish_fault, whole_of, wholes};
+ghost use Rattle.ev_script.specs.Reading.{IsGathered, Judges, KeepsDistinct, KeepsFew};
+ghost use Rattle.ev_script.specs.declared.form.Given.{Given};
+ghost use Rattle.ev_script.specs.declared.form.Part.{Part};
 
 use crate::fault::ScriptFault;
-use crate::form::{Given, Part};
-use crate::part::insides;
+use crate::part::Parts;
 use ev_constraint::Constraint;
 use ev_notice::{Advert, Filter, FilterFault, Notice, NoticeFault};
-use ev_values::Name;
-use std::alloc::Global;
+use ev_values::{Name, Value};
 
 /// A filter or an advertisement: what is made of constraints, of which it has a bounded number.
 pub(crate) trait Limited: Drop {
@@ -52,64 +51,18 @@ impl Limited for Advert {
     }
 }
 
-fn is_beyond(part: &Part) -> bool
-    ensures { result ≡ is_beyond part.now }
-{
-    match part {
-        Part::Beyond => true,
-        _ => false,
-    }
-}
-
-fn is_empty(part: &Part) -> bool
-    ensures { result ≡ is_empty part.now }
-{
-    match part {
-        Part::Empty => true,
-        _ => false,
-    }
-}
-
-fn is_wide(attribute: &(Name, Given)) -> bool
-    ensures { result ≡ is_wide attribute.now }
-{
-    match attribute.1 {
-        Given::Wide => true,
-        Given::Fit(_) => false,
-    }
-}
-
-fn some_beyond(parts: &[Part]) -> bool
-    ensures { result ≡ list_any is_beyond parts.now }
-{
-    parts.iter().any(|part| is_beyond(part))
-}
-
-fn some_empty(parts: &[Part]) -> bool
-    ensures { result ≡ list_any is_empty parts.now }
-{
-    parts.iter().any(|part| is_empty(part))
-}
-
-fn some_wide(parts: &[(Name, Given)]) -> bool
-    ensures { result ≡ list_any is_wide parts.now }
-{
-    parts.iter().any(|part| is_wide(part))
-}
-
 /// What a control command's parts make.
-#[tactic(auto, using(crate::proofs::CommandLaws::control_beyond))]
-pub(crate) fn list_of<L: Limited>(alloc: Global, parts: Vec<Part>) -> Result<L, ScriptFault>
-    requires { 0 < length parts.items }
-    ensures { Judges (λ x. L.constraints x ≡ canonical (wholes parts.items)) result (control_fault L.most parts.items) }
+pub(crate) fn list_of<L: Limited>(parts: Parts<Constraint>) -> Result<L, ScriptFault>
+    ensures { (given : List Part) → IsGathered KeepsDistinct whole_of is_beyond is_empty parts.kept.items parts.has_beyond parts.has_empty given
+        → Judges (λ x. L.constraints x ≡ canonical (wholes given)) result (control_fault L.most given) }
 {
-    if some_beyond(&parts) {
+    if parts.has_beyond {
         return Err(ScriptFault::Value);
     }
-    if some_empty(&parts) {
+    if parts.has_empty {
         return Err(ScriptFault::Operand);
     }
-    match L::make(insides(alloc, parts)?) {
+    match L::make(parts.kept) {
         Ok(list) => Ok(list),
         Err(FilterFault::TooMany) => Err(ScriptFault::Count),
         Err(FilterFault::Nothing) => Err(ScriptFault::Syntax),
@@ -118,15 +71,14 @@ pub(crate) fn list_of<L: Limited>(alloc: Global, parts: Vec<Part>) -> Result<L, 
 }
 
 /// The notice of a publish command's parts.
-#[tactic(auto, using(crate::proofs::CommandLaws::publish_wide))]
-pub(crate) fn notice_of(alloc: Global, parts: Vec<(Name, Given)>) -> Result<Notice, ScriptFault>
-    requires { 0 < length parts.items }
-    ensures { Judges (λ n. IsPermutation (fits parts.items) n × AreRising n) result (publish_fault parts.items) }
+pub(crate) fn notice_of(parts: Parts<(Name, Value)>) -> Result<Notice, ScriptFault>
+    ensures { (given : List (List ℕ × Given)) → IsGathered KeepsFew fit_of is_wide (λ _. false) parts.kept.items parts.has_beyond parts.has_empty given
+        → Judges (λ n. IsPermutation (fits given) n × AreRising n) result (publish_fault given) }
 {
-    if some_wide(&parts) {
+    if parts.has_beyond {
         return Err(ScriptFault::Value);
     }
-    match Notice::make(insides(alloc, parts)?) {
+    match Notice::make(parts.kept) {
         Ok(notice) => Ok(notice),
         Err(NoticeFault::TooMany) => Err(ScriptFault::Count),
         Err(NoticeFault::Twice(_)) => Err(ScriptFault::Repeat),

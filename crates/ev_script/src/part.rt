@@ -1,9 +1,10 @@
 //! The two sorts of parts that commands have: constraints and attributes.
-ghost use Rattle.std.specs.Prelude.{◌≡◌, IfOk};
-ghost use Rattle.std.specs.List.{filter_map};
-ghost use Rattle.ev_script.specs.Command.{fit_of, whole_of};
+ghost use Rattle.std.specs.Prelude.{◌≡◌, false};
+ghost use Rattle.ev_script.specs.Command.{fit_of, is_beyond, is_empty, is_wide, whole_of};
 ghost use Rattle.ev_script.specs.Form.{attribute_in, constraint_in};
+ghost use Rattle.ev_script.specs.Reading.{KeepsDistinct, KeepsFew};
 
+use crate::distinct::make_room;
 use crate::fault::ScriptFault;
 use crate::form::{Given, Part};
 use crate::tokens::Tokens;
@@ -12,9 +13,21 @@ use ev_memory::NoMemory;
 use ev_values::{Name, Value};
 use std::alloc::Global;
 
+/// The parts of a command, as far as they are within the limits and needed, and whether others are there.
+#[derive(Drop)]
+pub(crate) struct Parts<T> {
+    /// Those within the limits: attributes in order, but at most 65, and constraints, of which equal ones may be one.
+    pub(crate) kept: Vec<T>,
+    /// Whether a value is beyond the limits.
+    pub(crate) has_beyond: bool,
+    /// Whether a pattern is empty.
+    pub(crate) has_empty: bool,
+}
+
 /// What stands between the semicolons of a command.
 pub(crate) trait CommandPart: Drop {
-    ghost use Rattle.std.specs.Prelude.{◌≡◌, ℕ, List};
+    ghost use Rattle.std.specs.Prelude.{◌≡◌, ◌||◌, ◌++◌, ◌∷◌, [], ℕ, Bool, List, false, IfOk, OnOk};
+    ghost use Rattle.std.specs.List.{filter_map};
     ghost use Rattle.std.specs.declared.option.Option.{Option};
     ghost use Rattle.ev_script.specs.Tokens.{Token};
     ghost use Rattle.ev_script.specs.Reading.{ReadsTokens};
@@ -26,13 +39,27 @@ pub(crate) trait CommandPart: Drop {
 
     ghost inside: { Self → Option Self.Inside };
 
+    ghost is_beyond: { Self → Bool };
+
+    ghost is_empty: { Self → Bool };
+
+    ghost keeps: { List Self.Inside → List Self.Inside → Type 0 };
+
+    /// No part, and room for so many.
+    fn begin(alloc: Global, room: usize) -> Result<Parts<Self::Inside>, NoMemory>
+        ensures kept { IfOk result (λ p. keeps p.kept.items []) }
+        ensures beyond { IfOk result (λ p. p.has_beyond ≡ false) }
+        ensures empty { IfOk result (λ p. p.has_empty ≡ false) };
+
     /// A part in front of what is left of the line, in documents of the version.
     fn read(left: &mut Tokens<'_>, alloc: Global, version: u32) -> Result<Self, ScriptFault>
         ensures { ReadsTokens (λ p. p) result (front version left.old) left.new };
 
-    /// What it is, if it is within the limits.
-    fn inside(self) -> Option<Self::Inside>
-        ensures { result ≡ inside self };
+    /// Puts it behind the others.
+    fn put(self, parts: &mut Parts<Self::Inside>) -> Result<(), NoMemory>
+        ensures kept { (before : List Self.Inside) → keeps parts.old.kept.items before → OnOk result (keeps parts.new.kept.items (before ++ filter_map inside (self ∷ []))) }
+        ensures beyond { OnOk result (parts.new.has_beyond ≡ (parts.old.has_beyond || is_beyond self)) }
+        ensures empty { OnOk result (parts.new.has_empty ≡ (parts.old.has_empty || is_empty self)) };
 }
 
 impl CommandPart for Part {
@@ -42,16 +69,34 @@ impl CommandPart for Part {
 
     ghost inside = { whole_of };
 
+    ghost is_beyond = { is_beyond };
+
+    ghost is_empty = { is_empty };
+
+    ghost keeps = { KeepsDistinct };
+
+    fn begin(alloc: Global, room: usize) -> Result<Parts<Constraint>, NoMemory> {
+        Ok(Parts {
+            kept: Vec::with_capacity(alloc, room)?,
+            has_beyond: false,
+            has_empty: false,
+        })
+    }
+
     fn read(left: &mut Tokens<'_>, alloc: Global, version: u32) -> Result<Part, ScriptFault> {
         left.constraint(alloc, version)
     }
 
-    fn inside(self) -> Option<Constraint> {
+    fn put(self, parts: &mut Parts<Constraint>) -> Result<(), NoMemory> {
         match self {
-            Part::Whole(constraint) => Some(constraint),
-            Part::Beyond => None,
-            Part::Empty => None,
+            Part::Whole(constraint) => {
+                make_room(&mut parts.kept)?;
+                parts.kept.push(constraint)?;
+            }
+            Part::Beyond => parts.has_beyond = true,
+            Part::Empty => parts.has_empty = true,
         }
+        Ok(())
     }
 }
 
@@ -62,6 +107,20 @@ impl CommandPart for (Name, Given) {
 
     ghost inside = { fit_of };
 
+    ghost is_beyond = { is_wide };
+
+    ghost is_empty = { λ _. false };
+
+    ghost keeps = { KeepsFew };
+
+    fn begin(alloc: Global, room: usize) -> Result<Parts<(Name, Value)>, NoMemory> {
+        Ok(Parts {
+            kept: Vec::with_capacity(alloc, room)?,
+            has_beyond: false,
+            has_empty: false,
+        })
+    }
+
     fn read(
         left: &mut Tokens<'_>,
         alloc: Global,
@@ -70,27 +129,16 @@ impl CommandPart for (Name, Given) {
         left.attribute(alloc, version)
     }
 
-    fn inside(self) -> Option<(Name, Value)> {
+    fn put(self, parts: &mut Parts<(Name, Value)>) -> Result<(), NoMemory> {
         let (name, given) = self;
         match given {
-            Given::Fit(value) => Some((name, value)),
-            Given::Wide => None,
+            Given::Fit(value) => {
+                if parts.kept.len() <= 64 {
+                    parts.kept.push((name, value))?;
+                }
+            }
+            Given::Wide => parts.has_beyond = true,
         }
+        Ok(())
     }
-}
-
-/// What is within the limits of the parts.
-pub(crate) fn insides<P: CommandPart>(
-    alloc: Global,
-    parts: Vec<P>,
-) -> Result<Vec<P::Inside>, NoMemory>
-    ensures { IfOk result (λ v. v.items ≡ filter_map P.inside parts.items) }
-{
-    let mut kept = Vec::with_capacity(alloc, parts.len())?;
-    for part in parts {
-        if let Some(inside) = part.inside() {
-            kept.push(inside)?;
-        }
-    }
-    Ok(kept)
 }

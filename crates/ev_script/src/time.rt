@@ -3,7 +3,7 @@ ghost use Rattle.std.specs.Prelude.{◌≡◌, true};
 ghost use Rattle.ev_script.specs.Form.{are_digits, time_given};
 
 use crate::form::Given;
-use crate::number::are_digits;
+use crate::number::{are_digits, short_digits};
 use ev_values::Value;
 
 // The number of digits, or what is beyond u64.
@@ -25,6 +25,12 @@ fn parsed_time(word: &[u8]) -> Option<Given>
 pub fn time_given(word: &[u8]) -> Option<Given>
     ensures { result ≡ time_given word.now }
 {
+    if word.len() >= 1 && word.len() <= 19 {
+        return match short_digits(word) {
+            Some(n) => Some(Given::Fit(Value::Time(n))),
+            None => None,
+        };
+    }
     if are_digits(word) {
         parsed_time(word)
     } else {

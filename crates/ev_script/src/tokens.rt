@@ -1,6 +1,7 @@
 //! The tokens of a line, one after the other.
 use crate::cutter::Cutter;
 use crate::token::Token;
+use ev_constraint::Op;
 use ev_memory::NoMemory;
 use std::alloc::Global;
 use std::marker::Model;
@@ -23,6 +24,8 @@ impl<'a> Model for Tokens<'a> {
 impl<'a> Tokens<'a> {
     ghost use Rattle.std.specs.Prelude.{◌≡◌};
     ghost use Rattle.ev_script.specs.Tokens.{tokens};
+    ghost use Rattle.ev_script.specs.Form.{more_in, op_in, word_in};
+    ghost use Rattle.ev_script.specs.Reading.{TakesFront};
     ghost use Rattle.ev_script.specs.Seen.{TakesToken};
 
     /// The tokens of the line.
@@ -32,6 +35,38 @@ impl<'a> Tokens<'a> {
         Tokens {
             cutter: Cutter { rest: line },
         }
+    }
+
+    /// The word in front; where none stands there what is left has no meaning.
+    pub(crate) fn word(&mut self) -> Option<&'a [u8]>
+        ensures { TakesFront (λ w. w.now) result (word_in self.old) self.new }
+    {
+        self.cutter.word()
+    }
+
+    /// The operator in front; where none stands there what is left has no meaning.
+    pub(crate) fn op(&mut self) -> Option<Op>
+        ensures { TakesFront (λ o. o) result (op_in self.old) self.new }
+    {
+        self.cutter.op()
+    }
+
+    /// Whether a semicolon stands in front, and not the end of the line; where neither does what is left has no meaning.
+    pub(crate) fn more(&mut self) -> Option<bool>
+        ensures { TakesFront (λ m. m) result (more_in self.old) self.new }
+    {
+        self.cutter.more()
+    }
+
+    /// For how many parts to make room: one more than there are semicolons in the next 1,024 bytes, but at most 64.
+    pub(crate) fn room(&self) -> usize {
+        let bytes = self.cutter.rest;
+        let bytes = &bytes[..bytes.len().min(1024)];
+        let mut semicolons: usize = 0;
+        for b in bytes {
+            semicolons += (*b == b';') as usize;
+        }
+        semicolons.min(63) + 1
     }
 
     /// The next token; `None` at the end of the line. Where memory runs out no token is cut off.

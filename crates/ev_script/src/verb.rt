@@ -2,6 +2,8 @@
 ghost use Rattle.std.specs.Prelude.{◌≡◌};
 ghost use Rattle.ev_script.specs.Form.{verb_named};
 
+use crate::same::is_same;
+
 /// The first word of a command: what a client asks of its server.
 #[derive(Clone, Copy, Debug, PartialEq, Eq)]
 pub enum Verb {
@@ -21,15 +23,15 @@ pub enum Verb {
 pub fn verb_named(word: &[u8]) -> Option<Verb>
     ensures { result ≡ verb_named word.now }
 {
-    if word == b"subscribe".as_slice() {
+    if is_same(word, b"subscribe") {
         Some(Verb::Subscribe)
-    } else if word == b"unsubscribe".as_slice() {
+    } else if is_same(word, b"unsubscribe") {
         Some(Verb::Unsubscribe)
-    } else if word == b"advertise".as_slice() {
+    } else if is_same(word, b"advertise") {
         Some(Verb::Advertise)
-    } else if word == b"unadvertise".as_slice() {
+    } else if is_same(word, b"unadvertise") {
         Some(Verb::Unadvertise)
-    } else if word == b"publish".as_slice() {
+    } else if is_same(word, b"publish") {
         Some(Verb::Publish)
     } else {
         None
