@@ -15,7 +15,7 @@ use Rattle.ev_numnet.specs.Links.{messages_at, AreSame}
 
 -- the net whose run it is, the cores, what is on each link, and the journal
 abbrev pub seen : code.Servers → Servers
-seen servers = record { run = servers.finder; cores = servers.places.items; messages = messages_at servers.links; journal = servers.journal.items }
+seen servers = record { run = servers.tables.now; cores = servers.places.items; messages = messages_at servers.links; journal = servers.journal.items }
 
 -- as a network of a net
 abbrev pub shown : NetParts → code.Servers → NetworkParts
@@ -40,7 +40,7 @@ pub record AreClients (net : NetParts) (clients : List (List ℕ)) : Type 0 wher
 
 -- nothing of these is other than it was
 pub record IsUnchanged (old new : code.Servers) : Type 0 where
-  pub run : new.finder ≡ old.finder
+  pub run : new.tables.now ≡ old.tables.now
   pub cores : new.places.items ≡ old.places.items
   pub messages : AreSame old.links new.links
   pub journal : new.journal.items ≡ old.journal.items

@@ -5,7 +5,6 @@
 #![tactic(auto)]
 
 mod begin;
-mod finding;
 mod inboxes;
 mod links;
 mod making;

@@ -209,7 +209,7 @@ fn first_command<'a>(
     ensures err { OnErr result (IsNetwork net.now last (seen servers.new) × (servers.new.journal.items ≡ servers.old.journal.items)) }
 {
     let home = home(net, client);
-    let tables = servers.finder.tables();
+    let tables = servers.tables;
     let before = begin(servers.alloc, tables, &mut servers.places, last, own)?;
     let neighbours = net.tree(own).neighbours(home);
     if let Err(fault) = servers.command(home, client, neighbours) {

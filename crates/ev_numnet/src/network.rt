@@ -11,7 +11,6 @@ ghost use Rattle.ev_numnet.specs.Kept.{AreServers};
 ghost use Rattle.ev_numnet.specs.Seen.{AreClients};
 ghost use Rattle.ev_turns.specs.Told.{told_of};
 
-use crate::finding::Finder;
 use crate::inboxes::take_inboxes;
 use crate::links::Links;
 use crate::making::{command, home, next_phase, received, refused, take, version};
@@ -114,7 +113,7 @@ impl<'a> Network<'a> {
             places: places(alloc, tables, count)?,
             links: Links::new(alloc)?,
             journal: Vec::new(alloc),
-            finder: Finder::new(alloc, tables)?,
+            tables,
         };
         Ok(Network {
             tables,

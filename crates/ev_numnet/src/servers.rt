@@ -18,7 +18,6 @@ ghost use Rattle.ev_numnet.specs.Acted.{IsActed};
 ghost use Rattle.ev_numnet.specs.Seen.{CanAct, seen, IsUnchanged};
 ghost use Rattle.ev_numnet.specs.Links.{WaitingParts, messages_at, messages_to, waiting_in, has_room};
 
-use crate::finding::Finder;
 use crate::links::Links;
 use crate::place::Place;
 use crate::waiting::Waiting;
@@ -26,16 +25,17 @@ use ev_memory::NoMemory;
 use ev_message::Sending;
 use ev_model::{Act, Entry};
 use ev_numserver::Step;
+use ev_tables::Tables;
 use std::alloc::Global;
 
-/// The servers by rising number, what is on the links between them, what they did, and what finds publications.
+/// The servers by rising number, what is on the links between them, what they did, and the tables of their run.
 #[derive(Drop)]
 pub(crate) struct Servers<'a> {
     pub(crate) alloc: Global,
     pub(crate) places: Vec<Place<'a>>,
     pub(crate) links: Links<'a>,
     pub(crate) journal: Vec<Entry>,
-    pub(crate) finder: Finder<'a>,
+    pub(crate) tables: &'a Tables<'a>,
 }
 
 /// Messages that a step sends go on the links of its server, and their receivers into a list. There is room for both, so it
@@ -136,13 +136,12 @@ impl<'a> Servers<'a> {
         requires lives { (core : CoreParts) → slice_get self.old.places.items (server - 1) ≡ Some core → Has client (client_numbers core.clients) }
         requires left { (core : CoreParts) (s : SessionParts) → slice_get self.old.places.items (server - 1) ≡ Some core → Has s core.clients
             → s.client ≡ client → s.taken < length s.script }
-        requires run { (core : CoreParts) → slice_get self.old.places.items (server - 1) ≡ Some core → core.net ≡ self.old.finder }
         ensures acted { OnOk result (IsActed (server - 1) (Does (NextCommand client)) (acts.Command client) (seen self.old) (seen self.new)) }
         ensures err { OnErr result (IsUnchanged self.old self.new) }
     {
         let outs = self.make_room(server, neighbours)?;
         let place = &mut self.places[server as usize - 1];
-        let stepped = place.command(self.alloc, client, &mut self.finder)?;
+        let stepped = place.command(self.alloc, client)?;
         put(
             self.alloc,
             &mut self.links,

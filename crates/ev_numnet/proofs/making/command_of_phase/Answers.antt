@@ -49,6 +49,3 @@ returns-clause-err c = journal_on_err c.args.net.now c.args.phase c.command.resu
     (commanded_now c.args.net.now c.args.phase (seen c.args.servers.now) (seen c.command.new.self) c.requires.kept c.args.client c.requires.next c.command.result
     (on_ok_same c.args.net.now c.args.client c.home-home.result c.args.servers.now c.command.new.self c.command.result c.home-home.ensures c.command.ensures.acted)
     (same_on_err c.args.servers.now c.command.new.self c.command.result c.command.ensures.err))
-
-pub command-requires-clause-run : goal.command-requires-clause-run
-command-requires-clause-run c = λ core at. c.requires.kept.cores.nets (c.home-home.result - 1) core at ∙ sym c.requires.kept.run
