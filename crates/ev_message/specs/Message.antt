@@ -1,6 +1,7 @@
 -- What is carried by numbers, and the message of the runs of the network that it stands for.
 use Rattle.std.specs.Prelude.{◌≡◌, ◌<◌, length}
 use Rattle.ev_order.specs.Order.{picked}
+use Rattle.ev_run.specs.Machine.{Stamped}
 use Rattle.ev_wire.specs.declared.semantics.Semantics.TheVariants.{Advertisement}
 use Rattle.ev_routing.specs.Server.{Message, Subs, Advs, Noticed}
 use Rattle.ev_theory.specs.Real.{real}
@@ -10,6 +11,7 @@ use Rattle.ev_tables.specs.Found.{publication_at}
 use Rattle.ev_message.specs.Parts.{IsChange}
 use Rattle.ev_message.specs.declared.load.Load.{Load}
 use Rattle.ev_message.specs.declared.load.Load.TheVariants as loads
+use Rattle.ev_message.specs.declared.stamped.StampedLoad.{StampedLoad}
 
 -- what is carried by numbers stands for this message
 abbrev pub meaning : NetParts → Load → Message real
@@ -23,3 +25,7 @@ abbrev pub IsLoad : NetParts → Load → Type 0
 IsLoad net (loads.Publication number) = number < length (known_publications 1 net.clients)
 IsLoad net (loads.Filters change) = IsChange (length (known_filters net.clients)) change
 IsLoad net (loads.Adverts change) = (net.semantics ≡ Advertisement) × IsChange (length (known_adverts net.clients)) change
+
+-- what a load under a stamp says in a net
+abbrev pub said : NetParts → StampedLoad → Stamped (Message real)
+said net stamped = record { stamp = stamped.stamp; message = meaning net stamped.load }

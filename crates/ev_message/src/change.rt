@@ -1,7 +1,8 @@
 //! Changes of what is sent on a link.
-ghost use Rattle.std.specs.Prelude.{◌≡◌, ◌⊎◌, ℕ, IfOk};
-ghost use Rattle.ev_sets.specs.Sets.{Has};
+ghost use Rattle.std.specs.Prelude.{◌≡◌, IfOk, IsTrue};
+ghost use Rattle.ev_message.specs.Parts.{IsChange};
 
+use crate::numbers::{are_apart, are_below, are_rising};
 use ev_bits::Row;
 use ev_memory::NoMemory;
 use std::alloc::Global;
@@ -53,5 +54,17 @@ impl Change {
         ensures { result.now ≡ self.now.added }
     {
         &self.numbers.added
+    }
+
+    /// Whether it is a change of numbers below a bound: both lists rise, all numbers are below it, and none is in both.
+    pub fn is_below(&self, bound: u32) -> bool
+        ensures { IsTrue result → IsChange bound self.now }
+    {
+        let Numbers { withdrawn, added } = &*self.numbers;
+        are_rising(withdrawn)
+            && are_rising(added)
+            && are_below(withdrawn, bound)
+            && are_below(added, bound)
+            && are_apart(withdrawn, added)
     }
 }

@@ -7,7 +7,10 @@
 mod change;
 mod load;
 mod message;
+mod numbers;
+mod stamped;
 
 pub use change::Change;
 pub use load::Load;
 pub use message::{Message, Sending};
+pub use stamped::StampedLoad;

@@ -12,6 +12,7 @@ ghost use Rattle.ev_session.specs.declared.planned.Planned.TheVariants as plans;
 ghost use Rattle.ev_session.specs.Plan.{next_plan};
 ghost use Rattle.ev_session.specs.Session.{SessionParts};
 ghost use Rattle.ev_tables.specs.Found.{publication_at};
+ghost use Rattle.ev_message.specs.Message.{IsLoad, meaning};
 ghost use Rattle.ev_numserver.specs.Clients.{bare, client_numbers};
 ghost use Rattle.ev_numserver.specs.Core.{core_parts, published_from, without_inbox};
 ghost use Rattle.ev_numserver.specs.Kept.{IsKept};
@@ -25,7 +26,7 @@ use crate::ledger::Ledger;
 use crate::spreading::spread;
 use crate::stepped::{Step, StepFault};
 use ev_forwarding::Change;
-use ev_message::Message;
+use ev_message::{Load, Message};
 use ev_numsession::Session;
 use ev_routing::LAST_LINK;
 use ev_tables::Tables;
@@ -160,8 +161,41 @@ impl<'a> Core<'a> {
         Ok(Step { stamp, sent })
     }
 
-    /// Takes a message that a neighbour sent with its stamp. Where it is a publication, the route is that of its notice by what
-    /// was published.
+    /// Takes what a neighbour sent with its stamp. Where it is a publication, the route is that of its notice by what was
+    /// published.
+    pub fn take_load(
+        &mut self,
+        from: u32,
+        stamp: u64,
+        load: &Load,
+        route: &[u32],
+    ) -> Result<Step<'a>, StepFault>
+        requires from { Has from self.old.control.links }
+        requires stamp { stamp < 2 ^ 62 }
+        requires load { IsLoad self.old.net load.now }
+        requires route { RoutesMessage self.old (meaning self.old.net load.now) route.now }
+        ensures step { IfOk result (λ s. MakesStep (Takes from (meaning self.old.net load.now)) stamp self.old self.new s.stamp s.sent.items) }
+        ensures interfaces { OnOk result (self.new.interfaces ≡ self.old.interfaces) }
+        ensures exhausted { (s : ℕ) → IsErrOf result (StepFault.StampsExhausted s) ↔ ((max self.old.clock stamp ≡ last_stamp) × (s ≡ last_stamp)) }
+        ensures err { OnErr result (self.new ≡ self.old) }
+    {
+        let stamp = match self.next_stamp(stamp) {
+            Ok(stamp) => stamp,
+            Err(fault) => return Err(fault),
+        };
+        let sent = act(
+            self.alloc,
+            &mut self.ledger,
+            &mut self.clients,
+            from,
+            load,
+            route,
+        )?;
+        self.clock = stamp;
+        Ok(Step { stamp, sent })
+    }
+
+    /// The same of a message of the run.
     pub fn take_message(
         &mut self,
         from: u32,
@@ -178,20 +212,7 @@ impl<'a> Core<'a> {
         ensures exhausted { (s : ℕ) → IsErrOf result (StepFault.StampsExhausted s) ↔ ((max self.old.clock stamp ≡ last_stamp) × (s ≡ last_stamp)) }
         ensures err { OnErr result (self.new ≡ self.old) }
     {
-        let stamp = match self.next_stamp(stamp) {
-            Ok(stamp) => stamp,
-            Err(fault) => return Err(fault),
-        };
-        let sent = act(
-            self.alloc,
-            &mut self.ledger,
-            &mut self.clients,
-            from,
-            message.load(),
-            route,
-        )?;
-        self.clock = stamp;
-        Ok(Step { stamp, sent })
+        self.take_load(from, stamp, message.load(), route)
     }
 
     /// Publishes what is staged. It takes no memory, so its one refusal is that stamps are exhausted; the answer is the stamp.
