@@ -2,7 +2,7 @@
 ghost use Rattle.std.specs.Prelude.{◌≡◌, IfOk, IsTrue};
 ghost use Rattle.ev_message.specs.Parts.{IsChange};
 
-use crate::numbers::{are_apart, are_below, are_rising};
+use crate::numbers::{are_apart, are_rising_below};
 use ev_bits::Row;
 use ev_memory::NoMemory;
 use std::alloc::Global;
@@ -60,11 +60,14 @@ impl Change {
     pub fn is_below(&self, bound: u32) -> bool
         ensures { IsTrue result → IsChange bound self.now }
     {
-        let Numbers { withdrawn, added } = &*self.numbers;
-        are_rising(withdrawn)
-            && are_rising(added)
-            && are_below(withdrawn, bound)
-            && are_below(added, bound)
-            && are_apart(withdrawn, added)
+        let withdrawn = self.withdrawn();
+        let added = self.added();
+        if !are_rising_below(withdrawn, bound) {
+            return false;
+        }
+        if !are_rising_below(added, bound) {
+            return false;
+        }
+        are_apart(withdrawn, added)
     }
 }

@@ -3,7 +3,7 @@ ghost use Rattle.std.specs.Prelude.{◌≡◌, ◌<◌, ℕ, nat_lt, IsTrue};
 ghost use Rattle.ev_sets.specs.Sets.{Has, IsRising};
 
 /// Whether numbers rise.
-pub(crate) fn are_rising(numbers: &[u32]) -> bool
+fn are_rising(numbers: &[u32]) -> bool
     ensures { IsTrue result → IsRising nat_lt numbers.now }
 {
     for place in 1..numbers.len() {
@@ -15,7 +15,7 @@ pub(crate) fn are_rising(numbers: &[u32]) -> bool
 }
 
 /// Whether all numbers are below a bound.
-pub(crate) fn are_below(numbers: &[u32], bound: u32) -> bool
+fn are_below(numbers: &[u32], bound: u32) -> bool
     ensures { IsTrue result → (i : ℕ) → Has i numbers.now → i < bound }
 {
     for number in numbers {
@@ -24,6 +24,17 @@ pub(crate) fn are_below(numbers: &[u32], bound: u32) -> bool
         }
     }
     true
+}
+
+/// Whether numbers rise and are below a bound.
+pub(crate) fn are_rising_below(numbers: &[u32], bound: u32) -> bool
+    ensures rising { IsTrue result → IsRising nat_lt numbers.now }
+    ensures below { IsTrue result → (i : ℕ) → Has i numbers.now → i < bound }
+{
+    if !are_rising(numbers) {
+        return false;
+    }
+    are_below(numbers, bound)
 }
 
 /// Whether no number is in both lists.

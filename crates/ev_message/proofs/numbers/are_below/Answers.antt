@@ -1,5 +1,5 @@
 use Rattle.std.proofs.Common.{ℕ, ◌<◌, length, get_or, arith}
-use Rattle.ev_message.proofs.Numbers.{each}
+use Rattle.ev_message.proofs.Members.{each}
 use Rattle.ev_message.proofs.numbers.are_below.Goals as goal
 
 pub returns : goal.returns
