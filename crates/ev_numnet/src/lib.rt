@@ -6,6 +6,7 @@
 
 mod begin;
 mod inboxes;
+mod keeping;
 mod links;
 mod making;
 mod network;
@@ -21,5 +22,6 @@ mod trying;
 mod waiting;
 mod walking;
 
+pub use keeping::{Keeping, Kept, Passed};
 pub use network::Network;
 pub use retelling::{retell, turn_of};
