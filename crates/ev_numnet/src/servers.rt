@@ -93,7 +93,7 @@ fn put<'a>(
     requires apart { IsDistinct (map (λ s. s.to) step.sent.items) }
     requires stamp { step.stamp < 2 ^ 62 }
     requires outs { (outs.items ≡ []) × (length step.sent.items ≤ vec_capacity outs) }
-    requires room { journal.old.room ≡ true }
+    requires journal { journal.old.room ≡ true }
     ensures here { (b : ℕ) → messages_at links.new server b ≡ messages_at links.old server b ++ messages_to step.entry.stamp step.entry.sent.items b }
     ensures others { (a b : ℕ) → (a ≡ server → ⊥) → messages_at links.new a b ≡ messages_at links.old a b }
     ensures entry { journal.new.entries ≡ journal.old.entries ++ entry_parts step.entry.stamp server act (map (λ s. s.to) step.entry.sent.items) ∷ [] }
