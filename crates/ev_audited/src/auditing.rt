@@ -25,7 +25,7 @@ use ev_audit::{Claim, read_claim};
 use ev_input::law::net_is_sound;
 use ev_memory::NoMemory;
 use ev_model::{Entry, Net, Turn};
-use ev_numnet::Network;
+use ev_numnet::{Kept, Network};
 use ev_report::total;
 use ev_tables::Tables;
 use std::alloc::Global;
@@ -44,12 +44,12 @@ pub struct Audited {
 }
 
 // The journal of a network, and how many deliveries there were.
-fn left(network: Network<'_>) -> Result<(Vec<Entry>, u64), NoMemory>
+fn left(network: Network<'_, Kept>) -> Result<(Vec<Entry>, u64), NoMemory>
     ensures journal { IfOk result (λ p. p.0.items ≡ network.entry.journal) }
     ensures deliveries { IfOk result (λ p. p.1 ≡ total (of_clients network.entry.net (received_by network.entry.net network.entry.journal))) }
 {
     let (journal, received) = network.into_parts()?;
-    Ok((journal, total(&received)?))
+    Ok((journal.into_entries(), total(&received)?))
 }
 
 // Compares the text of the run of a network with an output, whose trace was compared with what stands behind a place of it. Where the deliveries do not end
@@ -57,7 +57,7 @@ fn left(network: Network<'_>) -> Result<(Vec<Entry>, u64), NoMemory>
 fn compare(
     alloc: Global,
     tables: &Tables<'_>,
-    network: &Network<'_>,
+    network: &Network<'_, Kept>,
     text: &mut Comparing<'_>,
     traced: &Comparing<'_>,
     at: usize,
@@ -82,7 +82,7 @@ fn made<'a, 'b>(
     tables: &'a Tables<'a>,
     turns: &[(u32, Turn)],
     output: &'b [u8],
-) -> Result<(Network<'a>, Comparing<'b>), AuditFault>
+) -> Result<(Network<'a, Kept>, Comparing<'b>), AuditFault>
     requires { IsSound tables.now }
     ensures made { TellsMade (λ p. p.0) tables.now turns.now result }
     ensures claimed { IfOk result (λ p. p.1.claimed ≡ output.now) }

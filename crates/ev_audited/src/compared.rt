@@ -10,7 +10,7 @@ ghost use Rattle.ev_audited.specs.Comparing.{GoesOn};
 use crate::comparing::Comparing;
 use ev_memory::NoMemory;
 use ev_model::{Client, Delivery, Net};
-use ev_numnet::Network;
+use ev_numnet::{Kept, Network};
 use ev_report::{push_client, push_delivery, push_refused};
 use ev_tables::Tables;
 use std::alloc::Global;
@@ -69,7 +69,7 @@ fn compare_sections(
     alloc: Global,
     text: &mut Comparing<'_>,
     net: &Net,
-    network: &Network<'_>,
+    network: &Network<'_, Kept>,
 ) -> Result<(), NoMemory>
     requires few { length net.now.clients ≤ 1024 }
     requires same { network.now.net ≡ net.now }
@@ -96,7 +96,7 @@ pub fn compare_deliveries(
     alloc: Global,
     text: &mut Comparing<'_>,
     tables: &Tables<'_>,
-    network: &Network<'_>,
+    network: &Network<'_, Kept>,
 ) -> Result<(), NoMemory>
     requires few { length tables.now.clients ≤ 1024 }
     requires same { network.now.net ≡ tables.now }

@@ -12,7 +12,7 @@ use crate::comparing::Comparing;
 use crate::fault::{AuditFault, AuditKind};
 use ev_memory::NoMemory;
 use ev_model::{Client, Entry, Sent, Turn};
-use ev_numnet::{Network, turn_of};
+use ev_numnet::{Kept, Network, Passed, turn_of};
 use ev_report::{push_trace_entry, push_trace_head};
 use ev_tables::Tables;
 use std::alloc::Global;
@@ -62,7 +62,7 @@ fn compare_entries(
     ensures { OnOk result (GoesOn text.old text.new (entries_text tables.now.clients journal.now (told_by tables.now journal.now))) }
 {
     let mut lines = Vec::new(alloc);
-    let mut network = Network::start(alloc, tables)?;
+    let mut network: Network<'_, Passed> = Network::start(alloc, tables)?;
     let clients = clients_of(tables);
     for entry in journal {
         network.turn(turn_of(entry))?;
@@ -73,7 +73,7 @@ fn compare_entries(
 }
 
 /// Whether the run of a network is drained; where it is the network is as before.
-pub fn is_drained(network: &mut Network<'_>) -> Result<bool, NoMemory>
+pub fn is_drained(network: &mut Network<'_, Kept>) -> Result<bool, NoMemory>
     ensures drained { IfOk result (λ drained. TellsDrained drained network.old.net network.old.journal) }
     ensures same { IfOk result (λ drained. drained ≡ true → network.new ≡ network.old) }
 {
@@ -106,7 +106,7 @@ fn compare_last(
     text: &mut Comparing<'_>,
     lines: &mut Vec<u8>,
     clients: &[Client],
-    network: &Network<'_>,
+    network: &Network<'_, Kept>,
 ) -> Result<(), NoMemory>
     requires { clients.now ≡ network.now.net.clients }
     ensures { OnOk result (ComparesLast network.now text.old text.new) }
@@ -123,7 +123,7 @@ fn make_turn(
     text: &mut Comparing<'_>,
     lines: &mut Vec<u8>,
     clients: &[Client],
-    network: &mut Network<'_>,
+    network: &mut Network<'_, Kept>,
     turn: Turn,
 ) -> Result<bool, NoMemory>
     requires { clients.now ≡ network.old.net.clients }
@@ -143,7 +143,7 @@ pub fn make_compared<'a>(
     text: &mut Comparing<'_>,
     tables: &'a Tables<'a>,
     turns: &[(u32, Turn)],
-) -> Result<Network<'a>, AuditFault>
+) -> Result<Network<'a, Kept>, AuditFault>
     requires { IsSound tables.now }
     ensures made { TellsMade (λ network. network) tables.now turns.now result }
     ensures compared { IfOk result (λ network. GoesOn text.old text.new (trace_text tables.now network.journal (told_by tables.now network.journal))) }

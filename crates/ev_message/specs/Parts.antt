@@ -2,9 +2,6 @@
 use Rattle.std.specs.Prelude.{ℕ, ◌<◌, nat_lt, List, map}
 use Rattle.std.specs.List.{flat_map}
 use Rattle.ev_sets.specs.Sets.{Has, IsRising}
-use Rattle.ev_notice.specs.Notice.{Attribute}
-use Rattle.ev_bits.specs.Rows.{Numbers}
-use Rattle.ev_wire.specs.declared.id.Id.{Id}
 use Rattle.ev_routing.specs.Server.{Message}
 use Rattle.ev_theory.specs.Real.{real}
 use Rattle.ev_model.specs.Parts.{NetParts}
@@ -13,12 +10,6 @@ use Rattle.ev_model.specs.Parts.{NetParts}
 pub record ChangeParts : Type 0 where
   pub withdrawn : List ℕ
   pub added : List ℕ
-
--- a publication, with the numbers of the filters that it matches
-pub record PublicationParts : Type 0 where
-  pub id : Id
-  pub notice : List Attribute
-  pub matched : Numbers
 
 -- a message, in the net whose run it is in
 pub record MessageParts : Type 0 where

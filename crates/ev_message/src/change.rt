@@ -1,18 +1,25 @@
 //! Changes of what is sent on a link.
-ghost use Rattle.std.specs.Prelude.{◌≡◌, ◌⊎◌, ℕ, IfOk};
-ghost use Rattle.ev_sets.specs.Sets.{Has};
+ghost use Rattle.std.specs.Prelude.{◌≡◌, IfOk, IsTrue};
+ghost use Rattle.ev_message.specs.Parts.{IsChange};
 
+use crate::numbers::{are_apart, are_rising_below};
 use ev_bits::Row;
 use ev_memory::NoMemory;
 use std::alloc::Global;
 use std::marker::Model;
 
-/// A change of the filters or of the advertisements that a server sends on a link, by their numbers: what it withdraws and
-/// what it adds, both rising.
+/// What a change withdraws and what it adds.
 #[derive(Drop)]
-pub struct Change {
+struct Numbers {
     withdrawn: Vec<u32>,
     added: Vec<u32>,
+}
+
+/// A change of the filters or of the advertisements that a server sends on a link, by their numbers: what it withdraws and
+/// what it adds, both rising. It is boxed, so that the many publications on the links don't take the room of a change.
+#[derive(Drop)]
+pub struct Change {
+    numbers: Box<Numbers>,
 }
 
 impl Model for Change {
@@ -20,7 +27,7 @@ impl Model for Change {
 
     ghost Value = { ChangeParts };
 
-    ghost view = { λ c. record { withdrawn = c.withdrawn.items; added = c.added.items } };
+    ghost view = { λ c. record { withdrawn = c.numbers.value.withdrawn.items; added = c.numbers.value.added.items } };
 }
 
 impl Change {
@@ -31,20 +38,36 @@ impl Change {
     {
         let withdrawn = withdrawn.members(alloc)?;
         let added = added.members(alloc)?;
-        Ok(Change { withdrawn, added })
+        let numbers = Box::new(alloc, Numbers { withdrawn, added })?;
+        Ok(Change { numbers })
     }
 
     /// The numbers of what it withdraws.
     pub fn withdrawn(&self) -> &[u32]
         ensures { result.now ≡ self.now.withdrawn }
     {
-        &self.withdrawn
+        &self.numbers.withdrawn
     }
 
     /// The numbers of what it adds.
     pub fn added(&self) -> &[u32]
         ensures { result.now ≡ self.now.added }
     {
-        &self.added
+        &self.numbers.added
+    }
+
+    /// Whether it is a change of numbers below a bound: both lists rise, all numbers are below it, and none is in both.
+    pub fn is_below(&self, bound: u32) -> bool
+        ensures { IsTrue result → IsChange bound self.now }
+    {
+        let withdrawn = self.withdrawn();
+        let added = self.added();
+        if !are_rising_below(withdrawn, bound) {
+            return false;
+        }
+        if !are_rising_below(added, bound) {
+            return false;
+        }
+        are_apart(withdrawn, added)
     }
 }

@@ -43,6 +43,16 @@ impl<'a> Message<'a> {
     }
 }
 
+impl<'a> Message<'a> {
+    /// What it carries, without its tables.
+    pub fn into_load(self) -> Load
+        ensures load { IsLoad self.entry.net result }
+        ensures means { self.entry.message ≡ meaning self.entry.net result }
+    {
+        self.load
+    }
+}
+
 /// A message that a step sends, with the neighbour that it goes to.
 #[derive(Drop)]
 pub struct Sending<'a> {

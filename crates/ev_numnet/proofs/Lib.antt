@@ -4,7 +4,6 @@ pub mod Acted
 pub mod Sent
 pub mod Published
 pub mod Routes
-pub mod Ids
 pub mod Placed
 pub mod Putting
 pub mod Able

@@ -10,16 +10,14 @@ use Rattle.ev_theory.specs.Real.{real}
 use Rattle.ev_theory.proofs.Meaning.{matches_plain}
 use Rattle.ev_wire.specs.Messages.{Lists}
 use Rattle.ev_model.specs.Parts.{NetParts}
-use Rattle.ev_catalogue.specs.Known.{known_filters}
+use Rattle.ev_catalogue.specs.Known.{PublicationParts, known_filters}
 use Rattle.ev_matcher.specs.Matching.{matched}
 use Rattle.ev_matcher.proofs.Members.{matched-iff}
 use Rattle.ev_forwarding.specs.Published.{Published}
 use Rattle.ev_forwarding.specs.Routes.{IsRouteBy}
 use Rattle.ev_forwarding.proofs.Lists.{has-contains, contains-has}
 use Rattle.ev_bits.specs.Rows.{Numbers}
-use Rattle.ev_message.specs.Parts.{PublicationParts as FoundParts}
-use Rattle.ev_message.specs.Message.{IsLoad}
-use Rattle.ev_message.specs.declared.load.Load.TheVariants as loads
+use Rattle.ev_tables.specs.Found.{FoundParts, IsFound}
 use Rattle.ev_numserver.specs.Core.{CoreParts, published_from}
 use Rattle.ev_numserver.specs.Routed.{IsRoute}
 use Rattle.ev_numnet.specs.Kept.{IsForwardingOf, IsPlace}
@@ -77,11 +75,11 @@ module _ (net : NetParts) (interfaces : List ℕ) (published : ℕ → Lists) (f
             (agrees.pairs i k.number m.0 k.at).1 m.1,
           ))
 
--- of a publication that has what it matches
-module _ (core : CoreParts) (f : Published) (agrees : IsPlace core f) (p : FoundParts) (values : AreValues p.notice) (load : IsLoad core.net (loads.Publication p)) where
-  pub route-of-load : (r : List ℕ) → IsRouteBy p.matched.members f.pairs r → IsRoute p.notice (published_from core) r
-  route-of-load r by = route-is core.net core.interfaces (published_from core) f agrees p.notice r values (subst (λ (m : Numbers). IsRouteBy m.members f.pairs r) load.1 by)
+-- of a publication that is found
+module _ (core : CoreParts) (f : Published) (agrees : IsPlace core f) (p : PublicationParts) (found : FoundParts) (is : IsFound core.net p found) where
+  pub route-of-found : (r : List ℕ) → IsRouteBy found.matched.members f.pairs r → IsRoute p.notice (published_from core) r
+  route-of-found r by = route-is core.net core.interfaces (published_from core) f agrees p.notice r is.values (subst (λ (m : Numbers). IsRouteBy m.members f.pairs r) is.matched by)
 
-  pub route-answered : {E : Type 0} (answer : Result (List ℕ) E) → IfOk answer (λ r. IsRouteBy p.matched.members f.pairs r) → IfOk answer (λ r. IsRoute p.notice (published_from core) r)
-  route-answered (Ok r) by = route-of-load r by
+  pub route-answered : {E : Type 0} (answer : Result (List ℕ) E) → IfOk answer (λ r. IsRouteBy found.matched.members f.pairs r) → IfOk answer (λ r. IsRoute p.notice (published_from core) r)
+  route-answered (Ok r) by = route-of-found r by
   route-answered (Err e) by = tt

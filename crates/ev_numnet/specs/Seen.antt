@@ -15,11 +15,11 @@ use Rattle.ev_numnet.specs.Links.{messages_at, AreSame}
 
 -- the net whose run it is, the cores, what is on each link, and the journal
 abbrev pub seen : code.Servers → Servers
-seen servers = record { run = servers.finder; cores = servers.places.items; messages = messages_at servers.links; journal = servers.journal.items }
+seen servers = record { run = servers.tables.now; cores = servers.places.items; messages = messages_at servers.links; journal = servers.journal.entries }
 
 -- as a network of a net
 abbrev pub shown : NetParts → code.Servers → NetworkParts
-shown net servers = network_parts net servers.journal.items
+shown net servers = network_parts net servers.journal.entries
 
 -- a core, if there is one, has nothing staged
 abbrev pub calm_in : Option CoreParts → Bool
@@ -40,10 +40,11 @@ pub record AreClients (net : NetParts) (clients : List (List ℕ)) : Type 0 wher
 
 -- nothing of these is other than it was
 pub record IsUnchanged (old new : code.Servers) : Type 0 where
-  pub run : new.finder ≡ old.finder
+  pub run : new.tables.now ≡ old.tables.now
   pub cores : new.places.items ≡ old.places.items
   pub messages : AreSame old.links new.links
-  pub journal : new.journal.items ≡ old.journal.items
+  pub journal : new.journal.entries ≡ old.journal.entries
+  pub kept : new.journal.kept ≡ old.journal.kept
 
 -- the core of a server stands at its place, for some state of it in some net where it has these neighbours, and its clock is not at its end
 pub record CanAct (server : ℕ) (neighbours : List ℕ) (cores : List CoreParts) : Type 0 where

@@ -36,8 +36,8 @@ pub(crate) fn take_inboxes(
     servers: &mut Servers<'_>,
 ) -> Result<Vec<Lists<Delivery>>, NoMemory>
     requires { (phase : ℕ) × IsNetwork net.now phase (seen servers.old) }
-    ensures received { IfOk result (λ lists. lists.items ≡ of_clients net.now (received_by net.now servers.old.journal.items)) }
-    ensures journal { servers.new.journal.items ≡ servers.old.journal.items }
+    ensures received { IfOk result (λ lists. lists.items ≡ of_clients net.now (received_by net.now servers.old.journal.entries)) }
+    ensures journal { servers.new.journal ≡ servers.old.journal }
 {
     let mut lists = Vec::with_capacity(servers.alloc, net.clients.len())?;
     for place in 0..net.clients.len() as u32 {

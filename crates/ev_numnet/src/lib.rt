@@ -5,8 +5,8 @@
 #![tactic(auto)]
 
 mod begin;
-mod finding;
 mod inboxes;
+mod keeping;
 mod links;
 mod making;
 mod network;
@@ -22,5 +22,6 @@ mod trying;
 mod waiting;
 mod walking;
 
+pub use keeping::{Keeping, Kept, Passed};
 pub use network::Network;
 pub use retelling::{retell, turn_of};

@@ -46,7 +46,8 @@ pub(crate) fn take(
     requires kept { IsNetwork net.now phase (seen servers.old) }
     ensures turn { IfOk result (λ made. IsTurn made (turns.Take server from) (shown net.now servers.old) (shown net.now servers.new)) }
     ensures kept { IsNetwork net.now phase (seen servers.new) }
-    ensures err { OnErr result (servers.new.journal.items ≡ servers.old.journal.items) }
+    ensures err { OnErr result (servers.new.journal.entries ≡ servers.old.journal.entries) }
+    ensures keeps { servers.new.journal.kept ≡ servers.old.journal.kept }
 {
     if !has_server(servers, server) {
         return Ok(false);
@@ -68,7 +69,8 @@ pub(crate) fn version(
     requires kept { IsNetwork net.now phase (seen servers.old) }
     ensures turn { IfOk result (λ made. IsTurn made (turns.Version server) (shown net.now servers.old) (shown net.now servers.new)) }
     ensures kept { IsNetwork net.now phase (seen servers.new) }
-    ensures err { OnErr result (servers.new.journal.items ≡ servers.old.journal.items) }
+    ensures err { OnErr result (servers.new.journal.entries ≡ servers.old.journal.entries) }
+    ensures keeps { servers.new.journal.kept ≡ servers.old.journal.kept }
 {
     if !has_server(servers, server) {
         return Ok(false);
@@ -110,7 +112,7 @@ pub(crate) fn session<'s, 'a>(net: &Net, servers: &'s Servers<'a>, client: u32) 
 pub(crate) fn next_phase(net: &Net, servers: &Servers<'_>, client: u32) -> Option<u32>
     requires client { (1 ≤ client) × (client ≤ length net.now.clients) }
     requires kept { (phase : ℕ) × IsNetwork net.now phase (seen servers.now) }
-    ensures { result ≡ next_phase_by net.now servers.now.journal.items client }
+    ensures { result ≡ next_phase_by net.now servers.now.journal.entries client }
 {
     let (phase, _) = session(net, servers, client).next()?;
     Some(phase)
@@ -120,7 +122,7 @@ pub(crate) fn next_phase(net: &Net, servers: &Servers<'_>, client: u32) -> Optio
 pub(crate) fn received<'s>(net: &Net, servers: &'s Servers<'_>, client: u32) -> &'s [Delivery]
     requires client { (1 ≤ client) × (client ≤ length net.now.clients) }
     requires kept { (phase : ℕ) × IsNetwork net.now phase (seen servers.now) }
-    ensures { result.now ≡ received_by net.now servers.now.journal.items client }
+    ensures { result.now ≡ received_by net.now servers.now.journal.entries client }
 {
     session(net, servers, client).received()
 }
@@ -129,7 +131,7 @@ pub(crate) fn received<'s>(net: &Net, servers: &'s Servers<'_>, client: u32) -> 
 pub(crate) fn refused<'s>(net: &Net, servers: &'s Servers<'_>, client: u32) -> &'s [u32]
     requires client { (1 ≤ client) × (client ≤ length net.now.clients) }
     requires kept { (phase : ℕ) × IsNetwork net.now phase (seen servers.now) }
-    ensures { result.now ≡ refused_by net.now servers.now.journal.items client }
+    ensures { result.now ≡ refused_by net.now servers.now.journal.entries client }
 {
     session(net, servers, client).refused()
 }
@@ -144,7 +146,8 @@ pub(crate) fn command(
     requires kept { IsNetwork net.now phase.old (seen servers.old) }
     ensures turn { IfOk result (λ made. IsTurn made (turns.Command client) (shown net.now servers.old) (shown net.now servers.new)) }
     ensures kept { IsNetwork net.now phase.new (seen servers.new) }
-    ensures err { OnErr result (servers.new.journal.items ≡ servers.old.journal.items) }
+    ensures err { OnErr result (servers.new.journal.entries ≡ servers.old.journal.entries) }
+    ensures keeps { servers.new.journal.kept ≡ servers.old.journal.kept }
 {
     if client == 0 || client as usize > net.clients.len() {
         return Ok(false);
@@ -179,10 +182,11 @@ fn command_of_phase(
 ) -> Result<(), NoMemory>
     requires kept { IsNetwork net.now phase (seen servers.old) }
     requires client { (1 ≤ client) × (client ≤ length net.now.clients) }
-    requires next { next_phase_by net.now servers.old.journal.items client ≡ Some phase }
+    requires next { next_phase_by net.now servers.old.journal.entries client ≡ Some phase }
     ensures made { OnOk result (IsMade (turns.Command client) (shown net.now servers.old) (shown net.now servers.new)) }
     ensures kept { IsNetwork net.now phase (seen servers.new) }
-    ensures err { OnErr result (servers.new.journal.items ≡ servers.old.journal.items) }
+    ensures err { OnErr result (servers.new.journal.entries ≡ servers.old.journal.entries) }
+    ensures keeps { servers.new.journal.kept ≡ servers.old.journal.kept }
 {
     let home = home(net, client);
     let neighbours = net.tree(phase).neighbours(home);
@@ -200,16 +204,17 @@ fn first_command<'a>(
 ) -> Result<(), NoMemory>
     requires kept { IsNetwork net.now last (seen servers.old) }
     requires client { (1 ≤ client) × (client ≤ length net.now.clients) }
-    requires next { next_phase_by net.now servers.old.journal.items client ≡ Some own }
+    requires next { next_phase_by net.now servers.old.journal.entries client ≡ Some own }
     requires later { last < own }
-    requires quiet { IsQuietOn real (phased_net net.now) last (moment_by net.now servers.old.journal.items).state }
-    requires through { IsThroughOn real (phased_net net.now) last (moment_by net.now servers.old.journal.items).state own }
+    requires quiet { IsQuietOn real (phased_net net.now) last (moment_by net.now servers.old.journal.entries).state }
+    requires through { IsThroughOn real (phased_net net.now) last (moment_by net.now servers.old.journal.entries).state own }
     ensures made { OnOk result (IsMade (turns.Command client) (shown net.now servers.old) (shown net.now servers.new)) }
     ensures kept { OnOk result (IsNetwork net.now own (seen servers.new)) }
-    ensures err { OnErr result (IsNetwork net.now last (seen servers.new) × (servers.new.journal.items ≡ servers.old.journal.items)) }
+    ensures err { OnErr result (IsNetwork net.now last (seen servers.new) × (servers.new.journal.entries ≡ servers.old.journal.entries)) }
+    ensures keeps { servers.new.journal.kept ≡ servers.old.journal.kept }
 {
     let home = home(net, client);
-    let tables = servers.finder.tables();
+    let tables = servers.tables;
     let before = begin(servers.alloc, tables, &mut servers.places, last, own)?;
     let neighbours = net.tree(own).neighbours(home);
     if let Err(fault) = servers.command(home, client, neighbours) {
@@ -250,7 +255,7 @@ fn is_calm_at(places: &[Place<'_>], i: usize) -> bool
 fn none_below(net: &Net, servers: &Servers<'_>, own: u32) -> bool
     requires kept { (phase : ℕ) × IsNetwork net.now phase (seen servers.now) }
     ensures { IsTrue result ↔ ((client : ℕ) → 1 ≤ client → client ≤ length net.now.clients
-        → is_phase_below (next_phase_by net.now servers.now.journal.items client) own ≡ false) }
+        → is_phase_below (next_phase_by net.now servers.now.journal.entries client) own ≡ false) }
 {
     for client in 1..=net.clients.len() as u32 {
         if is_below(next_phase(net, servers, client), own) {

@@ -11,42 +11,46 @@ ghost use Rattle.ev_numnet.specs.Kept.{AreServers};
 ghost use Rattle.ev_numnet.specs.Seen.{AreClients};
 ghost use Rattle.ev_turns.specs.Told.{told_of};
 
-use crate::finding::Finder;
 use crate::inboxes::take_inboxes;
+use crate::keeping::{Keeping, Kept};
 use crate::links::Links;
 use crate::making::{command, home, next_phase, received, refused, take, version};
 use crate::place::Place;
 use crate::servers::Servers;
 use crate::telling::last_told;
+use ev_journal::Journal;
 use ev_memory::NoMemory;
 use ev_model::{Delivery, Entry, Net, Sent, Turn};
 use ev_tables::Tables;
 use ev_wire::Lists;
 use std::alloc::Global;
-use std::marker::Model;
+use std::marker::{Model, PhantomData};
 
 /// The servers and links of a net, and the journal of what was done: whatever turns it is asked for, a legal run.
 ///
 /// Contracts see the net and the journal; what the servers hold, what is on the links and what was delivered follows from
-/// these.
+/// these. The entries of the journal stand in memory where they are to be shown (`Kept`), and else in proofs alone (`Passed`).
 #[derive(Drop)]
-pub struct Network<'a> {
+pub struct Network<'a, K: Keeping> {
     tables: &'a Tables<'a>,
     phase: u32,
     clients: Vec<Lists<u32>>,
     servers: Servers<'a>,
+    keeping: PhantomData<K>,
 }
 
-impl<'a> Model for Network<'a> {
+impl<'a, K: Keeping> Model for Network<'a, K> {
+    ghost use Rattle.std.specs.Prelude.{◌≡◌};
     ghost use Rattle.ev_turns.specs.Network.{NetworkParts, network_parts};
     ghost use Rattle.ev_numnet.specs.Kept.{IsNetwork};
     ghost use Rattle.ev_numnet.specs.Seen.{seen, AreClients};
 
     ghost Value = { NetworkParts };
 
-    ghost view = { λ network. network_parts network.tables.now network.servers.journal.items };
+    ghost view = { λ network. network_parts network.tables.now network.servers.journal.entries };
 
-    ghost invariant = { λ network. IsNetwork network.tables.now network.phase (seen network.servers) × AreClients network.tables.now network.clients.items };
+    ghost invariant = { λ network. IsNetwork network.tables.now network.phase (seen network.servers) × AreClients network.tables.now network.clients.items
+        × (network.servers.journal.kept ≡ K.keeps) };
 }
 
 /// Puts a client at the end of a list where it belongs there.
@@ -98,12 +102,12 @@ fn all_clients(alloc: Global, net: &Net, count: u32) -> Result<Vec<Lists<u32>>, 
     Ok(clients)
 }
 
-impl<'a> Network<'a> {
+impl<'a, K: Keeping> Network<'a, K> {
     ghost use Rattle.ev_turns.specs.Network.{network_parts, moment_by, next_phase_by, IsLegal, received_by, refused_by};
     ghost use Rattle.ev_turns.specs.Turns.{IsTurn};
 
     /// The network of a net before its first turn, over the tables of its run.
-    pub fn start(alloc: Global, tables: &'a Tables<'a>) -> Result<Network<'a>, NoMemory>
+    pub fn start(alloc: Global, tables: &'a Tables<'a>) -> Result<Network<'a, K>, NoMemory>
         requires { IsSound tables.now }
         ensures { IfOk result (λ network. network ≡ network_parts tables.now []) }
     {
@@ -113,29 +117,31 @@ impl<'a> Network<'a> {
             alloc,
             places: places(alloc, tables, count)?,
             links: Links::new(alloc)?,
-            journal: Vec::new(alloc),
-            finder: Finder::new(alloc, tables)?,
+            journal: Journal::new(alloc, K::keeps()),
+            tables,
         };
         Ok(Network {
             tables,
             phase: 0,
             clients: all_clients(alloc, net, count)?,
             servers,
+            keeping: PhantomData,
         })
     }
 
-    /// What was done, in the order of the turns: always a legal run of the net.
-    pub fn journal(&self) -> &[Entry]
-        ensures journal { result.now ≡ self.now.journal }
+    /// How many turns were made; always a legal run of the net.
+    pub fn made(&self) -> u64
+        ensures count { result ≡ length self.now.journal }
         ensures sound { IsSound self.now.net }
         ensures legal { IsLegal self.now.net self.now.journal }
     {
-        &self.servers.journal
+        self.servers.journal.len()
     }
 
     /// What was done, and what each client received, where nothing else is wanted any more: both are handed on and not copied.
-    pub fn into_parts(self) -> Result<(Vec<Entry>, Vec<Lists<Delivery>>), NoMemory>
-        ensures journal { IfOk result (λ parts. parts.0.items ≡ self.entry.journal) }
+    pub fn into_parts(self) -> Result<(Journal, Vec<Lists<Delivery>>), NoMemory>
+        ensures journal { IfOk result (λ parts. parts.0.entries ≡ self.entry.journal) }
+        ensures kept { IfOk result (λ parts. parts.0.kept ≡ K.keeps) }
         ensures received { IfOk result (λ parts. parts.1.items ≡ of_clients self.entry.net (received_by self.entry.net self.entry.journal)) }
     {
         let Network {
@@ -215,5 +221,18 @@ impl<'a> Network<'a> {
             Turn::Take { server, from } => take(net, self.phase, &mut self.servers, server, from),
             Turn::Version(server) => version(net, self.phase, &mut self.servers, server),
         }
+    }
+}
+
+impl<'a> Network<'a, Kept> {
+    ghost use Rattle.ev_turns.specs.Network.{IsLegal};
+
+    /// What was done, in the order of the turns: always a legal run of the net.
+    pub fn journal(&self) -> &[Entry]
+        ensures journal { result.now ≡ self.now.journal }
+        ensures sound { IsSound self.now.net }
+        ensures legal { IsLegal self.now.net self.now.journal }
+    {
+        self.servers.journal.entries()
     }
 }

@@ -1,22 +1,22 @@
 //! A server in the network: its core, and what it published by numbers.
-ghost use Rattle.std.specs.Prelude.{◌≡◌, ◌<◌, ◌^◌, ℕ, nat_lt, [], length, slice_get, Some, Ok, Err, IfOk, OnErr};
+ghost use Rattle.std.specs.Prelude.{◌≡◌, ◌<◌, ◌^◌, ℕ, nat_lt, [], length, Some, Ok, Err, IfOk, OnErr};
 ghost use Rattle.ev_sets.specs.Sets.{Has, IsRising};
 ghost use Rattle.ev_run.specs.Machine.{Does, Takes};
 ghost use Rattle.ev_routing.specs.Step.{NextCommand, Version};
 ghost use Rattle.ev_model.specs.Nets.{servers_in};
 ghost use Rattle.ev_model.specs.Sound.{IsSound};
-ghost use Rattle.ev_catalogue.specs.Known.{PublicationParts, known_filters, known_publications};
+ghost use Rattle.ev_catalogue.specs.Known.{known_filters, known_publications};
+ghost use Rattle.ev_tables.specs.Found.{publication_at};
 ghost use Rattle.ev_session.specs.declared.planned.Planned.TheVariants as plans;
 ghost use Rattle.ev_session.specs.Session.{SessionParts};
 ghost use Rattle.ev_session.specs.Plan.{next_plan};
 ghost use Rattle.ev_message.specs.Message.{IsLoad, meaning};
 ghost use Rattle.ev_numserver.specs.Clients.{client_numbers};
-ghost use Rattle.ev_numserver.specs.Core.{without_inbox};
-ghost use Rattle.ev_numserver.specs.Routed.{RoutesMessage};
+ghost use Rattle.ev_numserver.specs.Core.{published_from, without_inbox};
+ghost use Rattle.ev_numserver.specs.Routed.{IsRoute, RoutesMessage};
 ghost use Rattle.ev_numserver.specs.Step.{MakesStep, last_stamp};
 ghost use Rattle.ev_numnet.specs.Kept.{IsFirst, IsSomeServer};
 
-use crate::finding::Finder;
 use crate::waiting::Waiting;
 use ev_forwarding::{Forwarding, Route};
 use ev_memory::NoMemory;
@@ -107,53 +107,43 @@ impl<'a> Place<'a> {
 
 impl<'a> Place<'a> {
     /// Takes the next command of a client that lives here and has one left.
-    pub(crate) fn command(
-        &mut self,
-        alloc: Global,
-        client: u32,
-        finder: &mut Finder<'a>,
-    ) -> Result<Step<'a>, NoMemory>
+    pub(crate) fn command(&mut self, alloc: Global, client: u32) -> Result<Step<'a>, NoMemory>
         requires lives { Has client (client_numbers self.old.clients) }
         requires left { (s : SessionParts) → Has s self.old.clients → s.client ≡ client → s.taken < length s.script }
         requires stands { IsSomeServer self.old }
         requires low { self.old.clock < last_stamp }
-        requires run { finder.old ≡ self.old.net }
         ensures step { IfOk result (λ s. MakesStep (Does (NextCommand client)) 0 self.old self.new s.stamp s.sent.items) }
-        ensures finder { finder.new ≡ finder.old }
         ensures err { OnErr result (self.new ≡ self.old) }
     {
         match self.core.next_publication(client) {
-            Some(number) => self.publish(alloc, client, number, finder),
+            Some(number) => self.publish(alloc, client, number),
             None => unexhausted(self.core.take_command(client)),
         }
     }
 
     /// Takes the next command of a client that lives here: a publish of the publication with a number, which is accepted.
-    fn publish(
-        &mut self,
-        alloc: Global,
-        client: u32,
-        number: u32,
-        finder: &mut Finder<'a>,
-    ) -> Result<Step<'a>, NoMemory>
+    fn publish(&mut self, alloc: Global, client: u32, number: u32) -> Result<Step<'a>, NoMemory>
         requires lives { Has client (client_numbers self.old.clients) }
         requires left { (s : SessionParts) → Has s self.old.clients → s.client ≡ client → s.taken < length s.script }
-        requires publish { (p : PublicationParts) × (slice_get (known_publications 1 self.old.net.clients) number ≡ Some p)
-            × ((s : SessionParts) → Has s self.old.clients → s.client ≡ client → next_plan s ≡ Some (plans.Publish p.id p.notice)) }
+        requires known { number < length (known_publications 1 self.old.net.clients) }
+        requires publish { (s : SessionParts) → Has s self.old.clients → s.client ≡ client
+            → next_plan s ≡ Some (plans.Publish (publication_at self.old.net number).id (publication_at self.old.net number).notice) }
         requires stands { IsSomeServer self.old }
         requires low { self.old.clock < last_stamp }
-        requires run { finder.old ≡ self.old.net }
         ensures step { IfOk result (λ s. MakesStep (Does (NextCommand client)) 0 self.old self.new s.stamp s.sent.items) }
-        ensures finder { finder.new ≡ finder.old }
         ensures err { OnErr result (self.new ≡ self.old) }
     {
-        let publication = finder.publication(alloc, number)?;
-        let _ = publication.notice().attributes();
-        let route = self.forwarding.route(alloc, publication.matched())?;
-        unexhausted(
-            self.core
-                .take_publish(client, &publication, route.interfaces()),
-        )
+        let route = self.routed(alloc, number)?;
+        unexhausted(self.core.take_publish(client, number, route.interfaces()))
+    }
+
+    /// Where the publication with a number goes by what was published.
+    fn routed(&self, alloc: Global, number: u32) -> Result<Route, NoMemory>
+        requires { number < length (known_publications 1 self.now.net.clients) }
+        ensures { IfOk result (IsRoute (publication_at self.now.net number).notice (published_from self.now)) }
+    {
+        let found = self.core.tables().found(number);
+        self.forwarding.route(alloc, found.matched())
     }
 
     /// Where a step routes what a message carries; nowhere where that is a change.
@@ -162,10 +152,7 @@ impl<'a> Place<'a> {
         ensures { IfOk result (λ r. RoutesMessage self.now (meaning self.now.net load.now) r) }
     {
         match load {
-            Load::Publication(publication) => {
-                let _ = publication.notice().attributes();
-                self.forwarding.route(alloc, publication.matched())
-            }
+            Load::Publication(number) => self.routed(alloc, *number),
             _ => Ok(Route::nowhere(alloc)),
         }
     }

@@ -2,11 +2,12 @@
 ghost use Rattle.std.specs.Prelude.{ℕ, OnOk, IsErrOf};
 ghost use Rattle.ev_turns.specs.declared.replaying.ReplayFault.TheVariants as faults;
 
+use crate::keeping::Keeping;
 use crate::network::Network;
 use ev_model::Turn;
 use ev_turns::ReplayFault;
 
-impl<'a> Network<'a> {
+impl<'a, K: Keeping> Network<'a, K> {
     ghost use Rattle.ev_turns.specs.Network.{IsLater};
     ghost use Rattle.ev_turns.specs.Turns.{AreReplayed, AreBegun, StopsAt};
 

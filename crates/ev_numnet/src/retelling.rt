@@ -5,6 +5,7 @@ ghost use Rattle.ev_turns.specs.Network.{IsLegal};
 ghost use Rattle.ev_turns.specs.Told.{told_by};
 ghost use Rattle.ev_turns.specs.Retold.{turn_of_entry};
 
+use crate::keeping::Passed;
 use crate::network::Network;
 use ev_memory::NoMemory;
 use ev_model::{Act, Entry, Sent, Turn};
@@ -23,7 +24,7 @@ pub fn retell(
     requires legal { IsLegal tables.now journal.now }
     ensures { IfOk result (λ told. told.items ≡ told_by tables.now journal.now) }
 {
-    let mut network = Network::start(alloc, tables)?;
+    let mut network: Network<'_, Passed> = Network::start(alloc, tables)?;
     let mut told = Vec::with_capacity(alloc, journal.len())?;
     for entry in journal {
         network.turn(turn_of(entry))?;

@@ -18,24 +18,25 @@ ghost use Rattle.ev_numnet.specs.Acted.{IsActed};
 ghost use Rattle.ev_numnet.specs.Seen.{CanAct, seen, IsUnchanged};
 ghost use Rattle.ev_numnet.specs.Links.{WaitingParts, messages_at, messages_to, waiting_in, has_room};
 
-use crate::finding::Finder;
 use crate::links::Links;
 use crate::place::Place;
 use crate::waiting::Waiting;
+use ev_journal::Journal;
 use ev_memory::NoMemory;
 use ev_message::Sending;
 use ev_model::{Act, Entry};
 use ev_numserver::Step;
+use ev_tables::Tables;
 use std::alloc::Global;
 
-/// The servers by rising number, what is on the links between them, what they did, and what finds publications.
+/// The servers by rising number, what is on the links between them, what they did, and the tables of their run.
 #[derive(Drop)]
 pub(crate) struct Servers<'a> {
     pub(crate) alloc: Global,
     pub(crate) places: Vec<Place<'a>>,
     pub(crate) links: Links<'a>,
-    pub(crate) journal: Vec<Entry>,
-    pub(crate) finder: Finder<'a>,
+    pub(crate) journal: Journal,
+    pub(crate) tables: &'a Tables<'a>,
 }
 
 /// Messages that a step sends go on the links of its server, and their receivers into a list. There is room for both, so it
@@ -80,7 +81,7 @@ fn without_room(alloc: Global, list: Vec<u32>) -> Vec<u32>
 fn put<'a>(
     alloc: Global,
     links: &mut Links<'a>,
-    journal: &mut Vec<Entry>,
+    journal: &mut Journal,
     server: u32,
     act: Act,
     step: Step<'a>,
@@ -92,21 +93,20 @@ fn put<'a>(
     requires apart { IsDistinct (map (λ s. s.to) step.sent.items) }
     requires stamp { step.stamp < 2 ^ 62 }
     requires outs { (outs.items ≡ []) × (length step.sent.items ≤ vec_capacity outs) }
-    requires journal { vec_len journal.old < vec_capacity journal.old }
+    requires journal { journal.old.room ≡ true }
     ensures here { (b : ℕ) → messages_at links.new server b ≡ messages_at links.old server b ++ messages_to step.entry.stamp step.entry.sent.items b }
     ensures others { (a b : ℕ) → (a ≡ server → ⊥) → messages_at links.new a b ≡ messages_at links.old a b }
-    ensures entry { journal.new.items ≡ journal.old.items ++ entry_parts step.entry.stamp server act (map (λ s. s.to) step.entry.sent.items) ∷ [] }
+    ensures entry { journal.new.entries ≡ journal.old.entries ++ entry_parts step.entry.stamp server act (map (λ s. s.to) step.entry.sent.items) ∷ [] }
+    ensures kept { journal.new.kept ≡ journal.old.kept }
 {
     let stamp = step.stamp;
     put_all(links, server, stamp, step.sent, &mut outs);
-    journal
-        .push(Entry {
-            stamp,
-            server,
-            act,
-            outs: without_room(alloc, outs),
-        })
-        .unwrap();
+    journal.push(Entry {
+        stamp,
+        server,
+        act,
+        outs: without_room(alloc, outs),
+    });
 }
 
 impl<'a> Servers<'a> {
@@ -117,11 +117,11 @@ impl<'a> Servers<'a> {
         requires small { (link : ℕ) → Has link neighbours.now → link ≤ 64 }
         ensures outs { IfOk result (λ outs. (outs.items ≡ []) × (vec_len outs ≡ 0) × (length neighbours.now ≤ vec_capacity outs)) }
         ensures room { OnOk result ((link : ℕ) → Has link neighbours.now → has_room self.new.links server link ≡ true) }
-        ensures journal { OnOk result (vec_len self.new.journal < vec_capacity self.new.journal) }
+        ensures journal { OnOk result (self.new.journal.room ≡ true) }
         ensures same { IsUnchanged self.old self.new }
     {
         self.links.make_rooms(server, neighbours)?;
-        self.journal.reserve(1)?;
+        self.journal.make_room()?;
         Ok(Vec::with_capacity(self.alloc, neighbours.len())?)
     }
 
@@ -136,13 +136,13 @@ impl<'a> Servers<'a> {
         requires lives { (core : CoreParts) → slice_get self.old.places.items (server - 1) ≡ Some core → Has client (client_numbers core.clients) }
         requires left { (core : CoreParts) (s : SessionParts) → slice_get self.old.places.items (server - 1) ≡ Some core → Has s core.clients
             → s.client ≡ client → s.taken < length s.script }
-        requires run { (core : CoreParts) → slice_get self.old.places.items (server - 1) ≡ Some core → core.net ≡ self.old.finder }
         ensures acted { OnOk result (IsActed (server - 1) (Does (NextCommand client)) (acts.Command client) (seen self.old) (seen self.new)) }
+        ensures kept { self.new.journal.kept ≡ self.old.journal.kept }
         ensures err { OnErr result (IsUnchanged self.old self.new) }
     {
         let outs = self.make_room(server, neighbours)?;
         let place = &mut self.places[server as usize - 1];
-        let stepped = place.command(self.alloc, client, &mut self.finder)?;
+        let stepped = place.command(self.alloc, client)?;
         put(
             self.alloc,
             &mut self.links,
@@ -170,6 +170,7 @@ impl<'a> Servers<'a> {
         ensures acted { (net : NetParts) (m : Stamped (Message real)) → slice_get (messages_at self.old.links from server) 0 ≡ Some (waiting_in net m)
             → IfOk result (λ made. (made ≡ true) × IsActed (server - 1) (Takes from m) (acts.Take from) (seen self.old) (seen self.new)) }
         ensures none { messages_at self.old.links from server ≡ [] → IfOk result (λ made. (made ≡ false) × IsUnchanged self.old self.new) }
+        ensures kept { self.new.journal.kept ≡ self.old.journal.kept }
         ensures err { OnErr result (IsUnchanged self.old self.new) }
     {
         if self.links.is_empty(from, server) {
@@ -199,9 +200,10 @@ impl<'a> Servers<'a> {
         requires able { (neighbours : _) × CanAct server neighbours self.old.places.items }
         requires some { (core : CoreParts) → slice_get self.old.places.items (server - 1) ≡ Some core → (core.staged ≡ []) → ⊥ }
         ensures acted { OnOk result (IsActed (server - 1) (Does Version) acts.Version (seen self.old) (seen self.new)) }
+        ensures kept { self.new.journal.kept ≡ self.old.journal.kept }
         ensures err { OnErr result (IsUnchanged self.old self.new) }
     {
-        self.journal.reserve(1)?;
+        self.journal.make_room()?;
         let stamp = self.places[server as usize - 1].version();
         let entry = Entry {
             stamp,
@@ -209,7 +211,7 @@ impl<'a> Servers<'a> {
             act: Act::Version,
             outs: Vec::new(self.alloc),
         };
-        self.journal.push(entry).unwrap();
+        self.journal.push(entry);
         Ok(())
     }
 }

@@ -71,8 +71,8 @@ fn last_on(
 /// The texts of the messages of the last entry, by rising neighbour.
 pub(crate) fn last_told(tables: &Tables<'_>, servers: &Servers<'_>) -> Result<Lists<Sent>, NoMemory>
     requires kept { (phase : ℕ) × IsNetwork tables.now phase (seen servers.now) }
-    ensures { IfOk result (λ told. (before : List EntryParts) (entry : EntryParts) → servers.now.journal.items ≡ before ++ entry ∷ []
-        → told ≡ told_of tables.now (found_of real (phased_net tables.now) (journal_of servers.now.journal.items) (length before)) entry) }
+    ensures { IfOk result (λ told. (before : List EntryParts) (entry : EntryParts) → servers.now.journal.entries ≡ before ++ entry ∷ []
+        → told ≡ told_of tables.now (found_of real (phased_net tables.now) (journal_of servers.now.journal.entries) (length before)) entry) }
 {
     let alloc = servers.alloc;
     match servers.journal.last() {

@@ -3,6 +3,7 @@ ghost use Rattle.std.specs.Prelude.{◌≡◌, ◌++◌, ◌<◌, ℕ, length, I
 ghost use Rattle.std.specs.List.{flat_map};
 ghost use Rattle.ev_sets.specs.Sets.{Has};
 ghost use Rattle.ev_order.specs.Order.{picked};
+ghost use Rattle.ev_catalogue.specs.Known.{known_publications};
 ghost use Rattle.ev_wire.specs.MessageText.{change_text, message_text, signed};
 ghost use Rattle.ev_wire.specs.declared.message.Message.TheVariants as wires;
 ghost use Rattle.ev_control.specs.Control.{wired};
@@ -11,7 +12,7 @@ ghost use Rattle.ev_message.specs.Parts.{IsChange};
 
 use ev_cover::{Ad, Sub};
 use ev_memory::NoMemory;
-use ev_message::{Change, Load, Publication};
+use ev_message::{Change, Load};
 use ev_order::Order;
 use ev_tables::Tables;
 use ev_wire::{Message, SentText, write_advert, write_filter};
@@ -91,13 +92,19 @@ fn adverts_text(alloc: Global, adverts: &Order<Ad>, change: &Change) -> Result<S
     Ok(SentText::written(text))
 }
 
-/// The text of a publication, which is written where it is shown.
-fn publication_text(alloc: Global, publication: &Publication) -> Result<SentText, NoMemory>
-    ensures { IfOk result (λ text. text ≡ message_text (wires.Notice publication.now.id publication.now.notice)) }
+/// The text of the publication with a number, which is written where it is shown.
+fn publication_text(
+    alloc: Global,
+    tables: &Tables<'_>,
+    number: u32,
+) -> Result<SentText, NoMemory>
+    requires { number < length (known_publications 1 tables.now.clients) }
+    ensures { IfOk result (λ text. text ≡ message_text (wired (meaning tables.now (Load.Publication number)))) }
 {
-    let notice = publication.notice().copy(alloc)?;
+    let publication = &tables.catalogue().publications()[number as usize];
+    let notice = publication.notice.copy(alloc)?;
     let message = Message::Notice {
-        id: publication.id(),
+        id: publication.id,
         notice,
     };
     Ok(SentText::of_message(message))
@@ -109,7 +116,7 @@ pub(crate) fn text_of(alloc: Global, tables: &Tables<'_>, load: &Load) -> Result
     ensures { IfOk result (λ text. text ≡ message_text (wired (meaning tables.now load.now))) }
 {
     match load {
-        Load::Publication(publication) => publication_text(alloc, publication),
+        Load::Publication(number) => publication_text(alloc, tables, *number),
         Load::Filters(change) => filters_text(alloc, tables.filters(), change),
         Load::Adverts(change) => adverts_text(alloc, tables.adverts(), change),
     }

@@ -6,12 +6,13 @@ ghost use Rattle.ev_phases.specs.Trees.{net_at};
 ghost use Rattle.ev_theory.specs.Real.{real};
 ghost use Rattle.ev_model.specs.Nets.{phased_net, first_tree, servers_in, script_of, topology_at};
 
+use crate::keeping::Keeping;
 use crate::network::Network;
 use ev_memory::NoMemory;
 use ev_model::{Net, Turn};
 use ev_tree::Tree;
 
-impl<'a> Network<'a> {
+impl<'a, K: Keeping> Network<'a, K> {
     ghost use Rattle.ev_turns.specs.Network.{IsLater};
     ghost use Rattle.ev_turns.specs.Trying.{Tries, Begins, command_turn, script_turns, server_turns, commands_turns};
     ghost use Rattle.ev_turns.specs.Trying.{takings, round_turns, rounds_turns, phase_turns};
@@ -107,12 +108,12 @@ impl<'a> Network<'a> {
         ensures none { IfOk result (λ some. some ≡ false → self.new ≡ self.old) }
         ensures later { IsLater self.old self.new }
     {
-        let before = self.journal().len();
+        let before = self.made();
         for server in 1..=tree.servers() {
             self.take_each(server, tree.neighbours(server))?;
             self.turn(Turn::Version(server))?;
         }
-        Ok(self.journal().len() > before)
+        Ok(self.made() > before)
     }
 
     /// Takes a message from each of these neighbours that has sent one.

@@ -1,10 +1,11 @@
 //! The walk schedule.
 ghost use Rattle.std.specs.Prelude.{OnOk, OnErr, IfOk};
 
+use crate::keeping::Keeping;
 use crate::network::Network;
 use ev_memory::NoMemory;
 
-impl<'a> Network<'a> {
+impl<'a, K: Keeping> Network<'a, K> {
     ghost use Rattle.ev_turns.specs.Network.{IsLater};
     ghost use Rattle.ev_turns.specs.Walked.{IsWalked, IsWalkBegun, IsPhaseOf, IsPhaseBegun};
 
@@ -15,10 +16,10 @@ impl<'a> Network<'a> {
         ensures begun { OnErr result (IsPhaseBegun self.old self.new) }
         ensures err { OnErr result (IsLater self.old self.new) }
     {
-        let before = self.journal().len();
+        let before = self.made();
         for phase in self.phase()..self.net().phases() {
             self.make_phase(phase)?;
-            if self.journal().len() > before {
+            if self.made() > before {
                 return Ok(true);
             }
         }

@@ -1,7 +1,7 @@
 -- What a core keeps through a step.
-use Rattle.std.proofs.Common.{◌≡◌, ℕ, ◌+◌, Bool, true, false, cond, List, [], ◌∷◌, map, slice_get, Option, Some, None, IfSome, IfNone, refl, sym, ap, ap₂, subst, ◌∙◌}
+use Rattle.std.proofs.Common.{◌≡◌, ℕ, ◌+◌, ◌<◌, Bool, true, false, cond, List, [], ◌∷◌, map, length, slice_get, Option, Some, None, IfSome, IfNone, refl, sym, ap, ap₂, subst, ◌∙◌}
 use Rattle.std.specs.List.Sorted.{IsStrictlyIncreasing}
-use Rattle.std.proofs.lemmas.Option.{same_Some}
+use Rattle.std.proofs.lemmas.Option.{same_Some, slice_get_within, get_or_from_slice_get}
 use Rattle.ev_notice.specs.Notice.{Attribute}
 use Rattle.ev_wire.specs.declared.id.Id.{Id}
 use Rattle.ev_wire.specs.declared.delivery.Delivery.{Delivery}
@@ -30,7 +30,8 @@ use Rattle.ev_numserver.proofs.Sessions.{has-map, map-has, only}
 use Rattle.ev_numserver.proofs.Plans.{plans-bare}
 use Rattle.ev_numserver.proofs.Made.{IsOwn, AddsRising}
 use Rattle.ev_cover.specs.Laws.{sub_laws, ad_laws}
-use Rattle.ev_catalogue.specs.Known.{PublicationParts, known_filters, known_adverts, known_publications}
+use Rattle.ev_catalogue.specs.Known.{PublicationParts, publication, known_filters, known_adverts, known_publications}
+use Rattle.ev_tables.specs.Found.{publication_at}
 use Rattle.ev_catalogue.proofs.Counting.{known_filters_rise, known_adverts_rise}
 use Rattle.ev_stock.proofs.Shown.{picked-rising}
 use Rattle.ev_message.specs.Message.{IsLoad, meaning}
@@ -152,7 +153,7 @@ acted-links from old new clients after route sent (Noticed publisher ordinal n) 
 
 -- what a message by numbers adds rises
 pub adds-rise : (net : NetParts) (load : Load) → IsLoad net load → AddsRising (meaning net load)
-adds-rise net (loads.Publication p) h = tt
+adds-rise net (loads.Publication number) h = tt
 adds-rise net (loads.Filters change) h = picked-rising sub_laws (known_filters net.clients) (known_filters_rise net.clients) change.added h.added_rising
 adds-rise net (loads.Adverts change) h = picked-rising ad_laws (known_adverts net.clients) (known_adverts_rise net.clients) change.added h.1.added_rising
 
@@ -165,11 +166,18 @@ module _ (before : List SessionParts) (rises : IsStrictlyIncreasing (client_numb
       let one : u.0 ≡ v.0 = only before rises u.0 v.0 u.1 v.1 (ap (λ (z : SessionParts). z.client) (sym u.2) ∙ (f ∙ (sym e ∙ ap (λ (z : SessionParts). z.client) v.2))) in
       ap next_plan (u.2 ∙ (ap bare one ∙ sym v.2))
 
+  next-is : (net : NetParts) (k : ℕ) (p : PublicationParts) → slice_get (known_publications 1 net.clients) k ≡ Some p → publication_at net k ≡ p
+  next-is net k p e = get_or_from_slice_get (known_publications 1 net.clients) k p (publication 0 0 0 []) e
+
+  pub next-known : (net : NetParts) (r : Option ℕ) → IfSome r (λ k. (p : PublicationParts) × (slice_get (known_publications 1 net.clients) k ≡ Some p) × (next_plan t ≡ Some (plans.Publish p.id p.notice)))
+      → IfSome r (λ k. k < length (known_publications 1 net.clients))
+  next-known net None w = tt
+  next-known net (Some k) w = slice_get_within (known_publications 1 net.clients) k w.0 w.1
+
   pub next-some : (net : NetParts) (r : Option ℕ) → IfSome r (λ k. (p : PublicationParts) × (slice_get (known_publications 1 net.clients) k ≡ Some p) × (next_plan t ≡ Some (plans.Publish p.id p.notice)))
-      → IfSome r (λ k. (p : PublicationParts) × (slice_get (known_publications 1 net.clients) k ≡ Some p)
-      × ((s : SessionParts) → Has s (map bare before) → s.client ≡ client → next_plan s ≡ Some (plans.Publish p.id p.notice)))
+      → IfSome r (λ k. (s : SessionParts) → Has s (map bare before) → s.client ≡ client → next_plan s ≡ Some (plans.Publish (publication_at net k).id (publication_at net k).notice))
   next-some net None w = tt
-  next-some net (Some k) w = (w.0, w.1, λ s h f. same-plan s h f ∙ w.2)
+  next-some net (Some k) w = λ s h f. same-plan s h f ∙ (w.2 ∙ ap (λ (p : PublicationParts). Some (plans.Publish p.id p.notice)) (sym (next-is net k w.0 w.1)))
 
   pub next-none : (r : Option ℕ) → IfNone r ((id : Id) (n : List Attribute) → next_plan t ≡ Some (plans.Publish id n) → ⊥)
       → IfNone r ((s : SessionParts) (id : Id) (n : List Attribute) → Has s (map bare before) → s.client ≡ client → next_plan s ≡ Some (plans.Publish id n) → ⊥)

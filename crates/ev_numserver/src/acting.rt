@@ -38,17 +38,9 @@ pub(crate) fn act<'a>(
     match load {
         Load::Filters(change) => ledger.set_filters(from, change.withdrawn(), change.added()),
         Load::Adverts(change) => ledger.set_adverts(from, change.withdrawn(), change.added()),
-        Load::Publication(publication) => {
+        Load::Publication(number) => {
             let tables = ledger.tables();
-            spread(
-                alloc,
-                tables,
-                ledger.links(),
-                clients,
-                from,
-                publication,
-                route,
-            )
+            spread(alloc, tables, ledger.links(), clients, from, *number, route)
         }
     }
 }

@@ -1,17 +1,18 @@
 //! Cores of servers.
-ghost use Rattle.std.specs.Prelude.{◌≡◌, ◌<◌, ◌≤◌, ◌^◌, ◌↔◌, ◌+◌, ℕ, nat_lt, [], max, List, length, map, Some, slice_get, IfOk, OnOk, OnErr, IsErrOf, IfSome, IfNone};
+ghost use Rattle.std.specs.Prelude.{◌≡◌, ◌<◌, ◌≤◌, ◌^◌, ◌↔◌, ◌+◌, ℕ, nat_lt, [], max, List, length, map, Some, IfOk, OnOk, OnErr, IsErrOf, IfSome, IfNone};
 ghost use Rattle.ev_constraint.specs.Constraint.{ConstraintParts};
 ghost use Rattle.ev_sets.specs.Sets.{Has, IsRising};
 ghost use Rattle.ev_notice.specs.Notice.{Attribute};
 ghost use Rattle.ev_run.specs.Machine.{Does, Takes};
 ghost use Rattle.ev_routing.specs.Step.{NextCommand, Version};
 ghost use Rattle.ev_wire.specs.declared.id.Id.{Id};
-ghost use Rattle.ev_catalogue.specs.Known.{known_filters, known_publications, PublicationParts};
+ghost use Rattle.ev_catalogue.specs.Known.{known_filters, known_publications};
 ghost use Rattle.ev_control.specs.Control.{subs};
 ghost use Rattle.ev_session.specs.declared.planned.Planned.TheVariants as plans;
 ghost use Rattle.ev_session.specs.Plan.{next_plan};
 ghost use Rattle.ev_session.specs.Session.{SessionParts};
-ghost use Rattle.ev_message.specs.Message.{IsLoad};
+ghost use Rattle.ev_tables.specs.Found.{publication_at};
+ghost use Rattle.ev_message.specs.Message.{IsLoad, meaning};
 ghost use Rattle.ev_numserver.specs.Clients.{bare, client_numbers};
 ghost use Rattle.ev_numserver.specs.Core.{core_parts, published_from, without_inbox};
 ghost use Rattle.ev_numserver.specs.Kept.{IsKept};
@@ -25,7 +26,7 @@ use crate::ledger::Ledger;
 use crate::spreading::spread;
 use crate::stepped::{Step, StepFault};
 use ev_forwarding::Change;
-use ev_message::{Load, Message, Publication};
+use ev_message::{Load, Message};
 use ev_numsession::Session;
 use ev_routing::LAST_LINK;
 use ev_tables::Tables;
@@ -120,20 +121,20 @@ impl<'a> Core<'a> {
         Ok(Step { stamp, sent })
     }
 
-    /// Takes the next command of a client that lives here and has one left, a publish that is accepted: of this publication,
-    /// whose route is that of its notice by what was published.
+    /// Takes the next command of a client that lives here and has one left, a publish that is accepted: of the publication with
+    /// this number, whose route is that of its notice by what was published.
     pub fn take_publish(
         &mut self,
         client: u32,
-        publication: &Publication,
+        number: u32,
         route: &[u32],
     ) -> Result<Step<'a>, StepFault>
         requires lives { Has client (client_numbers self.old.clients) }
         requires left { (s : SessionParts) → Has s self.old.clients → s.client ≡ client → s.taken < length s.script }
         requires publish { (s : SessionParts) → Has s self.old.clients → s.client ≡ client
-            → next_plan s ≡ Some (plans.Publish publication.now.id publication.now.notice) }
-        requires load { IsLoad self.old.net (Load.Publication publication.now) }
-        requires route { IsRoute publication.now.notice (published_from self.old) route.now }
+            → next_plan s ≡ Some (plans.Publish (publication_at self.old.net number).id (publication_at self.old.net number).notice) }
+        requires known { number < length (known_publications 1 self.old.net.clients) }
+        requires route { IsRoute (publication_at self.old.net number).notice (published_from self.old) route.now }
         ensures step { IfOk result (λ s. MakesStep (Does (NextCommand client)) 0 self.old self.new s.stamp s.sent.items) }
         ensures interfaces { OnOk result (self.new.interfaces ≡ self.old.interfaces) }
         ensures exhausted { (s : ℕ) → IsErrOf result (StepFault.StampsExhausted s) ↔ ((self.old.clock ≡ last_stamp) × (s ≡ last_stamp)) }
@@ -152,7 +153,7 @@ impl<'a> Core<'a> {
             self.ledger.links(),
             &mut self.clients,
             LAST_LINK + client,
-            publication,
+            number,
             route,
         )?;
         self.clients.commit(client, &plan);
@@ -160,8 +161,41 @@ impl<'a> Core<'a> {
         Ok(Step { stamp, sent })
     }
 
-    /// Takes a message that a neighbour sent with its stamp. Where it is a publication, the route is that of its notice by what
-    /// was published.
+    /// Takes what a neighbour sent with its stamp. Where it is a publication, the route is that of its notice by what was
+    /// published.
+    pub fn take_load(
+        &mut self,
+        from: u32,
+        stamp: u64,
+        load: &Load,
+        route: &[u32],
+    ) -> Result<Step<'a>, StepFault>
+        requires from { Has from self.old.control.links }
+        requires stamp { stamp < 2 ^ 62 }
+        requires load { IsLoad self.old.net load.now }
+        requires route { RoutesMessage self.old (meaning self.old.net load.now) route.now }
+        ensures step { IfOk result (λ s. MakesStep (Takes from (meaning self.old.net load.now)) stamp self.old self.new s.stamp s.sent.items) }
+        ensures interfaces { OnOk result (self.new.interfaces ≡ self.old.interfaces) }
+        ensures exhausted { (s : ℕ) → IsErrOf result (StepFault.StampsExhausted s) ↔ ((max self.old.clock stamp ≡ last_stamp) × (s ≡ last_stamp)) }
+        ensures err { OnErr result (self.new ≡ self.old) }
+    {
+        let stamp = match self.next_stamp(stamp) {
+            Ok(stamp) => stamp,
+            Err(fault) => return Err(fault),
+        };
+        let sent = act(
+            self.alloc,
+            &mut self.ledger,
+            &mut self.clients,
+            from,
+            load,
+            route,
+        )?;
+        self.clock = stamp;
+        Ok(Step { stamp, sent })
+    }
+
+    /// The same of a message of the run.
     pub fn take_message(
         &mut self,
         from: u32,
@@ -178,20 +212,7 @@ impl<'a> Core<'a> {
         ensures exhausted { (s : ℕ) → IsErrOf result (StepFault.StampsExhausted s) ↔ ((max self.old.clock stamp ≡ last_stamp) × (s ≡ last_stamp)) }
         ensures err { OnErr result (self.new ≡ self.old) }
     {
-        let stamp = match self.next_stamp(stamp) {
-            Ok(stamp) => stamp,
-            Err(fault) => return Err(fault),
-        };
-        let sent = act(
-            self.alloc,
-            &mut self.ledger,
-            &mut self.clients,
-            from,
-            message.load(),
-            route,
-        )?;
-        self.clock = stamp;
-        Ok(Step { stamp, sent })
+        self.take_load(from, stamp, message.load(), route)
     }
 
     /// Publishes what is staged. It takes no memory, so its one refusal is that stamps are exhausted; the answer is the stamp.
@@ -294,8 +315,9 @@ impl<'a> Core<'a> {
     /// be accepted, or there is none.
     pub fn next_publication(&self, client: u32) -> Option<u32>
         requires { Has client (client_numbers self.now.clients) }
-        ensures publish { IfSome result (λ k. (p : PublicationParts) × (slice_get (known_publications 1 self.now.net.clients) k ≡ Some p)
-            × ((s : SessionParts) → Has s self.now.clients → s.client ≡ client → next_plan s ≡ Some (plans.Publish p.id p.notice))) }
+        ensures known { IfSome result (λ k. k < length (known_publications 1 self.now.net.clients)) }
+        ensures publish { IfSome result (λ k. (s : SessionParts) → Has s self.now.clients → s.client ≡ client
+            → next_plan s ≡ Some (plans.Publish (publication_at self.now.net k).id (publication_at self.now.net k).notice)) }
         ensures none { IfNone result ((s : SessionParts) (id : Id) (n : List Attribute) → Has s self.now.clients → s.client ≡ client
             → next_plan s ≡ Some (plans.Publish id n) → ⊥) }
     {

@@ -1,18 +1,20 @@
 //! A publication that goes on by its route, and is delivered.
-ghost use Rattle.std.specs.Prelude.{◌≡◌, ◌≤◌, ℕ, ◌==◌, ◌&&◌, not, nat_le, [], ◌∷◌, ◌++◌, map, List, IfOk, OnOk, OnErr};
+ghost use Rattle.std.specs.Prelude.{◌≡◌, ◌≤◌, ◌<◌, ℕ, ◌==◌, ◌&&◌, not, nat_le, [], ◌∷◌, ◌++◌, map, length, List, IfOk, OnOk, OnErr};
 ghost use Rattle.std.specs.List.Sorted.{IsStrictlyIncreasing};
-ghost use Rattle.ev_routing.specs.Server.{is_among, Noticed};
+ghost use Rattle.ev_routing.specs.Server.{is_among};
 ghost use Rattle.ev_sets.specs.Sets.{Has};
 ghost use Rattle.ev_session.specs.Inbox.{IsDelivery};
 ghost use Rattle.ev_wire.specs.declared.delivery.Delivery.{Delivery as DeliveryParts};
-ghost use Rattle.ev_message.specs.Message.{IsLoad};
+ghost use Rattle.ev_catalogue.specs.Known.{known_publications};
+ghost use Rattle.ev_tables.specs.Found.{publication_at};
+ghost use Rattle.ev_message.specs.Message.{meaning};
 ghost use Rattle.ev_numserver.specs.declared.spreading.Ready.{Ready as ReadyParts};
 ghost use Rattle.ev_numserver.specs.Clients.{bare, clients_parts, HaveRoom, StayPlanned};
 ghost use Rattle.ev_numserver.specs.Acting.{IsSpread, sent_on, links_on, clients_on, delivered, ready_for};
 
 use crate::clients::Clients;
 use ev_memory::NoMemory;
-use ev_message::{Load, Message, Publication, Sending};
+use ev_message::{Load, Message, Sending};
 use ev_routing::LAST_LINK;
 use ev_tables::Tables;
 use ev_wire::{Delivery, Id, SharedText};
@@ -25,62 +27,52 @@ struct Ready {
     delivery: Delivery,
 }
 
-/// Sends a publication on and delivers it, by its route.
+/// Sends the publication with a number on and delivers it, by its route.
 pub(crate) fn spread<'a>(
     alloc: Global,
     tables: &'a Tables<'a>,
     links: &[u32],
     clients: &mut Clients<'a>,
     from: u32,
-    publication: &Publication,
+    number: u32,
     route: &[u32],
 ) -> Result<Vec<Sending<'a>>, NoMemory>
     requires rising { IsStrictlyIncreasing route.now }
-    requires load { IsLoad tables.now (Load.Publication publication.now) }
-    ensures spread { IfOk result (λ sent. IsSpread tables.now from publication.now.id.publisher publication.now.id.ordinal publication.now.notice
-        route.now links.now clients.old.sessions clients.new.sessions sent.items) }
+    requires known { number < length (known_publications 1 tables.now.clients) }
+    ensures spread { IfOk result (λ sent. IsSpread tables.now from (publication_at tables.now number).id.publisher
+        (publication_at tables.now number).id.ordinal (publication_at tables.now number).notice route.now links.now
+        clients.old.sessions clients.new.sessions sent.items) }
     ensures net { clients.new.net ≡ clients.old.net }
     ensures planned { StayPlanned clients.old.sessions clients.new.sessions }
     ensures err { OnErr result (map bare clients.new.sessions ≡ map bare clients.old.sessions) }
 {
-    let to = links_of(alloc, links, from, route)?;
-    let sent = sendings(alloc, tables, publication, &to)?;
-    let ready = make_ready(alloc, clients, publication.id(), publication.text(), route)?;
+    let sent = sendings(alloc, tables, links, from, number, route)?;
+    let found = tables.found(number);
+    let ready = make_ready(alloc, clients, found.id(), found.text(), route)?;
     deliver(clients, ready);
     Ok(sent)
 }
 
-/// The publication on its way to each of these links.
+/// The publication with a number on its way to the links of a route but one.
 fn sendings<'a>(
     alloc: Global,
     tables: &'a Tables<'a>,
-    publication: &Publication,
     links: &[u32],
+    from: u32,
+    number: u32,
+    route: &[u32],
 ) -> Result<Vec<Sending<'a>>, NoMemory>
-    requires { IsLoad tables.now (Load.Publication publication.now) }
-    ensures { IfOk result (λ sent. sent.items ≡ sent_on tables.now
-        (Noticed publication.now.id.publisher publication.now.id.ordinal publication.now.notice) links.now) }
+    requires { number < length (known_publications 1 tables.now.clients) }
+    ensures { IfOk result (λ sent. sent.items ≡ sent_on tables.now (meaning tables.now (Load.Publication number)) (links_on links.now from route.now)) }
 {
     let mut sent = Vec::new(alloc);
-    for to in links {
-        let load = Load::Publication(publication.share(alloc)?);
-        let message = Message::of(tables, load);
-        sent.push(Sending { to: *to, message })?;
-    }
-    Ok(sent)
-}
-
-/// The links of a route but one.
-fn links_of(alloc: Global, links: &[u32], from: u32, route: &[u32]) -> Result<Vec<u32>, NoMemory>
-    ensures { IfOk result (λ to. to.items ≡ links_on links.now from route.now) }
-{
-    let mut to = Vec::new(alloc);
     for link in route {
         if goes_on(links, from, *link) {
-            to.push(*link)?;
+            let message = Message::of(tables, Load::Publication(number));
+            sent.push(Sending { to: *link, message })?;
         }
     }
-    Ok(to)
+    Ok(sent)
 }
 
 /// Whether a message goes on to an interface: it is one of the links, and not the one that the message came from.

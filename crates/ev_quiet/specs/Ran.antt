@@ -18,15 +18,15 @@ pub record IsRunThrough (schedule : Schedule) (net : NetParts) (network : Networ
 
 -- what a legal run leaves
 pub record IsCollected (net : NetParts) (ran : Ran) : Type 0 where
-  pub legal : IsLegal net ran.journal.items
-  pub refused : ran.refused.items ≡ refused_in net ran.journal.items
-  pub received : ran.received.items ≡ received_in net ran.journal.items
+  pub legal : IsLegal net ran.journal.entries
+  pub refused : ran.refused.items ≡ refused_in net ran.journal.entries
+  pub received : ran.received.items ≡ received_in net ran.journal.entries
 
 -- what such a run left
 pub record IsRan (schedule : Schedule) (net : NetParts) (ran : Ran) : Type 0 where
   pub permitted : ArePermitted net (turns_first schedule net)
-  pub goes_by : GoesBy schedule net ran.journal.items
-  pub drained : IsDrainedBy net ran.journal.items
+  pub goes_by : GoesBy schedule net ran.journal.entries
+  pub drained : IsDrainedBy net ran.journal.entries
   pub collected : IsCollected net ran
 
 -- the text and the journal of a run by a schedule

@@ -21,6 +21,7 @@ use crate::unanswered::Unanswered;
 use ev_audited::{Audited, audit};
 use ev_decimal::push_number;
 use ev_input::law::net_is_sound;
+use ev_journal::Journal;
 use ev_memory::NoMemory;
 use ev_outside::Source;
 use std::alloc::Global;
@@ -54,7 +55,7 @@ fn confirmed(alloc: Global, audited: Audited) -> Result<Printed, NoMemory>
         deliveries,
     } = audited;
     let text = counts_text(alloc, journal.len() as u64, owed, deliveries)?;
-    Printed::make(alloc, Body::Nothing, text, journal)
+    Printed::make(alloc, Body::Nothing, text, Journal::of(journal))
 }
 
 // The answer to an input of at most 268,435,456 bytes.

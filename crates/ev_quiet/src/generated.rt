@@ -10,6 +10,7 @@ use crate::reading::net;
 use crate::summary::run_summary;
 use ev_generate::generate;
 use ev_memory::NoMemory;
+use ev_numnet::Kept;
 use std::alloc::Global;
 
 // The summary of the walk of a document that has a net. One that has none, as no generated document is, would be told as
@@ -20,7 +21,7 @@ fn summary(alloc: Global, bytes: &[u8]) -> Result<Printed, NoMemory>
     let Ok(net) = net(alloc, bytes) else {
         return Err(NoMemory);
     };
-    let ran = walked(alloc, &net)?;
+    let ran = walked::<Kept>(alloc, &net)?;
     let text = run_summary(alloc, &net, &ran)?;
     Printed::make(alloc, Body::Nothing, text, ran.journal)
 }

@@ -23,6 +23,7 @@ use ev_input::Fault;
 use ev_input::law::net_is_sound;
 use ev_memory::NoMemory;
 use ev_model::Net;
+use ev_numnet::Passed;
 use ev_outside::Source;
 use ev_watch::law::patterns_are_sound;
 use ev_watch::{Pattern, Watch, read_patterns};
@@ -43,7 +44,7 @@ fn searched(alloc: Global, net: Net, patterns: Vec<Pattern>) -> Result<Printed, 
         journal,
         refused: _,
         received,
-    } = walked(alloc, &net)?;
+    } = walked::<Passed>(alloc, &net)?;
     let found = Found::make(alloc, net.clients, received, patterns)?;
     Printed::make(alloc, Body::Found(found), Vec::new(alloc), journal)
 }

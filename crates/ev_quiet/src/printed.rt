@@ -6,13 +6,13 @@ ghost use Rattle.ev_model.specs.Sound.{IsSound};
 ghost use Rattle.ev_input.specs.declared.fault.Fault.TheVariants.{BadTurn};
 ghost use Rattle.ev_quiet.specs.Runs.{turns_first};
 ghost use Rattle.ev_quiet.specs.Words.{is_quiet, IsQuietQuery};
-ghost use Rattle.ev_quiet.specs.Ran.{IsShown};
+ghost use Rattle.ev_quiet.specs.Ran.{IsRan, IsShown};
 ghost use Rattle.ev_quiet.specs.Faults.{ArePermitted, StopsAtLine, IsAtFault, MustBeRefused, CanBeDone};
 ghost use Rattle.ev_quiet.specs.Answers.{IsPrintedOf};
 
 use crate::body::Body;
 use crate::law::promise;
-use crate::ran::make_run;
+use crate::ran::{Ran, make_run};
 use crate::reading::net;
 use crate::refusal::Refusal;
 use crate::text::printed_run;
@@ -21,8 +21,10 @@ use crate::words::{Query, Schedule, Shown};
 use ev_flood::must_may;
 use ev_format::law::text_is_read;
 use ev_input::Fault;
+use ev_journal::Journal;
 use ev_memory::NoMemory;
-use ev_model::{Entry, Net};
+use ev_model::Net;
+use ev_numnet::{Kept, Passed};
 use ev_outside::{Failed, Pending, Sink};
 use ev_report::{Flooded, check_text};
 use std::alloc::Global;
@@ -35,7 +37,7 @@ use std::marker::Model;
 pub struct Printed {
     body: Body,
     rest: Vec<u8>,
-    journal: Vec<Entry>,
+    journal: Journal,
     pending: Pending,
 }
 
@@ -46,7 +48,7 @@ impl Model for Printed {
 
     ghost Value = { PrintedParts };
 
-    ghost view = { λ p. printed_parts p.body p.rest.items p.journal.items };
+    ghost view = { λ p. printed_parts p.body p.rest.items p.journal.entries };
 
     ghost invariant = { λ p. p.pending ≡ drained false };
 }
@@ -60,9 +62,9 @@ impl Printed {
         alloc: Global,
         body: Body,
         rest: Vec<u8>,
-        journal: Vec<Entry>,
+        journal: Journal,
     ) -> Result<Printed, NoMemory>
-        ensures { IfOk result (λ p. p ≡ printed_parts body rest.items journal.items) }
+        ensures { IfOk result (λ p. p ≡ printed_parts body rest.items journal.entries) }
     {
         Ok(Printed {
             body,
@@ -76,12 +78,12 @@ impl Printed {
     pub fn alone(alloc: Global, text: Vec<u8>) -> Result<Printed, NoMemory>
         ensures { IfOk result (λ p. p ≡ printed_parts Body.Nothing text.items []) }
     {
-        Printed::make(alloc, Body::Nothing, text, Vec::new(alloc))
+        Printed::make(alloc, Body::Nothing, text, Journal::new(alloc, false))
     }
 
     /// Writes the text, and hands on the journal. It takes no memory.
-    pub fn write<K: Sink>(self, sink: &mut K) -> Result<Vec<Entry>, Failed>
-        ensures journal { IfOk result (λ journal. journal.items ≡ self.journal) }
+    pub fn write<K: Sink>(self, sink: &mut K) -> Result<Journal, Failed>
+        ensures journal { IfOk result (λ journal. journal.entries ≡ self.journal) }
         ensures ok { OnOk result (K.taken sink.new ≡ K.taken sink.old ++ self.text) }
         ensures sure { OnOk result (K.faults sink.new ≡ K.faults sink.old) }
         ensures err { OnErr result (TookPart (K.taken sink.old) (K.taken sink.new) self.text) }
@@ -102,6 +104,23 @@ impl Printed {
     }
 }
 
+// The run of a net, whose entries are kept where they are to be shown.
+fn made(alloc: Global, net: &Net, schedule: Schedule, kept: bool) -> Result<Ran, Refusal>
+    requires sound { IsSound net.now }
+    requires quiet { is_quiet schedule ≡ true }
+    ensures ran { IfOk result (λ ran. IsRan schedule net.now ran) }
+    ensures kept { kept ≡ true → IfOk result (λ ran. ran.journal.kept ≡ true) }
+    ensures bad { (line : ℕ) (kind : Fault) → IsErrOf result (Refusal.BadInput line kind)
+        → (kind ≡ BadTurn) × StopsAtLine net.now [] (turns_first schedule net.now) line }
+    ensures unread { IsErrOf result Refusal.ReadFault → ⊥ }
+{
+    if kept {
+        make_run::<Kept>(alloc, net, schedule)
+    } else {
+        make_run::<Passed>(alloc, net, schedule)
+    }
+}
+
 // The run of a net.
 fn shown(alloc: Global, net: Net, schedule: Schedule, shown: Shown) -> Result<Printed, Refusal>
     requires sound { IsSound net }
@@ -112,7 +131,7 @@ fn shown(alloc: Global, net: Net, schedule: Schedule, shown: Shown) -> Result<Pr
         → (kind ≡ BadTurn) × StopsAtLine net [] (turns_first schedule net) line }
     ensures unread { IsErrOf result Refusal.ReadFault → ⊥ }
 {
-    let ran = make_run(alloc, &net, schedule)?;
+    let ran = made(alloc, &net, schedule, shown.trace)?;
     Ok(printed_run(alloc, net, ran, shown)?)
 }
 
@@ -147,7 +166,7 @@ fn flood(alloc: Global, bytes: &[u8]) -> Result<Printed, Refusal>
         alloc,
         Body::Flooded(flooded),
         Vec::new(alloc),
-        Vec::new(alloc),
+        Journal::new(alloc, false),
     )?)
 }
 
@@ -180,7 +199,7 @@ fn format(alloc: Global, bytes: &[u8]) -> Result<Printed, Refusal>
         alloc,
         Body::Formatted(net),
         Vec::new(alloc),
-        Vec::new(alloc),
+        Journal::new(alloc, false),
     )?)
 }
 

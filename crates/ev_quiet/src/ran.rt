@@ -11,9 +11,10 @@ ghost use Rattle.ev_model.specs.Nets.{of_clients};
 use crate::refusal::Refusal;
 use crate::words::Schedule;
 use ev_input::Fault;
+use ev_journal::Journal;
 use ev_memory::NoMemory;
-use ev_model::{Delivery, Entry, Net, Turn};
-use ev_numnet::Network;
+use ev_model::{Delivery, Net, Turn};
+use ev_numnet::{Keeping, Network};
 use ev_tables::Tables;
 use ev_wire::Lists;
 use std::alloc::Global;
@@ -22,7 +23,7 @@ use std::alloc::Global;
 #[derive(Drop)]
 pub struct Ran {
     /// What the servers did.
-    pub journal: Vec<Entry>,
+    pub journal: Journal,
     /// Of each client the ordinals of its refused publishes.
     pub refused: Vec<Lists<u32>>,
     /// And what was delivered to it.
@@ -41,11 +42,11 @@ fn turns_first(net: &Net, schedule: Schedule) -> &[(u32, Turn)]
 }
 
 // The network after the turns of a schedule and the walk.
-fn through<'a>(
+fn through<'a, K: Keeping>(
     alloc: Global,
     tables: &'a Tables<'a>,
     schedule: Schedule,
-) -> Result<Network<'a>, Refusal>
+) -> Result<Network<'a, K>, Refusal>
     requires sound { IsSound tables.now }
     requires quiet { is_quiet schedule ≡ true }
     ensures through { IfOk result (λ network. IsRunThrough schedule tables.now network) }
@@ -60,7 +61,11 @@ fn through<'a>(
 }
 
 // Of each client the ordinals of its refused publishes.
-fn refused(alloc: Global, network: &Network<'_>, clients: u32) -> Result<Vec<Lists<u32>>, NoMemory>
+fn refused<K: Keeping>(
+    alloc: Global,
+    network: &Network<'_, K>,
+    clients: u32,
+) -> Result<Vec<Lists<u32>>, NoMemory>
     requires { length network.now.net.clients ≡ clients }
     ensures { IfOk result (λ lists. lists.items ≡ of_clients network.now.net (refused_by network.now.net network.now.journal)) }
 {
@@ -80,27 +85,33 @@ fn clients(net: &Net) -> u32
     net.clients.len() as u32
 }
 
-/// The walk of a net.
-pub fn walked(alloc: Global, net: &Net) -> Result<Ran, NoMemory>
+/// The walk of a net, whose entries are kept or pass.
+pub fn walked<K: Keeping>(alloc: Global, net: &Net) -> Result<Ran, NoMemory>
     requires { IsSound net.now }
-    ensures { IfOk result (λ ran. IsRan Schedule.Walk net.now ran) }
+    ensures ran { IfOk result (λ ran. IsRan Schedule.Walk net.now ran) }
+    ensures kept { IfOk result (λ ran. ran.journal.kept ≡ K.keeps) }
 {
-    match make_run(alloc, net, Schedule::Walk) {
+    match make_run::<K>(alloc, net, Schedule::Walk) {
         Ok(ran) => Ok(ran),
         Err(_) => Err(NoMemory),
     }
 }
 
 // The run of a net over its tables.
-fn run_over(alloc: Global, tables: &Tables<'_>, schedule: Schedule) -> Result<Ran, Refusal>
+fn run_over<K: Keeping>(
+    alloc: Global,
+    tables: &Tables<'_>,
+    schedule: Schedule,
+) -> Result<Ran, Refusal>
     requires sound { IsSound tables.now }
     requires quiet { is_quiet schedule ≡ true }
     ensures ran { IfOk result (λ ran. IsRan schedule tables.now ran) }
+    ensures kept { IfOk result (λ ran. ran.journal.kept ≡ K.keeps) }
     ensures bad { (line : ℕ) (kind : Fault) → IsErrOf result (Refusal.BadInput line kind)
         → (kind ≡ Fault.BadTurn) × StopsAtLine tables.now [] (turns_first schedule tables.now) line }
     ensures unread { IsErrOf result Refusal.ReadFault → ⊥ }
 {
-    let network = through(alloc, tables, schedule)?;
+    let network = through::<K>(alloc, tables, schedule)?;
     let refused = refused(alloc, &network, clients(tables.net()))?;
     let (journal, received) = network.into_parts()?;
     Ok(Ran {
@@ -110,15 +121,16 @@ fn run_over(alloc: Global, tables: &Tables<'_>, schedule: Schedule) -> Result<Ra
     })
 }
 
-/// The run of a net on one thread, by the turns of a schedule and the walk.
-pub fn make_run(alloc: Global, net: &Net, schedule: Schedule) -> Result<Ran, Refusal>
+/// The run of a net on one thread, by the turns of a schedule and the walk, whose entries are kept or pass.
+pub fn make_run<K: Keeping>(alloc: Global, net: &Net, schedule: Schedule) -> Result<Ran, Refusal>
     requires sound { IsSound net.now }
     requires quiet { is_quiet schedule ≡ true }
     ensures ran { IfOk result (λ ran. IsRan schedule net.now ran) }
+    ensures kept { IfOk result (λ ran. ran.journal.kept ≡ K.keeps) }
     ensures bad { (line : ℕ) (kind : Fault) → IsErrOf result (Refusal.BadInput line kind)
         → (kind ≡ Fault.BadTurn) × StopsAtLine net.now [] (turns_first schedule net.now) line }
     ensures unread { IsErrOf result Refusal.ReadFault → ⊥ }
 {
     let tables = Tables::of(alloc, net)?;
-    run_over(alloc, &tables, schedule)
+    run_over::<K>(alloc, &tables, schedule)
 }

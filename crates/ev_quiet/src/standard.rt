@@ -32,7 +32,7 @@ pub fn quiet_with_devices<R: Read, W: Write>(
 ) -> Over<R, W>
     requires { AreNoneOfRun (wanted_by words.now) }
     ensures outcome { IsOutcome (wanted_by words.now) [] result.source.given.bytes result.source.ended
-        [] result.sink.taken.bytes result.outcome.status result.outcome.journal.items }
+        [] result.sink.taken.bytes result.outcome.status result.outcome.journal.entries }
     ensures sure { result.outcome.status ≡ Status.Done → (result.source.faults ≡ 0) × (result.sink.faults ≡ 0) }
     ensures unread { reads (wanted_by words.now) ≡ false → result.source.given.bytes ≡ [] }
     ensures at_most { length result.source.given.bytes ≤ most_read (wanted_by words.now) }

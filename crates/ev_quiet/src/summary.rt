@@ -72,17 +72,12 @@ fn all_publishes(clients: &[Client]) -> u64
 pub fn run_summary(alloc: Global, net: &Net, ran: &Ran) -> Result<Vec<u8>, NoMemory>
     requires sound { IsSound net.now }
     requires collected { IsCollected net.now ran.now }
-    ensures { IfOk result (λ text. text.items ≡ summary_of net.now ran.now.journal.items) }
+    requires kept { ran.now.journal.kept ≡ true }
+    ensures { IfOk result (λ text. text.items ≡ summary_of net.now ran.now.journal.entries) }
 {
     let refused = total(&ran.refused)?;
     let received = total(&ran.received)?;
-    let messages = messages(&ran.journal)?;
+    let messages = messages(ran.journal.entries())?;
     let accepted = all_publishes(&net.clients).saturating_sub(refused);
-    summary_text(
-        alloc,
-        accepted,
-        received,
-        ran.journal.len() as u64,
-        messages,
-    )
+    summary_text(alloc, accepted, received, ran.journal.len(), messages)
 }

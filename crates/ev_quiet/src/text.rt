@@ -1,5 +1,5 @@
 //! Texts of runs.
-ghost use Rattle.std.specs.Prelude.{◌≡◌, IfOk};
+ghost use Rattle.std.specs.Prelude.{◌≡◌, true, IfOk};
 ghost use Rattle.ev_model.specs.Sound.{IsSound};
 ghost use Rattle.ev_turns.specs.Network.{IsLegal};
 ghost use Rattle.ev_turns.specs.Told.{told_by};
@@ -12,6 +12,7 @@ use crate::given::Given;
 use crate::printed::Printed;
 use crate::ran::Ran;
 use crate::words::Shown;
+use ev_journal::Journal;
 use ev_memory::NoMemory;
 use ev_model::{Entry, Net};
 use ev_numnet::retell;
@@ -45,25 +46,27 @@ fn trace_where(
     alloc: Global,
     wanted: bool,
     net: &Net,
-    journal: &[Entry],
+    journal: &Journal,
 ) -> Result<Vec<u8>, NoMemory>
     requires sound { IsSound net.now }
-    requires legal { IsLegal net.now journal.now }
-    ensures { IfOk result (λ text. text.items ≡ trace_of wanted net.now journal.now) }
+    requires kept { wanted ≡ true → journal.now.kept ≡ true }
+    requires legal { IsLegal net.now journal.now.entries }
+    ensures { IfOk result (λ text. text.items ≡ trace_of wanted net.now journal.now.entries) }
 {
     if wanted {
-        trace(alloc, net, journal)
+        trace(alloc, net, journal.entries())
     } else {
         Ok(Vec::new(alloc))
     }
 }
 
-/// What is printed of a run.
+/// What is printed of a run, whose entries are kept where its trace is shown.
 pub fn printed_run(alloc: Global, net: Net, ran: Ran, shown: Shown) -> Result<Printed, NoMemory>
     requires sound { IsSound net }
     requires collected { IsCollected net ran }
-    ensures text { IfOk result (λ p. p.text ≡ run_text shown net ran.journal.items) }
-    ensures journal { IfOk result (λ p. p.journal ≡ ran.journal.items) }
+    requires kept { shown.trace ≡ true → ran.journal.kept ≡ true }
+    ensures text { IfOk result (λ p. p.text ≡ run_text shown net ran.journal.entries) }
+    ensures journal { IfOk result (λ p. p.journal ≡ ran.journal.entries) }
 {
     let trace = trace_where(alloc, shown.trace, &net, &ran.journal)?;
     let Ran {

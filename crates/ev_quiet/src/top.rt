@@ -12,7 +12,7 @@ use crate::printed::Printed;
 use crate::status::Status;
 use crate::unanswered::Unanswered;
 use crate::words::{Wanted, read_words};
-use ev_model::Entry;
+use ev_journal::Journal;
 use ev_outside::{Sink, Source, Word};
 use std::alloc::Global;
 
@@ -23,7 +23,7 @@ pub struct Outcome {
     /// How it ended.
     pub status: Status,
     /// The journal.
-    pub journal: Vec<Entry>,
+    pub journal: Journal,
 }
 
 impl Outcome {
@@ -36,11 +36,11 @@ impl Outcome {
     /// The outcome of what is not done.
     pub fn ended(alloc: Global, status: Status) -> Outcome
         ensures status { result.status ≡ status }
-        ensures journal { result.journal.items ≡ [] }
+        ensures journal { result.journal.entries ≡ [] }
     {
         Outcome {
             status,
-            journal: Vec::new(alloc),
+            journal: Journal::new(alloc, false),
         }
     }
 
@@ -48,10 +48,10 @@ impl Outcome {
     pub fn written<K: Sink>(alloc: Global, printed: Printed, sink: &mut K) -> Outcome
         ensures done { result.status ≡ Status.Done → K.taken sink.new ≡ K.taken sink.old ++ printed.text }
         ensures sure { result.status ≡ Status.Done → K.faults sink.new ≡ K.faults sink.old }
-        ensures journal { result.status ≡ Status.Done → result.journal.items ≡ printed.journal }
+        ensures journal { result.status ≡ Status.Done → result.journal.entries ≡ printed.journal }
         ensures part { result.status ≡ Status.WriteFault → TookPart (K.taken sink.old) (K.taken sink.new) printed.text }
         ensures write_fault { result.status ≡ Status.WriteFault → Rose (K.faults sink.old) (K.faults sink.new) }
-        ensures empty { result.status ≢ Status.Done → result.journal.items ≡ [] }
+        ensures empty { result.status ≢ Status.Done → result.journal.entries ≡ [] }
         ensures ends { (result.status ≡ Status.Done) ⊎ (result.status ≡ Status.WriteFault) }
     {
         match printed.write(sink) {
@@ -70,7 +70,7 @@ impl Outcome {
         sink: &mut K,
     ) -> Outcome
         ensures outcome { (wanted : Wanted) (given now : List ℕ) (ended : Bool) → IsAnswer wanted given now ended answer
-            → IsOutcome (Some wanted) given now ended (K.taken sink.old) (K.taken sink.new) result.status result.journal.items }
+            → IsOutcome (Some wanted) given now ended (K.taken sink.old) (K.taken sink.new) result.status result.journal.entries }
         ensures done { result.status ≡ Status.Done → IsOk answer }
         ensures sure { result.status ≡ Status.Done → K.faults sink.new ≡ K.faults sink.old }
         ensures unwritten { result.status ≢ Status.Done → result.status ≢ Status.WriteFault → sink.new ≡ sink.old }
@@ -104,7 +104,7 @@ pub fn quiet<S: Source, K: Sink>(
 ) -> Outcome
     requires { AreNoneOfRun (wanted_by words.now) }
     ensures outcome { IsOutcome (wanted_by words.now) (S.given source.old) (S.given source.new) (S.ended source.new)
-        (K.taken sink.old) (K.taken sink.new) result.status result.journal.items }
+        (K.taken sink.old) (K.taken sink.new) result.status result.journal.entries }
     ensures sure { result.status ≡ Status.Done → (S.faults source.new ≡ S.faults source.old) × (K.faults sink.new ≡ K.faults sink.old) }
     ensures unread { reads (wanted_by words.now) ≡ false → source.new ≡ source.old }
     ensures at_most { reads (wanted_by words.now) ≡ true

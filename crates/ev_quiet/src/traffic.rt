@@ -18,7 +18,7 @@ use crate::words::Query;
 use ev_input::Fault;
 use ev_memory::NoMemory;
 use ev_model::{Entry, Net};
-use ev_numnet::{Network, turn_of};
+use ev_numnet::{Kept, Network, Passed, turn_of};
 use ev_tables::Tables;
 use ev_traffic::law::beside_flooding;
 use ev_traffic::{Carried, Traffic};
@@ -30,7 +30,7 @@ fn carried_over(alloc: Global, tables: &Tables<'_>, journal: &[Entry]) -> Result
     requires legal { IsLegal tables.now journal.now }
     ensures { IfOk result (λ carried. Carries carried journal.now (told_by tables.now journal.now)) }
 {
-    let mut network = Network::start(alloc, tables)?;
+    let mut network: Network<'_, Passed> = Network::start(alloc, tables)?;
     let mut carried = Carried::none(alloc)?;
     for entry in journal {
         network.turn(turn_of(entry))?;
@@ -61,8 +61,8 @@ fn of_net(alloc: Global, net: Net, graph: bool) -> Result<Printed, NoMemory>
         journal,
         refused,
         received: _,
-    } = walked(alloc, &net)?;
-    let carried = carried(alloc, &net, &journal)?;
+    } = walked::<Kept>(alloc, &net)?;
+    let carried = carried(alloc, &net, journal.entries())?;
     let traffic = Traffic::make(alloc, net, &refused, carried, graph)?;
     Printed::make(alloc, Body::Carried(traffic), Vec::new(alloc), journal)
 }

@@ -1,7 +1,6 @@
 //! One call of the program over devices in memory.
 use crate::failure::Failure;
 use crate::row::Row;
-use ev_model::Entry;
 use ev_outside::{Gate, MemorySink, MemorySource, NoGate, Word};
 use ev_quiet::fault_text;
 use ev_siena::siena;
@@ -12,15 +11,13 @@ use std::thread::Threads;
 /// Room for what is written.
 const ROOM: usize = 4_000_000;
 
-/// What a call told, wrote and gave.
+/// What a call told and wrote.
 #[derive(Drop)]
 pub struct Tried {
     /// The line to standard error, or nothing.
     pub fault: Vec<u8>,
     /// What was written.
     pub text: Vec<u8>,
-    /// The journal.
-    pub journal: Vec<Entry>,
 }
 
 /// The words of a line.
@@ -46,11 +43,7 @@ pub fn held<R: Threads + Wait + Sync, G: Gate + Sync>(
     let ended = siena(alloc, rt, &words, &mut source, &mut sink, gate);
     let fault = fault_text(alloc, &ended.status)?;
     let text = sink.bytes().to_vec(alloc)?;
-    Ok(Tried {
-        fault,
-        text,
-        journal: ended.journal,
-    })
+    Ok(Tried { fault, text })
 }
 
 /// Runs the words over a document, with nobody held.

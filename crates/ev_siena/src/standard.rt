@@ -24,7 +24,7 @@ pub fn with_devices<E: Threads + Wait + Sync, R: Read, W: Write, G: Gate + Sync>
     gate: &G,
 ) -> Over<R, W>
     ensures outcome { IsOutcome (wanted_by words.now) [] result.source.given.bytes result.source.ended
-        [] result.sink.taken.bytes result.outcome.status result.outcome.journal.items }
+        [] result.sink.taken.bytes result.outcome.status result.outcome.journal.entries }
     ensures sure { result.outcome.status ≡ Status.Done → (result.source.faults ≡ 0) × (result.sink.faults ≡ 0) }
     ensures unread { reads (wanted_by words.now) ≡ false → result.source.given.bytes ≡ [] }
     ensures at_most { length result.source.given.bytes ≤ most_read (wanted_by words.now) }

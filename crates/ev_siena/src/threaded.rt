@@ -12,6 +12,7 @@ ghost use Rattle.ev_siena.specs.Wishes.{query_of, with_threads};
 use crate::run::run_net;
 use ev_course::Ran as Threaded;
 use ev_input::Fault;
+use ev_journal::Journal;
 use ev_memory::NoMemory;
 use ev_model::Net;
 use ev_outside::{Gate, Source};
@@ -37,7 +38,7 @@ fn shown<R: Threads + Wait + Sync, G: Gate + Sync>(
         received,
     } = run_net(alloc, rt, &net, gate)?;
     let ran = Ran {
-        journal,
+        journal: Journal::of(journal),
         refused,
         received,
     };

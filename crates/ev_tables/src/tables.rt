@@ -1,9 +1,11 @@
 //! The catalogue of a net with its rows.
-ghost use Rattle.std.specs.Prelude.{◌≡◌, IfOk};
+ghost use Rattle.std.specs.Prelude.{◌≡◌, ◌<◌, length, IfOk};
 ghost use Rattle.ev_model.specs.Sound.{IsSound};
-ghost use Rattle.ev_catalogue.specs.Known.{known_filters, known_adverts};
+ghost use Rattle.ev_catalogue.specs.Known.{known_filters, known_adverts, known_publications};
 ghost use Rattle.ev_catalogue.specs.Related.{overlap_rows};
+ghost use Rattle.ev_tables.specs.Found.{IsFound, publication_at};
 
+use crate::found::{Found, find_all};
 use ev_bits::Row;
 use ev_catalogue::Catalogue;
 use ev_cover::{Ad, Sub};
@@ -14,25 +16,27 @@ use ev_wire::Semantics;
 use std::alloc::Global;
 use std::marker::Model;
 
-/// The catalogue of a net, and for its filters and advertisements the rows that tell which covers which and which overlap.
-/// Contracts see the net, of which all is a function.
+/// The catalogue of a net, for its filters and advertisements the rows that tell which covers which and which overlap, and
+/// each publication with the filters that it matches. Contracts see the net, of which all is a function.
 #[derive(Drop)]
 pub struct Tables<'a> {
     catalogue: Catalogue<'a>,
     filters: Order<Sub>,
     adverts: Order<Ad>,
     overlaps: Vec<Row>,
+    publications: Vec<Found>,
 }
 
 impl<'a> Model for Tables<'a> {
     ghost use Rattle.ev_model.specs.Parts.{NetParts};
     ghost use Rattle.ev_tables.specs.Tables.{AreTables};
+    ghost use Rattle.ev_tables.specs.Found.{AreFound};
 
     ghost Value = { NetParts };
 
     ghost view = { λ t. t.catalogue };
 
-    ghost invariant = { λ t. AreTables t.catalogue t.filters t.adverts t.overlaps.items };
+    ghost invariant = { λ t. AreTables t.catalogue t.filters t.adverts t.overlaps.items × AreFound t.catalogue t.publications.items };
 }
 
 impl<'a> Tables<'a> {
@@ -45,11 +49,13 @@ impl<'a> Tables<'a> {
         let filters = catalogue.filter_order(alloc)?;
         let adverts = catalogue.advert_order(alloc)?;
         let overlaps = catalogue.overlaps(alloc)?;
+        let publications = find_all(alloc, &catalogue)?;
         Ok(Tables {
             catalogue,
             filters,
             adverts,
             overlaps,
+            publications,
         })
     }
 
@@ -93,5 +99,13 @@ impl<'a> Tables<'a> {
         ensures { result.now ≡ overlap_rows (known_filters self.now.clients) (known_adverts self.now.clients) }
     {
         &self.overlaps
+    }
+
+    /// The publication with a number.
+    pub fn found(&self, number: u32) -> &Found
+        requires { number < length (known_publications 1 self.now.clients) }
+        ensures { IsFound self.now (publication_at self.now number) result.now }
+    {
+        &self.publications[number as usize]
     }
 }

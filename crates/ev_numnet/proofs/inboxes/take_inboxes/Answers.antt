@@ -20,7 +20,7 @@ take_inbox-requires-clause-home c =
 pub loop-place-preserved : goal.loop-place-preserved
 loop-place-preserved c =
     let net = c.args.net.now in
-    let journal = c.args.servers.now.journal.items in
+    let journal = c.args.servers.now.journal.entries in
     let place = c.loop-place.place in
     let within : place < length net.clients = search rules in
     let next = next_inbox net journal place c.loop-place.servers.places.items c.take_inbox.new.places.items c.take_inbox.result c.requires.1.sound c.loop-place.invariant.1 within c.take_inbox.ensures.inbox c.take_inbox.ensures.places in

@@ -20,16 +20,16 @@ command-requires-clause-able c =
     let low = subst (λ z. (1 ≤ z) × (z ≤ (first_tree c.args.net.now.trees).count)) (sym c.home-home.ensures) (home_low c.args.net.now c.requires.kept.sound c.args.client) in
     let links = c.neighbours-neighbours.ensures.value ∙ ap (λ z. links_of z c.home-home.result) c.tree.ensures in
     subst (λ z. CanAct c.home-home.result z c.args.servers.now.places.items) (sym links)
-    (can_act c.args.net.now c.requires.kept.sound c.args.phase (moment_by c.args.net.now c.args.servers.now.journal.items).state c.args.servers.now.places.items c.requires.kept.cores c.home-home.result low.0 low.1 (clocks_low c.args.net.now c.args.phase (seen c.args.servers.now) c.requires.kept))
+    (can_act c.args.net.now c.requires.kept.sound c.args.phase (moment_by c.args.net.now c.args.servers.now.journal.entries).state c.args.servers.now.places.items c.requires.kept.cores c.home-home.result low.0 low.1 (clocks_low c.args.net.now c.args.phase (seen c.args.servers.now) c.requires.kept))
 
 pub command-requires-clause-lives : goal.command-requires-clause-lives
 command-requires-clause-lives c = λ core at.
-    lives_there c.args.net.now c.requires.kept.sound c.args.phase (moment_by c.args.net.now c.args.servers.now.journal.items).state c.args.servers.now.places.items c.requires.kept.cores c.args.client c.requires.client core
+    lives_there c.args.net.now c.requires.kept.sound c.args.phase (moment_by c.args.net.now c.args.servers.now.journal.entries).state c.args.servers.now.places.items c.requires.kept.cores c.args.client c.requires.client core
     (subst (λ z. slice_get c.args.servers.now.places.items (z - 1) ≡ Some core) c.home-home.ensures at)
 
 pub command-requires-clause-left : goal.command-requires-clause-left
 command-requires-clause-left c = λ core s at h e.
-    left_there c.args.net.now c.requires.kept.sound c.args.phase (moment_by c.args.net.now c.args.servers.now.journal.items).state c.args.servers.now.places.items c.requires.kept.cores c.args.client c.args.phase c.requires.next core s
+    left_there c.args.net.now c.requires.kept.sound c.args.phase (moment_by c.args.net.now c.args.servers.now.journal.entries).state c.args.servers.now.places.items c.requires.kept.cores c.args.client c.args.phase c.requires.next core s
     (subst (λ z. slice_get c.args.servers.now.places.items (z - 1) ≡ Some core) c.home-home.ensures at) h e
 
 pub returns-clause-made : goal.returns-clause-made
@@ -49,6 +49,3 @@ returns-clause-err c = journal_on_err c.args.net.now c.args.phase c.command.resu
     (commanded_now c.args.net.now c.args.phase (seen c.args.servers.now) (seen c.command.new.self) c.requires.kept c.args.client c.requires.next c.command.result
     (on_ok_same c.args.net.now c.args.client c.home-home.result c.args.servers.now c.command.new.self c.command.result c.home-home.ensures c.command.ensures.acted)
     (same_on_err c.args.servers.now c.command.new.self c.command.result c.command.ensures.err))
-
-pub command-requires-clause-run : goal.command-requires-clause-run
-command-requires-clause-run c = λ core at. c.requires.kept.cores.nets (c.home-home.result - 1) core at ∙ sym c.requires.kept.run

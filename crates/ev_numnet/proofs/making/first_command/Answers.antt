@@ -21,12 +21,12 @@ use Rattle.ev_numnet.proofs.Commanding.{home_low, lives_there, left_there, ready
 use Rattle.ev_numnet.proofs.making.first_command.Goals as goal
 
 pub begin-requires-clause-sound : goal.begin-requires-clause-sound
-begin-requires-clause-sound c = subst IsSound (sym (c.tables-tables.ensures ∙ c.requires.kept.run)) c.requires.kept.sound
+begin-requires-clause-sound c = subst IsSound (sym c.requires.kept.run) c.requires.kept.sound
 
 pub begin-requires-clause-state : goal.begin-requires-clause-state
 begin-requires-clause-state c =
-    subst (λ (n : NetParts). (state : State real) × AreServers n c.args.last state c.args.servers.now.places.items × IsAtRestOn real (phased_net n) c.args.last state) (sym (c.tables-tables.ensures ∙ c.requires.kept.run))
-    ((moment_by c.args.net.now c.args.servers.now.journal.items).state, c.requires.kept.cores, rests_now c.args.net.now c.args.last c.args.own (seen c.args.servers.now) c.requires.kept c.requires.later c.requires.quiet c.requires.through)
+    subst (λ (n : NetParts). (state : State real) × AreServers n c.args.last state c.args.servers.now.places.items × IsAtRestOn real (phased_net n) c.args.last state) (sym c.requires.kept.run)
+    ((moment_by c.args.net.now c.args.servers.now.journal.entries).state, c.requires.kept.cores, rests_now c.args.net.now c.args.last c.args.own (seen c.args.servers.now) c.requires.kept c.requires.later c.requires.quiet c.requires.through)
 
 pub neighbours-neighbours-requires : goal.neighbours-neighbours-requires
 neighbours-neighbours-requires c =
@@ -39,39 +39,34 @@ command-requires-clause-able c =
     let low = subst (λ z. (1 ≤ z) × (z ≤ (first_tree c.args.net.now.trees).count)) (sym c.home-home.ensures) (home_low c.args.net.now c.requires.kept.sound c.args.client) in
     let links = c.neighbours-neighbours.ensures.value ∙ ap (λ z. links_of z c.home-home.result) c.tree.ensures in
     subst (λ z. CanAct c.home-home.result z c.begin.new.places.items) (sym links)
-    (can_act c.args.net.now c.requires.kept.sound c.args.own (begun real (phased_net c.args.net.now) c.args.last c.args.own (moment_by c.args.net.now c.args.servers.now.journal.items).state) c.begin.new.places.items ((subst (λ (n : NetParts). (state : State real) → AreServers n c.args.last state c.args.servers.now.places.items → IsAtRestOn real (phased_net n) c.args.last state → AreServers n c.args.own (begun real (phased_net n) c.args.last c.args.own state) c.begin.new.places.items) (c.tables-tables.ensures ∙ c.requires.kept.run) c.in_ok-before.ensures.begun) (moment_by c.args.net.now c.args.servers.now.journal.items).state c.requires.kept.cores (rests_now c.args.net.now c.args.last c.args.own (seen c.args.servers.now) c.requires.kept c.requires.later c.requires.quiet c.requires.through)) c.home-home.result low.0 low.1 (low_later c.args.net.now c.args.last c.args.own (seen c.args.servers.now) c.requires.kept c.requires.later c.requires.quiet c.requires.through))
+    (can_act c.args.net.now c.requires.kept.sound c.args.own (begun real (phased_net c.args.net.now) c.args.last c.args.own (moment_by c.args.net.now c.args.servers.now.journal.entries).state) c.begin.new.places.items ((subst (λ (n : NetParts). (state : State real) → AreServers n c.args.last state c.args.servers.now.places.items → IsAtRestOn real (phased_net n) c.args.last state → AreServers n c.args.own (begun real (phased_net n) c.args.last c.args.own state) c.begin.new.places.items) c.requires.kept.run c.in_ok-before.ensures.begun) (moment_by c.args.net.now c.args.servers.now.journal.entries).state c.requires.kept.cores (rests_now c.args.net.now c.args.last c.args.own (seen c.args.servers.now) c.requires.kept c.requires.later c.requires.quiet c.requires.through)) c.home-home.result low.0 low.1 (low_later c.args.net.now c.args.last c.args.own (seen c.args.servers.now) c.requires.kept c.requires.later c.requires.quiet c.requires.through))
 
 pub command-requires-clause-lives : goal.command-requires-clause-lives
 command-requires-clause-lives c = λ core at.
-    lives_there c.args.net.now c.requires.kept.sound c.args.own (begun real (phased_net c.args.net.now) c.args.last c.args.own (moment_by c.args.net.now c.args.servers.now.journal.items).state) c.begin.new.places.items ((subst (λ (n : NetParts). (state : State real) → AreServers n c.args.last state c.args.servers.now.places.items → IsAtRestOn real (phased_net n) c.args.last state → AreServers n c.args.own (begun real (phased_net n) c.args.last c.args.own state) c.begin.new.places.items) (c.tables-tables.ensures ∙ c.requires.kept.run) c.in_ok-before.ensures.begun) (moment_by c.args.net.now c.args.servers.now.journal.items).state c.requires.kept.cores (rests_now c.args.net.now c.args.last c.args.own (seen c.args.servers.now) c.requires.kept c.requires.later c.requires.quiet c.requires.through)) c.args.client c.requires.client core
+    lives_there c.args.net.now c.requires.kept.sound c.args.own (begun real (phased_net c.args.net.now) c.args.last c.args.own (moment_by c.args.net.now c.args.servers.now.journal.entries).state) c.begin.new.places.items ((subst (λ (n : NetParts). (state : State real) → AreServers n c.args.last state c.args.servers.now.places.items → IsAtRestOn real (phased_net n) c.args.last state → AreServers n c.args.own (begun real (phased_net n) c.args.last c.args.own state) c.begin.new.places.items) c.requires.kept.run c.in_ok-before.ensures.begun) (moment_by c.args.net.now c.args.servers.now.journal.entries).state c.requires.kept.cores (rests_now c.args.net.now c.args.last c.args.own (seen c.args.servers.now) c.requires.kept c.requires.later c.requires.quiet c.requires.through)) c.args.client c.requires.client core
     (subst (λ z. slice_get c.begin.new.places.items (z - 1) ≡ Some core) c.home-home.ensures at)
 
 pub command-requires-clause-left : goal.command-requires-clause-left
 command-requires-clause-left c = λ core s at h e.
-    left_there c.args.net.now c.requires.kept.sound c.args.own (begun real (phased_net c.args.net.now) c.args.last c.args.own (moment_by c.args.net.now c.args.servers.now.journal.items).state) c.begin.new.places.items ((subst (λ (n : NetParts). (state : State real) → AreServers n c.args.last state c.args.servers.now.places.items → IsAtRestOn real (phased_net n) c.args.last state → AreServers n c.args.own (begun real (phased_net n) c.args.last c.args.own state) c.begin.new.places.items) (c.tables-tables.ensures ∙ c.requires.kept.run) c.in_ok-before.ensures.begun) (moment_by c.args.net.now c.args.servers.now.journal.items).state c.requires.kept.cores (rests_now c.args.net.now c.args.last c.args.own (seen c.args.servers.now) c.requires.kept c.requires.later c.requires.quiet c.requires.through)) c.args.client c.args.own
+    left_there c.args.net.now c.requires.kept.sound c.args.own (begun real (phased_net c.args.net.now) c.args.last c.args.own (moment_by c.args.net.now c.args.servers.now.journal.entries).state) c.begin.new.places.items ((subst (λ (n : NetParts). (state : State real) → AreServers n c.args.last state c.args.servers.now.places.items → IsAtRestOn real (phased_net n) c.args.last state → AreServers n c.args.own (begun real (phased_net n) c.args.last c.args.own state) c.begin.new.places.items) c.requires.kept.run c.in_ok-before.ensures.begun) (moment_by c.args.net.now c.args.servers.now.journal.entries).state c.requires.kept.cores (rests_now c.args.net.now c.args.last c.args.own (seen c.args.servers.now) c.requires.kept c.requires.later c.requires.quiet c.requires.through)) c.args.client c.args.own
     (ap (λ z. phase_in (slice_get (script_of c.args.net.now c.args.client) z)) (done_later c.args.net.now c.args.last c.args.own (seen c.args.servers.now) c.requires.kept c.requires.later c.requires.quiet c.requires.through (home_of c.args.net.now c.args.client) c.args.client) ∙ c.requires.next) core s
     (subst (λ z. slice_get c.begin.new.places.items (z - 1) ≡ Some core) c.home-home.ensures at) h e
 
 pub returns-clause-made : goal.returns-clause-made
-returns-clause-made c = command_made c.args.net.now c.args.last (seen c.args.servers.now) c.requires.kept c.args.client (seen c.command.new.self) (record { run = c.args.servers.now.finder; cores = c.begin.new.places.items; messages = messages_at c.args.servers.now.links; journal = c.args.servers.now.journal.items }) (begun real (phased_net c.args.net.now) c.args.last c.args.own (moment_by c.args.net.now c.args.servers.now.journal.items).state) c.args.own c.requires.next (ready_later c.args.net.now c.args.last c.args.own (seen c.args.servers.now) c.requires.kept c.requires.later c.requires.quiet c.requires.through) ((subst (λ (n : NetParts). (state : State real) → AreServers n c.args.last state c.args.servers.now.places.items → IsAtRestOn real (phased_net n) c.args.last state → AreServers n c.args.own (begun real (phased_net n) c.args.last c.args.own state) c.begin.new.places.items) (c.tables-tables.ensures ∙ c.requires.kept.run) c.in_ok-before.ensures.begun) (moment_by c.args.net.now c.args.servers.now.journal.items).state c.requires.kept.cores (rests_now c.args.net.now c.args.last c.args.own (seen c.args.servers.now) c.requires.kept c.requires.later c.requires.quiet c.requires.through))
+returns-clause-made c = command_made c.args.net.now c.args.last (seen c.args.servers.now) c.requires.kept c.args.client (seen c.command.new.self) (record { run = c.args.servers.now.tables.now; cores = c.begin.new.places.items; messages = messages_at c.args.servers.now.links; journal = c.args.servers.now.journal.entries }) (begun real (phased_net c.args.net.now) c.args.last c.args.own (moment_by c.args.net.now c.args.servers.now.journal.entries).state) c.args.own c.requires.next (ready_later c.args.net.now c.args.last c.args.own (seen c.args.servers.now) c.requires.kept c.requires.later c.requires.quiet c.requires.through) ((subst (λ (n : NetParts). (state : State real) → AreServers n c.args.last state c.args.servers.now.places.items → IsAtRestOn real (phased_net n) c.args.last state → AreServers n c.args.own (begun real (phased_net n) c.args.last c.args.own state) c.begin.new.places.items) c.requires.kept.run c.in_ok-before.ensures.begun) (moment_by c.args.net.now c.args.servers.now.journal.entries).state c.requires.kept.cores (rests_now c.args.net.now c.args.last c.args.own (seen c.args.servers.now) c.requires.kept c.requires.later c.requires.quiet c.requires.through))
     (links_later c.args.net.now c.args.last c.args.own (seen c.args.servers.now) c.requires.kept c.requires.later c.requires.quiet c.requires.through (messages_at c.args.servers.now.links) (λ a b. refl)) refl refl
-    (subst (λ z. IsActed (z - 1) (Does (NextCommand c.args.client)) (acts.Command c.args.client) (record { run = c.args.servers.now.finder; cores = c.begin.new.places.items; messages = messages_at c.args.servers.now.links; journal = c.args.servers.now.journal.items }) (seen c.command.new.self)) c.home-home.ensures c.in_default.ensures.acted)
+    (subst (λ z. IsActed (z - 1) (Does (NextCommand c.args.client)) (acts.Command c.args.client) (record { run = c.args.servers.now.tables.now; cores = c.begin.new.places.items; messages = messages_at c.args.servers.now.links; journal = c.args.servers.now.journal.entries }) (seen c.command.new.self)) c.home-home.ensures c.in_default.ensures.acted)
 
 pub returns-clause-kept : goal.returns-clause-kept
-returns-clause-kept c = command_kept c.args.net.now c.args.last (seen c.args.servers.now) c.requires.kept c.args.client (seen c.command.new.self) (record { run = c.args.servers.now.finder; cores = c.begin.new.places.items; messages = messages_at c.args.servers.now.links; journal = c.args.servers.now.journal.items }) (begun real (phased_net c.args.net.now) c.args.last c.args.own (moment_by c.args.net.now c.args.servers.now.journal.items).state) c.args.own c.requires.next (ready_later c.args.net.now c.args.last c.args.own (seen c.args.servers.now) c.requires.kept c.requires.later c.requires.quiet c.requires.through) ((subst (λ (n : NetParts). (state : State real) → AreServers n c.args.last state c.args.servers.now.places.items → IsAtRestOn real (phased_net n) c.args.last state → AreServers n c.args.own (begun real (phased_net n) c.args.last c.args.own state) c.begin.new.places.items) (c.tables-tables.ensures ∙ c.requires.kept.run) c.in_ok-before.ensures.begun) (moment_by c.args.net.now c.args.servers.now.journal.items).state c.requires.kept.cores (rests_now c.args.net.now c.args.last c.args.own (seen c.args.servers.now) c.requires.kept c.requires.later c.requires.quiet c.requires.through))
+returns-clause-kept c = command_kept c.args.net.now c.args.last (seen c.args.servers.now) c.requires.kept c.args.client (seen c.command.new.self) (record { run = c.args.servers.now.tables.now; cores = c.begin.new.places.items; messages = messages_at c.args.servers.now.links; journal = c.args.servers.now.journal.entries }) (begun real (phased_net c.args.net.now) c.args.last c.args.own (moment_by c.args.net.now c.args.servers.now.journal.entries).state) c.args.own c.requires.next (ready_later c.args.net.now c.args.last c.args.own (seen c.args.servers.now) c.requires.kept c.requires.later c.requires.quiet c.requires.through) ((subst (λ (n : NetParts). (state : State real) → AreServers n c.args.last state c.args.servers.now.places.items → IsAtRestOn real (phased_net n) c.args.last state → AreServers n c.args.own (begun real (phased_net n) c.args.last c.args.own state) c.begin.new.places.items) c.requires.kept.run c.in_ok-before.ensures.begun) (moment_by c.args.net.now c.args.servers.now.journal.entries).state c.requires.kept.cores (rests_now c.args.net.now c.args.last c.args.own (seen c.args.servers.now) c.requires.kept c.requires.later c.requires.quiet c.requires.through))
     (links_later c.args.net.now c.args.last c.args.own (seen c.args.servers.now) c.requires.kept c.requires.later c.requires.quiet c.requires.through (messages_at c.args.servers.now.links) (λ a b. refl)) refl refl
-    (subst (λ z. IsActed (z - 1) (Does (NextCommand c.args.client)) (acts.Command c.args.client) (record { run = c.args.servers.now.finder; cores = c.begin.new.places.items; messages = messages_at c.args.servers.now.links; journal = c.args.servers.now.journal.items }) (seen c.command.new.self)) c.home-home.ensures c.in_default.ensures.acted)
+    (subst (λ z. IsActed (z - 1) (Does (NextCommand c.args.client)) (acts.Command c.args.client) (record { run = c.args.servers.now.tables.now; cores = c.begin.new.places.items; messages = messages_at c.args.servers.now.links; journal = c.args.servers.now.journal.entries }) (seen c.command.new.self)) c.home-home.ensures c.in_default.ensures.acted)
 
 pub returns-in-Err-clause-err : goal.returns-in-Err-clause-err
 returns-in-Err-clause-err c = (
-  taken_back c.args.net.now c.args.last (seen c.args.servers.now) (record { run = c.command.new.self.finder; cores = c.take_back.new.places.items; messages = messages_at c.command.new.self.links; journal = c.command.new.self.journal.items }) c.requires.kept
-      (c.take_back.ensures c.args.servers.now.places.items c.args.net.now c.args.last (moment_by c.args.net.now c.args.servers.now.journal.items).state
+  taken_back c.args.net.now c.args.last (seen c.args.servers.now) (record { run = c.command.new.self.tables.now; cores = c.take_back.new.places.items; messages = messages_at c.command.new.self.links; journal = c.command.new.self.journal.entries }) c.requires.kept
+      (c.take_back.ensures c.args.servers.now.places.items c.args.net.now c.args.last (moment_by c.args.net.now c.args.servers.now.journal.entries).state
       (subst (λ z. IsUndoneBy c.in_ok-before.before c.args.servers.now.places.items z) (sym c.in-Err.ensures.err.cores) c.in_ok-before.ensures.back) c.requires.kept.cores)
       c.in-Err.ensures.err.run c.in-Err.ensures.err.messages c.in-Err.ensures.err.journal,
   c.in-Err.ensures.err.journal,
 )
-
-pub command-requires-clause-run : goal.command-requires-clause-run
-command-requires-clause-run c = λ core at.
-    ((subst (λ (n : NetParts). (state : State real) → AreServers n c.args.last state c.args.servers.now.places.items → IsAtRestOn real (phased_net n) c.args.last state → AreServers n c.args.own (begun real (phased_net n) c.args.last c.args.own state) c.begin.new.places.items) (c.tables-tables.ensures ∙ c.requires.kept.run) c.in_ok-before.ensures.begun) (moment_by c.args.net.now c.args.servers.now.journal.items).state c.requires.kept.cores (rests_now c.args.net.now c.args.last c.args.own (seen c.args.servers.now) c.requires.kept c.requires.later c.requires.quiet c.requires.through)).nets (c.home-home.result - 1) core at
-    ∙ sym c.requires.kept.run

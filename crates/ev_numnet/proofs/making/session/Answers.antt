@@ -22,7 +22,7 @@ session-requires c =
     let within : c.home-home.result - 1 < length c.args.servers.now.places.items = omega (arith, low.0, low.1, all) in
     let at = core_at c.args.servers.now.places.items (c.home-home.result - 1) c.index.result.now within c.index.ensures in
     subst (λ z. Has c.args.client (client_numbers z.clients)) (sym c.core.ensures)
-    (lives_there c.args.net.now c.requires.kept.1.sound c.requires.kept.0 (moment_by c.args.net.now c.args.servers.now.journal.items).state c.args.servers.now.places.items c.requires.kept.1.cores c.args.client c.requires.client c.index.result.now
+    (lives_there c.args.net.now c.requires.kept.1.sound c.requires.kept.0 (moment_by c.args.net.now c.args.servers.now.journal.entries).state c.args.servers.now.places.items c.requires.kept.1.cores c.args.client c.requires.client c.index.result.now
     (subst (λ z. slice_get c.args.servers.now.places.items (z - 1) ≡ Some c.index.result.now) c.home-home.ensures at))
 
 pub returns : goal.returns

@@ -35,7 +35,7 @@ take-requires-clause-able c =
     let low = c.has_server.ensures.0 c.if-not-has_server.false in
     let links = c.neighbours-neighbours.ensures.value ∙ ap (λ z. links_of z c.args.server) c.tree.ensures in
     subst (λ z. CanAct c.args.server z c.args.servers.now.places.items) (sym links)
-    (can_act c.args.net.now c.requires.kept.sound c.args.phase (moment_by c.args.net.now c.args.servers.now.journal.items).state c.args.servers.now.places.items c.requires.kept.cores
+    (can_act c.args.net.now c.requires.kept.sound c.args.phase (moment_by c.args.net.now c.args.servers.now.journal.entries).state c.args.servers.now.places.items c.requires.kept.cores
     c.args.server low.0 (subst (λ n. c.args.server ≤ n) c.requires.kept.cores.all low.1) (clocks_low c.args.net.now c.args.phase (seen c.args.servers.now) c.requires.kept))
 
 pub take-requires-clause-from : goal.take-requires-clause-from

@@ -32,7 +32,7 @@ pub version-requires-clause-able : goal.version-requires-clause-able
 version-requires-clause-able c =
     let low = c.has_server.ensures.0 c.if-not-has_server.false in (
       links_of (topology_at c.args.net.now c.args.phase) c.args.server,
-      can_act c.args.net.now c.requires.kept.sound c.args.phase (moment_by c.args.net.now c.args.servers.now.journal.items).state c.args.servers.now.places.items c.requires.kept.cores
+      can_act c.args.net.now c.requires.kept.sound c.args.phase (moment_by c.args.net.now c.args.servers.now.journal.entries).state c.args.servers.now.places.items c.requires.kept.cores
           c.args.server low.0 (subst (λ n. c.args.server ≤ n) c.requires.kept.cores.all low.1) (clocks_low c.args.net.now c.args.phase (seen c.args.servers.now) c.requires.kept),
     )
 

@@ -17,8 +17,8 @@ use Rattle.ev_numnet.proofs.telling.last_told.Goals as goal
 
 pub last_on-requires : goal.last_on-requires
 last_on-requires c =
-    let here : slice_get c.args.servers.now.journal.items (length c.args.servers.now.journal.items - 1) ≡ Some c.in-Some.entry.now =
-    subst (λ z. slice_get z (length z - 1) ≡ Some c.in-Some.entry.now) c.deref.ensures.value (sym c.in-Some.ensures.value) in
+    let here : slice_get c.args.servers.now.journal.entries (length c.args.servers.now.journal.entries - 1) ≡ Some c.in-Some.entry.now =
+    c.in-Some.ensures.some in
     let (phase, kept) = c.requires.kept in
     record {
       small = small_last c.args.tables.now phase (seen c.args.servers.now) kept c.in-Some.entry.now c.entry.inside.server c.deref-in-Some.result.now here (sym (ap (λ z. z.server) c.entry.view_is))
@@ -28,13 +28,13 @@ last_on-requires c =
 
 pub returns-in-Some : goal.returns-in-Some
 returns-in-Some c =
-    let here : slice_get c.args.servers.now.journal.items (length c.args.servers.now.journal.items - 1) ≡ Some c.in-Some.entry.now =
-    subst (λ z. slice_get z (length z - 1) ≡ Some c.in-Some.entry.now) c.deref.ensures.value (sym c.in-Some.ensures.value) in
+    let here : slice_get c.args.servers.now.journal.entries (length c.args.servers.now.journal.entries - 1) ≡ Some c.in-Some.entry.now =
+    c.in-Some.ensures.some in
     let (phase, kept) = c.requires.kept in
     IfOk-weaker c.last_on.result
     (λ told. (sent : List SendingParts) → LieLast (messages_at c.args.servers.now.links) c.entry.inside.server c.deref-in-Some.result.now sent → told ≡ map text_of_sending sent)
-    (λ told. (before : List EntryParts) (entry : EntryParts) → c.args.servers.now.journal.items ≡ before ++ entry ∷ []
-    → told ≡ told_of c.args.tables.now (found_of real (phased_net c.args.tables.now) (journal_of c.args.servers.now.journal.items) (length before)) entry)
+    (λ told. (before : List EntryParts) (entry : EntryParts) → c.args.servers.now.journal.entries ≡ before ++ entry ∷ []
+    → told ≡ told_of c.args.tables.now (found_of real (phased_net c.args.tables.now) (journal_of c.args.servers.now.journal.entries) (length before)) entry)
     (λ told so. told_last c.args.tables.now phase (seen c.args.servers.now) kept c.in-Some.entry.now c.entry.inside.server c.deref-in-Some.result.now here (sym (ap (λ z. z.server) c.entry.view_is))
     (sym (ap (λ z. z.outs) c.entry.view_is) ∙ sym c.deref-in-Some.ensures.value) told so)
     c.last_on.ensures

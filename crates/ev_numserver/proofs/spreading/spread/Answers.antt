@@ -2,11 +2,11 @@ use Rattle.std.proofs.Common.{◌≡◌, map, sym, ap, subst, ◌∙◌}
 use Rattle.std.specs.List.Sorted.{IsStrictlyIncreasing}
 use Rattle.ev_sets.specs.Sets.{Has}
 use Rattle.ev_session.specs.Inbox.{IsDelivery}
-use Rattle.ev_wire.specs.NoticeText.{notice_text}
-use Rattle.ev_routing.specs.Server.{Noticed}
+use Rattle.ev_wire.specs.NoticeText.{IsNoticeText, notice_text}
+use Rattle.ev_tables.specs.Found.{publication_at}
 use Rattle.ev_numserver.specs.declared.spreading.Ready.{Ready}
 use Rattle.ev_numserver.specs.Clients.{ClientsParts, bare}
-use Rattle.ev_numserver.specs.Acting.{clients_on, sent_on, delivered}
+use Rattle.ev_numserver.specs.Acting.{clients_on, delivered}
 use Rattle.ev_numserver.proofs.Going.{clients-rise, ready-clients, ready-one, delivered-alike, delivered-has}
 use Rattle.ev_numserver.proofs.spreading.spread.Goals as goal
 
@@ -26,17 +26,18 @@ pub deliver-requires-clause-texts : goal.deliver-requires-clause-texts
 deliver-requires-clause-texts c =
     λ one m.
     let q : one.delivery ≡ (record { id = c.id.result; bytes = c.text.result.now }) = ready-one (record { id = c.id.result; bytes = c.text.result.now }) (clients_on c.args.route.now) one (subst (λ z. Has one z) c.in_ok-ready.ensures.ready m) in
-    subst IsDelivery (sym q) (c.args.publication.now.notice, c.text.ensures)
+    subst IsDelivery (sym q) ((publication_at c.args.tables.now c.args.number).notice, subst (λ z. IsNoticeText z (publication_at c.args.tables.now c.args.number).notice) (sym c.text.ensures) c.found-found.ensures.text)
 
 pub returns-clause-spread : goal.returns-clause-spread
 returns-clause-spread c =
-    let bytes : c.text.result.now ≡ notice_text c.args.publication.now.notice = c.text.ensures.text in
+    let p = publication_at c.args.tables.now c.args.number in
+    let bytes : c.text.result.now ≡ notice_text p.notice = c.text.ensures ∙ c.found-found.ensures.text.text in
     record {
       inboxes = ap (λ (z : ClientsParts). map bare z.sessions) (c.deliver.ensures (record { id = c.id.result; bytes = c.text.result.now }) (clients_on c.args.route.now) c.in_ok-ready.ensures.ready)
           ∙ delivered-alike (clients_on c.args.route.now) (record { id = c.id.result; bytes = c.text.result.now }) c.make_ready.new.clients.sessions c.args.clients.now.sessions c.in_ok-ready.ensures.bare
-          ∙ ap (λ z. map bare (delivered (clients_on c.args.route.now) (record { id = z; bytes = c.text.result.now }) c.args.clients.now.sessions)) c.id.ensures.id
-          ∙ ap (λ z. map bare (delivered (clients_on c.args.route.now) (record { id = c.args.publication.now.id; bytes = z }) c.args.clients.now.sessions)) bytes;
-      sent_are = c.in_ok-sent.ensures ∙ ap (sent_on c.args.tables.now (Noticed c.args.publication.now.id.publisher c.args.publication.now.id.ordinal c.args.publication.now.notice)) (c.deref.ensures.value ∙ c.in_ok-to.ensures);
+          ∙ ap (λ z. map bare (delivered (clients_on c.args.route.now) (record { id = z; bytes = c.text.result.now }) c.args.clients.now.sessions)) (c.id.ensures ∙ c.found-found.ensures.id)
+          ∙ ap (λ z. map bare (delivered (clients_on c.args.route.now) (record { id = p.id; bytes = z }) c.args.clients.now.sessions)) bytes;
+      sent_are = c.in_ok-sent.ensures;
     }
 
 pub returns-clause-planned : goal.returns-clause-planned

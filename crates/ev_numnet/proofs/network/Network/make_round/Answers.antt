@@ -26,12 +26,12 @@ pub loop-server-preserved : goal.loop-server-preserved
 loop-server-preserved c = record {
   later = later-on c.args.self.now c.loop-server.self c.turn.new.self c.loop-server.invariant.later
       (later-on c.loop-server.self c.take_each.new.self c.turn.new.self c.in_ok-take_each.ensures.later (later-turn c.in_ok-turn.field-0 (turns.Version c.loop-server.server) c.take_each.new.self c.turn.new.self c.in_ok-turn.ensures.turn));
-  way = λ phase e. round-goes phase c.args.tree.now c.loop-server.server c.neighbours.result.now c.in_ok-turn.field-0 c.args.self.now c.loop-server.self c.take_each.new.self c.turn.new.self c.journal-before.ensures.sound e (omega arith) (omega arith)
+  way = λ phase e. round-goes phase c.args.tree.now c.loop-server.server c.neighbours.result.now c.in_ok-turn.field-0 c.args.self.now c.loop-server.self c.take_each.new.self c.turn.new.self c.made-before.ensures.sound e (omega arith) (omega arith)
       c.neighbours.ensures.value (c.loop-server.invariant.way phase e) (c.in_ok-take_each.ensures.tried phase) c.in_ok-turn.ensures.turn;
 }
 
 pub returns-clause-bounded : goal.returns-clause-bounded
-returns-clause-bounded c = λ phase. fewer-entries c.args.self.now.net c.args.self.now.journal c.journal-before.ensures.sound c.journal-before.ensures.legal phase
+returns-clause-bounded c = λ phase. fewer-entries c.args.self.now.net c.args.self.now.journal c.made-before.ensures.sound c.made-before.ensures.legal phase
 
 pub returns-clause-tried : goal.returns-clause-tried
 returns-clause-tried c = λ phase e. (let turns = round_turns c.args.self.now.net phase in
@@ -40,13 +40,13 @@ returns-clause-tried c = λ phase e. (let turns = round_turns c.args.self.now.ne
       | else-loop-server-test w ↦
           subst (λ z. Tries phase turns c.args.self.now z) (sym w.self-is)
           (going-ends phase turns (left (c.loop-server.server - 1)) c.args.self.now c.loop-server.self
-          (round-past c.args.self.now.net c.journal-before.ensures.sound phase c.args.tree.now (c.loop-server.server - 1) e (omega (arith, w.loop-server-test.false, c.servers-server-end.ensures.value)))
+          (round-past c.args.self.now.net c.made-before.ensures.sound phase c.args.tree.now (c.loop-server.server - 1) e (omega (arith, w.loop-server-test.false, c.servers-server-end.ensures.value)))
           (c.loop-server.invariant.way phase e))
       | then-loop-server-test+in_ok-take_each+in_ok-turn+else-server-server-end w ↦
           subst (λ z. Tries phase turns c.args.self.now z) (sym w.self-is)
           (going-ends phase turns (left (c.loop-server.server + 1 - 1)) c.args.self.now w.turn.new.self
-          (round-past c.args.self.now.net c.journal-before.ensures.sound phase c.args.tree.now (c.loop-server.server + 1 - 1) e (omega (arith, w.loop-server-test.true, c.servers-server-end.ensures.value)))
-          (round-goes phase c.args.tree.now c.loop-server.server w.neighbours.result.now w.in_ok-turn.field-0 c.args.self.now c.loop-server.self w.take_each.new.self w.turn.new.self c.journal-before.ensures.sound e
+          (round-past c.args.self.now.net c.made-before.ensures.sound phase c.args.tree.now (c.loop-server.server + 1 - 1) e (omega (arith, w.loop-server-test.true, c.servers-server-end.ensures.value)))
+          (round-goes phase c.args.tree.now c.loop-server.server w.neighbours.result.now w.in_ok-turn.field-0 c.args.self.now c.loop-server.self w.take_each.new.self w.turn.new.self c.made-before.ensures.sound e
           (omega arith) (omega (arith, w.loop-server-test.true, c.servers-server-end.ensures.value)) w.neighbours.ensures.value (c.loop-server.invariant.way phase e) (w.in_ok-take_each.ensures.tried phase) w.in_ok-turn.ensures.turn))
     ])
 
@@ -66,7 +66,7 @@ returns-in_err-take_each-clause-begun c = on-err c.from_residual.result (λ phas
     let server = c.loop-server.server in
     let more = round_at real (net_at real (phased_net net) phase) (drop (server + 1 - 1) (servers_in net)) in
     going-breaks phase (round_turns net phase) (round_at real (net_at real (phased_net net) phase) (drop (server - 1) (servers_in net))) (takings server c.neighbours.result.now) ((server, Did Version) ∷ more) c.args.self.now c.loop-server.self c.take_each.new.self
-    (round-left net c.journal-before.ensures.sound phase c.args.tree.now server e (omega arith) (omega arith) ∙ ap (λ z. takings server z ++ ((server, Did Version) ∷ more)) (sym c.neighbours.ensures.value))
+    (round-left net c.made-before.ensures.sound phase c.args.tree.now server e (omega arith) (omega arith) ∙ ap (λ z. takings server z ++ ((server, Did Version) ∷ more)) (sym c.neighbours.ensures.value))
     (c.loop-server.invariant.way phase e) (c.in_err-take_each.ensures.begun phase)))
 
 pub returns-in_err-turn-clause-begun : goal.returns-in_err-turn-clause-begun
@@ -76,11 +76,11 @@ returns-in_err-turn-clause-begun c = on-err c.from_residual-in_err-turn.result (
     let more = round_at real (net_at real (phased_net net) phase) (drop (server + 1 - 1) (servers_in net)) in
     going-stops phase (round_turns net phase) ((server, Did Version) ∷ more) c.args.self.now c.take_each.new.self c.turn.new.self
     (going-on phase (round_turns net phase) (round_at real (net_at real (phased_net net) phase) (drop (server - 1) (servers_in net))) (takings server c.neighbours.result.now) ((server, Did Version) ∷ more) c.args.self.now c.loop-server.self c.take_each.new.self
-    (round-left net c.journal-before.ensures.sound phase c.args.tree.now server e (omega arith) (omega arith) ∙ ap (λ z. takings server z ++ ((server, Did Version) ∷ more)) (sym c.neighbours.ensures.value))
+    (round-left net c.made-before.ensures.sound phase c.args.tree.now server e (omega arith) (omega arith) ∙ ap (λ z. takings server z ++ ((server, Did Version) ∷ more)) (sym c.neighbours.ensures.value))
     (c.loop-server.invariant.way phase e) (c.in_ok-take_each.ensures.tried phase)) c.in_err-turn.ensures.err))
 
 pub returns-in_err-take_each-clause-bounded : goal.returns-in_err-take_each-clause-bounded
-returns-in_err-take_each-clause-bounded c = λ phase. fewer-entries c.args.self.now.net c.args.self.now.journal c.journal-before.ensures.sound c.journal-before.ensures.legal phase
+returns-in_err-take_each-clause-bounded c = λ phase. fewer-entries c.args.self.now.net c.args.self.now.journal c.made-before.ensures.sound c.made-before.ensures.legal phase
 
 pub returns-in_err-turn-clause-bounded : goal.returns-in_err-turn-clause-bounded
-returns-in_err-turn-clause-bounded c = λ phase. fewer-entries c.args.self.now.net c.args.self.now.journal c.journal-before.ensures.sound c.journal-before.ensures.legal phase
+returns-in_err-turn-clause-bounded c = λ phase. fewer-entries c.args.self.now.net c.args.self.now.journal c.made-before.ensures.sound c.made-before.ensures.legal phase

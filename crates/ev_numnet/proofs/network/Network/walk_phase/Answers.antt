@@ -8,7 +8,7 @@ use Rattle.ev_numnet.proofs.network.Network.walk_phase.Goals as goal
 
 pub loop-phase-init : goal.loop-phase-init
 loop-phase-init c = record {
-  walked = walk-starts c.args.self.now c.journal-before.ensures.sound c.journal-before.ensures.legal c.phase-phase.result c.phase-phase.ensures;
+  walked = walk-starts c.args.self.now c.made-before.ensures.sound c.made-before.ensures.legal c.phase-phase.result c.phase-phase.ensures;
   same = refl;
   empty = empty-none c.args.self.now c.phase-phase.result c.phase-phase.ensures;
 }
@@ -19,7 +19,7 @@ loop-phase-preserved c =
     let later = walked-later c.loop-phase.phase c.args.self.now c.loop-phase.self walked in
     let count : c.phases-phase-end.result ≡ phases_of c.loop-phase.self.net = c.phases-phase-end.ensures ∙ ap phases_of (c.net.ensures.net ∙ sym (later-net c.args.self.now c.loop-phase.self later)) in
     let less : c.loop-phase.phase < phases_of c.loop-phase.self.net = omega (arith, count, c.loop-phase-test.true) in
-    let short : length c.make_phase.new.self.journal ≤ length c.loop-phase.self.journal = omega (arith, c.if-journal-before.false, ap length c.journal.ensures.journal, ap length c.journal-before.ensures.journal, ap (λ (z : NetworkParts). length z.journal) c.loop-phase.invariant.same) in
+    let short : length c.make_phase.new.self.journal ≤ length c.loop-phase.self.journal = omega (arith, c.if-made-before.false, c.made.ensures.count, c.made-before.ensures.count, ap (λ (z : NetworkParts). length z.journal) c.loop-phase.invariant.same) in
     let still : c.make_phase.new.self ≡ c.loop-phase.self = later-none c.loop-phase.self c.make_phase.new.self c.in_ok-make_phase.ensures.later short in
     record {
       walked = walk-on c.loop-phase.phase c.args.self.now c.loop-phase.self c.make_phase.new.self walked less c.in_ok-make_phase.ensures.tried;
@@ -27,13 +27,13 @@ loop-phase-preserved c =
       empty = empty-more c.loop-phase.phase c.args.self.now c.loop-phase.self c.make_phase.new.self c.loop-phase.invariant.empty c.loop-phase.invariant.same (c.in_ok-make_phase.ensures.tried (walk-can c.loop-phase.phase c.args.self.now c.loop-phase.self walked less)) still;
     }
 
-pub returns-then-journal-before-clause-walked : goal.returns-then-journal-before-clause-walked
-returns-then-journal-before-clause-walked c =
+pub returns-then-made-before-clause-walked : goal.returns-then-made-before-clause-walked
+returns-then-made-before-clause-walked c =
     let walked = c.loop-phase.invariant.walked in
     let later = walked-later c.loop-phase.phase c.args.self.now c.loop-phase.self walked in
     let count : c.phases-phase-end.result ≡ phases_of c.loop-phase.self.net = c.phases-phase-end.ensures ∙ ap phases_of (c.net.ensures.net ∙ sym (later-net c.args.self.now c.loop-phase.self later)) in
     let less : c.loop-phase.phase < phases_of c.loop-phase.self.net = omega (arith, count, c.loop-phase-test.true) in
-    let more : length c.args.self.now.journal < length c.make_phase.new.self.journal = omega (arith, c.if-journal-before.true, ap length c.journal.ensures.journal, ap length c.journal-before.ensures.journal) in
+    let more : length c.args.self.now.journal < length c.make_phase.new.self.journal = omega (arith, c.if-made-before.true, c.made.ensures.count, c.made-before.ensures.count) in
     let from : (moment_by c.args.self.now.net c.args.self.now.journal).phase ≤ c.loop-phase.phase = omega (arith, c.phase-phase.ensures, c.loop-phase.auto.phase) in
     phase-walked c.loop-phase.phase c.args.self.now c.loop-phase.self c.make_phase.new.self from c.loop-phase.invariant.empty c.loop-phase.invariant.same (c.in_ok-make_phase.ensures.tried (walk-can c.loop-phase.phase c.args.self.now c.loop-phase.self walked less)) more
 

@@ -59,10 +59,5 @@ returns-clause-acted c =
     let is = core_is c.args.server c.args.neighbours.now c.args.self.now.places.items c.requires.able c.index_mut-place.result.now (c.index_mut-place.ensures.value ∙ ap (λ z. slice_index_or z (c.args.server - 1) c.index_mut-place.result.now) c.make_room.ensures.same.cores) in
     let step = subst (λ z. MakesStep (Does (NextCommand c.args.client)) 0 z c.command.new.self c.in_ok-stepped.stepped.stamp c.in_ok-stepped.stepped.sent.items) is c.in_ok-stepped.ensures.step in
     acted_by (c.args.server - 1) c.args.server (Does (NextCommand c.args.client)) (acts.Command c.args.client) _ _ c.requires.able.core c.command.new.self c.in_ok-stepped.stepped.stamp
-    c.in_ok-stepped.stepped.sent.items c.requires.able.here c.requires.able.number step (c.command.ensures.finder ∙ c.make_room.ensures.same.run) (search (rules, c.make_room.ensures.same.cores))
+    c.in_ok-stepped.stepped.sent.items c.requires.able.here c.requires.able.number step c.make_room.ensures.same.run (search (rules, c.make_room.ensures.same.cores))
     (c.put.ensures.entry ∙ ap (λ z. z ++ entry_parts c.in_ok-stepped.stepped.stamp c.args.server (acts.Command c.args.client) (map (λ (s : SendingParts). s.to) c.in_ok-stepped.stepped.sent.items) ∷ []) c.make_room.ensures.same.journal) (messages_at c.make_room.new.self.links) c.make_room.ensures.same.messages c.put.ensures.here c.put.ensures.others
-
-pub command-requires-clause-run : goal.command-requires-clause-run
-command-requires-clause-run c =
-    let is = core_is c.args.server c.args.neighbours.now c.args.self.now.places.items c.requires.able c.index_mut-place.result.now (c.index_mut-place.ensures.value ∙ ap (λ z. slice_index_or z (c.args.server - 1) c.index_mut-place.result.now) c.make_room.ensures.same.cores) in
-    c.make_room.ensures.same.run ∙ sym (c.requires.run c.requires.able.core c.requires.able.here) ∙ sym (ap (λ (z : CoreParts). z.net) is)

@@ -14,4 +14,4 @@ returns-clause-acted c =
     let is = core_is c.args.server c.requires.able.0 c.args.self.now.places.items c.requires.able.1 c.index_mut.result.now c.index_mut.ensures.value in
     let step = subst (λ z. MakesStep (Does Version) 0 z c.version-stamp.new.self c.version-stamp.result []) is c.version-stamp.ensures in
     acted_by (c.args.server - 1) c.args.server (Does Version) acts.Version _ _ c.requires.able.1.core c.version-stamp.new.self c.version-stamp.result [] c.requires.able.1.here c.requires.able.1.number step
-    refl (search rules) (search (rules, c.in_ok-reserve.ensures.items, c.new.ensures.items)) (messages_at c.args.self.now.links) (λ a b. refl) (λ b. nothing_put (messages_at c.args.self.now.links c.args.server b)) (λ a b n. refl)
+    refl (search rules) (search rules) (messages_at c.args.self.now.links) (λ a b. refl) (λ b. nothing_put (messages_at c.args.self.now.links c.args.server b)) (λ a b n. refl)

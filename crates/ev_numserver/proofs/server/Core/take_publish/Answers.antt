@@ -6,6 +6,8 @@ use Rattle.ev_model.specs.Parts.{NetParts}
 use Rattle.ev_session.specs.declared.planned.Planned.TheVariants as plans
 use Rattle.ev_session.specs.Session.{SessionParts}
 use Rattle.ev_session.specs.Plan.{next_plan}
+use Rattle.ev_catalogue.specs.Known.{known_publications}
+use Rattle.ev_tables.specs.Found.{publication_at}
 use Rattle.ev_numsession.specs.Session.{PlansNext}
 use Rattle.ev_numserver.specs.Clients.{ClientsParts, bare, client_numbers, at_client, stepped}
 use Rattle.ev_routing.specs.Server.{Noticed}
@@ -39,6 +41,9 @@ overflow_add-client c =
     let same = r.2 in
     omega (arith, high, same)
 
+pub spread-requires-clause-known : goal.spread-requires-clause-known
+spread-requires-clause-known c = subst (λ (n : NetParts). c.args.number < length (known_publications 1 n.clients)) (sym (ap (λ (z : CoreParts). z.net) c.self.view_is) ∙ sym c.tables-tables.ensures) c.requires.known
+
 pub commit-requires-clause-planned : goal.commit-requires-clause-planned
 commit-requires-clause-planned c = λ s m e. let r = c.in_ok-sent.ensures.planned s m in sym r.3 ∙ c.in_ok-plan.ensures.planned r.0 r.1 (r.2 ∙ e)
 
@@ -51,20 +56,20 @@ commit-requires-clause-plan c = λ s m e.
     let mid = c.plan.new.self.sessions in
     let after = c.spread.new.clients.sessions in
     let inv = c.self.invariant in
-    let publication = c.args.publication.now in
+    let publication = publication_at old.net c.args.number in
     let from = 64 + c.args.client in
     let same : map bare mid ≡ map bare before = c.in_ok-plan.ensures.bare in
     let lives : Has c.args.client (client_numbers (map bare mid)) = subst (λ z. Has c.args.client (client_numbers z)) (sym same) (subst (λ (z : CoreParts). Has c.args.client (client_numbers z.clients)) (sym c.self.view_is) c.requires.lives) in
     let planned : (s : SessionParts) → Has s (map bare mid) → s.client ≡ c.args.client → next_plan s ≡ Some (plans.Publish publication.id publication.notice) =
     subst (λ z. (s : SessionParts) → Has s z → s.client ≡ c.args.client → next_plan s ≡ Some (plans.Publish publication.id publication.notice)) (sym same)
-    (subst (λ (z : CoreParts). (s : SessionParts) → Has s z.clients → s.client ≡ c.args.client → next_plan s ≡ Some (plans.Publish publication.id publication.notice)) (sym c.self.view_is) c.requires.publish) in
+    (subst (λ (z : CoreParts). (s : SessionParts) → Has s z.clients → s.client ≡ c.args.client → next_plan s ≡ Some (plans.Publish (publication_at z.net c.args.number).id (publication_at z.net c.args.number).notice)) (sym c.self.view_is) c.requires.publish) in
     let some-left : (s : SessionParts) → Has s (map bare mid) → s.client ≡ c.args.client → s.taken < length s.script =
     subst (λ z. (s : SessionParts) → Has s z → s.client ≡ c.args.client → s.taken < length s.script) (sym same)
     (subst (λ (z : CoreParts). (s : SessionParts) → Has s z.clients → s.client ≡ c.args.client → s.taken < length s.script) (sym c.self.view_is) c.requires.left) in
     let kept : IsCore (core_parts server old (map bare mid) clock) = subst (λ z. IsCore (core_parts server old z clock)) (sym same) inv.kept in
     let spread : IsSpread old.net from publication.id.publisher publication.id.ordinal publication.notice c.args.route.now old.control.links mid after c.in_ok-sent.sent.items =
-    subst (λ (z : NetParts). IsSpread z from publication.id.publisher publication.id.ordinal publication.notice c.args.route.now old.control.links mid after c.in_ok-sent.sent.items) c.tables-tables.ensures
-    (subst (λ z. IsSpread c.tables-tables.result.now from publication.id.publisher publication.id.ordinal publication.notice c.args.route.now z mid after c.in_ok-sent.sent.items) c.links.ensures c.in_ok-sent.ensures.spread) in
+    subst (λ (z : NetParts). IsSpread z from (publication_at z c.args.number).id.publisher (publication_at z c.args.number).id.ordinal (publication_at z c.args.number).notice c.args.route.now old.control.links mid after c.in_ok-sent.sent.items) c.tables-tables.ensures
+    (subst (λ z. IsSpread c.tables-tables.result.now from (publication_at c.tables-tables.result.now c.args.number).id.publisher (publication_at c.tables-tables.result.now c.args.number).id.ordinal (publication_at c.tables-tables.result.now c.args.number).notice c.args.route.now z mid after c.in_ok-sent.sent.items) c.links.ensures c.in_ok-sent.ensures.spread) in
     let deed : HasActed from (Noticed publication.id.publisher publication.id.ordinal publication.notice) c.args.route.now old old mid after c.in_ok-sent.sent.items = (refl, spread) in
     let t = own-of server clock c.in-Ok.stamp from old old mid after c.args.route.now c.in_ok-sent.sent.items kept (Noticed publication.id.publisher publication.id.ordinal publication.notice) deed (bare s) (map-has bare after s m) in
     let u = has-map bare mid t.0 t.1 in
@@ -83,20 +88,20 @@ invariant_of-self-2 c =
     let mid = c.plan.new.self.sessions in
     let after = c.spread.new.clients.sessions in
     let inv = c.self.invariant in
-    let publication = c.args.publication.now in
+    let publication = publication_at old.net c.args.number in
     let from = 64 + c.args.client in
     let same : map bare mid ≡ map bare before = c.in_ok-plan.ensures.bare in
     let lives : Has c.args.client (client_numbers (map bare mid)) = subst (λ z. Has c.args.client (client_numbers z)) (sym same) (subst (λ (z : CoreParts). Has c.args.client (client_numbers z.clients)) (sym c.self.view_is) c.requires.lives) in
     let planned : (s : SessionParts) → Has s (map bare mid) → s.client ≡ c.args.client → next_plan s ≡ Some (plans.Publish publication.id publication.notice) =
     subst (λ z. (s : SessionParts) → Has s z → s.client ≡ c.args.client → next_plan s ≡ Some (plans.Publish publication.id publication.notice)) (sym same)
-    (subst (λ (z : CoreParts). (s : SessionParts) → Has s z.clients → s.client ≡ c.args.client → next_plan s ≡ Some (plans.Publish publication.id publication.notice)) (sym c.self.view_is) c.requires.publish) in
+    (subst (λ (z : CoreParts). (s : SessionParts) → Has s z.clients → s.client ≡ c.args.client → next_plan s ≡ Some (plans.Publish (publication_at z.net c.args.number).id (publication_at z.net c.args.number).notice)) (sym c.self.view_is) c.requires.publish) in
     let some-left : (s : SessionParts) → Has s (map bare mid) → s.client ≡ c.args.client → s.taken < length s.script =
     subst (λ z. (s : SessionParts) → Has s z → s.client ≡ c.args.client → s.taken < length s.script) (sym same)
     (subst (λ (z : CoreParts). (s : SessionParts) → Has s z.clients → s.client ≡ c.args.client → s.taken < length s.script) (sym c.self.view_is) c.requires.left) in
     let kept : IsCore (core_parts server old (map bare mid) clock) = subst (λ z. IsCore (core_parts server old z clock)) (sym same) inv.kept in
     let spread : IsSpread old.net from publication.id.publisher publication.id.ordinal publication.notice c.args.route.now old.control.links mid after c.in_ok-sent.sent.items =
-    subst (λ (z : NetParts). IsSpread z from publication.id.publisher publication.id.ordinal publication.notice c.args.route.now old.control.links mid after c.in_ok-sent.sent.items) c.tables-tables.ensures
-    (subst (λ z. IsSpread c.tables-tables.result.now from publication.id.publisher publication.id.ordinal publication.notice c.args.route.now z mid after c.in_ok-sent.sent.items) c.links.ensures c.in_ok-sent.ensures.spread) in
+    subst (λ (z : NetParts). IsSpread z from (publication_at z c.args.number).id.publisher (publication_at z c.args.number).id.ordinal (publication_at z c.args.number).notice c.args.route.now old.control.links mid after c.in_ok-sent.sent.items) c.tables-tables.ensures
+    (subst (λ z. IsSpread c.tables-tables.result.now from (publication_at c.tables-tables.result.now c.args.number).id.publisher (publication_at c.tables-tables.result.now c.args.number).id.ordinal (publication_at c.tables-tables.result.now c.args.number).notice c.args.route.now z mid after c.in_ok-sent.sent.items) c.links.ensures c.in_ok-sent.ensures.spread) in
     let deed : HasActed from (Noticed publication.id.publisher publication.id.ordinal publication.notice) c.args.route.now old old mid after c.in_ok-sent.sent.items = (refl, spread) in
     let stepped-are : c.commit.new.self.sessions ≡ at_client c.args.client stepped after = ap (λ (z : ClientsParts). z.sessions) c.commit.ensures in
     keeps server clock c.in-Ok.stamp old old (map bare before) (map bare c.commit.new.self.sessions) c.self.inside.clients.net c.commit.new.self.net inv
@@ -115,24 +120,24 @@ returns-clause-step c =
     let mid = c.plan.new.self.sessions in
     let after = c.spread.new.clients.sessions in
     let inv = c.self.invariant in
-    let publication = c.args.publication.now in
+    let publication = publication_at old.net c.args.number in
     let from = 64 + c.args.client in
     let same : map bare mid ≡ map bare before = c.in_ok-plan.ensures.bare in
     let lives : Has c.args.client (client_numbers (map bare mid)) = subst (λ z. Has c.args.client (client_numbers z)) (sym same) (subst (λ (z : CoreParts). Has c.args.client (client_numbers z.clients)) (sym c.self.view_is) c.requires.lives) in
     let planned : (s : SessionParts) → Has s (map bare mid) → s.client ≡ c.args.client → next_plan s ≡ Some (plans.Publish publication.id publication.notice) =
     subst (λ z. (s : SessionParts) → Has s z → s.client ≡ c.args.client → next_plan s ≡ Some (plans.Publish publication.id publication.notice)) (sym same)
-    (subst (λ (z : CoreParts). (s : SessionParts) → Has s z.clients → s.client ≡ c.args.client → next_plan s ≡ Some (plans.Publish publication.id publication.notice)) (sym c.self.view_is) c.requires.publish) in
+    (subst (λ (z : CoreParts). (s : SessionParts) → Has s z.clients → s.client ≡ c.args.client → next_plan s ≡ Some (plans.Publish (publication_at z.net c.args.number).id (publication_at z.net c.args.number).notice)) (sym c.self.view_is) c.requires.publish) in
     let some-left : (s : SessionParts) → Has s (map bare mid) → s.client ≡ c.args.client → s.taken < length s.script =
     subst (λ z. (s : SessionParts) → Has s z → s.client ≡ c.args.client → s.taken < length s.script) (sym same)
     (subst (λ (z : CoreParts). (s : SessionParts) → Has s z.clients → s.client ≡ c.args.client → s.taken < length s.script) (sym c.self.view_is) c.requires.left) in
     let kept : IsCore (core_parts server old (map bare mid) clock) = subst (λ z. IsCore (core_parts server old z clock)) (sym same) inv.kept in
     let spread : IsSpread old.net from publication.id.publisher publication.id.ordinal publication.notice c.args.route.now old.control.links mid after c.in_ok-sent.sent.items =
-    subst (λ (z : NetParts). IsSpread z from publication.id.publisher publication.id.ordinal publication.notice c.args.route.now old.control.links mid after c.in_ok-sent.sent.items) c.tables-tables.ensures
-    (subst (λ z. IsSpread c.tables-tables.result.now from publication.id.publisher publication.id.ordinal publication.notice c.args.route.now z mid after c.in_ok-sent.sent.items) c.links.ensures c.in_ok-sent.ensures.spread) in
+    subst (λ (z : NetParts). IsSpread z from (publication_at z c.args.number).id.publisher (publication_at z c.args.number).id.ordinal (publication_at z c.args.number).notice c.args.route.now old.control.links mid after c.in_ok-sent.sent.items) c.tables-tables.ensures
+    (subst (λ z. IsSpread c.tables-tables.result.now from (publication_at c.tables-tables.result.now c.args.number).id.publisher (publication_at c.tables-tables.result.now c.args.number).id.ordinal (publication_at c.tables-tables.result.now c.args.number).notice c.args.route.now z mid after c.in_ok-sent.sent.items) c.links.ensures c.in_ok-sent.ensures.spread) in
     let deed : HasActed from (Noticed publication.id.publisher publication.id.ordinal publication.notice) c.args.route.now old old mid after c.in_ok-sent.sent.items = (refl, spread) in
     let stepped-are : c.commit.new.self.sessions ≡ at_client c.args.client stepped after = ap (λ (z : ClientsParts). z.sessions) c.commit.ensures in
     let route : IsRoute publication.notice (published_from (core_parts server old (map bare before) clock)) c.args.route.now =
-    subst (λ (z : CoreParts). IsRoute publication.notice (published_from z) c.args.route.now) (sym c.self.view_is) c.requires.route in
+    subst (λ (z : CoreParts). IsRoute (publication_at z.net c.args.number).notice (published_from z) c.args.route.now) (sym c.self.view_is) c.requires.route in
     let routes : RoutesNext (core_parts server old (map bare mid) clock) c.args.client c.args.route.now =
     λ s id n h e q. subst (λ z. IsRoute z (published_from (core_parts server old (map bare mid) clock)) c.args.route.now) (one-notice s publication.id id publication.notice n (planned s h e) q) route in
     let stamp : c.in-Ok.stamp ≡ suc (max clock 0) = next-is c.in-Ok.stamp (max clock 0) (subst (λ (z : CoreParts). c.in-Ok.stamp ≡ 1 + max z.clock 0) (sym c.self.view_is) c.in-Ok.ensures.ok.0) in

@@ -1,5 +1,6 @@
 -- The ids of a net's publications are in their range.
-use Rattle.std.proofs.Common.{◌≡◌, ℕ, zero, suc, ◌+◌, ◌≤◌, ◌<◌, List, [], ◌∷◌, ◌++◌, length, slice_get, Some, inl, inr, sym, ap, subst, ◌∙◌, ◌⊎◌, arith}
+use Rattle.std.proofs.Common.{◌≡◌, ℕ, zero, suc, ◌+◌, ◌≤◌, ◌<◌, List, [], ◌∷◌, ◌++◌, length, inl, inr, ap, ◌⊎◌, length-append, arith}
+use Rattle.std.proofs.lemmas.Option.{slice_get-get_or}
 use Rattle.ev_sets.specs.Sets.{Has}
 use Rattle.ev_run.proofs.Lists.{has-append, get-has}
 use Rattle.ev_wire.specs.MessageText.{IsId}
@@ -7,12 +8,8 @@ use Rattle.ev_wire.specs.declared.command.Command.{Command}
 use Rattle.ev_wire.specs.declared.command.Command.TheVariants.{Subscribe, Unsubscribe, Advertise, Unadvertise, Publish}
 use Rattle.ev_model.specs.Parts.{ClientParts, NetParts}
 use Rattle.ev_model.specs.Sound.{IsSound}
-use Rattle.ev_catalogue.specs.Known.{known_filters, PublicationParts, script_publications, known_publications}
-use Rattle.ev_bits.specs.Rows.{Numbers}
-use Rattle.ev_matcher.specs.Matching.{matched}
-use Rattle.ev_message.specs.Parts.{PublicationParts as FoundParts}
-use Rattle.ev_numnet.specs.Finding.{IsFound}
-use Rattle.ev_numnet.proofs.Sending.{length-append}
+use Rattle.ev_catalogue.specs.Known.{PublicationParts, publication, script_publications, known_publications}
+use Rattle.ev_tables.specs.Found.{publication_at}
 
 -- of a client, with ordinals from one number up to another
 record IsWithin (client from to : ℕ) (p : PublicationParts) : Type 0 where
@@ -64,23 +61,10 @@ among-all number (client ∷ clients) p h = go (among-all (suc number) clients p
         let l = r.low in let k = r.high in let f = r.few in
         record { low = omega (arith, l); high = omega (arith, k); counted = r.counted; few = omega (arith, f, sum) }
 
-pub id-known : (net : NetParts) → IsSound net → length (known_publications 1 net.clients) ≤ 100000 → (number : ℕ) (p : PublicationParts)
-    → slice_get (known_publications 1 net.clients) number ≡ Some p → IsId p.id
-id-known net sound few number p at =
-    let r = among-all 1 net.clients p (get-has (known_publications 1 net.clients) number p at) in
+pub id-known : (net : NetParts) → IsSound net → length (known_publications 1 net.clients) ≤ 100000 → (number : ℕ) → number < length (known_publications 1 net.clients)
+    → IsId (publication_at net number).id
+id-known net sound few number within =
+    let at = slice_get-get_or (known_publications 1 net.clients) number (publication 0 0 0 []) within in
+    let r = among-all 1 net.clients (publication_at net number) (get-has (known_publications 1 net.clients) number (publication_at net number) at) in
     let l = r.low in let k = r.high in let c = r.counted in let f = r.few in let clients = sound.few in
     ((omega (arith, l), omega (arith, k, clients)), (c, omega (arith, f, few)))
-
-pub number-below : {T : Type 0} (xs : List T) (k : ℕ) (x : T) → slice_get xs k ≡ Some x → k < length xs
-number-below [] k x e = absurd cc
-number-below (y ∷ ys) zero x e = omega arith
-number-below (y ∷ ys) (suc k) x e = let l = number-below ys k x e in omega (arith, l)
-
--- a publication with what it matches
-pub found-of : (net : NetParts) (p : PublicationParts) (found : FoundParts) (row : Numbers) → IsId p.id → found.id ≡ p.id → found.notice ≡ p.notice → found.matched ≡ row
-    → row.width ≡ length (known_filters net.clients) → row.members ≡ matched p.notice (known_filters net.clients) → IsFound net p found
-found-of net p found row ok id notice is width members = record {
-  id = id;
-  notice = notice;
-  load = (subst IsId (sym id) ok, is ∙ (λ i. record { width = width i; members = (members ∙ ap (λ n. matched n (known_filters net.clients)) (sym notice)) i }));
-}
