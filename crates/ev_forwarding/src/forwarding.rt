@@ -1,5 +1,5 @@
 //! What a server publishes from which interface, with a row of the interfaces' places for each number: a route joins the
-//! rows of the matched numbers.
+//! rows of the matched numbers. Numbers that were ever published are marked, so that a route looks at no other one.
 use crate::change::Change;
 use crate::columns::{columns, joined, listed};
 use crate::places::{is_there, place};
@@ -16,18 +16,20 @@ pub struct Forwarding {
     count: u32,
     interfaces: Vec<u32>,
     columns: Vec<Row>,
+    present: Row,
 }
 
 impl Model for Forwarding {
     ghost use Rattle.std.specs.Prelude.{◌≡◌, length};
     ghost use Rattle.ev_forwarding.specs.Published.{Published};
-    ghost use Rattle.ev_forwarding.specs.Columns.{published_by, AreColumns};
+    ghost use Rattle.ev_forwarding.specs.Columns.{published_by, AreColumns, ArePresent};
 
     ghost Value = { Published };
 
     ghost view = { λ f. published_by f.width f.interfaces.items f.columns.items };
 
-    ghost invariant = { λ f. AreColumns f.width f.interfaces.items f.columns.items × (f.count ≡ length f.interfaces.items) };
+    ghost invariant = { λ f. AreColumns f.width f.interfaces.items f.columns.items × (f.count ≡ length f.interfaces.items)
+        × ArePresent f.width f.present f.columns.items };
 }
 
 impl Forwarding {
@@ -47,12 +49,14 @@ impl Forwarding {
     {
         let count = interfaces.len() as u32;
         let columns = columns(alloc, width, count)?;
+        let present = Row::new(alloc, width)?;
         let interfaces = Vec::from_slice(alloc, interfaces)?;
         Ok(Forwarding {
             width,
             count,
             interfaces,
             columns,
+            present,
         })
     }
 
@@ -89,6 +93,7 @@ impl Forwarding {
         ensures pairs { self.new.pairs ≡ put_in pair_before (interface, number) self.old.pairs }
     {
         let place = place(&self.interfaces, interface) as u32;
+        self.present.insert(number);
         self.columns[number as usize].insert(place)
     }
 
@@ -137,7 +142,7 @@ impl Forwarding {
         ensures { IfOk result (IsRouteBy matched.now.members self.now.pairs) }
     {
         matched.is_a_set();
-        let places = joined(alloc, self.count, &self.columns, matched)?;
+        let places = joined(alloc, self.count, &self.columns, &self.present, matched)?;
         let interfaces = listed(alloc, &self.interfaces, &places)?;
         Ok(Route::to(interfaces))
     }
