@@ -11,9 +11,6 @@ pub record AreSameBelow (xs ys : List ℕ) (at : ℕ) : Type 0 where
   pub to : (k : ℕ) → k < at → Has k xs → Has k ys
   pub from : (k : ℕ) → k < at → Has k ys → Has k xs
 
-pub none-below : (xs ys : List ℕ) → AreSameBelow xs ys 0
-none-below xs ys = record { to = λ k l. absurd (omega (arith, l)); from = λ k l. absurd (omega (arith, l)) }
-
 -- the next member of both is the same
 pub next-same : (xs ys : List ℕ) (at i : ℕ) → AreSameBelow xs ys at → Has i xs → Has i ys
     → ((k : ℕ) → at ≤ k → Has k xs → i ≤ k) → ((k : ℕ) → at ≤ k → Has k ys → i ≤ k) → AreSameBelow xs ys (i + 1)

@@ -1,7 +1,7 @@
 -- Changes that are known are made.
 use Rattle.std.proofs.Common.{◌≡◌, ◌∙◌, ◌&&◌, cond, Result, Ok, Err, append_assoc, refl, sym, ap, ap₂, subst, arith, ℕ, ◌<◌, nat_lt, true, Bool, false, List, [], ◌∷◌, ◌++◌, fold}
 use Rattle.std.proofs.lemmas.Bool.Decides.{nat_tests}
-use Rattle.ev_sets.specs.Sets.{Has, member}
+use Rattle.ev_sets.specs.Sets.{member}
 use Rattle.ev_sets.proofs.Sets.{has-member, member-has}
 use Rattle.ev_bits.proofs.Passing.{nat_laws}
 use Rattle.ev_forwarding.specs.declared.change.Change.{Change}
@@ -73,10 +73,6 @@ known-append p (x ∷ xs) ys j k = both (is_known p (pair_in x)) (all_known p (x
 
 pub known-one : (p : Published) (c : Change) → IsKnown p (pair_in c) → all_known p (c ∷ []) ≡ true
 known-one p c k = both (is_known p (pair_in c)) true (known-true p (pair_in c) k) refl
-
-pub known-first : (p : Published) (xs ys : List Change) → all_known p (xs ++ ys) ≡ true → all_known p xs ≡ true
-known-first p [] ys k = refl
-known-first p (x ∷ xs) ys k = both (is_known p (pair_in x)) (all_known p xs) (first (is_known p (pair_in x)) (all_known p (xs ++ ys)) k) (known-first p xs ys (second (is_known p (pair_in x)) (all_known p (xs ++ ys)) k))
 
 -- a change leaves width and interfaces
 pub made-same : (p : Published) (c : Change) → IsOfSame (made p c) p

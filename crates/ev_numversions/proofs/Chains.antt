@@ -1,5 +1,5 @@
 -- What is published stays the fold of a beginning of the history.
-use Rattle.std.proofs.Common.{fold, Result, Ok, Err, MatchResult, ◌≡◌, ◌≢◌, ℕ, ◌+◌, List, [], ◌∷◌, ◌++◌, true, false, set, refl, sym, ap, ◌∙◌, subst, ⊎_elim, append_assoc}
+use Rattle.std.proofs.Common.{fold, ◌≡◌, ◌≢◌, ℕ, ◌+◌, List, [], ◌∷◌, ◌++◌, true, false, set, refl, sym, ap, ◌∙◌, subst, ⊎_elim, append_assoc}
 use Rattle.std.proofs.lemmas.List.{append-nil}
 use Rattle.std.proofs.lemmas.List.Sums.{fold-append}
 use mathlib.Core.Option.{some}
@@ -8,7 +8,7 @@ use Rattle.logbook.specs.Pages.{Book}
 use Rattle.crossbeam_utils.specs.Register.{Admits, TurnsAt, Turns, Forks, Merges}
 use Rattle.atomic_table.proofs.Lists.{at_set, at_snoc, set_again}
 use Rattle.ev_forwarding.specs.declared.change.Change.{Change}
-use Rattle.ev_forwarding.specs.Published.{Pair, Published, IsOfSame, all_changed}
+use Rattle.ev_forwarding.specs.Published.{Pair, Published, all_changed}
 use Rattle.ev_numversions.specs.declared.rule.View.{View}
 use Rattle.ev_numversions.specs.declared.version.Version.{Version}
 use Rattle.ev_numversions.specs.declared.version.Step.{Step}
@@ -25,9 +25,15 @@ moved : (b c : Book) (w z : ℕ) (u : View) → c ≡ b → z ≡ w → IsNamedB
 moved b c w z u e f n = record { named = n.named; book = n.book ∙ sym e; width = n.width ∙ sym f }
 
 shows : (seat : ℕ) (v : View) (x y : Version) → IsFolded y → y.front.seen.book ≡ x.front.seen.book → y.forwarding.width ≡ x.forwarding.width → TurnsAt KeepsViews seat v x y (λ v x y w. ShownView v y w)
-shows seat v x y folded same wide views k at = let w = named_by (v.shows + 1) y.front.seen.book y.forwarding.width in
-    (w, (folded, (λ j u e. ⊎_elim (λ (t : (j ≡ seat) × (w ≡ u)). subst (λ z. Knows y z) t.1 (λ _. record { named = refl; book = refl; width = refl }))
-        (λ (t : (j ≢ seat) × (get_elem? views j ≡ some u)). λ p. moved x.front.seen.book y.front.seen.book x.forwarding.width y.forwarding.width u same wide (k.1 j u t.1 p)) (at_set views seat j w u e))), (folded, refl))
+shows seat v x y folded same wide views k at = let w = named_by (v.shows + 1) y.front.seen.book y.forwarding.width in (
+  w,
+  (
+    folded,
+    (λ j u e. ⊎_elim (λ (t : (j ≡ seat) × (w ≡ u)). subst (λ z. Knows y z) t.1 (λ _. record { named = refl; book = refl; width = refl }))
+        (λ (t : (j ≢ seat) × (get_elem? views j ≡ some u)). λ p. moved x.front.seen.book y.front.seen.book x.forwarding.width y.forwarding.width u same wide (k.1 j u t.1 p)) (at_set views seat j w u e)),
+  ),
+  (folded, refl),
+)
 
 not_true : {X : Type 0} → false ≡ true → X
 not_true p = absurd cc
@@ -90,7 +96,3 @@ merges seat v other w x views k at apart there =
     let one : (j : ℕ) (u : View) → get_elem? (set views seat w) j ≡ some u → Knows x u
     = λ j u e. ⊎_elim (λ (t : (j ≡ seat) × (w ≡ u)). subst (λ z. Knows x z) t.1 his) (λ (t : (j ≢ seat) × (get_elem? views j ≡ some u)). k.1 j u t.1) (at_set views seat j w u e) in
     (k.0, (λ j u e. ⊎_elim (λ (t : (j ≡ other) × (nobody ≡ u)). subst (λ z. Knows x z) t.1 (λ p. not_true p)) (λ (t : (j ≢ other) × (get_elem? (set views seat w) j ≡ some u)). one j u t.1) (at_set (set views seat w) other j nobody u e)))
-
-pub match_both : {X Y : Type 0} (r : Result X Y) (P P' Z : X → Type 0) (Q Q' S : Y → Type 0) → ((x : X) → P x → P' x → Z x) → ((y : Y) → Q y → Q' y → S y) → MatchResult r P Q → MatchResult r P' Q' → MatchResult r Z S
-match_both (Ok x) P P' Z Q Q' S f h a b = f x a b
-match_both (Err y) P P' Z Q Q' S f h a b = h y a b

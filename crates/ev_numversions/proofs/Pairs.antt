@@ -1,6 +1,5 @@
 -- The set of pairs after changes, and routes by it.
-use Rattle.std.proofs.Common.{◌≡◌, ◌↔◌, ◌∙◌, refl, sym, subst, ℕ, true, nat_lt, List, [], ◌∷◌, ◌++◌, map, filter}
-use Rattle.std.specs.List.{Contains}
+use Rattle.std.proofs.Common.{◌≡◌, ◌↔◌, refl, sym, subst, ℕ, nat_lt, List, [], ◌∷◌, ◌++◌, map, filter}
 use Rattle.ev_sets.specs.Sets.{Has, set_of}
 use Rattle.ev_sets.proofs.Roots.{Has-filter, filter-Has}
 use Rattle.ev_sets.proofs.Sets.{ext, rising-set_of, has-set_of, has-member, member-has}

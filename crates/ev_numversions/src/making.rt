@@ -5,7 +5,8 @@ ghost use Rattle.ev_numversions.specs.Ends.{staged, published, forwarding_of, se
 
 use crate::history::Front;
 use crate::publisher::Publisher;
-use crate::rule::{Shows, VersionWriter};
+use crate::publishing::publish_now;
+use crate::rule::VersionWriter;
 use crate::seats::seats;
 use crate::version::Version;
 use crate::viewer::Viewer;
@@ -34,11 +35,7 @@ pub fn versions<R: Wait>(
     let first = Version::empty(alloc, width, interfaces, &front)?;
     let second = Version::empty(alloc, width, interfaces, &front)?;
     let writer = VersionWriter::new(alloc, first, second, viewers)?;
-    let (mut writer, shown) = writer.publish_as::<Shows, R>(rt);
-    if shown.is_err() {
-        drop(writer.take(rt));
-        return Err(NoMemory);
-    }
+    let mut writer = publish_now(rt, writer);
     match seats(alloc, &mut writer, &front, viewers) {
         Ok(viewers) => {
             let publisher = Publisher {

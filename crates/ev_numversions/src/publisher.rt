@@ -11,8 +11,7 @@ use std::alloc::Global;
 
 /// Who stages and publishes changes of what a server publishes. It isn't `Drop`: end it.
 ///
-/// Staged changes wait until a publish hands them over. After a publish that found no memory some may be handed over
-/// already, and the next one goes on from there.
+/// Staged changes wait until a publish hands them over.
 pub struct Publisher {
     pub(crate) alloc: Global,
     pub(crate) writer: VersionWriter,

@@ -4,7 +4,7 @@ ghost use Rattle.left_right.specs.Sides.{view};
 ghost use Rattle.ev_forwarding.specs.Published.{pair_in, IsKnown, IsOfSame};
 ghost use Rattle.ev_forwarding.specs.Routes.{IsRouteBy};
 ghost use Rattle.ev_numversions.specs.Pairs.{pairs_after};
-ghost use Rattle.ev_numversions.specs.Chain.{IsFolded, IsShownAfter, MayShow};
+ghost use Rattle.ev_numversions.specs.Chain.{IsFolded, IsNamedBy, IsShownAfter, MayShow};
 ghost use Rattle.ev_numversions.specs.Ends.{staged, published, forwarding_of, shows, IsSamePublisher};
 
 use crate::publisher::Publisher;
@@ -14,7 +14,7 @@ use core::mem::{replace, replace_with};
 use ev_bits::Row;
 use ev_forwarding::{Change, Route};
 use ev_memory::NoMemory;
-use std::alloc::{AllocError, Global};
+use std::alloc::Global;
 use std::sync::Wait;
 
 /// No more changes are staged than this.
@@ -69,7 +69,7 @@ impl Publisher {
             return Ok(false);
         }
         self.hand_over()?;
-        self.show(rt)?;
+        self.show(rt);
         Ok(true)
     }
 
@@ -94,17 +94,20 @@ impl Publisher {
         Ok(())
     }
 
-    /// Publishes what the writer was handed, which is all that is staged.
-    fn show<R: Wait>(&mut self, rt: &R) -> Result<(), NoMemory>
+    /// Publishes what the writer was handed, which is all that is staged. It takes no memory.
+    fn show<R: Wait>(&mut self, rt: &R)
         requires { self.old.waiting.items ≡ [] }
         ensures top { self.new.top ≡ self.old.top }
         ensures server { IsOfSame (forwarding_of self.new) (forwarding_of self.old) }
-        ensures shown { MatchResult result (λ _. self.new.shown.seen ≡ self.old.top.seen) (λ _. self.new.shown ≡ self.old.shown) }
-        ensures once { MatchResult result (λ _. shows self.new ≡ shows self.old + 1) (λ _. shows self.new ≡ shows self.old) }
+        ensures shown { self.new.shown.seen ≡ self.old.top.seen }
+        ensures once { shows self.new ≡ shows self.old + 1 }
     {
-        replace_with(&mut self.writer, rt, |writer, rt| publish_now(rt, writer))?;
+        replace_with(
+            &mut self.writer,
+            rt,
+            |writer, rt| (publish_now(rt, writer), ()),
+        );
         self.shown = self.top.again();
-        Ok(())
     }
 
     /// Ends the publisher. It may wait for a viewer that is inside a match.
@@ -121,19 +124,17 @@ impl Publisher {
     }
 }
 
-/// Publishes what the writer was handed.
-fn publish_now<R: Wait>(rt: &R, writer: VersionWriter) -> (VersionWriter, Result<(), AllocError>)
+/// Publishes what the writer was handed. It takes no memory.
+pub(crate) fn publish_now<R: Wait>(rt: &R, writer: VersionWriter) -> VersionWriter
     requires folded { IsFolded writer.desk.shown.value }
     requires may { MayShow writer.desk.shown.value (drop writer.behind writer.log.items) }
-    ensures shown { MatchResult result.1
-        (λ _. IsShownAfter writer.desk.shown.value (drop writer.behind writer.log.items) result.0.desk.shown.value)
-        (λ _. result.0.desk.shown.value ≡ writer.desk.shown.value) }
-    ensures once { MatchResult result.1
-        (λ _. (view result.0.desk.place).shows ≡ (view writer.desk.place).shows + 1)
-        (λ _. (view result.0.desk.place).shows ≡ (view writer.desk.place).shows) }
-    ensures left { MatchResult result.1
-        (λ _. drop result.0.behind result.0.log.items ≡ [])
-        (λ _. drop result.0.behind result.0.log.items ≡ drop writer.behind writer.log.items) }
+    ensures shown { IsShownAfter writer.desk.shown.value (drop writer.behind writer.log.items) result.desk.shown.value }
+    ensures book { IsNamedBy result.desk.shown.value.front.seen.book result.desk.shown.value.forwarding.width (view result.desk.place) }
+    ensures once { (view result.desk.place).shows ≡ (view writer.desk.place).shows + 1 }
+    ensures left { drop result.behind result.log.items ≡ [] }
 {
-    writer.publish_as::<Shows, R>(rt)
+    match writer.publish_as::<Shows, R>(rt) {
+        (writer, Ok(())) => writer,
+        (_, Err(_)) => unreachable!(),
+    }
 }

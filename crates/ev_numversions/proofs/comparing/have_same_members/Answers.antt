@@ -1,4 +1,4 @@
-use Rattle.std.proofs.Common.{◌+◌, ◌≤◌, ℕ, subst, arith}
+use Rattle.std.proofs.Common.{◌≤◌, ℕ, subst, arith}
 use Rattle.ev_sets.specs.Sets.{Has}
 use Rattle.ev_numversions.proofs.Alike.{next-none, next-one, next-same, ended}
 use Rattle.ev_numversions.proofs.comparing.have_same_members.Goals as goal
@@ -32,10 +32,10 @@ loop-number-preserved c =
     let j = c.in-Some-first_from.ensures.some in
     let same = c.if-found-number.false in
     next-same xs ys at c.in-Some.number c.loop-number.invariant i.1 (subst (λ (z : ℕ). Has z ys) same j.1) c.in-Some.ensures.least
-        (λ k l m. subst (λ (z : ℕ). z ≤ k) same (c.in-Some-first_from.ensures.least k l m))
+    (λ k l m. subst (λ (z : ℕ). z ≤ k) same (c.in-Some-first_from.ensures.least k l m))
 
 pub returns : goal.returns
 returns c =
     let n = c.first_from-2.ensures in
     ended c.args.one.now.members c.args.other.now.members c.loop-number.at c.first_from-2.result c.is_none.result c.is_a_set.ensures.rising c.is_a_set-2.ensures.rising
-        c.loop-number.invariant c.in_default.ensures.none n.some n.none c.is_none.ensures
+    c.loop-number.invariant c.in_default.ensures.none n.some n.none c.is_none.ensures

@@ -1,6 +1,3 @@
-use Rattle.std.proofs.Common.{rules, ◌≡◌, List, ℕ, subst}
-use Rattle.ev_forwarding.specs.Routes.{IsRouteBy}
-use Rattle.ev_numversions.specs.Pairs.{pairs_after}
 use Rattle.ev_numversions.proofs.Pairs.{is-route}
 use Rattle.ev_numversions.proofs.matching.match_ahead.Goals as goal
 

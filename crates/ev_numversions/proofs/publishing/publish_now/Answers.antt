@@ -1,6 +1,5 @@
-use Rattle.std.proofs.Common.{drop, ap}
-use Rattle.ev_numversions.specs.declared.rule.View.{View}
-use Rattle.ev_numversions.proofs.Chains.{shows_fold, shown_after, match_both}
+use Rattle.std.proofs.Common.{◌≡◌, drop, subst, Result, Ok, MatchResult}
+use Rattle.ev_numversions.proofs.Chains.{shows_fold, shown_after}
 use Rattle.ev_numversions.proofs.publishing.publish_now.Goals as goal
 
 pub publish_as-requires : goal.publish_as-requires
@@ -8,17 +7,13 @@ publish_as-requires g c next is =
     let now = c.args.writer.desk.shown.value in
     shows_fold _ _ now next (drop c.args.writer.behind c.args.writer.log.items) c.requires.folded c.requires.may is
 
+-- what holds of a call that succeeds
+of-ok : {X Y : Type 0} (r : Result X Y) (x : X) (P : X → Type 0) (Q : Y → Type 0) → r ≡ Ok x → MatchResult r P Q → P x
+of-ok r x P Q e h = subst (λ (q : Result _ _). MatchResult q P Q) e h
+
 pub returns-clause-shown : goal.returns-clause-shown
 returns-clause-shown g c =
     let now = c.args.writer.desk.shown.value in
     let next = c.publish_as.result.0.desk.shown.value in
     let ops = drop c.args.writer.behind c.args.writer.log.items in
-    let done = c.publish_as.ensures in
-    match_both c.publish_as.result.1 _ _ _ _ _ _ (λ x a b. shown_after now next ops c.requires.folded c.requires.may a.0) (λ y a b. a.0) done.values done.rule
-
-pub returns-clause-left : goal.returns-clause-left
-returns-clause-left g c = let done = c.publish_as.ensures in match_both c.publish_as.result.1 _ _ _ _ _ _ (λ x a b. a.1) (λ y a b. a.1) done.values done.rule
-
-pub returns-clause-once : goal.returns-clause-once
-returns-clause-once g c = let done = c.publish_as.ensures in
-    match_both c.publish_as.result.1 _ _ _ _ _ _ (λ x a b. ap (λ (v : View). v.shows) b.1) (λ y a b. ap (λ (v : View). v.shows) b) done.values done.rule
+    shown_after now next ops c.requires.folded c.requires.may (of-ok c.publish_as.result.1 c.in_default-Ok.field-0-1 _ _ c.in_default-Ok.is-1 c.publish_as.ensures.values).0

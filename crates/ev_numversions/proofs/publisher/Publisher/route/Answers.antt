@@ -1,4 +1,4 @@
-use Rattle.std.proofs.Common.{◌≡◌, ◌∙◌, ap, List, ℕ, subst}
+use Rattle.std.proofs.Common.{◌≡◌, ◌∙◌, ap, List, subst}
 use Rattle.ev_forwarding.specs.Published.{Pair}
 use Rattle.ev_forwarding.specs.Routes.{IsRouteBy}
 use Rattle.ev_numversions.specs.Pairs.{pairs_after}
