@@ -1,6 +1,5 @@
 //! Viewers find routes beside a publisher, in one thread and in two.
 ghost use Rattle.std.specs.Prelude.{◌≡◌, [], ◌∷◌, IfOk};
-ghost use Rattle.ev_forwarding.specs.Published.{IsKnown};
 ghost use Rattle.ev_numversions.specs.Ends.{forwarding_of, width_of, IsViewerOf};
 
 use ev_bits::Row;
@@ -97,10 +96,15 @@ fn a_match_before_a_publish_and_one_after(rt: HostRuntime) -> Result<(), Fail> {
 
 // Publishes so often: the number is published and no longer published in turn.
 fn publish_in_turn<R: Wait>(rt: &R, publisher: &mut Publisher, times: u64) -> Result<(), NoMemory>
-    requires { IsKnown (forwarding_of publisher.old) (65, 7) }
+    requires width { (forwarding_of publisher.old).width ≡ 9 }
+    requires interfaces { (forwarding_of publisher.old).interfaces ≡ 2 ∷ 65 ∷ [] }
 {
     for i in 0..times {
-        publisher.stage(if i % 2 == 0 { PUT } else { TAKE })?;
+        if i % 2 == 0 {
+            publisher.stage(PUT)?;
+        } else {
+            publisher.stage(TAKE)?;
+        }
         publisher.publish(rt)?;
     }
     Ok(())
