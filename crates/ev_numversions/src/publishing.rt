@@ -36,7 +36,8 @@ impl Publisher {
         self.writer.published().forwarding.route(alloc, matched)
     }
 
-    /// Stages a change, whose number is below the width and whose interface is one of the server's. It wants memory where there is none, and where 2^62 changes were staged.
+    /// Stages a change, whose number is below the width and whose interface is one of the server's. It wants memory where there
+    /// is none, and where 2^62 changes were staged.
     pub fn stage(&mut self, change: Change) -> Result<(), NoMemory>
         requires { IsKnown (forwarding_of self.old) (pair_in change) }
         ensures same { IsSamePublisher self.old self.new }
