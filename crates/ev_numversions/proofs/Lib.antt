@@ -1,0 +1,6 @@
+pub mod Pairs
+pub mod Applied
+pub mod Fronts
+pub mod Adding
+pub mod Chains
+pub mod Alike

@@ -1,0 +1,4 @@
+pub mod Pairs
+pub mod History
+pub mod Chain
+pub mod Ends
