@@ -101,10 +101,11 @@ fn publication_text(
     requires { number < length (known_publications 1 tables.now.clients) }
     ensures { IfOk result (λ text. text ≡ message_text (wired (meaning tables.now (Load.Publication number)))) }
 {
+    let found = tables.found(number);
     let publication = &tables.catalogue().publications()[number as usize];
     let notice = publication.notice.copy(alloc)?;
     let message = Message::Notice {
-        id: publication.id,
+        id: found.id(),
         notice,
     };
     Ok(SentText::of_message(message))
