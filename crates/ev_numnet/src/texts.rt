@@ -93,11 +93,7 @@ fn adverts_text(alloc: Global, adverts: &Order<Ad>, change: &Change) -> Result<S
 }
 
 /// The text of the publication with a number, which is written where it is shown.
-fn publication_text(
-    alloc: Global,
-    tables: &Tables<'_>,
-    number: u32,
-) -> Result<SentText, NoMemory>
+fn publication_text(alloc: Global, tables: &Tables<'_>, number: u32) -> Result<SentText, NoMemory>
     requires { number < length (known_publications 1 tables.now.clients) }
     ensures { IfOk result (λ text. text ≡ message_text (wired (meaning tables.now (Load.Publication number)))) }
 {
