@@ -93,18 +93,15 @@ fn adverts_text(alloc: Global, adverts: &Order<Ad>, change: &Change) -> Result<S
 }
 
 /// The text of the publication with a number, which is written where it is shown.
-fn publication_text(
-    alloc: Global,
-    tables: &Tables<'_>,
-    number: u32,
-) -> Result<SentText, NoMemory>
+fn publication_text(alloc: Global, tables: &Tables<'_>, number: u32) -> Result<SentText, NoMemory>
     requires { number < length (known_publications 1 tables.now.clients) }
     ensures { IfOk result (λ text. text ≡ message_text (wired (meaning tables.now (Load.Publication number)))) }
 {
+    let found = tables.found(number);
     let publication = &tables.catalogue().publications()[number as usize];
     let notice = publication.notice.copy(alloc)?;
     let message = Message::Notice {
-        id: publication.id,
+        id: found.id(),
         notice,
     };
     Ok(SentText::of_message(message))

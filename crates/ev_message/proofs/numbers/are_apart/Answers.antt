@@ -1,4 +1,4 @@
-use Rattle.std.proofs.Common.{ℕ, ◌<◌, length, get_or, arith}
+use Rattle.std.proofs.Common.{get_or, arith}
 use Rattle.ev_sets.specs.Sets.{Has}
 use Rattle.ev_message.proofs.Members.{each, not-found, also-at}
 use Rattle.ev_message.proofs.numbers.are_apart.Goals as goal

@@ -1,4 +1,4 @@
-use Rattle.std.proofs.Common.{ℕ, ◌<◌, length, get_or, arith}
+use Rattle.std.proofs.Common.{◌<◌, arith}
 use Rattle.ev_message.proofs.Members.{each}
 use Rattle.ev_message.proofs.numbers.are_below.Goals as goal
 

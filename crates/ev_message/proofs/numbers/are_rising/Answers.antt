@@ -1,4 +1,4 @@
-use Rattle.std.proofs.Common.{◌≡◌, ℕ, suc, ◌+◌, ◌<◌, get_or, subst, arith}
+use Rattle.std.proofs.Common.{◌≡◌, suc, ◌+◌, ◌<◌, get_or, subst, arith}
 use Rattle.ev_message.proofs.Members.{rises}
 use Rattle.ev_message.proofs.numbers.are_rising.Goals as goal
 

@@ -8,4 +8,4 @@ use Rattle.ev_numnet.proofs.inboxes.take_inboxes.Given as goal
 abbrev pub invariant-loop-place : goal.invariant-loop-place
 invariant-loop-place l = (l.lists.items ≡ map (received_by l.net l.initial.servers.journal.entries) (range_with_len 1 l.place))
     × HaveInboxes l.net l.initial.servers.journal.entries l.place l.servers.places.items
-    × (l.servers.journal.entries ≡ l.initial.servers.journal.entries)
+    × (l.servers.journal ≡ l.initial.servers.journal)

@@ -21,8 +21,8 @@ last_on-requires c =
     c.in-Some.ensures.some in
     let (phase, kept) = c.requires.kept in
     record {
-      small = small_last c.args.tables.now phase (seen c.args.servers.now) kept c.in-Some.entry.now c.entry.inside.server c.deref-in-Some.result.now here (sym (ap (λ z. z.server) c.entry.view_is))
-          (sym (ap (λ z. z.outs) c.entry.view_is) ∙ sym c.deref-in-Some.ensures.value);
+      small = small_last c.args.tables.now phase (seen c.args.servers.now) kept c.in-Some.entry.now c.entry.inside.server c.deref.result.now here (sym (ap (λ z. z.server) c.entry.view_is))
+          (sym (ap (λ z. z.outs) c.entry.view_is) ∙ sym c.deref.ensures.value);
       run = λ to. waiting_of_net c.args.tables.now phase (seen c.args.servers.now) kept c.entry.inside.server to;
     }
 
@@ -32,9 +32,9 @@ returns-in-Some c =
     c.in-Some.ensures.some in
     let (phase, kept) = c.requires.kept in
     IfOk-weaker c.last_on.result
-    (λ told. (sent : List SendingParts) → LieLast (messages_at c.args.servers.now.links) c.entry.inside.server c.deref-in-Some.result.now sent → told ≡ map text_of_sending sent)
+    (λ told. (sent : List SendingParts) → LieLast (messages_at c.args.servers.now.links) c.entry.inside.server c.deref.result.now sent → told ≡ map text_of_sending sent)
     (λ told. (before : List EntryParts) (entry : EntryParts) → c.args.servers.now.journal.entries ≡ before ++ entry ∷ []
     → told ≡ told_of c.args.tables.now (found_of real (phased_net c.args.tables.now) (journal_of c.args.servers.now.journal.entries) (length before)) entry)
-    (λ told so. told_last c.args.tables.now phase (seen c.args.servers.now) kept c.in-Some.entry.now c.entry.inside.server c.deref-in-Some.result.now here (sym (ap (λ z. z.server) c.entry.view_is))
-    (sym (ap (λ z. z.outs) c.entry.view_is) ∙ sym c.deref-in-Some.ensures.value) told so)
+    (λ told so. told_last c.args.tables.now phase (seen c.args.servers.now) kept c.in-Some.entry.now c.entry.inside.server c.deref.result.now here (sym (ap (λ z. z.server) c.entry.view_is))
+    (sym (ap (λ z. z.outs) c.entry.view_is) ∙ sym c.deref.ensures.value) told so)
     c.last_on.ensures

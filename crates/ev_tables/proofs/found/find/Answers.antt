@@ -1,10 +1,8 @@
-use Rattle.std.proofs.Common.{◌≡◌, ◌∙◌, ◌<◌, ◌≤◌, length, [], get_or, slice_get, Some, sym, ap, subst, rules}
+use Rattle.std.proofs.Common.{◌≡◌, ◌∙◌, length, [], get_or, slice_get, Some, sym, ap, subst, rules}
 use Rattle.std.proofs.lemmas.List.{get_or_default}
 use Rattle.std.proofs.lemmas.Option.{slice_get-get_or}
-use Rattle.ev_bits.specs.Rows.{Numbers}
 use Rattle.ev_notice.specs.Notice.{AreValues}
 use Rattle.ev_wire.specs.NoticeText.{IsNoticeText}
-use Rattle.ev_matcher.specs.Matching.{matched}
 use Rattle.ev_catalogue.specs.Known.{PublicationParts, publication, known_filters, known_publications}
 use Rattle.ev_tables.specs.Found.{publication_at}
 use Rattle.ev_tables.proofs.Ids.{id-known}

@@ -1,4 +1,4 @@
-use Rattle.std.proofs.Common.{◌≡◌, ◌+◌, ◌<◌, ℕ, length, List, ◌∷◌, [], sym, ap, subst, ◌∙◌, length-append, arith}
+use Rattle.std.proofs.Common.{◌+◌, ◌<◌, ℕ, length, List, ◌∷◌, [], sym, ap, subst, ◌∙◌, length-append}
 use Rattle.ev_tables.specs.Found.{FoundParts, IsFound, publication_at, found_at}
 use Rattle.ev_tables.proofs.Growing.{one-more}
 use Rattle.ev_tables.proofs.found.find_all.Goals as goal

@@ -1,4 +1,4 @@
-use Rattle.std.proofs.Common.{◌<◌, ℕ, nat_lt, refl, subst, sym}
+use Rattle.std.proofs.Common.{nat_lt, refl, subst, sym}
 use Rattle.ev_sets.specs.Sets.{Has, IsRising}
 use Rattle.ev_message.proofs.change.Change.is_below.Goals as goal
 

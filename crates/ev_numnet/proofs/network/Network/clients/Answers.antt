@@ -6,21 +6,21 @@ use Rattle.ev_numnet.proofs.Starting.{list_at}
 use Rattle.ev_numnet.proofs.network.Network.clients.Goals as goal
 
 pub overflow_sub-server : goal.overflow_sub-server
-overflow_sub-server c = (server_low c.self.inside.tables.now c.args.server (subst (λ z. Has c.args.server (servers_in z.net)) (sym c.self.view_is) c.requires)).0
+overflow_sub-server g c = (server_low c.self.inside.tables.now c.args.server (subst (λ z. Has c.args.server (servers_in z.net)) (sym c.self.view_is) c.requires)).0
 
 pub index-requires : goal.index-requires
-index-requires c =
+index-requires g c =
     let low = server_low c.self.inside.tables.now c.args.server (subst (λ z. Has c.args.server (servers_in z.net)) (sym c.self.view_is) c.requires) in
-    let all = c.self.invariant.1.0.all in
+    let all = c.self.invariant.1.all in
     search (rules, low, all)
 
 pub returns : goal.returns
-returns c =
+returns g c =
     let low = server_low c.self.inside.tables.now c.args.server (subst (λ z. Has c.args.server (servers_in z.net)) (sym c.self.view_is) c.requires) in
-    let all = c.self.invariant.1.0.all in
+    let all = c.self.invariant.1.all in
     let within : c.args.server - 1 < length c.self.inside.clients.items = omega (arith, low.0, low.1, all) in
     let place : suc (c.args.server - 1) ≡ c.args.server = omega (arith, low.0) in
     c.as_slice.ensures
-    ∙ c.self.invariant.1.0.each (c.args.server - 1) c.index.result.now (list_at c.self.inside.clients.items (c.args.server - 1) c.index.result.now within c.index.ensures)
+    ∙ c.self.invariant.1.each (c.args.server - 1) c.index.result.now (list_at c.self.inside.clients.items (c.args.server - 1) c.index.result.now within c.index.ensures)
     ∙ ap (clients_of c.self.inside.tables.now) place
     ∙ ap (λ z. clients_of z.net c.args.server) c.self.view_is

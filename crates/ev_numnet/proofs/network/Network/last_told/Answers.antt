@@ -9,10 +9,10 @@ use Rattle.ev_turns.specs.Network.{NetworkParts}
 use Rattle.ev_numnet.proofs.network.Network.last_told.Goals as goal
 
 pub last_told-requires : goal.last_told-requires
-last_told-requires c = record { kept = (c.self.inside.phase, c.self.invariant.0) }
+last_told-requires g c = record { kept = (c.self.inside.phase, c.self.invariant.0) }
 
 pub returns : goal.returns
-returns c =
+returns g c =
     subst
     (λ (z : NetworkParts). IfOk c.last_told.result
     (λ told. (before : List EntryParts) (entry : EntryParts) → z.journal ≡ before ++ entry ∷ [] → told ≡ told_of z.net (found_of real (phased_net z.net) (journal_of z.journal) (length before)) entry))

@@ -9,7 +9,7 @@ use Rattle.ev_turns.proofs.Begun.{on-err, begun-none}
 use Rattle.ev_numnet.proofs.network.Network.make_command.Goals as goal
 
 pub returns : goal.returns
-returns c = record {
+returns g c = record {
   tried = command-tried c.turn.result c.args.client c.args.phase c.args.self.now c.turn.new.self c.turn.ensures.turn
       (sym c.next_phase.ensures ∙ same-phase c.next_phase.result c.args.phase (sym c.ne.ensures ∙ c.if-ne.false));
   begun = on-err c.turn.result (begun-none c.args.phase (command_turn c.args.self.now.net c.args.client ∷ []) c.args.self.now c.turn.new.self) c.turn.ensures.err;
@@ -18,7 +18,7 @@ returns c = record {
 }
 
 pub returns-then-ne : goal.returns-then-ne
-returns-then-ne c = record {
+returns-then-ne g c = record {
   tried = idle c.args.phase (command_turn c.args.self.now.net c.args.client) c.args.self.now
       (skipped c.args.self.now.net (moment_by c.args.self.now.net c.args.self.now.journal) c.args.client c.args.phase
       (λ e. other-phase c.next_phase.result c.args.phase (sym c.ne.ensures ∙ c.if-ne.true) (c.next_phase.ensures ∙ e)));

@@ -13,18 +13,18 @@ use Rattle.ev_turns.proofs.Begun.{going-breaks}
 use Rattle.ev_numnet.proofs.network.Network.make_commands.Goals as goal
 
 pub loop-server-init : goal.loop-server-init
-loop-server-init c = record {
+loop-server-init g c = record {
   later = later-same c.args.self.now c.args.self.now refl;
   way = going-starts c.args.phase (commands_turns c.args.self.now.net c.args.phase) c.args.self.now;
 }
 
 pub make_commands_at-requires : goal.make_commands_at-requires
-make_commands_at-requires c =
+make_commands_at-requires g c =
     let net-same = later-net c.args.self.now c.loop-server.self c.loop-server.invariant.later in
     server-there c.loop-server.self.net c.args.servers c.loop-server.server (c.requires ∙ ap (λ n. (first_tree n.trees).count) (sym net-same)) (omega arith) (omega arith)
 
 pub loop-server-preserved : goal.loop-server-preserved
-loop-server-preserved c =
+loop-server-preserved g c =
     let net = c.args.self.now.net in
     let net-same = later-net c.args.self.now c.loop-server.self c.loop-server.invariant.later in
     record {
@@ -36,13 +36,13 @@ loop-server-preserved c =
     }
 
 pub returns-clause-tried : goal.returns-clause-tried
-returns-clause-tried c =
+returns-clause-tried g c =
     let net = c.args.self.now.net in
     going-ends c.args.phase (commands_turns net c.args.phase) (command_turns real (net_at real (phased_net net) c.args.phase) (drop (c.loop-server.server - 1) (servers_in net))) c.args.self.now c.loop-server.self
     (ap (command_turns real (net_at real (phased_net net) c.args.phase)) (servers-past (first_tree net.trees).count (c.loop-server.server - 1) (omega (arith, c.requires, c.loop-server-test.false)))) c.loop-server.invariant.way
 
 pub returns-in_ok-make_commands_at-clause-tried : goal.returns-in_ok-make_commands_at-clause-tried
-returns-in_ok-make_commands_at-clause-tried c =
+returns-in_ok-make_commands_at-clause-tried g c =
     let net = c.args.self.now.net in
     let net-same = later-net c.args.self.now c.loop-server.self c.loop-server.invariant.later in
     going-ends c.args.phase (commands_turns net c.args.phase) (command_turns real (net_at real (phased_net net) c.args.phase) (drop (c.loop-server.server + 1 - 1) (servers_in net))) c.args.self.now c.make_commands_at.new.self
@@ -53,7 +53,7 @@ returns-in_ok-make_commands_at-clause-tried c =
     (subst (λ n. Tries c.args.phase (server_turns n c.args.phase c.loop-server.server) c.loop-server.self c.make_commands_at.new.self) net-same c.in_ok-make_commands_at.ensures.tried))
 
 pub returns-in_err-make_commands_at-clause-begun : goal.returns-in_err-make_commands_at-clause-begun
-returns-in_err-make_commands_at-clause-begun c =
+returns-in_err-make_commands_at-clause-begun g c =
     let net = c.args.self.now.net in
     let net-same = later-net c.args.self.now c.loop-server.self c.loop-server.invariant.later in
     on-err c.from_residual.result

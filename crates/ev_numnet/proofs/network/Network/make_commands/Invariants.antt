@@ -9,7 +9,7 @@ use Rattle.ev_turns.proofs.Tries.{Going}
 use Rattle.ev_numnet.proofs.network.Network.make_commands.Given as goal
 
 abbrev pub invariant-loop-server : goal.invariant-loop-server
-invariant-loop-server l = record {
+invariant-loop-server g l = record {
   later : IsLater l.fn.self l.self;
   way : Going l.phase (commands_turns l.fn.self.net l.phase) (command_turns real (net_at real (phased_net l.fn.self.net) l.phase) (drop (l.server - 1) (servers_in l.fn.self.net))) l.fn.self l.self;
 }

@@ -13,20 +13,20 @@ use Rattle.ev_turns.proofs.Begun.{going-breaks}
 use Rattle.ev_numnet.proofs.network.Network.make_commands_at.Goals as goal
 
 pub loop-place-init : goal.loop-place-init
-loop-place-init c = record {
+loop-place-init g c = record {
   later = later-same c.args.self.now c.args.self.now refl;
   way = going-starts c.args.phase (server_turns c.args.self.now.net c.args.phase c.args.server) c.args.self.now;
 }
 
 pub make_script-requires : goal.make_script-requires
-make_script-requires c =
+make_script-requires g c =
     let net-same = later-net c.args.self.now c.loop-place.self c.loop-place.invariant.later in
     let less : c.loop-place.place < length c.clients.result.now = omega (arith, c.loop-place-test.true, ap length (c.clients.ensures ∙ (ap (λ n. clients_of n c.args.server) net-same ∙ sym c.clients-place-end.ensures))) in
     let x = client-lives c.loop-place.self.net c.args.server c.clients.result.now c.loop-place.place c.clients.ensures less in
     (x.some, x.most)
 
 pub loop-place-preserved : goal.loop-place-preserved
-loop-place-preserved c =
+loop-place-preserved g c =
     let net = c.args.self.now.net in
     let net-same = later-net c.args.self.now c.loop-place.self c.loop-place.invariant.later in
     let same : c.clients.result.now ≡ clients_of c.args.self.now.net c.args.server = c.clients.ensures ∙ ap (λ n. clients_of n c.args.server) net-same in
@@ -41,13 +41,13 @@ loop-place-preserved c =
     }
 
 pub returns-clause-tried : goal.returns-clause-tried
-returns-clause-tried c =
+returns-clause-tried g c =
     let net = c.args.self.now.net in
     going-ends c.args.phase (server_turns net c.args.phase c.args.server) (client_turns real (net_at real (phased_net net) c.args.phase) c.args.server (drop c.loop-place.place (clients_of net c.args.server))) c.args.self.now c.loop-place.self
     (ap (client_turns real (net_at real (phased_net net) c.args.phase) c.args.server) (drop-end (clients_of net c.args.server) c.loop-place.place (omega (arith, c.loop-place-test.false, ap length c.clients-place-end.ensures)))) c.loop-place.invariant.way
 
 pub returns-in_err-make_script-clause-begun : goal.returns-in_err-make_script-clause-begun
-returns-in_err-make_script-clause-begun c =
+returns-in_err-make_script-clause-begun g c =
     let net = c.args.self.now.net in
     let net-same = later-net c.args.self.now c.loop-place.self c.loop-place.invariant.later in
     let same : c.clients.result.now ≡ clients_of c.args.self.now.net c.args.server = c.clients.ensures ∙ ap (λ n. clients_of n c.args.server) net-same in

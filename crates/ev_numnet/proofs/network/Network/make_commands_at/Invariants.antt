@@ -9,7 +9,7 @@ use Rattle.ev_turns.proofs.Tries.{Going}
 use Rattle.ev_numnet.proofs.network.Network.make_commands_at.Given as goal
 
 abbrev pub invariant-loop-place : goal.invariant-loop-place
-invariant-loop-place l = record {
+invariant-loop-place g l = record {
   later : IsLater l.fn.self l.self;
   way : Going l.phase (server_turns l.fn.self.net l.phase l.server) (client_turns real (net_at real (phased_net l.fn.self.net) l.phase) l.server (drop l.place (clients_of l.fn.self.net l.server))) l.fn.self l.self;
 }

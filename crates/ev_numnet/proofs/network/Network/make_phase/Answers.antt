@@ -11,12 +11,12 @@ use Rattle.ev_turns.proofs.Begun.{on-err as begun-on}
 use Rattle.ev_numnet.proofs.network.Network.make_phase.Goals as goal
 
 pub make_commands-requires : goal.make_commands-requires
-make_commands-requires c =
+make_commands-requires g c =
     let tree-is = c.tree-tree.ensures ∙ ap (λ n. topology_at n c.args.phase) c.net.ensures.net in
     c.servers.ensures.value ∙ (ap (λ (z : Topology). z.count) tree-is ∙ count-same c.args.self.now.net c.net.ensures.sound c.args.phase)
 
 pub returns : goal.returns
-returns c =
+returns g c =
     let net-same = later-net c.args.self.now c.make_commands.new.self c.in_ok-make_commands.ensures.later in
     let tree-is = c.tree-tree.ensures ∙ ap (λ n. topology_at n c.args.phase) (c.net.ensures.net ∙ sym net-same) in
     record {
@@ -32,5 +32,5 @@ returns c =
     }
 
 pub returns-in_err-make_commands-clause-begun : goal.returns-in_err-make_commands-clause-begun
-returns-in_err-make_commands-clause-begun c = on-err c.from_residual.result
+returns-in_err-make_commands-clause-begun g c = on-err c.from_residual.result
     (first-begun c.args.phase (commands_turns c.args.self.now.net c.args.phase) (rounds_turns c.args.self.now.net c.args.phase) c.args.self.now c.make_commands.new.self c.in_err-make_commands.ensures.begun)

@@ -17,13 +17,13 @@ use Rattle.ev_numnet.proofs.network.Network.make_round.Goals.{else-loop-server-t
 use Rattle.ev_model.specs.declared.turn.Turn.TheVariants as turns
 
 pub loop-server-init : goal.loop-server-init
-loop-server-init c = record {
+loop-server-init g c = record {
   later = later-same c.args.self.now c.args.self.now refl;
   way = λ phase e. going-starts phase (round_turns c.args.self.now.net phase) c.args.self.now;
 }
 
 pub loop-server-preserved : goal.loop-server-preserved
-loop-server-preserved c = record {
+loop-server-preserved g c = record {
   later = later-on c.args.self.now c.loop-server.self c.turn.new.self c.loop-server.invariant.later
       (later-on c.loop-server.self c.take_each.new.self c.turn.new.self c.in_ok-take_each.ensures.later (later-turn c.in_ok-turn.field-0 (turns.Version c.loop-server.server) c.take_each.new.self c.turn.new.self c.in_ok-turn.ensures.turn));
   way = λ phase e. round-goes phase c.args.tree.now c.loop-server.server c.neighbours.result.now c.in_ok-turn.field-0 c.args.self.now c.loop-server.self c.take_each.new.self c.turn.new.self c.made-before.ensures.sound e (omega arith) (omega arith)
@@ -31,10 +31,10 @@ loop-server-preserved c = record {
 }
 
 pub returns-clause-bounded : goal.returns-clause-bounded
-returns-clause-bounded c = λ phase. fewer-entries c.args.self.now.net c.args.self.now.journal c.made-before.ensures.sound c.made-before.ensures.legal phase
+returns-clause-bounded g c = λ phase. fewer-entries c.args.self.now.net c.args.self.now.journal c.made-before.ensures.sound c.made-before.ensures.legal phase
 
 pub returns-clause-tried : goal.returns-clause-tried
-returns-clause-tried c = λ phase e. (let turns = round_turns c.args.self.now.net phase in
+returns-clause-tried g c = λ phase e. (let turns = round_turns c.args.self.now.net phase in
     let left = λ (n : ℕ). round_at real (net_at real (phased_net c.args.self.now.net) phase) (drop n (servers_in c.args.self.now.net)) in
     elim c.loop-server-test.branch [
       | else-loop-server-test w ↦
@@ -51,7 +51,7 @@ returns-clause-tried c = λ phase e. (let turns = round_turns c.args.self.now.ne
     ])
 
 pub returns-clause-later : goal.returns-clause-later
-returns-clause-later c =
+returns-clause-later g c =
     elim c.loop-server-test.branch [
       | else-loop-server-test w ↦ subst (λ z. IsLater c.args.self.now z) (sym w.self-is) c.loop-server.invariant.later
       | then-loop-server-test+in_ok-take_each+in_ok-turn+else-server-server-end w ↦
@@ -61,7 +61,7 @@ returns-clause-later c =
     ]
 
 pub returns-in_err-take_each-clause-begun : goal.returns-in_err-take_each-clause-begun
-returns-in_err-take_each-clause-begun c = on-err c.from_residual.result (λ phase e. (
+returns-in_err-take_each-clause-begun g c = on-err c.from_residual.result (λ phase e. (
     let net = c.args.self.now.net in
     let server = c.loop-server.server in
     let more = round_at real (net_at real (phased_net net) phase) (drop (server + 1 - 1) (servers_in net)) in
@@ -70,7 +70,7 @@ returns-in_err-take_each-clause-begun c = on-err c.from_residual.result (λ phas
     (c.loop-server.invariant.way phase e) (c.in_err-take_each.ensures.begun phase)))
 
 pub returns-in_err-turn-clause-begun : goal.returns-in_err-turn-clause-begun
-returns-in_err-turn-clause-begun c = on-err c.from_residual-in_err-turn.result (λ phase e. (
+returns-in_err-turn-clause-begun g c = on-err c.from_residual-in_err-turn.result (λ phase e. (
     let net = c.args.self.now.net in
     let server = c.loop-server.server in
     let more = round_at real (net_at real (phased_net net) phase) (drop (server + 1 - 1) (servers_in net)) in
@@ -80,7 +80,7 @@ returns-in_err-turn-clause-begun c = on-err c.from_residual-in_err-turn.result (
     (c.loop-server.invariant.way phase e) (c.in_ok-take_each.ensures.tried phase)) c.in_err-turn.ensures.err))
 
 pub returns-in_err-take_each-clause-bounded : goal.returns-in_err-take_each-clause-bounded
-returns-in_err-take_each-clause-bounded c = λ phase. fewer-entries c.args.self.now.net c.args.self.now.journal c.made-before.ensures.sound c.made-before.ensures.legal phase
+returns-in_err-take_each-clause-bounded g c = λ phase. fewer-entries c.args.self.now.net c.args.self.now.journal c.made-before.ensures.sound c.made-before.ensures.legal phase
 
 pub returns-in_err-turn-clause-bounded : goal.returns-in_err-turn-clause-bounded
-returns-in_err-turn-clause-bounded c = λ phase. fewer-entries c.args.self.now.net c.args.self.now.journal c.made-before.ensures.sound c.made-before.ensures.legal phase
+returns-in_err-turn-clause-bounded g c = λ phase. fewer-entries c.args.self.now.net c.args.self.now.journal c.made-before.ensures.sound c.made-before.ensures.legal phase

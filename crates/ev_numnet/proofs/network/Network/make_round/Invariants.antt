@@ -9,7 +9,7 @@ use Rattle.ev_turns.proofs.Tries.{Going}
 use Rattle.ev_numnet.proofs.network.Network.make_round.Given as goal
 
 abbrev pub invariant-loop-server : goal.invariant-loop-server
-invariant-loop-server l = record {
+invariant-loop-server g l = record {
   later : IsLater l.fn.self l.self;
   way : (phase : ℕ) → l.tree ≡ topology_at l.fn.self.net phase
       → Going phase (round_turns l.fn.self.net phase) (round_at real (net_at real (phased_net l.fn.self.net) phase) (drop (l.server - 1) (servers_in l.fn.self.net))) l.fn.self l.self;

@@ -11,7 +11,7 @@ use Rattle.ev_turns.proofs.Begun.{repeat-breaks}
 use Rattle.ev_numnet.proofs.network.Network.make_script.Goals as goal
 
 pub loop-init : goal.loop-init
-loop-init c =
+loop-init g c =
     let turns = script_turns c.args.self.now.net c.args.phase c.args.client in
     let all : length (script_of c.args.self.now.net c.args.client) ≡ length (script_of c.args.self.now.net c.args.client) - 0 = omega arith in
     record {
@@ -20,7 +20,7 @@ loop-init c =
     }
 
 pub loop-preserved : goal.loop-preserved
-loop-preserved c =
+loop-preserved g c =
     let count = length (script_of c.args.self.now.net c.args.client) in
     let one : count - c.loop.counter ≡ suc (count - (c.loop.counter + 1)) = omega (arith, c.loop-test.true, c.script_len-end.ensures, ap (λ n. length (script_of n c.args.client)) c.net.ensures.net) in
     record {
@@ -31,7 +31,7 @@ loop-preserved c =
     }
 
 pub returns-then-not-branch-clause-tried : goal.returns-then-not-branch-clause-tried
-returns-then-not-branch-clause-tried c =
+returns-then-not-branch-clause-tried g c =
     let count = length (script_of c.args.self.now.net c.args.client) in
     let one : count - c.loop.counter ≡ suc (count - (c.loop.counter + 1)) = omega (arith, c.loop-test.true, c.script_len-end.ensures, ap (λ n. length (script_of n c.args.client)) c.net.ensures.net) in
     going-rests c.args.phase c.args.phase (count - c.loop.counter) (count - (c.loop.counter + 1)) (script_turns c.args.self.now.net c.args.phase c.args.client) (command_turn c.args.self.now.net c.args.client ∷ []) c.args.self.now c.loop.self c.make_command.new.self
@@ -40,7 +40,7 @@ returns-then-not-branch-clause-tried c =
     (c.in_ok-make_command.ensures.none c.if-not-branch.true)
 
 pub returns-in_err-make_command-clause-begun : goal.returns-in_err-make_command-clause-begun
-returns-in_err-make_command-clause-begun c =
+returns-in_err-make_command-clause-begun g c =
     let count = length (script_of c.args.self.now.net c.args.client) in
     let one : count - c.loop.counter ≡ suc (count - (c.loop.counter + 1)) = omega (arith, c.loop-test.true, c.script_len-end.ensures, ap (λ n. length (script_of n c.args.client)) c.net.ensures.net) in
     on-err c.from_residual.result

@@ -9,7 +9,7 @@ use Rattle.ev_turns.proofs.Tries.{Going}
 use Rattle.ev_numnet.proofs.network.Network.make_script.Given as goal
 
 abbrev pub invariant-loop : goal.invariant-loop
-invariant-loop l = record {
+invariant-loop g l = record {
   later : IsLater l.fn.self l.self;
   way : Going l.phase (script_turns l.fn.self.net l.phase l.client) (repeated (machine_at real (phased_net l.fn.self.net) l.phase) (length (script_of l.fn.self.net l.client) - l.counter) (command_turn l.fn.self.net l.client ∷ [])) l.fn.self l.self;
 }

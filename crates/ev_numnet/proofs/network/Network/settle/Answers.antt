@@ -11,13 +11,13 @@ use Rattle.ev_turns.proofs.Begun.{settling-breaks}
 use Rattle.ev_numnet.proofs.network.Network.settle.Goals as goal
 
 pub loop-init : goal.loop-init
-loop-init c = record { later = later-same c.args.self.now c.args.self.now refl; way = λ phase e. settling-starts phase c.args.self.now }
+loop-init g c = record { later = later-same c.args.self.now c.args.self.now refl; way = λ phase e. settling-starts phase c.args.self.now }
 
 pub returns-in_err-make_round-clause-later : goal.returns-in_err-make_round-clause-later
-returns-in_err-make_round-clause-later c = later-on c.args.self.now c.loop.self c.make_round.new.self c.loop.invariant.later c.make_round.ensures.later
+returns-in_err-make_round-clause-later g c = later-on c.args.self.now c.loop.self c.make_round.new.self c.loop.invariant.later c.make_round.ensures.later
 
 pub loop-smaller : goal.loop-smaller
-loop-smaller c =
+loop-smaller g c =
     let net-same = later-net c.args.self.now c.loop.self c.loop.invariant.later in
     let fewer : length c.loop.self.journal < enough_rounds real (net_at real (phased_net c.loop.self.net) 0) = c.in_ok-make_round.ensures.bounded 0 in
     let more : length c.loop.self.journal < length c.make_round.new.self.journal = c.in_ok-make_round.ensures.some c.if-branch.true in
@@ -25,20 +25,20 @@ loop-smaller c =
     less-left (enough_rounds real (net_at real (phased_net c.args.self.now.net) 0)) (length c.loop.self.journal) (length c.make_round.new.self.journal) (subst (λ n. length c.loop.self.journal < n) same fewer) more
 
 pub loop-preserved : goal.loop-preserved
-loop-preserved c = record {
+loop-preserved g c = record {
   later = later-on c.args.self.now c.loop.self c.make_round.new.self c.loop.invariant.later c.in_ok-make_round.ensures.later;
   way = λ phase e. settling-on phase c.args.self.now c.loop.self c.make_round.new.self c.loop.invariant.later (c.loop.invariant.way phase e) (c.in_ok-make_round.ensures.bounded phase)
       (c.in_ok-make_round.ensures.tried phase (e ∙ ap (λ n. topology_at n phase) (sym (later-net c.args.self.now c.loop.self c.loop.invariant.later)))) (c.in_ok-make_round.ensures.some c.if-branch.true);
 }
 
 pub returns-clause-tried : goal.returns-clause-tried
-returns-clause-tried c = λ phase e. settling-ends phase c.args.self.now c.loop.self c.make_round.new.self c.loop.invariant.later (c.loop.invariant.way phase e) (c.in_ok-make_round.ensures.bounded phase)
+returns-clause-tried g c = λ phase e. settling-ends phase c.args.self.now c.loop.self c.make_round.new.self c.loop.invariant.later (c.loop.invariant.way phase e) (c.in_ok-make_round.ensures.bounded phase)
     (c.in_ok-make_round.ensures.tried phase (e ∙ ap (λ n. topology_at n phase) (sym (later-net c.args.self.now c.loop.self c.loop.invariant.later)))) (c.in_ok-make_round.ensures.none c.if-branch.false)
 
 pub returns-clause-later : goal.returns-clause-later
-returns-clause-later c = later-on c.args.self.now c.loop.self c.make_round.new.self c.loop.invariant.later c.make_round.ensures.later
+returns-clause-later g c = later-on c.args.self.now c.loop.self c.make_round.new.self c.loop.invariant.later c.make_round.ensures.later
 
 pub returns-in_err-make_round-clause-begun : goal.returns-in_err-make_round-clause-begun
-returns-in_err-make_round-clause-begun c = on-err c.from_residual.result
+returns-in_err-make_round-clause-begun g c = on-err c.from_residual.result
     (λ phase e. settling-breaks phase c.args.self.now c.loop.self c.make_round.new.self c.loop.invariant.later (c.loop.invariant.way phase e) (c.make_round.ensures.bounded phase)
     (c.in_err-make_round.ensures.begun phase (e ∙ ap (λ n. topology_at n phase) (sym (later-net c.args.self.now c.loop.self c.loop.invariant.later)))))

@@ -8,10 +8,10 @@ use Rattle.ev_turns.proofs.Rounds.{Settling}
 use Rattle.ev_numnet.proofs.network.Network.settle.Given as goal
 
 abbrev pub invariant-loop : goal.invariant-loop
-invariant-loop l = record {
+invariant-loop g l = record {
   later : IsLater l.fn.self l.self;
   way : (phase : ℕ) → l.tree ≡ topology_at l.fn.self.net phase → Settling phase l.fn.self l.self;
 }
 
 abbrev pub decreases-loop : goal.decreases-loop
-decreases-loop l = enough_rounds real (net_at real (phased_net l.fn.self.net) 0) - length l.self.journal
+decreases-loop g l = enough_rounds real (net_at real (phased_net l.fn.self.net) 0) - length l.self.journal

@@ -11,13 +11,13 @@ use Rattle.ev_turns.proofs.Begun.{going-stops}
 use Rattle.ev_numnet.proofs.network.Network.take_each.Goals as goal
 
 pub loop-from-init : goal.loop-from-init
-loop-from-init c = record {
+loop-from-init g c = record {
   later = later-same c.args.self.now c.args.self.now refl;
   way = λ phase. going-starts phase (takings c.args.server c.args.neighbours.now) c.args.self.now;
 }
 
 pub loop-from-preserved : goal.loop-from-preserved
-loop-from-preserved c =
+loop-from-preserved g c =
     let neighbours = c.args.neighbours.now in
     let from = get_or c.args.neighbours.now c.loop-from.from-index 0 in
     let turn = turns.Take c.args.server from in
@@ -29,9 +29,9 @@ loop-from-preserved c =
     }
 
 pub returns-clause-tried : goal.returns-clause-tried
-returns-clause-tried c = λ phase. going-ends phase (takings c.args.server c.args.neighbours.now) (takings c.args.server (drop c.loop-from.from-index c.args.neighbours.now)) c.args.self.now c.loop-from.self
+returns-clause-tried g c = λ phase. going-ends phase (takings c.args.server c.args.neighbours.now) (takings c.args.server (drop c.loop-from.from-index c.args.neighbours.now)) c.args.self.now c.loop-from.self
     (ap (takings c.args.server) (drop-end c.args.neighbours.now c.loop-from.from-index (omega arith))) (c.loop-from.invariant.way phase)
 
 pub returns-in_err-turn-clause-begun : goal.returns-in_err-turn-clause-begun
-returns-in_err-turn-clause-begun c = on-err c.from_residual.result (λ phase. going-stops phase (takings c.args.server c.args.neighbours.now) (takings c.args.server (drop c.loop-from.from-index c.args.neighbours.now)) c.args.self.now c.loop-from.self c.turn.new.self
+returns-in_err-turn-clause-begun g c = on-err c.from_residual.result (λ phase. going-stops phase (takings c.args.server c.args.neighbours.now) (takings c.args.server (drop c.loop-from.from-index c.args.neighbours.now)) c.args.self.now c.loop-from.self c.turn.new.self
     (c.loop-from.invariant.way phase) c.in_err-turn.ensures.err)

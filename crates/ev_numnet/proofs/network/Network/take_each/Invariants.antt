@@ -5,7 +5,7 @@ use Rattle.ev_turns.proofs.Tries.{Going}
 use Rattle.ev_numnet.proofs.network.Network.take_each.Given as goal
 
 abbrev pub invariant-loop-from : goal.invariant-loop-from
-invariant-loop-from l = record {
+invariant-loop-from g l = record {
   later : IsLater l.fn.self l.self;
   way : (phase : ℕ) → Going phase (takings l.server l.neighbours) (takings l.server (drop l.from-index l.neighbours)) l.fn.self l.self;
 }

@@ -7,14 +7,14 @@ use Rattle.ev_turns.proofs.Begun.{phase-begun}
 use Rattle.ev_numnet.proofs.network.Network.walk_phase.Goals as goal
 
 pub loop-phase-init : goal.loop-phase-init
-loop-phase-init c = record {
+loop-phase-init g c = record {
   walked = walk-starts c.args.self.now c.made-before.ensures.sound c.made-before.ensures.legal c.phase-phase.result c.phase-phase.ensures;
   same = refl;
   empty = empty-none c.args.self.now c.phase-phase.result c.phase-phase.ensures;
 }
 
 pub loop-phase-preserved : goal.loop-phase-preserved
-loop-phase-preserved c =
+loop-phase-preserved g c =
     let walked = c.loop-phase.invariant.walked in
     let later = walked-later c.loop-phase.phase c.args.self.now c.loop-phase.self walked in
     let count : c.phases-phase-end.result ≡ phases_of c.loop-phase.self.net = c.phases-phase-end.ensures ∙ ap phases_of (c.net.ensures.net ∙ sym (later-net c.args.self.now c.loop-phase.self later)) in
@@ -28,7 +28,7 @@ loop-phase-preserved c =
     }
 
 pub returns-then-made-before-clause-walked : goal.returns-then-made-before-clause-walked
-returns-then-made-before-clause-walked c =
+returns-then-made-before-clause-walked g c =
     let walked = c.loop-phase.invariant.walked in
     let later = walked-later c.loop-phase.phase c.args.self.now c.loop-phase.self walked in
     let count : c.phases-phase-end.result ≡ phases_of c.loop-phase.self.net = c.phases-phase-end.ensures ∙ ap phases_of (c.net.ensures.net ∙ sym (later-net c.args.self.now c.loop-phase.self later)) in
@@ -38,7 +38,7 @@ returns-then-made-before-clause-walked c =
     phase-walked c.loop-phase.phase c.args.self.now c.loop-phase.self c.make_phase.new.self from c.loop-phase.invariant.empty c.loop-phase.invariant.same (c.in_ok-make_phase.ensures.tried (walk-can c.loop-phase.phase c.args.self.now c.loop-phase.self walked less)) more
 
 pub returns-clause-walked : goal.returns-clause-walked
-returns-clause-walked c =
+returns-clause-walked g c =
     let count : c.phases-phase-end.result ≡ phases_of c.loop-phase.self.net = c.phases-phase-end.ensures ∙ ap phases_of (c.net.ensures.net ∙ sym (ap (λ (z : NetworkParts). z.net) c.loop-phase.invariant.same)) in
     let past : phases_of c.loop-phase.self.net ≤ c.loop-phase.phase = omega (arith, count, c.loop-phase-test.false) in (
       c.loop-phase.invariant.same,
@@ -46,7 +46,7 @@ returns-clause-walked c =
     )
 
 pub returns-in_err-make_phase-clause-begun : goal.returns-in_err-make_phase-clause-begun
-returns-in_err-make_phase-clause-begun c =
+returns-in_err-make_phase-clause-begun g c =
     let walked = c.loop-phase.invariant.walked in
     let later = walked-later c.loop-phase.phase c.args.self.now c.loop-phase.self walked in
     let count : c.phases-phase-end.result ≡ phases_of c.loop-phase.self.net = c.phases-phase-end.ensures ∙ ap phases_of (c.net.ensures.net ∙ sym (later-net c.args.self.now c.loop-phase.self later)) in

@@ -4,7 +4,7 @@ use Rattle.ev_turns.proofs.Walks.{AreEmpty}
 use Rattle.ev_numnet.proofs.network.Network.walk_phase.Given as goal
 
 abbrev pub invariant-loop-phase : goal.invariant-loop-phase
-invariant-loop-phase l = record {
+invariant-loop-phase g l = record {
   walked : IsWalkedTo l.phase l.fn.self l.self;
   same : l.self ≡ l.fn.self;
   empty : AreEmpty l.fn.self l.phase;

@@ -9,8 +9,8 @@ use Rattle.ev_numserver.specs.Routed.{IsRoute}
 use Rattle.ev_numnet.proofs.Routes.{route-answered}
 use Rattle.ev_numnet.proofs.place.Place.routed.Goals as goal
 
-pub found-requires : goal.found-requires
-found-requires c = subst (λ (n : NetParts). c.args.number < length (known_publications 1 n.clients)) (sym (ap (λ (z : CoreParts). z.net) c.self.view_is) ∙ sym c.tables.ensures) c.requires
+pub found-found-requires : goal.found-found-requires
+found-found-requires c = subst (λ (n : NetParts). c.args.number < length (known_publications 1 n.clients)) (sym (ap (λ (z : CoreParts). z.net) c.self.view_is) ∙ sym c.tables.ensures) c.requires
 
 pub returns : goal.returns
 returns c =

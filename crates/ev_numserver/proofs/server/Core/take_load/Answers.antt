@@ -1,6 +1,5 @@
-use Rattle.std.proofs.Common.{◌≡◌, ◌+◌, suc, max, map, sym, ap, subst, ◌∙◌}
+use Rattle.std.proofs.Common.{◌≡◌, ◌+◌, suc, max, map, sym, subst}
 use Rattle.ev_sets.specs.Sets.{Has}
-use Rattle.ev_model.specs.Parts.{NetParts}
 use Rattle.ev_numserver.specs.Clients.{bare}
 use Rattle.ev_numserver.specs.Core.{CoreParts, core_parts}
 use Rattle.ev_numserver.specs.Step.{MakesStep}
@@ -8,7 +7,6 @@ use Rattle.ev_numserver.proofs.Stamps.{next-is, exhausted-of}
 use Rattle.ev_run.specs.Machine.{Takes}
 use Rattle.ev_numserver.specs.Routed.{RoutesMessage}
 use Rattle.ev_message.specs.Message.{IsLoad, meaning}
-use Rattle.ev_numserver.specs.Acting.{IsRouted}
 use Rattle.ev_numserver.proofs.Made.{message-made, message-kept, routed-message}
 use Rattle.ev_numserver.proofs.Keeping.{keeps, acted-net, acted-links, adds-rise, numbers-left}
 use Rattle.ev_numserver.proofs.server.Core.take_load.Goals as goal
