@@ -1,5 +1,5 @@
 //! How much a run did.
-ghost use Rattle.std.specs.Prelude.{◌≡◌, ◌+◌, ◌≤◌, IfOk};
+ghost use Rattle.std.specs.Prelude.{◌≡◌, ◌+◌, ◌≤◌, true, IfOk};
 ghost use Rattle.ev_sets.specs.Numbers.{sum_over};
 ghost use Rattle.ev_routing.specs.Clients.{is_publish};
 ghost use Rattle.ev_theory.specs.Real.{real};

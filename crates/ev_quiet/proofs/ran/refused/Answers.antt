@@ -5,7 +5,7 @@ use Rattle.ev_turns.specs.Network.{refused_by}
 use Rattle.ev_quiet.proofs.ran.refused.Goals as goal
 
 pub loop-place-preserved : goal.loop-place-preserved
-loop-place-preserved c =
+loop-place-preserved g c =
     grind (
       arith,
       common_steps,

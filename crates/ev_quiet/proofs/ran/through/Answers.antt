@@ -9,7 +9,7 @@ unerr : {T E : Type 0} {a b : E} → ◌≡◌ {A = Result T E} (Err a) (Err b) 
 unerr e = cc
 
 pub returns-in_err-replay-clause-bad : goal.returns-in_err-replay-clause-bad
-returns-in_err-replay-clause-bad c = λ line kind e.
+returns-in_err-replay-clause-bad g c = λ line kind e.
     let w = err_from_is_err_and c.from_residual-in_err-replay.result c.from_residual-in_err-replay.ensures.1 in
     let t = told-turn c.in_err-replay.field-0.0 line kind (sym w.2 ∙ unerr (sym w.1 ∙ e)) in (
       t.0,
@@ -18,6 +18,6 @@ returns-in_err-replay-clause-bad c = λ line kind e.
     )
 
 pub returns-clause-through : goal.returns-clause-through
-returns-clause-through c =
+returns-clause-through g c =
     through c.args.schedule c.requires.quiet c.args.tables.now c.in_ok-network.network c.replay.new.self c.walk.new.self c.turns_first.result.now c.in_ok-network.ensures (c.turns_first.ensures ∙ ap (λ (n : NetParts). turns_first c.args.schedule n) c.net.ensures)
     c.in_ok-replay.ensures.made c.in_ok-walk.ensures.walked
