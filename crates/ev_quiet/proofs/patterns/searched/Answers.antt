@@ -12,7 +12,7 @@ use Rattle.ev_quiet.proofs.patterns.searched.Goals as goal
 pub make-requires-clause-published : goal.make-requires-clause-published
 make-requires-clause-published c =
     let ran = c.in_ok-journal.field-0 in
-    let r = c.in_ok-journal.ensures in
+    let r = c.in_ok-journal.ensures.ran in
     let whole : IsWholeRun c.args.net ran.journal.entries = record { sound = c.requires.sound; notices = c.requires.notices; legal = r.collected.legal; drained = r.drained } in
     let promised = c.promise.ensures.clients plain c.requires.document.0 c.args.net ran.journal.entries c.requires.document.1 whole in
     let heard = all-published c.args.net ran.journal.entries promised.allowed in
@@ -22,7 +22,7 @@ make-requires-clause-published c =
 pub returns : goal.returns
 returns c =
     let ran = c.in_ok-journal.field-0 in
-    let r = c.in_ok-journal.ensures in
+    let r = c.in_ok-journal.ensures.ran in
     let found =
     c.in_ok-found.ensures
     ∙ ap (λ (n : NetParts). found_text n.clients c.in_ok-journal.field-0.received.items c.args.patterns.items) c.net.view_is

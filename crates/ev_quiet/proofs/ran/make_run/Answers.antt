@@ -1,12 +1,9 @@
-use Rattle.std.proofs.Common.{◌≡◌, ℕ, [], IfOk, IsErrOf, sym, subst}
+use Rattle.std.proofs.Common.{[], IfOk, sym, subst}
 use Rattle.ev_model.specs.Parts.{NetParts}
 use Rattle.ev_model.specs.Sound.{IsSound}
-use Rattle.ev_input.specs.declared.fault.Fault.{Fault}
-use Rattle.ev_input.specs.declared.fault.Fault.TheVariants.{BadTurn}
 use Rattle.ev_quiet.specs.Faults.{StopsAtLine}
 use Rattle.ev_quiet.specs.Ran.{IsRan}
 use Rattle.ev_quiet.specs.Runs.{turns_first}
-use Rattle.ev_quiet.specs.declared.refusal.Refusal.TheVariants as refusals
 use Rattle.ev_quiet.proofs.ran.make_run.Goals as goal
 
 pub run_over-requires-clause-sound : goal.run_over-requires-clause-sound

@@ -9,15 +9,15 @@ use Rattle.ev_quiet.proofs.traffic.of_net.Goals as goal
 
 pub make-requires-clause-refused : goal.make-requires-clause-refused
 make-requires-clause-refused c =
-    let r = c.in_ok-journal.ensures in
-    c.deref-2.ensures.value ∙ ((r.collected.refused ∙ all-refused c.args.net c.in_ok-journal.field-0.journal.entries r.drained))
+    let r = c.in_ok-journal.ensures.ran in
+    c.deref.ensures.value ∙ ((r.collected.refused ∙ all-refused c.args.net c.in_ok-journal.field-0.journal.entries r.drained))
 
 pub returns : goal.returns
 returns c =
     let net = c.args.net in
-    let r = c.in_ok-journal.ensures in
+    let r = c.in_ok-journal.ensures.ran in
     let journal = c.in_ok-journal.field-0.journal.entries in
-    let shown = c.deref.ensures.value in
+    let shown = c.entries.ensures in
     let counted = subst (λ z. Carries c.in_ok-carried.carried z (told_by net z)) shown c.in_ok-carried.ensures in
     let laws = c.sound_net.ensures.laws net c.requires.sound in
     let run = run_of net laws journal r.collected.legal in
