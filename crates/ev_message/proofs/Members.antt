@@ -1,5 +1,5 @@
 -- What is known of numbers by their places.
-use Rattle.std.proofs.Common.{◌≡◌, ℕ, suc, ◌+◌, ◌<◌, ◌≤◌, ◌⊎◌, ◌==◌, ◌||◌, nat_lt, Bool, true, false, List, [], ◌∷◌, length, get_or, inl, inr, refl, sym, subst, ◌∙◌, arith, eq-eqb}
+use Rattle.std.proofs.Common.{◌≡◌, ℕ, zero, suc, ◌+◌, ◌<◌, ◌≤◌, ◌⊎◌, ◌==◌, ◌||◌, nat_lt, Bool, true, false, List, [], ◌∷◌, length, get_or, inl, inr, refl, sym, subst, ◌∙◌, arith, eq-eqb}
 use Rattle.std.specs.List.{list_any}
 use Rattle.std.proofs.lemmas.Bool.{cases_lt}
 use Rattle.std.proofs.lemmas.Bool.Decides.{nat_tests}
@@ -50,3 +50,36 @@ also-at P xs n before now j l = go (cases_lt j n)
     go : (j < n) ⊎ (n ≤ j) → P (get_or xs j 0)
     go (inl m) = before j m
     go (inr m) = let e : n ≡ j = omega (arith, l, m) in subst (λ k. P (get_or xs k 0)) e now
+
+-- numbers that rise are each above the one before it
+pub rising-at : (xs : List ℕ) → IsRising nat_lt xs → (j : ℕ) → suc j < length xs → get_or xs j 0 < get_or xs (suc j) 0
+rising-at [] r j l = omega (arith, l)
+rising-at (x ∷ []) r j l = omega (arith, l)
+rising-at (x ∷ (y ∷ ys)) r zero l = less x y (r.0 y (inl refl))
+  where
+    less : (a b : ℕ) → nat_lt a b ≡ true → a < b
+    less a b e = grind (arith, nat_tests, e)
+rising-at (x ∷ (y ∷ ys)) r (suc j) l = rising-at (y ∷ ys) r.1 j (omega (arith, l))
+
+-- what stands at a place is a member
+pub has-at : (xs : List ℕ) (j : ℕ) → j < length xs → Has (get_or xs j 0) xs
+has-at [] j l = omega (arith, l)
+has-at (x ∷ xs) zero l = inl refl
+has-at (x ∷ xs) (suc j) l = inr (has-at xs j (omega (arith, l)))
+
+-- a number that was found among others is one of them
+pub found-is : (x : ℕ) (xs : List ℕ) → list_any (λ y. y == x) xs ≡ true → Has x xs
+found-is x [] e = cc
+found-is x (y ∷ ys) e = go (y == x) refl e (found-is x ys)
+  where
+    go : (b : Bool) → b ≡ (y == x) → b || list_any (λ z. z == x) ys ≡ true → (list_any (λ z. z == x) ys ≡ true → Has x ys) → Has x (y ∷ ys)
+    go true f e more = inl (grind (arith, nat_tests, f))
+    go false f e more = inr (more e)
+
+-- what isn't false is true
+pub surely : (b : Bool) → (b ≡ false → ⊥) → b ≡ true
+surely true h = refl
+surely false h = absurd (h refl)
+
+pub never : false ≡ true → ⊥
+never e = cc

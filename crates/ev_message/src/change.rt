@@ -1,5 +1,5 @@
 //! Changes of what is sent on a link.
-ghost use Rattle.std.specs.Prelude.{◌≡◌, IfOk, IsTrue};
+ghost use Rattle.std.specs.Prelude.{◌≡◌, ◌↔◌, IfOk, IsTrue};
 ghost use Rattle.ev_message.specs.Parts.{IsChange};
 
 use crate::numbers::{are_apart, are_rising_below};
@@ -58,7 +58,7 @@ impl Change {
 
     /// Whether it is a change of numbers below a bound: both lists rise, all numbers are below it, and none is in both.
     pub fn is_below(&self, bound: u32) -> bool
-        ensures { IsTrue result → IsChange bound self.now }
+        ensures { IsTrue result ↔ IsChange bound self.now }
     {
         let withdrawn = self.withdrawn();
         let added = self.added();

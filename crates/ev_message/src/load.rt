@@ -23,7 +23,7 @@ impl Load {
     /// Whether it is of the run of these tables: its numbers are those of the net. Who takes a load from another thread asks
     /// this, since numbers don't tell whose they are.
     pub fn is_of(&self, tables: &Tables<'_>) -> bool
-        ensures { IsTrue result → IsLoad tables.now self.now }
+        ensures { IsTrue result ↔ IsLoad tables.now self.now }
     {
         tables.catalogue().is_known();
         match self {

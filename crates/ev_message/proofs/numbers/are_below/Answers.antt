@@ -1,6 +1,11 @@
-use Rattle.std.proofs.Common.{◌<◌, arith}
-use Rattle.ev_message.proofs.Members.{each}
+use Rattle.std.proofs.Common.{◌<◌, get_or, arith}
+use Rattle.ev_message.proofs.Members.{each, has-at}
 use Rattle.ev_message.proofs.numbers.are_below.Goals as goal
 
-pub returns : goal.returns
-returns c = λ e. each (λ i. i < c.args.bound) c.args.numbers.now (λ j l. c.loop-number.invariant j (let f = c.loop-number-test.false in omega (arith, l, f)))
+pub returns-clause-yes : goal.returns-clause-yes
+returns-clause-yes c = λ e. each (λ i. i < c.args.bound) c.args.numbers.now (λ j l. c.loop-number.invariant j (let f = c.loop-number-test.false in omega (arith, l, f)))
+
+pub returns-then-number-bound-clause-no : goal.returns-then-number-bound-clause-no
+returns-then-number-bound-clause-no c = λ e h.
+    let l = h (get_or c.args.numbers.now c.loop-number.number-index 0) (has-at c.args.numbers.now c.loop-number.number-index c.loop-number-test.true) in
+    let k = c.if-number-bound.true in omega (arith, l, k)
