@@ -10,8 +10,6 @@ use Rattle.ev_input.specs.declared.draft.Draft.{Draft}
 use Rattle.ev_input.specs.declared.fault.Fault.{Fault}
 use Rattle.ev_input.specs.declared.fault.InputFault.{InputFault}
 use Rattle.ev_input.specs.declared.fault.InputFault.TheVariants as inputs
-use Rattle.ev_input.specs.declared.fault.LineFault.{LineFault}
-use Rattle.ev_input.specs.declared.fault.LineFault.TheVariants.{NoMemory, Bad}
 use Rattle.ev_input.specs.declared.state.State.{State}
 
 -- a tree of so many servers whose neighbours are those that the edges join, from the same first phase on
@@ -50,9 +48,9 @@ abbrev pub IsBadAt : List ℕ → ℕ → Fault → Type 0
 IsBadAt bytes line fault = document_of bytes ≡ Err (line, fault)
 
 -- the fault of a line is told with the number of the line
-abbrev pub Places : InputFault → ℕ → LineFault → Type 0
-Places told line NoMemory = told ≡ inputs.NoMemory
-Places told line (Bad kind) = told ≡ inputs.Bad line kind
+abbrev pub Places : InputFault → ℕ → InputFault → Type 0
+Places told line inputs.NoMemory = told ≡ inputs.NoMemory
+Places told line (inputs.Bad untold kind) = told ≡ inputs.Bad line kind
 
 abbrev pub Refuses : InputFault → Result State (ℕ × Fault) → Type 0
 Refuses inputs.NoMemory read = Unit {0}

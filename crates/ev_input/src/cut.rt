@@ -17,6 +17,9 @@ fn line_len(bytes: &[u8]) -> usize
     ensures before { (k : ℕ) → k < result → slice_index bytes.now k ≢ 10 }
     ensures at { result < length bytes.now → slice_index bytes.now result ≡ 10 }
 {
+    if !bytes.is_empty() && bytes[0] == b'\n' {
+        return 0;
+    }
     match memchr(b'\n', bytes) {
         Some(i) => i,
         None => bytes.len(),

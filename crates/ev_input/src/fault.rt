@@ -1,7 +1,7 @@
 //! Why a document is refused.
 ghost use Rattle.std.specs.Prelude.{◌≡◌};
-ghost use Rattle.ev_input.specs.declared.fault.LineFault.TheVariants as lines;
 ghost use Rattle.ev_input.specs.declared.fault.InputFault.TheVariants as inputs;
+ghost use Rattle.ev_input.specs.Net.{Places};
 
 use ev_memory;
 use ev_memory::NoMemory;
@@ -53,15 +53,6 @@ pub enum Fault {
     BadTurn,
 }
 
-/// Why a line isn't taken.
-#[derive(Clone, Copy, Debug, PartialEq, Eq)]
-pub enum LineFault {
-    /// It is at fault.
-    Bad(Fault),
-    /// Memory ran out.
-    NoMemory,
-}
-
 /// Why bytes give no net.
 #[derive(Clone, Copy, Debug, PartialEq, Eq)]
 pub enum InputFault {
@@ -77,26 +68,45 @@ pub enum InputFault {
     NoMemory,
 }
 
-impl From<AllocError> for LineFault {
-    ghost from_gives = { λ _ e. e ≡ lines.NoMemory };
+impl InputFault {
+    /// What is at fault with a line, before the number of the line is told: 0 stands in its place.
+    pub(crate) fn of_line(kind: Fault) -> InputFault
+        ensures { result ≡ inputs.Bad 0 kind }
+    {
+        InputFault::Bad { line: 0, kind }
+    }
+
+    /// The same, told with the number of the line.
+    pub(crate) fn on_line(self, line: u32) -> InputFault
+        ensures { Places result line self }
+    {
+        match self {
+            InputFault::Bad { line: _, kind } => InputFault::Bad { line, kind },
+            InputFault::NoMemory => InputFault::NoMemory,
+        }
+    }
+}
+
+impl From<AllocError> for InputFault {
+    ghost from_gives = { λ _ e. e ≡ inputs.NoMemory };
 
     fn from(_: AllocError) -> Self {
-        LineFault::NoMemory
+        InputFault::NoMemory
     }
 }
 
-impl<T: Drop> From<AllocFailed<T>> for LineFault {
-    ghost from_gives = { λ _ e. e ≡ lines.NoMemory };
+impl<T: Drop> From<AllocFailed<T>> for InputFault {
+    ghost from_gives = { λ _ e. e ≡ inputs.NoMemory };
 
     fn from(_: AllocFailed<T>) -> Self {
-        LineFault::NoMemory
+        InputFault::NoMemory
     }
 }
 
-impl From<NoMemory> for LineFault {
-    ghost from_gives = { λ _ e. e ≡ lines.NoMemory };
+impl From<NoMemory> for InputFault {
+    ghost from_gives = { λ _ e. e ≡ inputs.NoMemory };
 
     fn from(_: NoMemory) -> Self {
-        LineFault::NoMemory
+        InputFault::NoMemory
     }
 }

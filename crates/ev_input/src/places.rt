@@ -10,7 +10,7 @@ ghost use Rattle.ev_input.specs.Places.{at_clients, at_edges, at_place, at_sched
 ghost use Rattle.ev_script.specs.Form.{verb_named};
 
 use crate::cut::{is_blank, next_word};
-use crate::fault::{Fault, LineFault};
+use crate::fault::{Fault, InputFault};
 use crate::network::{client, edge, header, phase, semantics, servers};
 use crate::schedule::{command_turn, take_turn, version_turn};
 use crate::scripts::{barrier, command, schedule, script};
@@ -21,7 +21,7 @@ use std::alloc::Global;
 
 // Behind a client.
 #[tactic(auto, unfolding(crate::specs::Places::at_clients))]
-fn at_clients(alloc: Global, state: &mut State, word: &[u8], rest: &[u8]) -> Result<(), LineFault>
+fn at_clients(alloc: Global, state: &mut State, word: &[u8], rest: &[u8]) -> Result<(), InputFault>
     ensures { StepsByRule result state.new (at_clients state.old word.now (words rest.now)) }
 {
     if is_same(word, b"client") {
@@ -31,7 +31,7 @@ fn at_clients(alloc: Global, state: &mut State, word: &[u8], rest: &[u8]) -> Res
     } else if is_same(word, b"schedule") {
         schedule(state, word, rest)
     } else {
-        Err(LineFault::Bad(Fault::Order))
+        Err(InputFault::of_line(Fault::Order))
     }
 }
 
@@ -44,14 +44,14 @@ fn begins_phase(version: Version, word: &[u8]) -> bool
 
 // Behind `servers`, an edge or a phase.
 #[tactic(auto, unfolding(crate::specs::Places::at_edges))]
-fn at_edges(alloc: Global, state: &mut State, word: &[u8], rest: &[u8]) -> Result<(), LineFault>
+fn at_edges(alloc: Global, state: &mut State, word: &[u8], rest: &[u8]) -> Result<(), InputFault>
     ensures { StepsByRule result state.new (at_edges state.old word.now (words rest.now)) }
 {
     if is_same(word, b"edge") {
         return edge(state, rest);
     }
     if state.trees.is_apart() {
-        return Err(LineFault::Bad(Fault::Apart));
+        return Err(InputFault::of_line(Fault::Apart));
     }
     if begins_phase(state.version, word) {
         return phase(alloc, state, rest);
@@ -61,7 +61,7 @@ fn at_edges(alloc: Global, state: &mut State, word: &[u8], rest: &[u8]) -> Resul
 
 // In a script, by the words of a line whose first token is this word and no command's first word.
 #[tactic(auto, unfolding(crate::specs::Places::at_token))]
-fn at_section(state: &mut State, token: &[u8], line: &[u8]) -> Result<(), LineFault>
+fn at_section(state: &mut State, token: &[u8], line: &[u8]) -> Result<(), InputFault>
     requires { verb_named token.now ≡ None }
     ensures { StepsByRule result state.new (at_section state.old line.now (Some token.now) (words line.now)) }
 {
@@ -77,11 +77,11 @@ fn at_section(state: &mut State, token: &[u8], line: &[u8]) -> Result<(), LineFa
     if is_same(token, b"schedule") {
         return schedule(state, word, rest);
     }
-    Err(LineFault::Bad(Fault::Order))
+    Err(InputFault::of_line(Fault::Order))
 }
 
 // In a script, a line that isn't skipped.
-fn in_script(alloc: Global, state: &mut State, line: &[u8]) -> Result<(), LineFault>
+fn in_script(alloc: Global, state: &mut State, line: &[u8]) -> Result<(), InputFault>
     requires short { length line.now ≤ 4194304 }
     requires kept { is_skipped (words line.now) ≡ false }
     ensures { StepsByRule result state.new (at_section state.old line.now (first_word (tokens line.now)) (words line.now)) }
@@ -95,13 +95,13 @@ fn in_script(alloc: Global, state: &mut State, line: &[u8]) -> Result<(), LineFa
                 at_section(state, token, line)
             }
         }
-        None => Err(LineFault::Bad(Fault::Order)),
+        None => Err(InputFault::of_line(Fault::Order)),
     }
 }
 
 // In the schedule.
 #[tactic(auto, unfolding(crate::specs::Places::at_schedule))]
-fn at_schedule(state: &mut State, number: u32, word: &[u8], rest: &[u8]) -> Result<(), LineFault>
+fn at_schedule(state: &mut State, number: u32, word: &[u8], rest: &[u8]) -> Result<(), InputFault>
     ensures { StepsByRule result state.new (at_schedule state.old number word.now (words rest.now)) }
 {
     if is_same(word, b"command") {
@@ -111,7 +111,7 @@ fn at_schedule(state: &mut State, number: u32, word: &[u8], rest: &[u8]) -> Resu
     } else if is_same(word, b"version") {
         version_turn(state, number, rest)
     } else {
-        Err(LineFault::Bad(Fault::Order))
+        Err(InputFault::of_line(Fault::Order))
     }
 }
 
@@ -144,7 +144,7 @@ fn by_words(
     number: u32,
     word: &[u8],
     rest: &[u8],
-) -> Result<(), LineFault>
+) -> Result<(), InputFault>
     requires { is_script state.old.place ≡ false }
     ensures { (line : List ℕ) → StepsByRule result state.new (at_place state.old.place state.old number line word.now (words rest.now)) }
 {
@@ -154,13 +154,13 @@ fn by_words(
         Place::Servers => servers(alloc, state, word, rest),
         Place::Edges => at_edges(alloc, state, word, rest),
         Place::Clients => at_clients(alloc, state, word, rest),
-        Place::Scripts => Err(LineFault::Bad(Fault::Order)),
+        Place::Scripts => Err(InputFault::of_line(Fault::Order)),
         Place::Schedule => at_schedule(state, number, word, rest),
     }
 }
 
 /// Takes a line with its number, or tells its first fault.
-pub fn line(alloc: Global, state: &mut State, number: u32, line: &[u8]) -> Result<(), LineFault>
+pub fn line(alloc: Global, state: &mut State, number: u32, line: &[u8]) -> Result<(), InputFault>
     requires { length line.now ≤ 4194304 }
     ensures { StepsByRule result state.new (line_rule state.old number line.now) }
 {
@@ -187,15 +187,15 @@ fn has_servers(place: Place) -> bool
 
 /// Takes the end, or tells its first fault.
 #[tactic(auto, unfolding(crate::specs::Places::end_rule))]
-pub fn end(state: &State) -> Result<(), LineFault>
+pub fn end(state: &State) -> Result<(), InputFault>
     ensures steps { StepsByRule result state.now (end_rule state.now) }
     ensures whole { OnOk result (is_apart state.now.trees ≡ false) }
 {
     if !has_servers(state.place) {
-        return Err(LineFault::Bad(Fault::Ended));
+        return Err(InputFault::of_line(Fault::Ended));
     }
     if state.trees.is_apart() {
-        return Err(LineFault::Bad(Fault::Apart));
+        return Err(InputFault::of_line(Fault::Apart));
     }
     Ok(())
 }

@@ -4,12 +4,12 @@ ghost use Rattle.ev_model.specs.Parts.{NetParts};
 ghost use Rattle.ev_input.specs.declared.fault.Fault.{Fault as Kind};
 ghost use Rattle.ev_input.specs.declared.fault.InputFault.TheVariants.{Bad, NoMemory};
 ghost use Rattle.ev_input.specs.Lines.{lines};
-ghost use Rattle.ev_input.specs.Net.{IsBadAt, IsNetOf, Places, ReadsNet};
+ghost use Rattle.ev_input.specs.Net.{IsBadAt, IsNetOf, ReadsNet};
 ghost use Rattle.ev_input.specs.Places.{document_of, read_from, start};
 
 use crate::clients::Clients;
 use crate::cut::next_line;
-use crate::fault::{Fault, InputFault, LineFault};
+use crate::fault::{Fault, InputFault};
 use crate::net::net;
 use crate::places::{end, line};
 use crate::state::{Place, State};
@@ -37,16 +37,6 @@ fn start(alloc: Global) -> State
     }
 }
 
-// The fault of a line, with the number of the line.
-fn bad(line: u32, fault: LineFault) -> InputFault
-    ensures { Places result line fault }
-{
-    match fault {
-        LineFault::Bad(kind) => InputFault::Bad { line, kind },
-        LineFault::NoMemory => InputFault::NoMemory,
-    }
-}
-
 fn read_lines(alloc: Global, bytes: &[u8]) -> Result<Net, InputFault>
     requires { length bytes.now ≤ 4194304 }
     ensures { ReadsNet result (read_from 1 start (lines bytes.now)) }
@@ -57,14 +47,14 @@ fn read_lines(alloc: Global, bytes: &[u8]) -> Result<Net, InputFault>
     'lines: while let Some((text, after)) = next_line(rest) {
         match line(alloc, &mut state, number, text) {
             Ok(()) => {}
-            Err(fault) => return Err(bad(number, fault)),
+            Err(fault) => return Err(fault.on_line(number)),
         }
         number += 1;
         rest = after;
     }
     match end(&state) {
         Ok(()) => {}
-        Err(missing) => return Err(bad(number, missing)),
+        Err(missing) => return Err(missing.on_line(number)),
     }
     match net(alloc, state) {
         Ok(net) => Ok(net),

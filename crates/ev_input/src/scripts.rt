@@ -6,7 +6,7 @@ ghost use Rattle.ev_input.specs.Commands.{Tells, command_of};
 ghost use Rattle.ev_input.specs.Rules.{barrier_rule, command_rule, count_rule, schedule_rule, script_rule, version_number};
 
 use crate::cut::next_word;
-use crate::fault::{Fault, LineFault};
+use crate::fault::{Fault, InputFault};
 use crate::state::{Place, State};
 use crate::tally::Tally;
 use crate::version::Version;
@@ -17,20 +17,20 @@ use std::alloc::Global;
 
 /// `script NAME`.
 #[tactic(auto, unfolding(crate::specs::Rules::script_rule))]
-pub fn script(state: &mut State, word: &[u8], rest: &[u8]) -> Result<(), LineFault>
+pub fn script(state: &mut State, word: &[u8], rest: &[u8]) -> Result<(), InputFault>
     ensures { StepsByRule result state.new (script_rule state.old word.now (words rest.now)) }
 {
     if !is_same(word, b"script") {
-        return Err(LineFault::Bad(Fault::Words));
+        return Err(InputFault::of_line(Fault::Words));
     }
     let Some(name) = one_name(rest) else {
-        return Err(LineFault::Bad(Fault::Words));
+        return Err(InputFault::of_line(Fault::Words));
     };
     let Some(client) = state.clients.find(name) else {
-        return Err(LineFault::Bad(Fault::Name));
+        return Err(InputFault::of_line(Fault::Name));
     };
     if state.clients.has_script(client) {
-        return Err(LineFault::Bad(Fault::Name));
+        return Err(InputFault::of_line(Fault::Name));
     }
     state.clients.begin_script(client);
     state.place = Place::Scripts;
@@ -40,14 +40,14 @@ pub fn script(state: &mut State, word: &[u8], rest: &[u8]) -> Result<(), LineFau
 
 /// `barrier`.
 #[tactic(auto, unfolding(crate::specs::Rules::barrier_rule))]
-pub fn barrier(state: &mut State, word: &[u8], rest: &[u8]) -> Result<(), LineFault>
+pub fn barrier(state: &mut State, word: &[u8], rest: &[u8]) -> Result<(), InputFault>
     ensures { StepsByRule result state.new (barrier_rule state.old word.now (words rest.now)) }
 {
     if !is_same(word, b"barrier") || next_word(rest).is_some() {
-        return Err(LineFault::Bad(Fault::Words));
+        return Err(InputFault::of_line(Fault::Words));
     }
     if state.clients.barriers(state.client) >= 4095 {
-        return Err(LineFault::Bad(Fault::Count));
+        return Err(InputFault::of_line(Fault::Count));
     }
     state.clients.add_barrier(state.client);
     Ok(())
@@ -55,32 +55,32 @@ pub fn barrier(state: &mut State, word: &[u8], rest: &[u8]) -> Result<(), LineFa
 
 /// `schedule`.
 #[tactic(auto, unfolding(crate::specs::Rules::schedule_rule))]
-pub fn schedule(state: &mut State, word: &[u8], rest: &[u8]) -> Result<(), LineFault>
+pub fn schedule(state: &mut State, word: &[u8], rest: &[u8]) -> Result<(), InputFault>
     ensures { StepsByRule result state.new (schedule_rule state.old word.now (words rest.now)) }
 {
     if !is_same(word, b"schedule") || next_word(rest).is_some() {
-        return Err(LineFault::Bad(Fault::Words));
+        return Err(InputFault::of_line(Fault::Words));
     }
     state.place = Place::Schedule;
     Ok(())
 }
 
 // A fault of a command line, as one of a document.
-fn line_fault(fault: ScriptFault) -> LineFault
+fn line_fault(fault: ScriptFault) -> InputFault
     ensures { Tells result fault }
 {
     match fault {
-        ScriptFault::Syntax => LineFault::Bad(Fault::Syntax),
-        ScriptFault::Value => LineFault::Bad(Fault::Value),
-        ScriptFault::Operand => LineFault::Bad(Fault::Operand),
-        ScriptFault::Count => LineFault::Bad(Fault::Count),
-        ScriptFault::Repeat => LineFault::Bad(Fault::Repeat),
-        ScriptFault::NoMemory => LineFault::NoMemory,
+        ScriptFault::Syntax => InputFault::of_line(Fault::Syntax),
+        ScriptFault::Value => InputFault::of_line(Fault::Value),
+        ScriptFault::Operand => InputFault::of_line(Fault::Operand),
+        ScriptFault::Count => InputFault::of_line(Fault::Count),
+        ScriptFault::Repeat => InputFault::of_line(Fault::Repeat),
+        ScriptFault::NoMemory => InputFault::NoMemory,
     }
 }
 
 // The command of a line whose first token is cut off.
-fn command_of(alloc: Global, version: Version, line: Line<'_>) -> Result<Command, LineFault>
+fn command_of(alloc: Global, version: Version, line: Line<'_>) -> Result<Command, InputFault>
     ensures { GivesByRule result (command_of (version_number version) line.entry) }
 {
     match line.command(alloc, version.number()) {
@@ -96,7 +96,7 @@ fn count(
     bytes: u64,
     servers: u64,
     clients: u64,
-) -> Result<(), LineFault>
+) -> Result<(), InputFault>
     requires short { bytes ≤ 4194304 }
     requires servers { servers ≤ 64 }
     requires clients { clients ≤ 1024 }
@@ -118,7 +118,7 @@ pub fn command(
     state: &mut State,
     line: Line<'_>,
     bytes: usize,
-) -> Result<(), LineFault>
+) -> Result<(), InputFault>
     requires bytes { bytes ≡ length line }
     requires short { bytes ≤ 4194304 }
     ensures { StepsByRule result state.new (command_rule state.old line.entry) }

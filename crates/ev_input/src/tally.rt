@@ -3,7 +3,7 @@ ghost use Rattle.std.specs.Prelude.{◌≡◌, ◌≤◌};
 ghost use Rattle.ev_input.specs.Answer.{StepsByRule};
 ghost use Rattle.ev_input.specs.Tally.{control_rule, no_counts, publish_rule};
 
-use crate::fault::{Fault, LineFault};
+use crate::fault::{Fault, InputFault};
 use std::marker::Model;
 
 const MOST_CONTROLS: u64 = 4096;
@@ -55,13 +55,13 @@ impl Tally {
         withdraws: bool,
         bytes: u64,
         servers: u64,
-    ) -> Result<(), LineFault>
+    ) -> Result<(), InputFault>
         requires short { bytes ≤ 4194304 }
         requires few { servers ≤ 64 }
         ensures { StepsByRule result self.new (control_rule self.old withdraws bytes servers) }
     {
         if self.controls >= MOST_CONTROLS {
-            return Err(LineFault::Bad(Fault::Commands));
+            return Err(InputFault::of_line(Fault::Commands));
         }
         let withdrawals = if withdraws {
             self.withdrawals + 1
@@ -70,7 +70,7 @@ impl Tally {
         };
         let sum = self.control_bytes + bytes;
         if (1 + withdrawals) * sum * servers > MOST_CONTROL {
-            return Err(LineFault::Bad(Fault::MuchControl));
+            return Err(InputFault::of_line(Fault::MuchControl));
         }
         self.controls += 1;
         self.withdrawals = withdrawals;
@@ -80,17 +80,17 @@ impl Tally {
 
     /// One publish command more, on a line of so many bytes, if that is within the limits.
     #[tactic(auto, unfolding(crate::specs::Tally::publish_rule))]
-    pub fn add_publish(&mut self, bytes: u64, clients: u64) -> Result<(), LineFault>
+    pub fn add_publish(&mut self, bytes: u64, clients: u64) -> Result<(), InputFault>
         requires short { bytes ≤ 4194304 }
         requires few { clients ≤ 1024 }
         ensures { StepsByRule result self.new (publish_rule self.old bytes clients) }
     {
         if self.publications >= MOST_PUBLICATIONS {
-            return Err(LineFault::Bad(Fault::Publications));
+            return Err(InputFault::of_line(Fault::Publications));
         }
         let sum = self.publish_bytes + bytes;
         if sum * clients > MOST_NOTICE {
-            return Err(LineFault::Bad(Fault::MuchNotice));
+            return Err(InputFault::of_line(Fault::MuchNotice));
         }
         self.publications += 1;
         self.publish_bytes = sum;

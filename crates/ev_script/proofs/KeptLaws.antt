@@ -1,5 +1,5 @@
 -- What is kept of attributes, of which more than 64 are too many.
-use Rattle.std.proofs.Common.{◌≡◌, ◌<◌, ◌≤◌, ℕ, ap, arith, inl, inr, ◌⊎◌, List, length}
+use Rattle.std.proofs.Common.{◌≡◌, ◌<◌, ◌≤◌, ℕ, ap, arith, inl, inr, ◌⊎◌, Bool, List, length}
 use Rattle.ev_script.specs.Reading.{KeepsFew}
 
 split : (n : ℕ) → (n ≤ 64) ⊎ (64 < n)
@@ -8,8 +8,8 @@ split n = grind arith
 same_length : {I : Type 0} (xs ys : List I) → xs ≡ ys → length xs ≡ length ys
 same_length xs ys e = ap length e
 
-pub few_given : {I : Type 0} (inner given : List I) → KeepsFew inner given → (64 < length inner → ⊥) → length given ≤ 64
+pub few_given : {I : Type 0} (inner : Bool × List I) (given : List I) → KeepsFew inner given → (64 < length inner.1 → ⊥) → length given ≤ 64
 few_given inner given k n = elim (split (length given)) [ inl few ↦ few | inr many ↦ absurd (n (k.many many)) ]
 
-pub many_given : {I : Type 0} (inner given : List I) → KeepsFew inner given → 64 < length inner → 64 < length given
-many_given inner given k l = elim (split (length given)) [ inl few ↦ (let n = same_length inner given (k.few few) in absurd (omega (arith, l, n, few))) | inr many ↦ many ]
+pub many_given : {I : Type 0} (inner : Bool × List I) (given : List I) → KeepsFew inner given → 64 < length inner.1 → 64 < length given
+many_given inner given k l = elim (split (length given)) [ inl few ↦ (let n = same_length inner.1 given (k.few few) in absurd (omega (arith, l, n, few))) | inr many ↦ many ]

@@ -1,5 +1,5 @@
 -- How the code follows the definitions over tokens; no promise to a caller speaks of it.
-use Rattle.std.specs.Prelude.{◌≡◌, ◌<◌, ◌≤◌, Bool, List, [], ◌∷◌, ℕ, length, Some, None, Ok, Err}
+use Rattle.std.specs.Prelude.{◌≡◌, ◌<◌, ◌≤◌, Bool, true, false, List, [], ◌∷◌, ℕ, length, Some, None, Ok, Err}
 use Rattle.std.specs.List.{filter_map, list_any}
 use Rattle.std.specs.declared.option.Option.{Option}
 use Rattle.std.specs.declared.result.Result.{Result}
@@ -23,17 +23,20 @@ abbrev pub ReadsTokens : {X Y : Type 0} → (X → Y) → Result X ScriptFault �
 ReadsTokens view result read left = ReadsAs FailsOnTokens view result read left
 
 -- of at most 64 items all are kept, and of more than 64 there are more than 64 kept
-pub record KeepsFew {I : Type 0} (inner given : List I) : Type 0 where
-  pub few : length given ≤ 64 → inner ≡ given
-  pub many : 64 < length given → 64 < length inner
+pub record KeepsFew {I : Type 0} (inner : Bool × List I) (given : List I) : Type 0 where
+  pub few : length given ≤ 64 → inner.1 ≡ given
+  pub many : 64 < length given → 64 < length inner.1
 
--- repeats and order aside, the constraints that are kept are those that were given
-abbrev pub KeepsDistinct : List ConstraintParts → List ConstraintParts → Type 0
-KeepsDistinct inner given = canonical inner ≡ canonical given
+-- repeats and order aside, the constraints that are kept are those that were given; or it is told that there are enough, and of
+-- either there are more than 64 distinct ones
+abbrev pub KeepsDistinct : Bool × List ConstraintParts → List ConstraintParts → Type 0
+KeepsDistinct (false, inner) given = canonical inner ≡ canonical given
+KeepsDistinct (true, inner) given = (64 < length (canonical inner)) × (64 < length (canonical given))
 
 -- of parts, of which there is one at least, these are kept of what is within the limits, and it is told whether a value is
 -- beyond them and whether a pattern is empty
-pub record IsGathered {P I : Type 0} (keeps : List I → List I → Type 0) (inside : P → Option I) (is_beyond is_empty : P → Bool) (inner : List I) (has_beyond has_empty : Bool) (parts : List P) : Type 0 where
+pub record IsGathered {P I : Type 0} (keeps : Bool × List I → List I → Type 0) (inside : P → Option I) (is_beyond is_empty : P → Bool)
+    (inner : Bool × List I) (has_beyond has_empty : Bool) (parts : List P) : Type 0 where
   pub some : 0 < length parts
   pub kept : keeps inner (filter_map inside parts)
   pub beyond : has_beyond ≡ list_any is_beyond parts

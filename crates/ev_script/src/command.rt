@@ -22,7 +22,8 @@ use std::alloc::Global;
 // The command of a control command's parts.
 fn control(verb: Verb, parts: Parts<Constraint>) -> Result<Command, ScriptFault>
     requires { verb ≢ Verb.Publish }
-    ensures { (given : List Part) → IsGathered KeepsDistinct whole_of is_beyond is_empty parts.kept.items parts.has_beyond parts.has_empty given
+    ensures { (given : List Part)
+        → IsGathered KeepsDistinct whole_of is_beyond is_empty (parts.is_full, parts.kept.items) parts.has_beyond parts.has_empty given
         → Judges (Spells (control verb given)) result (fault_in (control verb given)) }
 {
     match verb {

@@ -1,5 +1,6 @@
-//! Constraints that are kept while a line is read, equal ones once where room is scarce.
-ghost use Rattle.std.specs.Prelude.{◌≡◌, [], OnOk};
+//! Constraints that are kept while a line is read: equal ones once where room is scarce, and no more than tell that there
+//! are too many.
+ghost use Rattle.std.specs.Prelude.{◌≡◌, ◌<◌, [], true, length, IfOk, OnOk};
 ghost use Rattle.std.specs.List.Retain.{IsFiltered, DiffersFromLast};
 ghost use Rattle.std.specs.Ordering.{eq_by_cmp};
 ghost use Rattle.ev_constraint.specs.Order.{constraint_cmp};
@@ -23,21 +24,19 @@ fn make_canonical(kept: &mut Vec<Constraint>)
     drop_repeats(kept);
 }
 
-// Room for as many constraints again as there are distinct ones.
-fn make_distinct(kept: &mut Vec<Constraint>) -> Result<(), NoMemory>
-    ensures { OnOk result (kept.new.items ≡ canonical kept.old.items) }
-{
-    make_canonical(kept);
-    kept.reserve(kept.len())?;
-    Ok(())
-}
-
-/// Room for one constraint more: where 64 or more leave none, equal ones become one first.
-pub(crate) fn make_room(kept: &mut Vec<Constraint>) -> Result<(), NoMemory>
-    ensures { OnOk result (canonical kept.new.items ≡ canonical kept.old.items) }
+/// Whether there are more than 64 distinct constraints; else there is room for one more. Where 64 or more leave no room,
+/// equal ones become one first.
+pub(crate) fn make_room(kept: &mut Vec<Constraint>) -> Result<bool, NoMemory>
+    ensures same { OnOk result (canonical kept.new.items ≡ canonical kept.old.items) }
+    ensures many { IfOk result (λ many. many ≡ true → 64 < length (canonical kept.old.items)) }
 {
     if kept.len() < 64 || kept.len() < kept.capacity() {
-        return Ok(());
+        return Ok(false);
     }
-    make_distinct(kept)
+    make_canonical(kept);
+    if kept.len() > 64 {
+        return Ok(true);
+    }
+    kept.reserve(kept.len())?;
+    Ok(false)
 }

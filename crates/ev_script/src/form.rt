@@ -204,7 +204,9 @@ impl<'a> Tokens<'a> {
         version: u32,
         most: usize,
     ) -> Result<Parts<P::Inside>, ScriptFault>
-        ensures { GathersTokens (λ k ps. IsGathered P.keeps P.inside P.is_beyond P.is_empty k.kept.items k.has_beyond k.has_empty ps) result (parts_in (P.front version) most [] self.old) }
+        ensures { GathersTokens
+            (λ k ps. IsGathered P.keeps P.inside P.is_beyond P.is_empty (k.is_full, k.kept.items) k.has_beyond k.has_empty ps)
+            result (parts_in (P.front version) most [] self.old) }
     {
         let mut parts = P::begin(alloc, self.room())?;
         for _ in 0..most {

@@ -28,7 +28,8 @@ pub(crate) trait Limited: Drop {
         ensures value { IfOk result (λ x. constraints x ≡ canonical given.items) }
         ensures few { IfOk result (λ x. length (constraints x) ≤ most) }
         ensures nothing { IsErrOf result FilterFault.Nothing → given.items ≡ [] }
-        ensures too_many { IsErrOf result FilterFault.TooMany → most < length (canonical given.items) };
+        ensures too_many { IsErrOf result FilterFault.TooMany → most < length (canonical given.items) }
+        ensures small { most ≤ 64 };
 }
 
 impl Limited for Filter {
@@ -53,7 +54,8 @@ impl Limited for Advert {
 
 /// What a control command's parts make.
 pub(crate) fn list_of<L: Limited>(parts: Parts<Constraint>) -> Result<L, ScriptFault>
-    ensures { (given : List Part) → IsGathered KeepsDistinct whole_of is_beyond is_empty parts.kept.items parts.has_beyond parts.has_empty given
+    ensures { (given : List Part)
+        → IsGathered KeepsDistinct whole_of is_beyond is_empty (parts.is_full, parts.kept.items) parts.has_beyond parts.has_empty given
         → Judges (λ x. L.constraints x ≡ canonical (wholes given)) result (control_fault L.most given) }
 {
     if parts.has_beyond {
@@ -72,7 +74,8 @@ pub(crate) fn list_of<L: Limited>(parts: Parts<Constraint>) -> Result<L, ScriptF
 
 /// The notice of a publish command's parts.
 pub(crate) fn notice_of(parts: Parts<(Name, Value)>) -> Result<Notice, ScriptFault>
-    ensures { (given : List (List ℕ × Given)) → IsGathered KeepsFew fit_of is_wide (λ _. false) parts.kept.items parts.has_beyond parts.has_empty given
+    ensures { (given : List (List ℕ × Given))
+        → IsGathered KeepsFew fit_of is_wide (λ _. false) (parts.is_full, parts.kept.items) parts.has_beyond parts.has_empty given
         → Judges (λ n. IsPermutation (fits given) n × AreRising n) result (publish_fault given) }
 {
     if parts.has_beyond {

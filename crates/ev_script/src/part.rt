@@ -18,6 +18,8 @@ use std::alloc::Global;
 pub(crate) struct Parts<T> {
     /// Those within the limits: attributes in order, but at most 65, and constraints, of which equal ones may be one.
     pub(crate) kept: Vec<T>,
+    /// Whether there are more than 64 distinct constraints, so that no more are kept.
+    pub(crate) is_full: bool,
     /// Whether a value is beyond the limits.
     pub(crate) has_beyond: bool,
     /// Whether a pattern is empty.
@@ -43,11 +45,11 @@ pub(crate) trait CommandPart: Drop {
 
     ghost is_empty: { Self → Bool };
 
-    ghost keeps: { List Self.Inside → List Self.Inside → Type 0 };
+    ghost keeps: { Bool × List Self.Inside → List Self.Inside → Type 0 };
 
     /// No part, and room for so many.
     fn begin(alloc: Global, room: usize) -> Result<Parts<Self::Inside>, NoMemory>
-        ensures kept { IfOk result (λ p. keeps p.kept.items []) }
+        ensures kept { IfOk result (λ p. keeps (p.is_full, p.kept.items) []) }
         ensures beyond { IfOk result (λ p. p.has_beyond ≡ false) }
         ensures empty { IfOk result (λ p. p.has_empty ≡ false) };
 
@@ -57,7 +59,8 @@ pub(crate) trait CommandPart: Drop {
 
     /// Puts it behind the others.
     fn put(self, parts: &mut Parts<Self::Inside>) -> Result<(), NoMemory>
-        ensures kept { (before : List Self.Inside) → keeps parts.old.kept.items before → OnOk result (keeps parts.new.kept.items (before ++ filter_map inside (self ∷ []))) }
+        ensures kept { (before : List Self.Inside) → keeps (parts.old.is_full, parts.old.kept.items) before
+            → OnOk result (keeps (parts.new.is_full, parts.new.kept.items) (before ++ filter_map inside (self ∷ []))) }
         ensures beyond { OnOk result (parts.new.has_beyond ≡ (parts.old.has_beyond || is_beyond self)) }
         ensures empty { OnOk result (parts.new.has_empty ≡ (parts.old.has_empty || is_empty self)) };
 }
@@ -78,6 +81,7 @@ impl CommandPart for Part {
     fn begin(alloc: Global, room: usize) -> Result<Parts<Constraint>, NoMemory> {
         Ok(Parts {
             kept: Vec::with_capacity(alloc, room)?,
+            is_full: false,
             has_beyond: false,
             has_empty: false,
         })
@@ -90,8 +94,14 @@ impl CommandPart for Part {
     fn put(self, parts: &mut Parts<Constraint>) -> Result<(), NoMemory> {
         match self {
             Part::Whole(constraint) => {
-                make_room(&mut parts.kept)?;
-                parts.kept.push(constraint)?;
+                if parts.is_full {
+                    return Ok(());
+                }
+                if make_room(&mut parts.kept)? {
+                    parts.is_full = true;
+                } else {
+                    parts.kept.push(constraint)?;
+                }
             }
             Part::Beyond => parts.has_beyond = true,
             Part::Empty => parts.has_empty = true,
@@ -116,6 +126,7 @@ impl CommandPart for (Name, Given) {
     fn begin(alloc: Global, room: usize) -> Result<Parts<(Name, Value)>, NoMemory> {
         Ok(Parts {
             kept: Vec::with_capacity(alloc, room)?,
+            is_full: false,
             has_beyond: false,
             has_empty: false,
         })

@@ -8,21 +8,19 @@ use Rattle.ev_input.specs.Net.{IsBadAt, IsNetOf}
 use Rattle.ev_watch.specs.Parts.{PatternParts}
 use Rattle.ev_watch.specs.Steps.{step_fault}
 use Rattle.ev_watch.specs.Watch.{IsBadDocument, IsBadPattern, IsWatchOf}
-use Rattle.ev_watch.specs.declared.fault.LineFault.{LineFault}
-use Rattle.ev_watch.specs.declared.fault.LineFault.TheVariants.{NoMemory, Bad}
 use Rattle.ev_watch.specs.declared.fault.PatternFault.{PatternFault}
 use Rattle.ev_watch.specs.declared.fault.PatternFault.TheVariants as faults
 use Rattle.ev_watch.specs.declared.fault.PatternKind.{PatternKind}
 
 -- the fault of a step that a fault of its subscription is; want of memory stays what it is
-abbrev pub Tells : LineFault → ScriptFault → Type 0
-Tells told scripts.NoMemory = told ≡ NoMemory
-Tells told e = told ≡ Bad (step_fault (document_fault e))
+abbrev pub Tells : PatternFault → ScriptFault → Type 0
+Tells told scripts.NoMemory = told ≡ faults.NoMemory
+Tells told e = told ≡ faults.Bad 0 (step_fault (document_fault e))
 
 -- the fault of a line is told with the number of the line
-abbrev pub Places : PatternFault → ℕ → LineFault → Type 0
-Places told line NoMemory = told ≡ faults.NoMemory
-Places told line (Bad kind) = told ≡ faults.Bad line kind
+abbrev pub Places : PatternFault → ℕ → PatternFault → Type 0
+Places told line (faults.Bad untold kind) = told ≡ faults.Bad line kind
+Places told line fault = told ≡ fault
 
 -- the patterns, as they are seen, are those that were read, or this is the fault that was, unless memory ran out
 abbrev pub ReadsPatterns : {X : Type 0} → (X → List PatternParts) → Result X PatternFault → Result (List PatternParts) (ℕ × PatternKind) → Type 0

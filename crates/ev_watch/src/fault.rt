@@ -1,6 +1,7 @@
 //! Why an input with patterns is refused.
 ghost use Rattle.std.specs.Prelude.{◌≡◌};
-ghost use Rattle.ev_watch.specs.declared.fault.LineFault.TheVariants as lines;
+ghost use Rattle.ev_watch.specs.declared.fault.PatternFault.TheVariants as faults;
+ghost use Rattle.ev_watch.specs.Reading.{Places};
 
 use ev_input::Fault;
 use ev_memory::NoMemory;
@@ -27,15 +28,6 @@ pub enum PatternKind {
     Operand,
 }
 
-/// Why a line isn't taken.
-#[derive(Clone, Copy, Debug, PartialEq, Eq)]
-pub enum LineFault {
-    /// It is at fault.
-    Bad(PatternKind),
-    /// Memory ran out.
-    NoMemory,
-}
-
 /// Why an input gives no net with patterns. Lines are numbered from 1 through the whole input. The end counts as the line
 /// behind the last; that of the document part is the line `patterns`.
 #[derive(Clone, Copy, Debug, PartialEq, Eq)]
@@ -58,26 +50,46 @@ pub enum PatternFault {
     NoMemory,
 }
 
-impl From<AllocError> for LineFault {
-    ghost from_gives = { λ _ e. e ≡ lines.NoMemory };
+impl PatternFault {
+    /// What is at fault with a line, before the number of the line is told: 0 stands in its place.
+    pub(crate) fn of_line(kind: PatternKind) -> PatternFault
+        ensures { result ≡ faults.Bad 0 kind }
+    {
+        PatternFault::Bad { line: 0, kind }
+    }
+
+    /// The same, told with the number of the line.
+    pub(crate) fn on_line(self, line: u32) -> PatternFault
+        ensures { Places result line self }
+    {
+        match self {
+            PatternFault::Bad { line: _, kind } => PatternFault::Bad { line, kind },
+            PatternFault::Document { line, kind } => PatternFault::Document { line, kind },
+            PatternFault::NoMemory => PatternFault::NoMemory,
+        }
+    }
+}
+
+impl From<AllocError> for PatternFault {
+    ghost from_gives = { λ _ e. e ≡ faults.NoMemory };
 
     fn from(_: AllocError) -> Self {
-        LineFault::NoMemory
+        PatternFault::NoMemory
     }
 }
 
-impl<T: Drop> From<AllocFailed<T>> for LineFault {
-    ghost from_gives = { λ _ e. e ≡ lines.NoMemory };
+impl<T: Drop> From<AllocFailed<T>> for PatternFault {
+    ghost from_gives = { λ _ e. e ≡ faults.NoMemory };
 
     fn from(_: AllocFailed<T>) -> Self {
-        LineFault::NoMemory
+        PatternFault::NoMemory
     }
 }
 
-impl From<NoMemory> for LineFault {
-    ghost from_gives = { λ _ e. e ≡ lines.NoMemory };
+impl From<NoMemory> for PatternFault {
+    ghost from_gives = { λ _ e. e ≡ faults.NoMemory };
 
     fn from(_: NoMemory) -> Self {
-        LineFault::NoMemory
+        PatternFault::NoMemory
     }
 }

@@ -8,7 +8,7 @@ ghost use Rattle.ev_input.specs.Places.{is_comment};
 ghost use Rattle.ev_watch.specs.Answer.{GivesAsByRule, StepsByRule};
 ghost use Rattle.ev_watch.specs.Rules.{at_token, end_rule, is_token, line_rule, pattern_rule, step_rule};
 
-use crate::fault::{LineFault, PatternKind};
+use crate::fault::{PatternFault, PatternKind};
 use crate::pattern::Pattern;
 use crate::step::step_filter;
 use crate::watching::Watching;
@@ -38,24 +38,24 @@ fn pattern(
     state: &mut Watching,
     word: &[u8],
     rest: &[u8],
-) -> Result<(), LineFault>
+) -> Result<(), PatternFault>
     requires { length clients.now ≤ 1024 }
     ensures { StepsByRule result state.new (pattern_rule clients.now state.old word.now (words rest.now)) }
 {
     if word != b"pattern".as_slice() {
-        return Err(LineFault::Bad(PatternKind::Words));
+        return Err(PatternFault::of_line(PatternKind::Words));
     }
     let Some((name, label)) = two_names(rest) else {
-        return Err(LineFault::Bad(PatternKind::Words));
+        return Err(PatternFault::of_line(PatternKind::Words));
     };
     let Some(client) = client_named(clients, name) else {
-        return Err(LineFault::Bad(PatternKind::Name));
+        return Err(PatternFault::of_line(PatternKind::Name));
     };
     if state.has_label(client, label) {
-        return Err(LineFault::Bad(PatternKind::Name));
+        return Err(PatternFault::of_line(PatternKind::Name));
     }
     if state.count() >= 1024 {
-        return Err(LineFault::Bad(PatternKind::Count));
+        return Err(PatternFault::of_line(PatternKind::Count));
     }
     state.begin(Pattern {
         client,
@@ -67,16 +67,16 @@ fn pattern(
 
 /// `step`, with what follows it.
 #[tactic(auto, unfolding(crate::specs::Rules::step_rule))]
-fn step(alloc: Global, version: u32, state: &mut Watching, line: &[u8]) -> Result<(), LineFault>
+fn step(alloc: Global, version: u32, state: &mut Watching, line: &[u8]) -> Result<(), PatternFault>
     requires { IsVersion version }
     ensures { StepsByRule result state.new (step_rule version state.old line.now) }
 {
     if !state.is_some() {
-        return Err(LineFault::Bad(PatternKind::Order));
+        return Err(PatternFault::of_line(PatternKind::Order));
     }
     let filter = step_filter(alloc, version, line)?;
     if !state.has_room() {
-        return Err(LineFault::Bad(PatternKind::Count));
+        return Err(PatternFault::of_line(PatternKind::Count));
     }
     state.add_step(filter)?;
     Ok(())
@@ -102,7 +102,7 @@ fn at_token(
     line: &[u8],
     word: &[u8],
     rest: &[u8],
-) -> Result<(), LineFault>
+) -> Result<(), PatternFault>
     requires version { IsVersion version }
     requires few { length clients.now ≤ 1024 }
     ensures { StepsByRule result state.new (at_token version clients.now state.old line.now word.now (words rest.now) (first_word (tokens line.now))) }
@@ -113,12 +113,12 @@ fn at_token(
         return step(alloc, version, state, line);
     }
     if state.is_short() {
-        return Err(LineFault::Bad(PatternKind::Short));
+        return Err(PatternFault::of_line(PatternKind::Short));
     }
     if is_token(token, b"pattern".as_slice()) {
         return pattern(alloc, clients, state, word, rest);
     }
-    Err(LineFault::Bad(PatternKind::Order))
+    Err(PatternFault::of_line(PatternKind::Order))
 }
 
 fn is_comment(word: &[u8]) -> bool
@@ -138,7 +138,7 @@ pub fn line(
     clients: &[Client],
     state: &mut Watching,
     line: &[u8],
-) -> Result<(), LineFault>
+) -> Result<(), PatternFault>
     requires version { IsVersion version }
     requires few { length clients.now ≤ 1024 }
     ensures { StepsByRule result state.new (line_rule version clients.now state.old line.now) }
@@ -154,11 +154,11 @@ pub fn line(
 
 /// Takes the end, and gives all patterns, or tells its fault.
 #[tactic(auto, unfolding(crate::specs::Rules::end_rule))]
-pub fn end(state: Watching) -> Result<Vec<Pattern>, LineFault>
+pub fn end(state: Watching) -> Result<Vec<Pattern>, PatternFault>
     ensures { GivesAsByRule (λ patterns. patterns.items) result (end_rule state) }
 {
     if state.is_short() {
-        return Err(LineFault::Bad(PatternKind::Short));
+        return Err(PatternFault::of_line(PatternKind::Short));
     }
     Ok(state.into_patterns()?)
 }

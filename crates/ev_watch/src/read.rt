@@ -8,11 +8,11 @@ ghost use Rattle.ev_watch.specs.declared.fault.PatternKind.{PatternKind as Kind}
 ghost use Rattle.ev_watch.specs.declared.fault.PatternFault.TheVariants.{Bad, Document, NoMemory};
 ghost use Rattle.ev_cut.specs.Cut.{IsCutAt, IsNoLine, first_number};
 ghost use Rattle.ev_watch.specs.Parts.{PatternParts};
-ghost use Rattle.ev_watch.specs.Reading.{AnswersWatch, Places, ReadsDocument, ReadsPatterns};
+ghost use Rattle.ev_watch.specs.Reading.{AnswersWatch, ReadsDocument, ReadsPatterns};
 ghost use Rattle.ev_watch.specs.Rules.{nothing, read_from};
 ghost use Rattle.ev_watch.specs.Watch.{IsBadDocument, IsBadPattern, IsWatchOf};
 
-use crate::fault::{LineFault, PatternFault};
+use crate::fault::PatternFault;
 use crate::line::{end, line};
 use crate::pattern::{Pattern, Watch};
 use crate::watching::Watching;
@@ -20,16 +20,6 @@ use ev_cut::{Cut, cut_at};
 use ev_input::{InputFault, next_line, read_net};
 use ev_model::{Client, Net};
 use std::alloc::Global;
-
-// The fault of a line, with the number of the line.
-fn bad(line: u32, fault: LineFault) -> PatternFault
-    ensures { Places result line fault }
-{
-    match fault {
-        LineFault::Bad(kind) => PatternFault::Bad { line, kind },
-        LineFault::NoMemory => PatternFault::NoMemory,
-    }
-}
 
 // The patterns of the lines behind the line `patterns`, of which the first has this number.
 fn patterns(
@@ -50,14 +40,14 @@ fn patterns(
     'lines: while let Some((text, after)) = next_line(rest) {
         match line(alloc, version, clients, &mut state, text) {
             Ok(()) => {}
-            Err(fault) => return Err(bad(number, fault)),
+            Err(fault) => return Err(fault.on_line(number)),
         }
         number += 1;
         rest = after;
     }
     match end(state) {
         Ok(patterns) => Ok(patterns),
-        Err(fault) => Err(bad(number, fault)),
+        Err(fault) => Err(fault.on_line(number)),
     }
 }
 

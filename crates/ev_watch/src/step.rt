@@ -6,7 +6,7 @@ ghost use Rattle.ev_watch.specs.Answer.{GivesByRule};
 ghost use Rattle.ev_watch.specs.Reading.{Tells};
 ghost use Rattle.ev_watch.specs.Steps.{as_subscribe, filter_of, step_filter};
 
-use crate::fault::{LineFault, PatternKind};
+use crate::fault::{PatternFault, PatternKind};
 use ev_memory::NoMemory;
 use ev_notice::Filter;
 use ev_script::{ScriptFault, script_command};
@@ -44,20 +44,20 @@ fn as_subscribe(alloc: Global, line: &[u8]) -> Result<Vec<u8>, NoMemory>
 }
 
 // A fault of a subscription, as one of a step.
-fn step_fault(fault: ScriptFault) -> LineFault
+fn step_fault(fault: ScriptFault) -> PatternFault
     ensures { Tells result fault }
 {
     match fault {
-        ScriptFault::Value => LineFault::Bad(PatternKind::Value),
-        ScriptFault::Operand => LineFault::Bad(PatternKind::Operand),
-        ScriptFault::Count => LineFault::Bad(PatternKind::Count),
-        ScriptFault::Syntax | ScriptFault::Repeat => LineFault::Bad(PatternKind::Syntax),
-        ScriptFault::NoMemory => LineFault::NoMemory,
+        ScriptFault::Value => PatternFault::of_line(PatternKind::Value),
+        ScriptFault::Operand => PatternFault::of_line(PatternKind::Operand),
+        ScriptFault::Count => PatternFault::of_line(PatternKind::Count),
+        ScriptFault::Syntax | ScriptFault::Repeat => PatternFault::of_line(PatternKind::Syntax),
+        ScriptFault::NoMemory => PatternFault::NoMemory,
     }
 }
 
 // The filter of a subscription.
-fn filter_of(command: Command) -> Result<Filter, LineFault>
+fn filter_of(command: Command) -> Result<Filter, PatternFault>
     ensures { GivesByRule result (filter_of (Ok command)) }
 {
     match command {
@@ -65,12 +65,12 @@ fn filter_of(command: Command) -> Result<Filter, LineFault>
         Command::Unsubscribe(_)
         | Command::Advertise(_)
         | Command::Unadvertise(_)
-        | Command::Publish(_) => Err(LineFault::Bad(PatternKind::Syntax)),
+        | Command::Publish(_) => Err(PatternFault::of_line(PatternKind::Syntax)),
     }
 }
 
 /// The filter of a line `step` in documents of the version, read as that of a subscription.
-pub fn step_filter(alloc: Global, version: u32, line: &[u8]) -> Result<Filter, LineFault>
+pub fn step_filter(alloc: Global, version: u32, line: &[u8]) -> Result<Filter, PatternFault>
     requires { IsVersion version }
     ensures { GivesByRule result (step_filter version line.now) }
 {
