@@ -2,3 +2,4 @@ pub mod Ranges
 pub mod Trace
 pub mod SmallNets
 pub mod Phased
+pub mod Hierarchies

@@ -1,7 +1,7 @@
 -- What a run tells line by line, what it delivers, and what it leaves held.
 use Rattle.std.specs.Prelude.{ℕ, suc, List, [], ◌∷◌, ◌++◌, length, map}
-use Rattle.ev_run.specs.Machine.{Act}
-use Rattle.ev_run.specs.Network.{messages_of}
+use Rattle.ev_run.specs.Machine.{Machine, Act, Entry}
+use Rattle.ev_run.specs.Network.{NetworkState, messages_of}
 use Rattle.ev_run.specs.History.{Moment, network_step, moment_after}
 use Rattle.ev_run.specs.Walk.{entries_by, moment_by}
 use Rattle.ev_routing.specs.Theory.{Theory}
@@ -11,13 +11,37 @@ use Rattle.ev_routing.specs.Step.{Task}
 use Rattle.ev_routing.specs.Routing.{routing_machine, Network, NetEntry, opening}
 use Rattle.ev_routing.specs.Walk.{walk_of, walk_turns}
 
+-- an entry as it is traced: its stamp, server and act, and the messages that it puts, by neighbour
+pub record TracedEntry (Task Message : Type 0) : Type 0 where
+  pub stamp : ℕ
+  pub server : ℕ
+  pub act : Act Task
+  pub outs : List (ℕ × Message)
+
+module _ (machine : Machine) where
+  -- the messages of an entry for these neighbours
+  abbrev pub messages_for : NetworkState machine → Entry machine → List ℕ → List (ℕ × machine.Message)
+  messages_for network entry [] = []
+  messages_for network entry (link ∷ links) = map (λ message. (link, message)) (messages_of machine network entry link) ++ messages_for network entry links
+
+  -- an entry that finds the network so, as it is traced
+  abbrev pub traced : NetworkState machine → Entry machine → TracedEntry machine.Task machine.Message
+  traced network entry = record {
+    stamp = entry.stamp;
+    server = entry.server;
+    act = entry.act;
+    outs = messages_for network entry (machine.links entry.server);
+  }
+
+  -- entries from a moment on, as they are traced
+  abbrev pub traced_from : Moment machine → List (Entry machine) → List (TracedEntry machine.Task machine.Message)
+  traced_from moment [] = []
+  traced_from moment (entry ∷ entries) = traced moment.network entry ∷ traced_from (network_step machine moment entry) entries
+
 module _ (theory : Theory) where
-  -- an entry as it is traced: its stamp, server and act, and the messages that it puts, by neighbour
-  pub record Line : Type 0 where
-    pub stamp : ℕ
-    pub server : ℕ
-    pub act : Act Task
-    pub outs : List (ℕ × Message theory)
+  -- a line of a trace: an entry as it is traced
+  abbrev pub Line : Type 0
+  Line = TracedEntry Task (Message theory)
 
   -- a line written in one row
   abbrev pub line : ℕ → ℕ → Act Task → List (ℕ × Message theory) → Line
@@ -30,15 +54,11 @@ module _ (theory : Theory) where
 
     -- the messages of an entry for these neighbours
     abbrev pub outs_to : Network theory net → NetEntry theory net → List ℕ → List (ℕ × Message theory)
-    outs_to network entry [] = []
-    outs_to network entry (link ∷ links) = map (λ message. (link, message)) (messages_of (routing_machine theory net) network entry link)
-        ++ outs_to network entry links
+    outs_to = messages_for (routing_machine theory net)
 
     -- the lines of entries from a moment on
     abbrev pub lines_from : Moment (routing_machine theory net) → List (NetEntry theory net) → List Line
-    lines_from moment [] = []
-    lines_from moment (entry ∷ entries) = line entry.stamp entry.server entry.act (outs_to moment.network entry (net.links entry.server))
-        ∷ lines_from (network_step (routing_machine theory net) moment entry) entries
+    lines_from = traced_from (routing_machine theory net)
 
     -- the trace of a journal
     abbrev pub trace : List (NetEntry theory net) → List Line

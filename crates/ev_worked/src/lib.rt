@@ -1,4 +1,5 @@
-//! Worked runs: what the definitions of the network come to in small nets over ranges of numbers, computed.
+//! Worked runs: what the definitions of the network come to in small nets over ranges of numbers, computed; and those of a
+//! hierarchy, over numbers.
 #![tactic(auto)]
 
 ghost use Rattle.std.specs.Prelude.{◌≡◌, ◌<◌, ℕ, List, [], ◌∷◌, ◌++◌, take, drop, map};
@@ -24,6 +25,8 @@ ghost use Rattle.ev_worked.specs.Phased.{on_one_tree, phased_trace, phased_walk,
 ghost use Rattle.ev_worked.specs.Phased.{withdrawn_on_tree, withdrawn_walk, IsSettledIn};
 ghost use Rattle.ev_worked.specs.SmallNets.{ranges_publication, wide_travels, wide_and_narrow, withdrawn_wide, all_know, both_set_out, notice_arrives};
 ghost use Rattle.ev_worked.specs.SmallNets.{withdrawal_known, equal_ranges, advertised_small, subscribed_again};
+
+pub mod hierarchies;
 
 /// Ranges of numbers are a theory of filters, and the nets below are nets over it, so that every law of runs holds of them.
 pub fn all_lawful()
