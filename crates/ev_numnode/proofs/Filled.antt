@@ -1,0 +1,123 @@
+-- The cells of a net are started one by one.
+use Rattle.std.proofs.Common.{◌≡◌, ◌⊎◌, inl, inr, true, false, ℕ, zero, suc, ◌+◌, ◌<◌, ◌≤◌, List, [], ◌∷◌, ◌++◌, length, map, get_or, set, Some, slice_get, refl, sym, ap, subst, ◌∙◌, arith}
+use Rattle.std.proofs.lemmas.List.{length-append, length-map}
+use Rattle.std.proofs.lemmas.Option.{same_Some}
+use Rattle.ev_sets.specs.Sets.{Has}
+use Rattle.ev_tree.proofs.Servers.{in-server}
+use Rattle.ev_model.specs.Parts.{NetParts}
+use Rattle.ev_model.specs.Sound.{IsSound}
+use Rattle.ev_model.proofs.SoundNets.{few-servers}
+use Rattle.ev_model.specs.Nets.{first_tree, servers_in}
+use Rattle.ev_forwarding.specs.declared.change.Change.{Change}
+use Rattle.ev_numserver.specs.Staged.{is_some_there}
+use Rattle.ev_numnode.specs.declared.held.Root.{Root}
+use Rattle.ev_numnode.specs.declared.link.Link.{Link}
+use Rattle.ev_numnode.specs.declared.starting.Started.{Started}
+use Rattle.ev_numnode.specs.Lanes.{AreEnds}
+use Rattle.ev_numnode.specs.Started.{IsStarted, AreStarted}
+use Rattle.ev_numnode.specs.Cell.{CellParts}
+use Rattle.ev_numnode.specs.Together.{root_links}
+use Rattle.ev_numnode.specs.Entered.{AreCalm}
+use Rattle.ev_numnode.proofs.Places.{found}
+use Rattle.ev_numnode.proofs.Gathered.{map-found, found-map, found-within}
+
+-- the first n cells over these rows
+pub record AreSoFar (net : NetParts) (rows : List (List Link)) (n : ℕ) (started : List Started) : Type 0 where
+  pub long : length started ≡ n
+  pub each : (k : ℕ) (s : Started) → slice_get started k ≡ Some s → (r : List Link) × (slice_get rows k ≡ Some r) × IsStarted net (suc k) r s
+
+pub none-yet : (net : NetParts) (rows : List (List Link)) (started : List Started) → started ≡ [] → AreSoFar net rows 0 started
+none-yet net rows started e = record {
+  long = ap (λ (l : List Started). length l) e;
+  each = λ k s f. absurd (let z : slice_get [] k ≡ Some s = subst (λ (l : List Started). slice_get l k ≡ Some s) e f in cc);
+}
+
+pub get-last : {X : Type 0} (xs : List X) (x y : X) (k : ℕ) → slice_get (xs ++ x ∷ []) k ≡ Some y → (slice_get xs k ≡ Some y) ⊎ ((k ≡ length xs) × (y ≡ x))
+get-last [] x y zero e = inr (refl, same_Some y x (sym e))
+get-last [] x y (suc k) e = absurd cc
+get-last (z ∷ xs) x y zero e = inl e
+get-last (z ∷ xs) x y (suc k) e = elim (get-last xs x y k e) [ inl a ↦ inl a | inr b ↦ inr (ap suc b.0, b.1) ]
+
+-- one more
+pub one-more : (net : NetParts) (rows : List (List Link)) (n : ℕ) (started new : List Started) (s : Started) (r : List Link) → new ≡ started ++ s ∷ [] → slice_get rows n ≡ Some r → IsStarted net (n + 1) r s → AreSoFar net rows n started → AreSoFar net rows (n + 1) new
+one-more net rows n started new s r e at then so = record {
+  long = ap (λ (l : List Started). length l) e ∙ (let a = length-append started (s ∷ []) in let l = so.long in omega (arith, a, l));
+  each = λ k x f. elim (get-last started s x k (subst (λ (l : List Started). slice_get l k ≡ Some x) e f)) [
+    | inl a ↦ so.each k x a
+    | inr b ↦
+        (let q : k ≡ n = b.0 ∙ so.long in
+        let one : n + 1 ≡ suc n = omega arith in
+        let is : IsStarted net (suc n) r s = subst (λ m. IsStarted net m r s) one then in
+        (r, subst (λ m. slice_get rows m ≡ Some r) (sym q) at, subst (λ m. IsStarted net (suc m) r x) (sym q) (subst (λ (z : Started). IsStarted net (suc n) r z) (sym b.1) is)))
+  ];
+}
+
+abbrev root-of : Started → Root
+root-of s = s.cell.root
+
+-- all of them
+pub all-started : (net : NetParts) (rows : List (List Link)) (n : ℕ) (started : List Started) → length rows ≡ (first_tree net.trees).count → AreEnds rows → n ≡ length rows → AreSoFar net rows n started → AreStarted net started
+all-started net rows n started count ends e so = record {
+  together = record {
+    all = length-map started root-of ∙ so.long ∙ e ∙ count;
+    nets = λ k root f. let x = from-root k root f in ap (λ (r : Root). r.net.value) (sym x.2) ∙ (so.each k x.0 x.1).2.fresh.net_is;
+    numbers = λ k root f. let x = from-root k root f in ap (λ (r : Root). r.server) (sym x.2) ∙ (so.each k x.0 x.1).2.fresh.server_is;
+    phases = λ k root f. let x = from-root k root f in ap (λ (r : Root). r.phase) (sym x.2) ∙ (so.each k x.0 x.1).2.fresh.phase;
+    lanes = λ i k q p a b x y ea eb. ends i k q p a b x y (row-at i a ea) (row-at k b eb);
+  };
+  each = λ k s f. let x = so.each k s f in (x.0, x.2);
+}
+  where
+    from-root : (k : ℕ) (root : Root) → slice_get (map root-of started) k ≡ Some root → (s : Started) × (slice_get started k ≡ Some s) × (root-of s ≡ root)
+    from-root k root f = found-map root-of k started root f
+
+    row-at : (k : ℕ) (a : List Link) → slice_get (map root_links (map root-of started)) k ≡ Some a → slice_get rows k ≡ Some a
+    row-at k a f =
+        let r = found-map root_links k (map root-of started) a f in
+        let x = from-root k r.0 r.1 in
+        let w = so.each k x.0 x.1 in
+        w.1 ∙ ap (λ l. Some l) (sym w.2.fresh.links_are ∙ ap (λ l. l.items) (sym w.2.fresh.lanes) ∙ ap root_links x.2 ∙ r.2)
+
+-- a row's server is one of the net
+pub row-server : (net : NetParts) (rows : List (List Link)) (k : ℕ) → length rows ≡ (first_tree net.trees).count → k < length rows → Has (suc k) (servers_in net)
+row-server net rows k count lt = in-server (first_tree net.trees).count (suc k) (omega arith, omega (arith, lt, count))
+
+-- other rows stay where one is set
+pub get-other : {X : Type 0} (xs : List X) (n k : ℕ) (v : X) → (k ≡ n → ⊥) → slice_get (set xs n v) k ≡ slice_get xs k
+get-other [] n k v other = refl
+get-other (x ∷ xs) zero zero v other = absurd (other refl)
+get-other (x ∷ xs) zero (suc k) v other = refl
+get-other (x ∷ xs) (suc n) zero v other = refl
+get-other (x ∷ xs) (suc n) (suc k) v other = get-other xs n k v (λ e. other (ap suc e))
+
+map-set-is : {X Y : Type 0} (f : X → Y) (xs : List X) (n : ℕ) (v : X) → map f (set xs n v) ≡ set (map f xs) n (f v)
+map-set-is f [] n v = refl
+map-set-is f (x ∷ xs) zero v = refl
+map-set-is f (x ∷ xs) (suc n) v = ap (λ l. f x ∷ l) (map-set-is f xs n v)
+
+pub rest-set : {V : Type 0} (f : V → List Link) (rows first : List V) (place : ℕ) (v : V) → ((k : ℕ) (r : List Link) → place ≤ k → slice_get (map f first) k ≡ Some r → slice_get (map f rows) k ≡ Some r)
+    → (k : ℕ) (r : List Link) → place + 1 ≤ k → slice_get (map f first) k ≡ Some r → slice_get (map f (set rows place v)) k ≡ Some r
+rest-set f rows first place v rest k r le e = ap (λ l. slice_get l k) (map-set-is f rows place v) ∙ get-other (map f rows) place k (f v) (λ q. omega (arith, le, q)) ∙ rest k r (omega (arith, le)) e
+
+-- the row at a place
+pub row-is : {V : Type 0} (f : V → List Link) (rows first : List V) (place : ℕ) (d : V) → place < length first → place < length rows → ((k : ℕ) (r : List Link) → place ≤ k → slice_get (map f first) k ≡ Some r → slice_get (map f rows) k ≡ Some r)
+    → slice_get (map f first) place ≡ Some (f (get_or rows place d))
+row-is f rows first place d lt lt' rest =
+    let x = found-within first place lt in
+    let e = map-found f place first x.0 x.1 in
+    let g : slice_get (map f rows) place ≡ Some (f (get_or rows place d)) = map-found f place rows (get_or rows place d) (found rows place d lt') in
+    e ∙ ap (λ z. Some z) (same_Some (f x.0) (f (get_or rows place d)) (sym (rest place (f x.0) (omega arith) e) ∙ g))
+
+pub few-rows : (net : NetParts) (rows : List (List Link)) → IsSound net → length rows ≡ (first_tree net.trees).count → length rows ≤ 64
+few-rows net rows sound e = let l = few-servers net.trees sound.trees in omega (arith, e, l)
+
+-- cells before their first step have nothing staged
+pub calm-started : (net : NetParts) (started : List Started) → AreStarted net started → AreCalm (map (λ (s : Started). s.cell) started)
+calm-started net started are k cell e =
+    let s = found-map (λ (s : Started). s.cell) k started cell e in
+    let is = are.each k s.0 s.1 in
+    subst (λ (c : CellParts). c.held.core.staged ≡ []) s.2 (nothing s.0.cell.held.core.staged (sym is.1.fresh.opening.state.staged))
+  where
+    nothing : (changes : List Change) → is_some_there changes ≡ false → changes ≡ []
+    nothing [] q = refl
+    nothing (x ∷ changes) q = absurd (let t : true ≡ false = q in cc)

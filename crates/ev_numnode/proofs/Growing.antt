@@ -1,0 +1,57 @@
+-- Journals that go on.
+use Rattle.std.proofs.Common.{◌≡◌, ℕ, zero, suc, ◌<◌, Bool, true, false, List, [], ◌∷◌, length, get_or, set, Result, Ok, Err, IfOk, OnErr, sym, ap, ◌∙◌, arith}
+use Rattle.std.proofs.lemmas.List.{append-nil}
+use mathlib.Core.List.{IsPrefix}
+use Rattle.ev_numnode.proofs.Begins.{prefix_self, prefix_trans}
+use Rattle.ev_numserver.specs.declared.stepped.StepFault.{StepFault}
+use Rattle.ev_model.specs.Parts.{EntryParts}
+use Rattle.ev_numnode.specs.declared.held.ServerInHand.{ServerInHand}
+use Rattle.ev_numnode.specs.declared.what.What.{What}
+use Rattle.ev_numnode.specs.declared.what.Turned.{Turned}
+use Rattle.ev_numnode.specs.declared.what.Turned.TheVariants.{Made, Stale, Idle}
+use Rattle.ev_numnode.specs.Cell.{CellParts}
+use Rattle.ev_numnode.specs.Turns.{IsStill, IsTaking}
+use Rattle.ev_numnode.specs.Asked.{Answers}
+use Rattle.ev_numnode.specs.Together.{Sight, sight, sights, HasGrown, HaveGrown}
+use Rattle.ev_numnode.proofs.Walks.{both-comp}
+
+pub same-prefix : (before after : List EntryParts) → after ≡ before → IsPrefix before after
+same-prefix before after e = ([], append-nil before ∙ sym e)
+
+module _ (old new : ServerInHand) (before after : List EntryParts) where
+  pub asked-grows : (phase : ℕ) (what : What) (r : Result Turned StepFault) → IfOk r (Answers phase what old new before after) → OnErr r (IsStill old new before after) → IsPrefix before after
+  asked-grows phase what (Ok Made) a s = (_, sym a.turn.entry)
+  asked-grows phase what (Ok Stale) a s = elim a [ ]
+  asked-grows phase what (Ok Idle) a s = same-prefix before after a.0.journal
+  asked-grows phase what (Err e) a s = same-prefix before after s.journal
+
+  pub taking-grows : (phase place : ℕ) (r : Result Bool StepFault) → IfOk r (IsTaking phase place old new before after) → OnErr r (IsStill old new before after) → IsPrefix before after
+  taking-grows phase place (Ok true) a s = (_, sym a.1.turn.entry)
+  taking-grows phase place (Ok false) a s = same-prefix before after a.0.journal
+  taking-grows phase place (Err e) a s = same-prefix before after s.journal
+
+pub grown-same : (cells : List CellParts) → HaveGrown cells cells
+grown-same [] = tt
+grown-same (x ∷ xs) = (prefix_self x.journal, grown-same xs)
+
+pub grown-on : (a b c : List CellParts) → HaveGrown a b → HaveGrown b c → HaveGrown a c
+grown-on = both-comp HasGrown HasGrown HasGrown (λ x y z p q. prefix_trans x.journal y.journal z.journal p q)
+
+-- where all that is seen of them is as before
+pub grown-sights : (xs ys : List CellParts) → sights ys ≡ sights xs → HaveGrown xs ys
+grown-sights [] [] e = tt
+grown-sights [] (y ∷ ys) e = absurd cc
+grown-sights (x ∷ xs) [] e = absurd cc
+grown-sights (x ∷ xs) (y ∷ ys) e = (same-prefix x.journal y.journal (ap (λ (z : Sight). z.journal) (heads e)), grown-sights xs ys (tails e))
+  where
+    heads : sight y ∷ sights ys ≡ sight x ∷ sights xs → sight y ≡ sight x
+    heads e = cc
+
+    tails : sight y ∷ sights ys ≡ sight x ∷ sights xs → sights ys ≡ sights xs
+    tails e = cc
+
+-- where one of them went on
+pub grown-set : (cells : List CellParts) (k : ℕ) (d new : CellParts) → k < length cells → IsPrefix (get_or cells k d).journal new.journal → HaveGrown cells (set cells k new)
+grown-set [] k d new lt p = absurd (omega arith)
+grown-set (x ∷ xs) zero d new lt p = (p, grown-same xs)
+grown-set (x ∷ xs) (suc k) d new lt p = (prefix_self x.journal, grown-set xs k d new (omega arith) p)

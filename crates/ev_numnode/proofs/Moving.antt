@@ -1,0 +1,200 @@
+-- A server set on the tree of another phase, by what flows over it.
+use Rattle.std.proofs.Common.{◌≡◌, ◌≢◌, ◌⊎◌, inl, inr, ℕ, ◌+◌, ◌<◌, ◌≤◌, nat_lt, ◌==◌, ◌||◌, eqb-true, Bool, true, false, cond, List, [], ◌∷◌, map, refl, sym, ap, subst, ◌∙◌, arith}
+use Rattle.std.proofs.lemmas.Bool.Decides.{nat_tests}
+use Rattle.ev_sets.proofs.Numbers.{Is, Not, compare}
+use Rattle.ev_sets.specs.Sets.{Has}
+use Rattle.ev_constraint.specs.Constraint.{ConstraintParts}
+use Rattle.ev_wire.specs.declared.semantics.Semantics.{Semantics}
+use Rattle.ev_wire.specs.declared.semantics.Semantics.TheVariants.{Advertisement, Subscription}
+use Rattle.ev_tree.specs.Tree.{links_of}
+use Rattle.ev_routing.specs.Net.{Net}
+use Rattle.ev_routing.specs.Server.{ServerState, is_among, interfaces}
+use Rattle.ev_routing.specs.Change.{client_sets}
+use Rattle.ev_routing.specs.Flow.{flow, flow_ad}
+use Rattle.ev_routing.proofs.Listing.{has-one, has-left, has-right, has-either, has-map, map-has}
+use Rattle.ev_phases.specs.Trees.{State, net_at, tree_at}
+use Rattle.ev_phases.specs.Moments.{with_tree_changed}
+use Rattle.ev_theory.specs.Real.{real}
+use Rattle.ev_model.specs.Parts.{NetParts}
+use Rattle.ev_model.specs.Nets.{phased_net, topology_at, clients_of}
+use Rattle.ev_model.specs.Sound.{IsSound}
+use Rattle.ev_model.proofs.SoundNets.{net-laws}
+use Rattle.ev_phases.proofs.Nets.{net-laws as each-net}
+use Rattle.ev_control.specs.declared.control.HeldLink.{HeldLink}
+use Rattle.ev_control.specs.Control.{subs, advs, by_adverts}
+use Rattle.ev_control.specs.Routing.{StandsFor}
+use Rattle.ev_flow.specs.declared.home.Home.{Home}
+use Rattle.ev_flow.specs.Flow.{filters_of, adverts_of, IsNetOn, IsUnionOfClients, IsFlow}
+use Rattle.ev_numserver.specs.Ledger.{LedgerParts}
+use Rattle.ev_numserver.specs.Core.{CoreParts, IsServerState, published_from}
+use Rattle.ev_numserver.specs.Linked.{SuitsCore, IsLinked, IsOnLinks}
+
+-- lists of filters by interface
+abbrev pub Sets : Type 0
+Sets = ℕ → ℕ → List (List ConstraintParts)
+
+-- the sets of the clients, which the homes are the unions of
+pub record AreUnions (n : Net real) (sets ad_sets : Sets) (homes : List Home) : Type 0 where
+  pub filters : IsUnionOfClients n sets (filters_of homes)
+  pub adverts : IsUnionOfClients n ad_sets (adverts_of homes)
+
+-- then what is given of a link is what flows
+pub flows : (semantics : Semantics) (n : Net real) (tree : _) (sets ad_sets : Sets) (homes : List Home) (server : ℕ) (h : HeldLink) → IsNetOn semantics tree n → AreUnions n sets ad_sets homes
+    → IsFlow semantics tree homes server h → (h.filters ≡ flow real n sets ad_sets server h.link) × (h.adverts ≡ flow_ad real n ad_sets server h.link)
+flows semantics n tree sets ad_sets homes server h on unions is = (is.filters n sets ad_sets on unions.filters unions.adverts, is.adverts n ad_sets on unions.adverts)
+
+pub unlike : false ≡ true → ⊥
+unlike e = grind (arith, e)
+
+above : (c i : ℕ) → 1 ≤ c → i ≡ 64 + c → nat_lt 64 i ≡ true
+above c i one e = let more : 64 < i = omega (arith, one, e) in grind (arith, nat_tests, more)
+
+not-above : (x : ℕ) → x ≤ 64 → nat_lt 64 x ≡ false
+not-above x low = grind (arith, nat_tests, low)
+
+-- who is among, by the test
+pub among : (i : ℕ) (xs : List ℕ) → is_among i xs ≡ true → Has i xs
+among i [] e = absurd (unlike e)
+among i (x ∷ xs) e = go (among i xs) (i == x) refl e
+  where
+    go : (is_among i xs ≡ true → Has i xs) → (b : Bool) → (i == x) ≡ b → (b || is_among i xs) ≡ true → Has i (x ∷ xs)
+    go ih true q e = inl (eqb-true i x q)
+    go ih false q e = inr (ih e)
+
+-- low or high
+pub low-or-high : (i : ℕ) → (i ≤ 64) ⊎ (64 < i)
+low-or-high i = go (nat_lt 64 i) refl
+  where
+    go : (b : Bool) → nat_lt 64 i ≡ b → (i ≤ 64) ⊎ (64 < i)
+    go true e = inr (grind (arith, nat_tests, e))
+    go false e = inl (grind (arith, nat_tests, e))
+
+-- a link is given or not
+pub find-link : (held : List HeldLink) (i : ℕ) → ((h : HeldLink) × Has h held × (h.link ≡ i)) ⊎ ((h : HeldLink) → Has h held → h.link ≢ i)
+find-link [] i = inr (λ h m. absurd m)
+find-link (x ∷ xs) i = elim (compare x.link i) [
+  | Is p v ↦ inl (x, inl refl, p)
+  | Not n v ↦ elim (find-link xs i) [
+    | inl r ↦ inl (r.0, inr r.1, r.2)
+    | inr none ↦ inr (λ h m e. elim m [ inl q ↦ n (ap (λ (z : HeldLink). z.link) (sym q) ∙ e) | inr k ↦ none h k e ])
+  ]
+]
+
+module _ (net : NetParts) (sound : IsSound net) (last phase : ℕ) (state : State real) (homes : List Home) where
+  abbrev old : Net real
+  old = net_at real (phased_net net) last
+
+  abbrev new : Net real
+  new = net_at real (phased_net net) phase
+
+  abbrev pub client_filters : Sets
+  client_filters server = client_sets real old (tree_at real (phased_net net) phase).links (tree_at real (phased_net net) phase).hop (state.state server).subs
+
+  abbrev pub client_adverts : Sets
+  client_adverts server = client_sets real old (tree_at real (phased_net net) phase).links (tree_at real (phased_net net) phase).hop (state.state server).advs
+
+  abbrev moved : ℕ → ServerState real
+  moved server = (with_tree_changed real (phased_net net) last phase state).state server
+
+  -- one server, with what is given of its links
+  module _ (on : IsNetOn net.semantics (topology_at net phase) new) (unions : AreUnions new client_filters client_adverts homes)
+      (core : CoreParts) (held : List HeldLink) (ledger : LedgerParts)
+      (is : IsServerState old core (state.state core.server))
+      (links : map (λ h. h.link) held ≡ links_of (topology_at net phase) core.server)
+      (flow-is : (h : HeldLink) → Has h held → IsFlow net.semantics (topology_at net phase) homes core.server h)
+      (linked : IsLinked held core.control ledger.control) (suits : SuitsCore core ledger) where
+    -- a link of the new tree is given
+    given : (i : ℕ) → Has i (new.links core.server) → (h : HeldLink) × Has h held × (i ≡ h.link)
+    given i m = map-has (λ h. h.link) i held (subst (Has i) (ap (λ f. f core.server) on.links ∙ sym links) m)
+
+    small : (i : ℕ) → Has i (new.links core.server) → i ≤ 64
+    small i m = (each-net real (phased_net net) (net-laws net sound) phase).small core.server i m
+
+    old-small : (i : ℕ) → Has i (old.links core.server) → i ≤ 64
+    old-small i m = (each-net real (phased_net net) (net-laws net sound) last).small core.server i m
+
+    -- an interface of a client is above the links
+    high : (i : ℕ) → Has i (map (λ c. 64 + c) (clients_of net core.server)) → 64 < i
+    high i m =
+        let r = map-has (λ c. 64 + c) i (clients_of net core.server) m in
+        let one : 1 ≤ r.0 = on.counted core.server r.0 r.1 in
+        omega (arith, one, r.2)
+
+    here : (h : HeldLink) → Has h held → (h.filters ≡ flow real new client_filters client_adverts core.server h.link) × (h.adverts ≡ flow_ad real new client_adverts core.server h.link)
+    here h m = flows net.semantics new (topology_at net phase) client_filters client_adverts homes core.server h on unions (flow-is h m)
+
+    -- what is held of an interface
+    held-by : (i : ℕ) → Has i (interfaces real new core.server) → (b : Bool) → is_among i (new.links core.server) ≡ b
+        → (cond b (flow real new client_filters client_adverts core.server i) (client_filters core.server i) ≡ subs ledger.control i)
+        × (cond b (flow_ad real new client_adverts core.server i) (client_adverts core.server i) ≡ advs ledger.control i)
+    held-by i m true e =
+        let r = given i (among i (new.links core.server) e) in
+        let f : flow real new client_filters client_adverts core.server i ≡ subs ledger.control i = ap (flow real new client_filters client_adverts core.server) r.2 ∙ sym (here r.0 r.1).0 ∙ sym (linked.filters.links r.0 r.1) ∙ ap (subs ledger.control) (sym r.2) in
+        let a : flow_ad real new client_adverts core.server i ≡ advs ledger.control i = ap (flow_ad real new client_adverts core.server) r.2 ∙ sym (here r.0 r.1).1 ∙ sym (linked.adverts.links r.0 r.1) ∙ ap (advs ledger.control) (sym r.2) in
+        (f, a)
+    held-by i m false e = elim (has-either i (new.links core.server) (map (λ c. 64 + c) (clients_of net core.server)) m) [
+      | inl k ↦ absurd (let there : is_among i (new.links core.server) ≡ true = has-one i (new.links core.server) k in unlike (sym e ∙ there))
+      | inr k ↦
+          let more : 64 < i = high i k in
+          let up : nat_lt 64 i ≡ true = grind (arith, nat_tests, more) in
+          let f : client_filters core.server i ≡ subs ledger.control i = ap (λ b. cond b ((state.state core.server).subs i) []) up ∙ is.control.subs_held i (has-right i (old.links core.server) (map (λ c. 64 + c) (clients_of net core.server)) k) ∙ sym (linked.filters.clients i more) in
+          let a : client_adverts core.server i ≡ advs ledger.control i = ap (λ b. cond b ((state.state core.server).advs i) []) up ∙ is.control.advs_held i (has-right i (old.links core.server) (map (λ c. 64 + c) (clients_of net core.server)) k) ∙ sym (linked.adverts.clients i more) in
+          (f, a)
+    ]
+
+    -- of what is no interface nothing is held
+    not-old : (i : ℕ) → 64 < i → (Has i (interfaces real new core.server) → ⊥) → Has i (interfaces real old core.server) → ⊥
+    not-old i more none m = elim (has-either i (old.links core.server) (map (λ c. 64 + c) (clients_of net core.server)) m) [
+      | inl k ↦ (let low : i ≤ 64 = old-small i k in omega (arith, low, more))
+      | inr k ↦ none (has-right i (new.links core.server) (map (λ c. 64 + c) (clients_of net core.server)) k)
+    ]
+
+    not-given : (i : ℕ) → (Has i (interfaces real new core.server) → ⊥) → (h : HeldLink) → Has h held → h.link ≢ i
+    not-given i none h m e = none (has-left i (new.links core.server) (map (λ c. 64 + c) (clients_of net core.server)) (subst (λ z. Has z (new.links core.server)) e (subst (Has h.link) (links ∙ sym (ap (λ f. f core.server) on.links)) (has-map (λ (h : HeldLink). h.link) h held m))))
+
+    apart : (i : ℕ) → (Has i (interfaces real new core.server) → ⊥) → (subs ledger.control i ≡ []) × (advs ledger.control i ≡ [])
+    apart i none = elim (low-or-high i) [
+      | inl low ↦ (linked.filters.others i low (not-given i none), linked.adverts.others i low (not-given i none))
+      | inr more ↦ (linked.filters.clients i more ∙ is.control.subs_apart i (not-old i more none), linked.adverts.clients i more ∙ is.control.advs_apart i (not-old i more none))
+    ]
+
+    stands : StandsFor new core.server ledger.control (moved core.server)
+    stands = record {
+      adverts = on.adverts ∙ ap by_adverts (sym-semantics ∙ sym suits.semantics);
+      links = ap (λ f. f core.server) on.links ∙ sym links ∙ sym linked.links;
+      subs_held = λ i m. (held-by i m (is_among i (new.links core.server)) refl).0;
+      advs_held = λ i m. (held-by i m (is_among i (new.links core.server)) refl).1;
+      subs_apart = λ i none. (apart i none).0;
+      advs_apart = λ i none. (apart i none).1;
+    }
+      where
+        one : (a b : Semantics) → by_adverts a ≡ by_adverts b → a ≡ b
+        one Subscription Subscription e = refl
+        one Advertisement Advertisement e = refl
+        one Subscription Advertisement e = absurd (unlike e)
+        one Advertisement Subscription e = absurd (unlike (sym e))
+
+        sym-semantics : net.semantics ≡ core.control.semantics
+        sym-semantics = one net.semantics core.control.semantics (sym on.adverts ∙ is.control.adverts)
+
+    abbrev with-control : CoreParts → CoreParts
+    with-control c = record { net = core.net; server = core.server; interfaces = ledger.interfaces; control = ledger.control; published = c.published; staged = []; clients = core.clients; clock = c.clock }
+
+    fresh-moved : (c : CoreParts) → ((i : ℕ) → published_from c i ≡ subs ledger.control i) → IsServerState new (with-control c) (moved core.server)
+    fresh-moved c all = record {
+      among = is.among;
+      control = stands;
+      published = λ i m. (held-by i m (is_among i (new.links core.server)) refl).0 ∙ sym (all i);
+      published_apart = λ i none. all i ∙ (apart i none).0;
+      staged = refl;
+      clients = is.clients;
+      scripts = is.scripts;
+      taken = is.taken;
+      inboxes = is.inboxes;
+    }
+
+    pub server-moved : (c : CoreParts) → IsOnLinks ledger core c → IsServerState new c (moved core.server)
+    server-moved c o = subst (λ z. IsServerState new z (moved core.server)) (sym same) (fresh-moved c o.published)
+      where
+        same : c ≡ with-control c
+        same = λ i. record { net = o.net i; server = o.server i; interfaces = o.interfaces i; control = o.control_is i; published = c.published; staged = o.staged i; clients = o.clients i; clock = c.clock }

@@ -1,0 +1,205 @@
+-- What a turn finds on the lanes, and what it leaves.
+use Rattle.std.proofs.Common.{◌≡◌, ℕ, ◌<◌, ◌≤◌, ◌^◌, List, [], ◌∷◌, ◌++◌, length, map, get_or, Some, slice_get, sym, ap, subst, ◌∙◌, arith}
+use Rattle.std.proofs.lemmas.List.{length-map}
+use Rattle.std.specs.Prelude.{Result, Ok, Err, OnErr}
+use Rattle.std.proofs.lemmas.Option.{same_Some}
+use mathlib.Core.List.{IsPrefix}
+use Rattle.ev_sets.specs.Numbers.{IsDistinct}
+use Rattle.ev_run.specs.Machine.{Input, Does, Takes, Did, Took}
+use Rattle.ev_routing.specs.Server.{Message}
+use Rattle.ev_routing.specs.Step.{Task}
+use Rattle.ev_theory.specs.Real.{real}
+use Rattle.ev_message.specs.Parts.{SendingParts}
+use Rattle.ev_message.specs.Message.{meaning, said}
+use Rattle.ev_message.specs.declared.stamped.StampedLoad.{StampedLoad}
+use Rattle.ev_wire.specs.MessageText.{Each}
+use Rattle.ev_lane.specs.declared.putting.LaneIn.{LaneIn}
+use Rattle.ev_lane.specs.declared.taking.LaneOut.{LaneOut}
+use Rattle.ev_lane.specs.Lane.{put_list, coming_list, spare}
+use Rattle.ev_model.specs.declared.turn.Act.{Act as EntryAct}
+use Rattle.ev_model.specs.Parts.{NetParts, EntryParts, entry_parts}
+use Rattle.ev_model.specs.Meaning.{act_of}
+use Rattle.ev_numserver.specs.Core.{CoreParts}
+use Rattle.ev_numserver.specs.Step.{MakesStep}
+use Rattle.ev_numversions.specs.Ends.{staged, published, IsSamePublisher}
+use Rattle.ev_numnode.specs.declared.held.ServerInHand.{ServerInHand}
+use Rattle.ev_numnode.specs.declared.link.Link.{Link}
+use Rattle.ev_numnode.specs.Acted.{Said}
+use Rattle.ev_numnode.specs.Kept.{IsSomeServer}
+use Rattle.ev_numnode.specs.Links.{Both, AreInOrder, IsSameLink, IsUnmoved, IsRoomed, IsGiven, IsItemTaken, IsMoved, IsFlushed, IsInSight, IsNextAt, AreOfNet, only_from}
+use Rattle.ev_numnode.specs.Cell.{IsServerInHand, IsPublishedBy}
+use Rattle.ev_numnode.specs.Turns.{IsCellTurn, IsStill, IsOfPhase}
+use Rattle.ev_numnode.proofs.Walks.{both-map, both-each, both-comp, each-after}
+use Rattle.ev_numnode.proofs.Hands.{names, tos}
+use Rattle.ev_numnode.proofs.Going.{going-net, going-order}
+use Rattle.ev_numnode.proofs.Places.{both-before, both-behind, read-found, found as found-at}
+use Rattle.ev_numnode.proofs.Moved.{names-same, moved-given, moved-taken, moved-after, few-after}
+
+same-of : (xs ys : List Link) → Both IsUnmoved xs ys → Both IsSameLink xs ys
+same-of xs ys u = both-map IsUnmoved IsSameLink (λ x y r. r.same) xs ys u
+
+-- lists of one number of names are as long
+pub as-long : (xs ys : List Link) → names ys ≡ names xs → length ys ≡ length xs
+as-long xs ys e = sym (length-map ys (λ link. link.neighbour)) ∙ ap length e ∙ length-map xs (λ link. link.neighbour)
+
+module _ (core next : CoreParts) (some : IsSomeServer core) (input : Input Task (Message real)) (taken stamp : ℕ) (sent : List SendingParts) (step : MakesStep input taken core next stamp sent) where
+  pub sends-of : AreOfNet core.net sent
+  sends-of = going-net some.0 some.1 some.2 core next some.3 input sent (step.step some.0 some.2 some.3)
+
+  pub sends-in-order : (links : List Link) → names links ≡ core.control.links → AreInOrder (tos sent) (names links)
+  sends-in-order links e = subst (AreInOrder (tos sent)) (sym e) (going-order some.0 some.1 some.2 core next some.3 input sent (step.step some.0 some.2 some.3))
+
+pub some-apart : (core : CoreParts) → IsSomeServer core → IsDistinct core.control.links
+some-apart core (net, laws, state, stands) = subst IsDistinct stands.control.links (laws.tree.single core.server)
+
+module _ (old : ServerInHand) (held : IsServerInHand old) (links : List Link) (u : Both IsUnmoved old.links.items links) where
+  pub names-left : names links ≡ names old.links.items
+  names-left = names-same old.links.items links (same-of old.links.items links u)
+
+  pub neighbours-left : names links ≡ old.core.control.links
+  neighbours-left = names-left ∙ held.neighbours
+
+  -- there is room on the lanes
+  pub room-left : Each (λ link. length (put_list link.enter) < 2 ^ 63) links
+  room-left = each-after IsUnmoved (λ link. length (put_list link.enter) ≤ old.core.clock) (λ link. length (put_list link.enter) < 2 ^ 63)
+      (λ x y r le. let q : length (put_list y.enter) ≡ length (put_list x.enter) = ap (λ (l : List StampedLoad). length l) r.put in let low = held.low in omega arith) old.links.items links u held.few
+
+  pub distinct-left : IsSomeServer old.core → IsDistinct (names links)
+  distinct-left some = subst IsDistinct (sym neighbours-left) (some-apart old.core some)
+
+  pub long-left : length links ≡ length old.links.items
+  long-left = as-long old.links.items links names-left
+
+  module _ (from : ℕ) (item : StampedLoad) (later : List Link) (t : Both (IsItemTaken from item) links later) where
+    -- what a taking leaves
+    pub spare-taken : Each (λ link. 0 < spare link.enter) links → Each (λ link. 0 < spare link.enter) later
+    spare-taken e = each-after (IsItemTaken from item) (λ link. 0 < spare link.enter) (λ link. 0 < spare link.enter) (λ x y r p. subst (λ (a : LaneIn StampedLoad). 0 < spare a) (sym r.enter) p) links later t e
+
+    pub room-taken : Each (λ link. length (put_list link.enter) < 2 ^ 63) later
+    room-taken = each-after (IsItemTaken from item) (λ link. length (put_list link.enter) < 2 ^ 63) (λ link. length (put_list link.enter) < 2 ^ 63)
+        (λ x y r p. subst (λ (a : LaneIn StampedLoad). length (put_list a) < 2 ^ 63) (sym r.enter) p) links later t room-left
+
+    pub names-taken : names later ≡ names links
+    names-taken = names-same links later (both-map (IsItemTaken from item) IsSameLink (λ x y r. r.same) links later t)
+
+-- what is in hand after a step
+pub held-after : (old new : ServerInHand) (input : Input Task (Message real)) (taken stamp : ℕ) (sent : List SendingParts) (net : NetParts) (moved : ℕ → List Said) → IsServerInHand old → MakesStep input taken old.core new.core stamp sent → stamp < 2 ^ 62
+    → Both (IsMoved net stamp sent moved) old.links.items new.links.items → IsPublishedBy new.publisher new.core → staged new.publisher ≡ published new.publisher ++ new.handed.items → IsServerInHand new
+held-after old new input taken stamp sent net moved held step low links shown handed = record {
+  low = subst (λ z. z < 2 ^ 62) (sym step.clock_is) low;
+  neighbours = names-same old.links.items new.links.items (both-map (IsMoved net stamp sent moved) IsSameLink (λ x y r. r.same) old.links.items new.links.items links) ∙ held.neighbours ∙ sym step.same_links;
+  few = each-after (IsMoved net stamp sent moved) (λ link. length (put_list link.enter) ≤ old.core.clock) (λ link. length (put_list link.enter) ≤ new.core.clock)
+      (λ x y r le. subst (λ z. length (put_list y.enter) ≤ z) (sym step.clock_is) (few-after net stamp old.core.clock sent moved x y more r le)) old.links.items new.links.items links held.few;
+  shown = shown;
+  handed = handed;
+}
+  where
+    more : old.core.clock < stamp
+    more = let e = step.stamp_is in omega arith
+
+-- what is in hand after nothing was done
+pub held-still : (old new : ServerInHand) → IsServerInHand old → new.core ≡ old.core → Both IsUnmoved old.links.items new.links.items → IsPublishedBy new.publisher new.core → staged new.publisher ≡ published new.publisher ++ new.handed.items → IsServerInHand new
+held-still old new held core links shown handed = record {
+  low = subst (λ (z : CoreParts). z.clock < 2 ^ 62) (sym core) held.low;
+  neighbours = names-same old.links.items new.links.items (same-of old.links.items new.links.items links) ∙ held.neighbours ∙ ap (λ (z : CoreParts). z.control.links) (sym core);
+  few = each-after IsUnmoved (λ link. length (put_list link.enter) ≤ old.core.clock) (λ link. length (put_list link.enter) ≤ new.core.clock)
+      (λ x y r le. let q : length (put_list y.enter) ≡ length (put_list x.enter) = ap (λ (l : List StampedLoad). length l) r.put in let c : new.core.clock ≡ old.core.clock = ap (λ (z : CoreParts). z.clock) core in omega arith)
+      old.links.items new.links.items links held.few;
+  shown = shown;
+  handed = handed;
+}
+
+pub still : (old new : ServerInHand) (before after : List EntryParts) → new.core ≡ old.core → Both IsUnmoved old.links.items new.links.items → after ≡ before → IsSamePublisher old.publisher new.publisher → published new.publisher ≡ published old.publisher → IsStill old new before after
+still old new before after core links journal publisher shown = record {
+  core = core;
+  links = links;
+  journal = journal;
+  publisher = publisher;
+  published = shown;
+}
+
+-- a task was made
+pub did : (phase : ℕ) (task : Task) (act : EntryAct) (old new : ServerInHand) (links : List Link) (before after : List EntryParts) (stamp : ℕ) (sent : List SendingParts) → Did task ≡ act_of act → IsOfPhase phase old.core (Does task)
+    → MakesStep (Does task) 0 old.core new.core stamp sent → Both IsUnmoved old.links.items links → Both (IsGiven old.core.net stamp sent) links new.links.items
+    → after ≡ before ++ entry_parts stamp old.core.server act (map (λ s. s.to) sent) ∷ [] → IsSamePublisher old.publisher new.publisher → IsCellTurn phase (Does task) act old new before after
+did phase task act old new links before after stamp sent told due step u g entry publisher = record {
+  told = told;
+  due = due;
+  stamp = stamp;
+  sent = sent;
+  step = step;
+  entry = entry;
+  links = both-comp IsUnmoved (IsGiven old.core.net stamp sent) (IsMoved old.core.net stamp sent (λ n. [])) (moved-given old.core.net stamp sent) old.links.items links new.links.items u g;
+  flushed = both-each (IsGiven old.core.net stamp sent) IsFlushed (λ x y r. r.flushed) links new.links.items g;
+  publisher = publisher;
+}
+
+-- and where it takes one
+pub took-links : (xs ys ws zs : List Link) (from : ℕ) (item : StampedLoad) (net : NetParts) (stamp : ℕ) (sent : List SendingParts) → Both IsUnmoved xs ys → Both (IsItemTaken from item) ys ws → Both (IsGiven net stamp sent) ws zs
+    → Both (IsMoved net stamp sent (only_from from (said net item))) xs zs
+took-links xs ys ws zs from item net stamp sent u t g =
+    both-comp IsUnmoved (IsMoved net stamp sent (only_from from (said net item))) (IsMoved net stamp sent (only_from from (said net item))) (moved-after net stamp sent (only_from from (said net item))) xs ys zs u
+    (both-comp (IsItemTaken from item) (IsGiven net stamp sent) (IsMoved net stamp sent (only_from from (said net item))) (moved-taken net stamp sent from item) ys ws zs t g)
+
+-- a message was taken
+pub took : (phase from : ℕ) (act : EntryAct) (old new : ServerInHand) (links middle : List Link) (item : StampedLoad) (before after : List EntryParts) (stamp : ℕ) (sent : List SendingParts) → Took from ≡ act_of act
+    → MakesStep (Takes from (meaning old.core.net item.load)) item.stamp old.core new.core stamp sent → Both IsUnmoved old.links.items links → Both (IsItemTaken from item) links middle → Both (IsGiven old.core.net stamp sent) middle new.links.items
+    → after ≡ before ++ entry_parts stamp old.core.server act (map (λ s. s.to) sent) ∷ [] → IsSamePublisher old.publisher new.publisher → IsCellTurn phase (Takes from (said old.core.net item)) act old new before after
+took phase from act old new links middle item before after stamp sent told step u t g entry publisher = record {
+  told = told;
+  due = tt;
+  stamp = stamp;
+  sent = sent;
+  step = step;
+  entry = entry;
+  links = took-links old.links.items links middle new.links.items from item old.core.net stamp sent u t g;
+  flushed = both-each (IsGiven old.core.net stamp sent) IsFlushed (λ x y r. r.flushed) middle new.links.items g;
+  publisher = publisher;
+}
+
+-- the link at a place, of which something is in sight and stays so while room is made
+pub record Found (place : ℕ) (xs zs : List Link) (d : Link) : Type 0 where
+  pub link : Link
+  pub found : slice_get xs place ≡ Some link
+  pub name : d.neighbour ≡ link.neighbour
+  pub there : slice_get zs place ≡ Some d
+  pub leave : d.leave ≡ link.leave
+
+pub found-roomed : (place : ℕ) (xs zs : List Link) (d : Link) → place < length xs → Both IsRoomed xs zs → place < length zs → d ≡ get_or zs place d → Found place xs zs d
+found-roomed place xs zs d lt r le e =
+    let x = get_or xs place d in
+    let ex = found-at xs place d lt in
+    let z = both-behind IsRoomed place xs zs x r ex in
+    let same : d ≡ z.0 = read-found zs place d z.0 le e z.1 in
+    record {
+      link = x;
+      found = ex;
+      name = ap (λ (v : Link). v.neighbour) same ∙ z.2.unmoved.same.neighbour;
+      there = z.1 ∙ ap (λ v. Some v) (sym same);
+      leave = ap (λ (v : Link). v.leave) same ∙ z.2.leave;
+    }
+
+-- what is in sight stays so, and what comes next still does
+pub sight-roomed : (place : ℕ) (xs zs : List Link) → Both IsRoomed xs zs → IsInSight place xs → IsInSight place zs
+sight-roomed place xs zs r seen z e =
+    let x = both-before IsRoomed place xs zs z r e in
+    subst (λ (b : LaneOut StampedLoad). 0 < length (coming_list b)) (sym x.2.leave) (seen x.0 x.1)
+
+pub next-before : (place : ℕ) (xs zs : List Link) (item : StampedLoad) → Both IsRoomed xs zs → IsNextAt place item zs → IsNextAt place item xs
+next-before place xs zs item r (z, e, n) =
+    let x = both-before IsRoomed place xs zs z r e in
+    (x.0, x.1, subst (λ (b : LaneOut StampedLoad). IsPrefix (item ∷ []) (coming_list b)) x.2.leave n)
+
+-- one item comes next
+pub one-next : (place : ℕ) (xs : List Link) (a b : StampedLoad) → IsNextAt place a xs → IsNextAt place b xs → a ≡ b
+one-next place xs a b (x, e, (us, p)) (y, f, (ws, q)) =
+    let same : x ≡ y = same_Some x y (sym e ∙ f) in
+    let lists : a ∷ us ≡ b ∷ ws = p ∙ ap (λ (l : Link). coming_list l.leave) same ∙ sym q in cc
+
+pub on_err : {T E P : Type 0} (r : Result T E) → P → OnErr r P
+on_err (Ok x) p = tt
+on_err (Err e) p = p
+
+-- what a step leaves on the lanes, where it takes nothing
+pub did-links : (xs ys zs : List Link) (net : NetParts) (stamp : ℕ) (sent : List SendingParts) → Both IsUnmoved xs ys → Both (IsGiven net stamp sent) ys zs → Both (IsMoved net stamp sent (λ n. [])) xs zs
+did-links xs ys zs net stamp sent u g = both-comp IsUnmoved (IsGiven net stamp sent) (IsMoved net stamp sent (λ n. [])) (moved-given net stamp sent) xs ys zs u g

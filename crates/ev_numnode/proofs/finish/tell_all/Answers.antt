@@ -1,0 +1,15 @@
+use Rattle.std.proofs.Common.{inl, inr, sym, ap, subst, ◌∙◌, slice_get, arith}
+use Rattle.std.proofs.lemmas.Option.{same_Some}
+use Rattle.ev_numnode.specs.Cell.{CellParts, IsKept}
+use Rattle.ev_numnode.proofs.Places.{split, below-found, placed}
+use Rattle.ev_numnode.proofs.finish.tell_all.Goals as goal
+
+pub loop-cell-preserved : goal.loop-cell-preserved
+loop-cell-preserved c = λ k hand lt e. elim (split k c.loop-cell.cell-index lt) [
+  | inl a ↦ c.loop-cell.invariant k hand a e
+  | inr q ↦ (let at = placed c.args.cells.now c.loop-cell.cell-index c.cell-item.result (omega arith) c.cell-item.is in
+      subst (λ (h : CellParts). IsKept h.root.net.value h.root h.journal h.held) (same_Some c.cell-item.result hand (sym at ∙ ap (λ n. slice_get c.args.cells.now n) (sym q) ∙ e)) c.tells.ensures)
+]
+
+pub returns : goal.returns
+returns c = λ k hand e. let lt = below-found k c.args.cells.now hand e in c.loop-cell.invariant k hand (omega arith) e

@@ -1,0 +1,19 @@
+use Rattle.ev_numnode.proofs.Growing.{grown-on}
+use Rattle.std.proofs.Common.{refl, ◌∙◌}
+use Rattle.ev_numnode.proofs.Growing.{grown-same}
+use Rattle.ev_numnode.proofs.finish.walk_rest.Goals as goal
+
+pub returns-in_err-walk_once-clause-grown : goal.returns-in_err-walk_once-clause-grown
+returns-in_err-walk_once-clause-grown g c = grown-on c.args.cells.now c.loop.cells c.walk_once.new.cells c.loop.invariant.grown c.walk_once.ensures.grown
+
+pub returns-then-not-branch-clause-grown : goal.returns-then-not-branch-clause-grown
+returns-then-not-branch-clause-grown g c = grown-on c.args.cells.now c.loop.cells c.walk_once.new.cells c.loop.invariant.grown c.walk_once.ensures.grown
+
+pub loop-init : goal.loop-init
+loop-init g c = record { roots = refl; grown = grown-same c.args.cells.now }
+
+pub loop-preserved : goal.loop-preserved
+loop-preserved g c = record {
+  roots = c.walk_once.ensures.roots ∙ c.loop.invariant.roots;
+  grown = grown-on c.args.cells.now c.loop.cells c.walk_once.new.cells c.loop.invariant.grown c.walk_once.ensures.grown;
+}

@@ -1,0 +1,16 @@
+pub mod Acted
+pub mod Kept
+pub mod Links
+pub mod Cell
+pub mod Turns
+pub mod Versions
+pub mod Asked
+pub mod Looking
+pub mod Ahead
+pub mod Lanes
+pub mod Together
+pub mod Entered
+pub mod Coming
+pub mod Started
+pub mod Relinking
+pub mod InHand

@@ -1,0 +1,248 @@
+//! The rest of a phase, with the cells of all servers in hand.
+ghost use Rattle.std.specs.Prelude.{◌≡◌, ◌<◌, ℕ, false, length, OnOk, IfOk, IsErrOf, Some, slice_get};
+ghost use Rattle.ev_run.specs.Journals.{Cell as Begun};
+ghost use Rattle.ev_message.specs.declared.stamped.StampedLoad.{StampedLoad as ItemParts};
+ghost use Rattle.ev_model.specs.Parts.{NetParts};
+ghost use Rattle.ev_numnode.specs.declared.held.Root.{Root as RootParts};
+ghost use Rattle.ev_numnode.specs.Cell.{CellParts, IsKept, machine_in};
+ghost use Rattle.ev_numnode.specs.Links.{At, IsNextAt, IsOneLane, IsSettledLane};
+ghost use Rattle.ev_numnode.specs.Together.{AreTogether, AreBegun, AreDone, HaveGrown, IsCellDone, IsFinished, IsLaneOf, IsTakenUp, IsWornSomewhere};
+ghost use Rattle.ev_numnode.specs.Together.{root_links, cell_roots, sights};
+ghost use Rattle.ev_numnode.specs.InHand.{AreAllInHand, AreTakenInOrder, IsTakenInOrder};
+
+use crate::cell::Cell;
+use crate::settling::settle_two;
+use ev_memory::NoMemory;
+use ev_numserver::StepFault;
+use std::sync::Wait;
+
+/// Brings all that was put on a lane, and not taken, to its taking end.
+fn settle_at(
+    cells: &mut [Cell<'_>],
+    giver: usize,
+    to: usize,
+    taker: usize,
+    from: usize,
+) -> Result<(), NoMemory>
+    requires giver { giver < length cells.old }
+    requires taker { taker < length cells.old }
+    requires apart { giver ≡ taker → ⊥ }
+    requires lane { (a b : CellParts) → slice_get cells.old giver ≡ Some a → slice_get cells.old taker ≡ Some b
+        → At IsOneLane to (root_links a.root) from (root_links b.root) }
+    ensures sights { sights cells.new ≡ sights cells.old }
+    ensures settled { OnOk result ((a b : CellParts) × (slice_get cells.new giver ≡ Some a) × (slice_get cells.new taker ≡ Some b)
+        × At IsSettledLane to a.held.links.items from b.held.links.items) }
+    ensures next { (b : CellParts) (item : ItemParts) → slice_get cells.old taker ≡ Some b → IsNextAt from item b.held.links.items
+        → (c : CellParts) × (slice_get cells.new taker ≡ Some c) × IsNextAt from item c.held.links.items }
+{
+    settle_two(cells, giver, to, taker, from)
+}
+
+/// Where the lane to a server from one of its neighbours comes from: the place of that neighbour's cell, and the place of
+/// its link to the server.
+fn giver_of(cells: &[Cell<'_>], taker: usize, from: usize) -> (usize, usize)
+    requires taker { taker < length cells.now }
+    requires from { (b : RootParts) → slice_get (cell_roots cells.now) taker ≡ Some b → from < length (root_links b) }
+    requires together { (net : NetParts) × (phase : ℕ) × AreTogether net phase (cell_roots cells.now) }
+    ensures { IsLaneOf cells.now result.0 result.1 taker from }
+{
+    let mine = &cells[taker];
+    mine.tells();
+    let giver = mine.neighbour(from) as usize - 1;
+    let theirs = &cells[giver];
+    theirs.tells();
+    let Some(to) = theirs.place_of(mine.number()) else {
+        unreachable!()
+    };
+    (giver, to)
+}
+
+/// Takes the next item from a neighbour, after all that it put was brought here; answers whether there was one.
+fn take_settled<R: Wait>(
+    rt: &R,
+    cells: &mut [Cell<'_>],
+    taker: usize,
+    from: usize,
+) -> Result<bool, StepFault>
+    requires taker { taker < length cells.old }
+    requires from { (b : RootParts) → slice_get (cell_roots cells.old) taker ≡ Some b → from < length (root_links b) }
+    requires together { (net : NetParts) × (phase : ℕ) × AreTogether net phase (cell_roots cells.old) }
+    ensures roots { cell_roots cells.new ≡ cell_roots cells.old }
+    ensures grown { HaveGrown cells.old cells.new }
+    ensures idle { IfOk result (λ made. made ≡ false → (sights cells.new ≡ sights cells.old) × IsTakenUp (sights cells.new) taker from) }
+    ensures worn { (s : ℕ) → IsErrOf result (StepFault.StampsExhausted s) → IsWornSomewhere s (sights cells.new) }
+{
+    let (giver, to) = giver_of(cells, taker, from);
+    settle_at(cells, giver, to, taker, from)?;
+    cells[giver].tells();
+    cells[taker].tells();
+    match cells[taker].take_from_place(rt, from) {
+        Err(StepFault::StampsExhausted(stamp)) => {
+            settle_at(cells, giver, to, taker, from)?;
+            cells[giver].tells();
+            Err(StepFault::StampsExhausted(stamp))
+        }
+        answer => answer,
+    }
+}
+
+/// Takes from each neighbour once, where there is something; answers whether there was.
+fn walk_links<R: Wait>(rt: &R, cells: &mut [Cell<'_>], k: usize) -> Result<bool, StepFault>
+    requires k { k < length cells.old }
+    requires together { (net : NetParts) × (phase : ℕ) × AreTogether net phase (cell_roots cells.old) }
+    ensures roots { cell_roots cells.new ≡ cell_roots cells.old }
+    ensures grown { HaveGrown cells.old cells.new }
+    ensures idle { IfOk result (λ made. made ≡ false → (sights cells.new ≡ sights cells.old)
+        × ((p : ℕ) → IsTakenUp (sights cells.new) k p)) }
+    ensures worn { (s : ℕ) → IsErrOf result (StepFault.StampsExhausted s) → IsWornSomewhere s (sights cells.new) }
+{
+    let mut made = false;
+    let mine = &cells[k];
+    mine.tells();
+    for from in 0..mine.neighbours() {
+        if take_settled(rt, cells, k, from)? {
+            made = true;
+        }
+    }
+    Ok(made)
+}
+
+/// Tries each turn of one server once; answers whether one was made.
+fn walk_cell<R: Wait>(rt: &R, cells: &mut [Cell<'_>], k: usize) -> Result<bool, StepFault>
+    requires k { k < length cells.old }
+    requires together { (net : NetParts) × (phase : ℕ) × AreTogether net phase (cell_roots cells.old) }
+    ensures roots { cell_roots cells.new ≡ cell_roots cells.old }
+    ensures grown { HaveGrown cells.old cells.new }
+    ensures idle { IfOk result (λ made. made ≡ false → (sights cells.new ≡ sights cells.old) × IsCellDone (sights cells.new) k) }
+    ensures worn { (s : ℕ) → IsErrOf result (StepFault.StampsExhausted s) → IsWornSomewhere s (sights cells.new) }
+{
+    let took = walk_links(rt, cells, k)?;
+    let did = cells[k].walk_tasks(rt)?;
+    Ok(took || did)
+}
+
+/// Tries each turn of each server once; answers whether one was made.
+fn walk_once<R: Wait>(rt: &R, cells: &mut [Cell<'_>]) -> Result<bool, StepFault>
+    requires { (net : NetParts) × (phase : ℕ) × AreTogether net phase (cell_roots cells.old) }
+    ensures roots { cell_roots cells.new ≡ cell_roots cells.old }
+    ensures grown { HaveGrown cells.old cells.new }
+    ensures idle { IfOk result (λ made. made ≡ false → AreDone (sights cells.new)) }
+    ensures worn { (s : ℕ) → IsErrOf result (StepFault.StampsExhausted s) → IsWornSomewhere s (sights cells.new) }
+{
+    let mut made = false;
+    for k in 0..cells.len() {
+        if walk_cell(rt, cells, k)? {
+            made = true;
+        }
+    }
+    Ok(made)
+}
+
+/// Makes rounds until one makes nothing.
+fn walk_rest<R: Wait>(rt: &R, cells: &mut [Cell<'_>]) -> Result<(), StepFault>
+    requires { (net : NetParts) × (phase : ℕ) × AreTogether net phase (cell_roots cells.old) }
+    ensures roots { cell_roots cells.new ≡ cell_roots cells.old }
+    ensures grown { HaveGrown cells.old cells.new }
+    ensures done { OnOk result (AreDone (sights cells.new)) }
+    ensures worn { (s : ℕ) → IsErrOf result (StepFault.StampsExhausted s) → IsWornSomewhere s (sights cells.new) }
+{
+    for _ in rt.forever() {
+        if !walk_once(rt, cells)? {
+            return Ok(());
+        }
+    }
+    unreachable!()
+}
+
+/// Takes the commands of the phase that are left, server by server.
+fn walk_commands(cells: &mut [Cell<'_>]) -> Result<(), StepFault>
+    ensures roots { cell_roots cells.new ≡ cell_roots cells.old }
+    ensures grown { HaveGrown cells.old cells.new }
+    ensures worn { (s : ℕ) → IsErrOf result (StepFault.StampsExhausted s) → IsWornSomewhere s (sights cells.new) }
+{
+    for k in 0..cells.len() {
+        cells[k].take_commands()?;
+    }
+    Ok(())
+}
+
+/// Each cell keeps what its type says.
+pub(crate) fn tell_all(cells: &[Cell<'_>])
+    ensures { (k : ℕ) (cell : CellParts) → slice_get cells.now k ≡ Some cell → IsKept cell.root.net.value cell.root cell.journal cell.held }
+{
+    for cell in cells {
+        cell.tells();
+    }
+}
+
+/// Brings all that was put for one server, and not taken, to its taking ends.
+fn settle_one(cells: &mut [Cell<'_>], k: usize) -> Result<(), NoMemory>
+    requires k { k < length cells.old }
+    requires together { (net : NetParts) × (phase : ℕ) × AreTogether net phase (cell_roots cells.old) }
+    ensures sights { sights cells.new ≡ sights cells.old }
+    ensures order { OnOk result ((p : ℕ) → IsTakenInOrder (sights cells.new) k p) }
+{
+    let mine = &cells[k];
+    mine.tells();
+    for from in 0..mine.neighbours() {
+        let (giver, to) = giver_of(cells, k, from);
+        settle_at(cells, giver, to, k, from)?;
+        cells[giver].tells();
+        cells[k].tells();
+    }
+    Ok(())
+}
+
+/// Brings all that was put, and not taken, to the taking ends of all lanes. Then what each server took of a neighbour is
+/// the beginning of what that put for it.
+fn settle_all(cells: &mut [Cell<'_>]) -> Result<(), NoMemory>
+    requires { (net : NetParts) × (phase : ℕ) × AreTogether net phase (cell_roots cells.old) }
+    ensures sights { sights cells.new ≡ sights cells.old }
+    ensures order { OnOk result (AreTakenInOrder (sights cells.new)) }
+{
+    for k in 0..cells.len() {
+        settle_one(cells, k)?;
+    }
+    Ok(())
+}
+
+/// Makes the rest of the phase, up to a fault.
+fn walk_phase<R: Wait>(rt: &R, cells: &mut [Cell<'_>]) -> Result<(), StepFault>
+    requires together { (net : NetParts) × (phase : ℕ) × AreTogether net phase (cell_roots cells.old) }
+    ensures roots { cell_roots cells.new ≡ cell_roots cells.old }
+    ensures grown { HaveGrown cells.old cells.new }
+    ensures done { OnOk result (AreDone (sights cells.new)) }
+    ensures finished { OnOk result ((net : NetParts) (phase : ℕ) → AreTogether net phase (cell_roots cells.old)
+        → (begun : ℕ → Begun (machine_in net phase)) → AreBegun net phase cells.new begun → IsFinished net phase cells.new begun) }
+    ensures worn { (s : ℕ) → IsErrOf result (StepFault.StampsExhausted s) → IsWornSomewhere s (sights cells.new) }
+{
+    walk_commands(cells)?;
+    walk_rest(rt, cells)?;
+    tell_all(cells);
+    Ok(())
+}
+
+/// Makes the rest of the phase: all commands that are left, server by server, and then rounds, in which each server takes
+/// from each neighbour and publishes what is staged, until one makes nothing. Then all lanes are empty, nothing is staged,
+/// and no command of the phase is left. Each journal goes on. After a fault the steps that were made stand; where no stamp is left, all that was put is
+/// brought to the taking ends, so that all cells are in hand.
+pub fn finish_phase<R: Wait>(rt: &R, cells: &mut [Cell<'_>]) -> Result<(), StepFault>
+    requires together { (net : NetParts) × (phase : ℕ) × AreTogether net phase (cell_roots cells.old) }
+    ensures roots { cell_roots cells.new ≡ cell_roots cells.old }
+    ensures grown { HaveGrown cells.old cells.new }
+    ensures done { OnOk result (AreDone (sights cells.new)) }
+    ensures finished { OnOk result ((net : NetParts) (phase : ℕ) → AreTogether net phase (cell_roots cells.old)
+        → (begun : ℕ → Begun (machine_in net phase)) → AreBegun net phase cells.new begun → IsFinished net phase cells.new begun) }
+    ensures worn { (s : ℕ) → IsErrOf result (StepFault.StampsExhausted s) → IsWornSomewhere s (sights cells.new) }
+    ensures hand { (s : ℕ) → IsErrOf result (StepFault.StampsExhausted s) → (net : NetParts) (phase : ℕ) → AreTogether net phase (cell_roots cells.old)
+        → (begun : ℕ → Begun (machine_in net phase)) → AreBegun net phase cells.new begun → AreAllInHand net phase cells.new begun }
+{
+    match walk_phase(rt, cells) {
+        Err(StepFault::StampsExhausted(stamp)) => {
+            settle_all(cells)?;
+            tell_all(cells);
+            Err(StepFault::StampsExhausted(stamp))
+        }
+        answer => answer,
+    }
+}

@@ -1,0 +1,119 @@
+//! The lanes of one server.
+ghost use Rattle.std.specs.Prelude.{◌≡◌, ◌<◌, ◌≤◌, ◌^◌, [], ℕ, OnOk, IfSome, IfNone, length, map};
+ghost use Rattle.ev_lane.specs.Lane.{put_list, spare};
+ghost use Rattle.ev_sets.specs.Numbers.{IsDistinct};
+ghost use Rattle.ev_message.specs.declared.stamped.StampedLoad.{StampedLoad as ItemParts};
+ghost use Rattle.ev_model.specs.Parts.{NetParts};
+ghost use Rattle.ev_wire.specs.MessageText.{Each};
+ghost use Rattle.ev_numnode.specs.Links.{Both, At, IsNeighbour, IsNextAt, IsOneLane, IsUnmoved, IsSettledLane, IsRoomed, IsGiven, AreInOrder, AreOfNet};
+
+use ev_lane::{LaneIn, LaneOut, settle};
+use ev_memory::NoMemory;
+use ev_message::{Sending, StampedLoad};
+
+/// The lanes to and from a neighbour.
+#[derive(Drop)]
+pub struct Link {
+    pub(crate) neighbour: u32,
+    pub(crate) enter: LaneIn<StampedLoad>,
+    pub(crate) leave: LaneOut<StampedLoad>,
+}
+
+impl Link {
+    ghost use Rattle.std.specs.Prelude.{◌≡◌, ◌<◌, ◌^◌, length, OnOk};
+    ghost use Rattle.ev_lane.specs.Lane.{put_list, spare};
+    ghost use Rattle.ev_model.specs.Parts.{NetParts};
+    ghost use Rattle.ev_numnode.specs.Links.{AreOfNet, IsRoomed, IsPut, IsHanded, first_for, rest_for};
+
+    /// Makes room for one item.
+    fn room(&mut self) -> Result<(), NoMemory>
+        ensures roomed { IsRoomed self.old self.new }
+        ensures room { OnOk result (0 < spare self.new.enter) }
+    {
+        self.enter.room(1)
+    }
+
+    /// Puts the first of what is sent, if it is for this neighbour.
+    fn put_first(&mut self, sent: &mut Vec<Sending<'_>>, stamp: u64)
+        requires room { 0 < spare self.old.enter }
+        requires few { length (put_list self.old.enter) < 2 ^ 63 }
+        requires low { stamp < 2 ^ 62 }
+        ensures put { (net : NetParts) → AreOfNet net sent.old.items → IsPut net stamp (first_for self.old.neighbour sent.old.items) self.old self.new }
+        ensures rest { sent.new.items ≡ rest_for self.old.neighbour sent.old.items }
+    {
+        if sent.is_empty() || sent[0].to != self.neighbour {
+            return;
+        }
+        let Sending { to: _, message } = sent.remove(0);
+        self.enter.put(StampedLoad::of(stamp, message.into_load()));
+    }
+
+    /// Puts the first of what is sent, if it is for this neighbour, and flushes.
+    fn hand(&mut self, sent: &mut Vec<Sending<'_>>, stamp: u64)
+        requires room { 0 < spare self.old.enter }
+        requires few { length (put_list self.old.enter) < 2 ^ 63 }
+        requires low { stamp < 2 ^ 62 }
+        ensures handed { (net : NetParts) → AreOfNet net sent.old.items → IsHanded net stamp (first_for self.old.neighbour sent.old.items) self.old self.new }
+        ensures rest { sent.new.items ≡ rest_for self.old.neighbour sent.old.items }
+    {
+        self.put_first(sent, stamp);
+        self.enter.flush();
+    }
+}
+
+/// Makes room for one item on each lane.
+pub(crate) fn room_all(links: &mut [Link]) -> Result<(), NoMemory>
+    ensures roomed { Both IsRoomed links.old links.new }
+    ensures room { OnOk result (Each (λ link. 0 < spare link.enter) links.new) }
+{
+    for link in links.iter_mut() {
+        link.room()?;
+    }
+    Ok(())
+}
+
+/// Puts what is sent on its lanes, and flushes all.
+pub(crate) fn hand_all(links: &mut [Link], mut sent: Vec<Sending<'_>>, stamp: u64)
+    requires room { Each (λ link. 0 < spare link.enter) links.old }
+    requires few { Each (λ link. length (put_list link.enter) < 2 ^ 63) links.old }
+    requires low { stamp < 2 ^ 62 }
+    requires distinct { IsDistinct (map (λ link. link.neighbour) links.old) }
+    requires order { AreInOrder (map (λ s. s.to) sent.items) (map (λ link. link.neighbour) links.old) }
+    requires net { (net : NetParts) × AreOfNet net sent.items }
+    ensures { (net : NetParts) → AreOfNet net sent.entry.items → Both (IsGiven net stamp sent.entry.items) links.old links.new }
+{
+    for link in links.iter_mut() {
+        link.hand(&mut sent, stamp);
+    }
+}
+
+/// Brings all that was put on a lane, and not taken, to its taking end. The giver's lane at a place and the taker's are one.
+pub(crate) fn settle_links(
+    giver: &mut Vec<Link>,
+    to: usize,
+    taker: &mut Vec<Link>,
+    from: usize,
+) -> Result<(), NoMemory>
+    requires to { to < length giver.old.items }
+    requires from { from < length taker.old.items }
+    requires lane { At IsOneLane to giver.old.items from taker.old.items }
+    ensures giver { Both IsUnmoved giver.old.items giver.new.items }
+    ensures taker { Both IsUnmoved taker.old.items taker.new.items }
+    ensures settled { OnOk result (At IsSettledLane to giver.new.items from taker.new.items) }
+    ensures next { (item : ItemParts) → IsNextAt from item taker.old.items → IsNextAt from item taker.new.items }
+{
+    settle(&mut giver[to].enter, &mut taker[from].leave)
+}
+
+/// The place of a neighbour.
+pub(crate) fn place_in(links: &[Link], neighbour: u32) -> Option<usize>
+    ensures some { IfSome result (λ place. IsNeighbour place neighbour links.now) }
+    ensures none { IfNone result ((place : ℕ) → IsNeighbour place neighbour links.now → ⊥) }
+{
+    for place in 0..links.len() {
+        if links[place].neighbour == neighbour {
+            return Some(place);
+        }
+    }
+    None
+}

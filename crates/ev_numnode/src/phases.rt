@@ -1,0 +1,53 @@
+//! Phases of a net, and what is left of them at a server.
+ghost use Rattle.std.specs.Prelude.{◌≡◌, ◌↔◌, ◌≤◌, ◌+◌, length, IsTrue};
+ghost use Rattle.ev_sets.specs.Sets.{Has};
+ghost use Rattle.ev_phases.specs.Trees.{trees_by};
+ghost use Rattle.ev_model.specs.Nets.{clients_of, later_trees};
+ghost use Rattle.ev_model.specs.Sound.{IsSound};
+ghost use Rattle.ev_numserver.specs.Clients.{client_numbers};
+ghost use Rattle.ev_numnode.specs.Kept.{IsSomeServer};
+ghost use Rattle.ev_numnode.specs.Cell.{HasNoneBelow, IsPast};
+
+use ev_model::Net;
+use ev_numserver::Core;
+
+/// How many of the later trees have come by a phase.
+pub(crate) fn trees_come(net: &Net, phase: u32) -> usize
+    requires { IsSound net.now }
+    ensures { result ≡ trees_by (later_trees net.now.trees) phase }
+{
+    let later = &net.trees[1..];
+    for (i, tree) in later.iter().enumerate() {
+        if tree.0 > phase {
+            return i;
+        }
+    }
+    later.len()
+}
+
+/// Whether the next command of a client that lives here is of this phase or a later one, or there is none.
+fn is_past(core: &Core<'_>, client: u32, phase: u32) -> bool
+    requires lives { Has client (client_numbers core.now.clients) }
+    requires stands { IsSomeServer core.now }
+    ensures { IsTrue result ↔ IsPast phase client core.now.clients }
+{
+    match core.session(client).next() {
+        Some((own, _)) => own >= phase,
+        None => true,
+    }
+}
+
+/// Whether no client of a server has a command of a phase below this one left.
+pub(crate) fn is_through(core: &Core<'_>, net: &Net, server: u32, phase: u32) -> bool
+    requires stands { IsSomeServer core.now }
+    requires sound { IsSound net.now }
+    requires clients { clients_of net.now server ≡ client_numbers core.now.clients }
+    ensures { IsTrue result ↔ HasNoneBelow phase core.now.clients }
+{
+    for place in 0..net.clients.len() {
+        if net.clients[place].home == server && !is_past(core, place as u32 + 1, phase) {
+            return false;
+        }
+    }
+    true
+}
