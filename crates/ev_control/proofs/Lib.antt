@@ -1,13 +1,7 @@
 pub mod Holdings
-pub mod Stocks
 pub mod Taken
 pub mod Named
 pub mod Telling
-pub mod Changed
-pub mod Whole
-pub mod Counts
 pub mod Routed
 pub mod Relinking
-pub mod Sought
-pub mod Quiet
-pub mod Unwanted
+pub mod Places

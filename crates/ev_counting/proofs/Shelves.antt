@@ -1,22 +1,20 @@
 -- What a change of one shelf does to the uses of all.
-use Rattle.std.proofs.Common.{◌≡◌, ◌+◌, ◌&&◌, ◌∙◌, ℕ, Bool, true, false, cond, refl, sym, ap, subst, arith, List, [], ◌∷◌, Some, None}
+use Rattle.std.proofs.Common.{◌≡◌, ◌+◌, ◌∙◌, ℕ, Bool, true, false, cond, refl, sym, ap, subst, arith, List, [], ◌∷◌, Some, None}
 use Rattle.std.specs.Prelude.{Vec}
 use Rattle.std.specs.declared.alloc.Global.{Global}
 use Rattle.std.specs.List.{IsDistinct, AllByRecursion}
-use Rattle.std.specs.Map.{lookup, set_value, remove_entry, keys_of}
+use Rattle.std.specs.Map.{lookup, set_value, keys_of}
 use Rattle.std.specs.BTreeMap.{insert_entry}
 use Rattle.std.specs.Ordering.{is_eq}
 use Rattle.ev_constraint.specs.Constraint.{ConstraintParts}
-use Rattle.ev_index.specs.Pairs.{tally, Same, Pair, IsIn, test_of}
+use Rattle.ev_index.specs.Pairs.{tally, Same, Pair, test_of}
 use Rattle.ev_index.specs.Groups.{spread}
 use Rattle.ev_index.proofs.Tallies.{tally-append, tally-none}
-use Rattle.ev_index.proofs.Groups.{spread-insert, spread-set, spread-remove, spread-absent}
-use Rattle.ev_index.proofs.Rows.{tally-in}
+use Rattle.ev_index.proofs.Groups.{spread-insert, spread-set, spread-absent}
 use Rattle.ev_textindex.specs.Keys.{same_bytes, at_key, key_cmp}
-use Rattle.ev_textindex.proofs.Keys.{same-one, same-same, same-self}
+use Rattle.ev_textindex.proofs.Keys.{same-one, same-same}
 use Rattle.ev_counting.specs.Index.{Use}
 use Rattle.ev_counting.specs.Shelves.{constraint_of, named, uses_of}
-use Rattle.ev_counting.proofs.Same.{is_use, use-tells, use-itself, in-tally}
 
 module _ {K X P : Type 0} (part : K → X → List P) (p : P → Bool) (t : K → Bool) (none : (q : K) (x : X) → t q ≡ false → tally p (part q x) ≡ 0) where
   rest-absent : (eq : K → K → Bool) (a : K) (es : List (K × X)) → ((b : K) → eq a b ≡ t b) → AllByRecursion (λ b. eq a b ≡ false) (keys_of es) → tally p (spread part es) ≡ 0
@@ -54,20 +52,11 @@ set name p old new es fs h f = omega (arith, ap {B = ℕ} (λ (xs : List (Vec �
 pub shelf-more : (name : List ℕ) (c : ConstraintParts) (id : ℕ) (old new : List Pair) (es fs : List (Vec ℕ Global × List Pair)) → name ≡ c.name → lookup (at_key name) es ≡ Some old → fs ≡ set_value (at_key name) es new → Same new ((test_of c, id) ∷ old) → Same (uses_of fs) ((c, id) ∷ uses_of es)
 shelf-more name c id old new es fs n h f s = λ p. omega (arith, set name p old new es fs h f, s (λ x. p (constraint_of name x.0, x.1)), ap {B = ℕ} (λ (m : List ℕ). cond (p (constraint_of m (test_of c), id)) 1 0) n)
 
-pub shelf-less : (name : List ℕ) (c : ConstraintParts) (id : ℕ) (old new : List Pair) (es fs : List (Vec ℕ Global × List Pair)) → name ≡ c.name → lookup (at_key name) es ≡ Some old → fs ≡ set_value (at_key name) es new → Same old ((test_of c, id) ∷ new) → Same (uses_of es) ((c, id) ∷ uses_of fs)
-shelf-less name c id old new es fs n h f s = λ p. omega (arith, set name p old new es fs h f, s (λ x. p (constraint_of name x.0, x.1)), ap {B = ℕ} (λ (m : List ℕ). cond (p (constraint_of m (test_of c), id)) 1 0) n)
-
-pub shelf-same : (name : List ℕ) (old new : List Pair) (es fs : List (Vec ℕ Global × List Pair)) → lookup (at_key name) es ≡ Some old → fs ≡ set_value (at_key name) es new → new ≡ old → Same (uses_of fs) (uses_of es)
-shelf-same name old new es fs h f s = λ p. omega (arith, set name p old new es fs h f, ap (count name p) s)
-
 pub shelf-new : (name : List ℕ) (c : ConstraintParts) (id : ℕ) (key : Vec ℕ Global) (new : List Pair) (es fs : List (Vec ℕ Global × List Pair)) → name ≡ c.name → key.items ≡ name → lookup (at_key name) es ≡ None → fs ≡ insert_entry key_cmp es key new → Same new ((test_of c, id) ∷ []) → Same (uses_of fs) ((c, id) ∷ uses_of es)
 shelf-new name c id key new es fs n k h f s = λ p.
     let absent = subst (λ (u : List ℕ). lookup (at_key u) es ≡ None) (sym k) h in
     let e = tally-named p key.items new ∙ ap {B = ℕ} (λ (m : List ℕ). count m p new) (k ∙ n) in
     omega (arith, ap {B = ℕ} (λ (xs : List (Vec ℕ Global × List Pair)). tally p (uses_of xs)) f, spread-insert shelf p key_cmp key new es absent, e, s (λ x. p (constraint_of c.name x.0, x.1)))
-
-pub shelf-gone : (name : List ℕ) (old : List Pair) (es fs : List (Vec ℕ Global × List Pair)) → lookup (at_key name) es ≡ Some old → old ≡ [] → fs ≡ remove_entry (at_key name) es → Same (uses_of fs) (uses_of es)
-shelf-gone name old es fs h e f = λ p. omega (arith, ap {B = ℕ} (λ (xs : List (Vec ℕ Global × List Pair)). tally p (uses_of xs)) f, spread-remove shelf p (at_key name) (count name p) old es (of-shelf name p) h, ap (count name p) e)
 
 -- what passes is of this name
 abbrev pub AreNamed : List ℕ → (Use → Bool) → Type 0
@@ -82,33 +71,3 @@ shelf-only name p pairs es none distinct h = spread-only shelf p (at_key name) (
 
 pub shelf-none : (name : List ℕ) (p : Use → Bool) (es : List (Vec ℕ Global × List Pair)) → AreNamed name p → lookup (at_key name) es ≡ None → tally p (uses_of es) ≡ 0
 shelf-none name p es none h = spread-absent shelf p (at_key name) es (others name p none) h
-
--- the use, and its name
-abbrev is_named : Use → Use → Bool
-is_named x u = same_bytes x.0.name u.0.name && is_use x u
-
-not-named : (x u : Use) → same_bytes x.0.name u.0.name ≡ false → is_named x u ≡ false
-not-named x u h = ap (λ b. b && is_use x u) h
-
-named-tells : (x u : Use) → is_named x u ≡ true → x ≡ u
-named-tells x u h = go (same_bytes x.0.name u.0.name) h
-  where
-    go : (b : Bool) → (b && is_use x u) ≡ true → x ≡ u
-    go true g = use-tells x u g
-    go false g = cc
-
-named-itself : (x : Use) → is_named x x ≡ true
-named-itself x = ap (λ b. b && is_use x x) (same-self x.0.name) ∙ use-itself x
-
--- a use stands on the shelf of its name
-pub in-shelf : (name : List ℕ) (c : ConstraintParts) (id : ℕ) (pairs : List Pair) (es : List (Vec ℕ Global × List Pair)) → name ≡ c.name → IsDistinct (λ a b. is_eq (key_cmp a b)) (keys_of es) → lookup (at_key name) es ≡ Some pairs → IsIn (c, id) (uses_of es) → IsIn (test_of c, id) pairs
-in-shelf name c id pairs es n distinct h m =
-    let here = subst (λ (u : List ℕ). lookup (at_key u) es ≡ Some pairs) n h in
-    let one = tally-in (is_named (c, id)) (c, id) (uses_of es) (named-itself (c, id)) m in
-    let only = shelf-only c.name (is_named (c, id)) pairs es (not-named (c, id)) distinct here in
-    in-tally (λ (x : Pair). is_named (c, id) (constraint_of c.name x.0, x.1)) (test_of c, id) pairs (λ x e. ap {B = Pair} (λ (u : Use). (test_of u.0, u.1)) (named-tells (c, id) (constraint_of c.name x.0, x.1) e)) (omega (arith, one, only))
-
-pub in-no-shelf : (name : List ℕ) (c : ConstraintParts) (id : ℕ) (es : List (Vec ℕ Global × List Pair)) → name ≡ c.name → lookup (at_key name) es ≡ None → IsIn (c, id) (uses_of es) → ⊥
-in-no-shelf name c id es n h m =
-    let none = subst (λ (u : List ℕ). lookup (at_key u) es ≡ None) n h in
-    omega (arith, tally-in (is_named (c, id)) (c, id) (uses_of es) (named-itself (c, id)) m, shelf-none c.name (is_named (c, id)) es (not-named (c, id)) none)

@@ -1,24 +1,5 @@
-//! The forwarding table of a server: which interfaces have a filter that a notice matches.
+//! Counting as a way to match (Carzaniga and Wolf, 'Forwarding in a content-based network', 2003): the constraints of all filters,
+//! each with the number of its filter; a filter matches where each of its constraints is satisfied.
+//!
+//! Layer: matching. Definitions and lemmas alone; `ev_matcher` counts, `ev_forwarding` routes.
 #![tactic(auto)]
-
-mod change;
-mod count;
-mod counters;
-mod entry;
-mod goal;
-mod index;
-mod interfaces;
-pub mod law;
-mod pairs;
-mod places;
-mod route;
-mod scratch;
-mod shelf;
-mod slots;
-mod table;
-mod together;
-
-pub use change::Change;
-pub use route::Route;
-pub use scratch::Scratch;
-pub use table::Table;

@@ -20,17 +20,17 @@ use Rattle.ev_model.specs.Sound.{IsSound}
 use Rattle.ev_model.proofs.SoundNets.{net-laws, phases-low}
 use Rattle.ev_merge.specs.Merging.{IsMergeOf}
 use Rattle.ev_merge.proofs.Runs.{one-merge}
-use Rattle.ev_server.specs.Core.{CoreParts, IsServerState}
-use Rattle.ev_server.specs.Staged.{is_some_there}
+use Rattle.ev_numserver.specs.Core.{CoreParts, IsServerState}
+use Rattle.ev_numserver.specs.Staged.{is_some_there}
 use Rattle.ev_turns.specs.Network.{moment_by}
-use Rattle.ev_net.specs.Kept.{AreServers}
+use Rattle.ev_numnet.specs.Kept.{AreServers}
 use Rattle.ev_turns.proofs.Among.{server_low}
-use Rattle.ev_node.specs.Cell.{CellParts, HasNoneBelow}
-use Rattle.ev_node.specs.Coming.{HaveCommand}
-use Rattle.ev_node.specs.Entered.{AreThrough, AreCalm, state_of}
-use Rattle.ev_node.specs.Together.{AreTogether, cell_roots}
-use Rattle.ev_node.proofs.Gathered.{map-found, found-map, found-within}
-use Rattle.ev_node.proofs.Due.{session-of, script-of, done-of, map-get}
+use Rattle.ev_numnode.specs.Cell.{CellParts, HasNoneBelow}
+use Rattle.ev_numnode.specs.Coming.{HaveCommand}
+use Rattle.ev_numnode.specs.Entered.{AreThrough, AreCalm, state_of}
+use Rattle.ev_numnode.specs.Together.{AreTogether, cell_roots}
+use Rattle.ev_numnode.proofs.Gathered.{map-found, found-map, found-within}
+use Rattle.ev_numnode.proofs.Due.{session-of, script-of, done-of, map-get}
 use Rattle.ev_course.proofs.Going.{through-tells, command-at}
 use Rattle.ev_course.specs.Course.{StandBetween, AreKept, IsWholeMerge, journals_by}
 
@@ -57,6 +57,10 @@ module _ (net : NetParts) (last next : ℕ) (cells : List CellParts) (sound : Is
 
   number : (k : ℕ) (cell : CellParts) → slice_get cells k ≡ Some cell → cell.held.core.server ≡ suc k
   number k cell e = (kept k cell e).number ∙ together.numbers k cell.root (map-found (λ (c : CellParts). c.root) k cells cell e)
+
+  -- the core of a cell is of the net
+  net-is : (k : ℕ) (cell : CellParts) → slice_get cells k ≡ Some cell → cell.held.core.net ≡ net
+  net-is k cell e = (kept k cell e).run ∙ together.nets k cell.root (map-found (λ (c : CellParts). c.root) k cells cell e)
 
   -- the core of a cell stands for the state of its server
   state-at : (k : ℕ) (cell : CellParts) → slice_get cells k ≡ Some cell → IsServerState here cell.held.core ((state_of net last stood.ends).state (suc k))
@@ -166,6 +170,7 @@ module _ (net : NetParts) (last next : ℕ) (cells : List CellParts) (sound : Is
     pub cores : AreServers net last (moment_by net merged).state (map (λ (c : CellParts). c.held.core) cells)
     cores = subst (λ (m : Moment real (phased_net net)). AreServers net last m.state (map (λ (c : CellParts). c.held.core) cells)) (sym at-end) (record {
       all = len cells ∙ as-many;
+      nets = λ k core e. let c = found-map (λ (c : CellParts). c.held.core) k cells core e in ap (λ (x : CoreParts). x.net) (sym c.2) ∙ net-is k c.0 c.1;
       number = λ k core e. let c = found-map (λ (c : CellParts). c.held.core) k cells core e in ap (λ (x : CoreParts). x.server) (sym c.2) ∙ number k c.0 c.1;
       states = λ k core e. let c = found-map (λ (c : CellParts). c.held.core) k cells core e in subst (λ x. IsServerState here x ((state_of net last stood.ends).state (suc k))) c.2 (state-at k c.0 c.1);
       clocks = λ k core e.

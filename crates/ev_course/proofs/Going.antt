@@ -21,15 +21,15 @@ use Rattle.ev_model.specs.Meaning.{journal_of, entry_of}
 use Rattle.ev_model.specs.Nets.{phased_net}
 use Rattle.ev_merge.specs.Merging.{journals_in}
 use Rattle.ev_session.specs.Session.{SessionParts}
-use Rattle.ev_server.specs.Core.{CoreParts, IsServerState}
-use Rattle.ev_server.specs.Clients.{client_numbers}
-use Rattle.ev_node.specs.declared.held.Root.{Root}
-use Rattle.ev_node.specs.Cell.{CellParts, IsCellOf, machine_in}
-use Rattle.ev_node.specs.Entered.{IsEntered, state_of}
-use Rattle.ev_node.specs.Together.{AreBegun, IsFinished, cell_roots, phase_entries, journals}
-use Rattle.ev_node.specs.Turns.{HasCommand}
-use Rattle.ev_node.proofs.Gathered.{map-found, found-map, there-or-not}
-use Rattle.ev_node.proofs.Due.{next-of-phase}
+use Rattle.ev_numserver.specs.Core.{CoreParts, IsServerState}
+use Rattle.ev_numserver.specs.Clients.{client_numbers}
+use Rattle.ev_numnode.specs.declared.held.Root.{Root}
+use Rattle.ev_numnode.specs.Cell.{CellParts, IsCellOf, machine_in}
+use Rattle.ev_numnode.specs.Entered.{IsEntered, state_of}
+use Rattle.ev_numnode.specs.Together.{AreBegun, IsFinished, cell_roots, phase_entries, journals}
+use Rattle.ev_numnode.specs.Turns.{HasCommand}
+use Rattle.ev_numnode.proofs.Gathered.{map-found, found-map, there-or-not}
+use Rattle.ev_numnode.proofs.Due.{next-of-phase}
 use Rattle.ev_course.specs.Course.{StandBetween, IsPhaseDone, journals_by}
 
 -- entries on a tree and off again are as they were

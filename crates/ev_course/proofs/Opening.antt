@@ -12,12 +12,12 @@ use Rattle.ev_model.specs.Parts.{NetParts, EntryParts}
 use Rattle.ev_model.specs.Meaning.{journal_of}
 use Rattle.ev_model.specs.Nets.{phased_net}
 use Rattle.ev_merge.specs.Merging.{journals_in}
-use Rattle.ev_node.specs.declared.starting.Started.{Started}
-use Rattle.ev_node.specs.Cell.{CellParts, IsCellOf, machine_in}
-use Rattle.ev_node.specs.declared.link.Link.{Link}
-use Rattle.ev_node.specs.Entered.{StandFor}
-use Rattle.ev_node.specs.Started.{AreStarted, IsFreshCell}
-use Rattle.ev_node.proofs.Gathered.{found-map, there-or-not}
+use Rattle.ev_numnode.specs.declared.starting.Started.{Started}
+use Rattle.ev_numnode.specs.Cell.{CellParts, IsCellOf, machine_in}
+use Rattle.ev_numnode.specs.declared.link.Link.{Link}
+use Rattle.ev_numnode.specs.Entered.{StandFor}
+use Rattle.ev_numnode.specs.Started.{AreStarted, IsFreshCell}
+use Rattle.ev_numnode.proofs.Gathered.{found-map, there-or-not}
 use Rattle.ev_course.specs.Course.{StandBetween, IsAtStart, journals_by}
 use Rattle.ev_course.proofs.Going.{at-found, at-none}
 

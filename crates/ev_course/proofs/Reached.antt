@@ -1,5 +1,5 @@
--- Within a phase, with all cells in hand, the entries so far are a run: so no clock and no frame has the last stamp.
-use Rattle.std.proofs.Common.{◌≡◌, ℕ, suc, ◌<◌, ◌==◌, Bool, true, false, cond, List, [], ◌∷◌, ◌++◌, ◌⊎◌, inl, inr, Option, Some, None, refl, sym, ap, subst, ◌∙◌, arith, eq-eqb, ne_eqb}
+-- Within a phase, with all cells in hand, the entries so far are a run: so no clock and no message has the last stamp.
+use Rattle.std.proofs.Common.{◌≡◌, ℕ, suc, ◌<◌, ◌==◌, Bool, true, false, cond, List, [], ◌∷◌, ◌++◌, map, ◌⊎◌, inl, inr, Option, Some, None, refl, sym, ap, subst, ◌∙◌, arith, eq-eqb, ne_eqb}
 use Rattle.ev_sets.specs.Sets.{Has}
 use Rattle.ev_sets.proofs.Numbers.{Same, Is, Not, compare}
 use Rattle.ev_run.specs.Machine.{Stamped, act_phase}
@@ -13,7 +13,6 @@ use Rattle.ev_routing.specs.Net.{Net}
 use Rattle.ev_routing.specs.Server.{Message}
 use Rattle.ev_routing.specs.Routing.{routing_machine, Network, NetEntry}
 use Rattle.ev_routing.proofs.Laws.{machine-laws}
-use Rattle.ev_routing.proofs.Listing.{map-has}
 use Rattle.ev_phases.specs.Trees.{JournalEntry, State, on, off, trees_by, PhasedNet, net_at, machine_at, at_phase, is_one_tree}
 use Rattle.ev_phases.specs.Moments.{begun, opening_moment, with_clocks_raised, with_tree_changed}
 use Rattle.ev_phases.specs.Runs.{ActFinds, IsPhasedRun, PhasedRun}
@@ -23,21 +22,40 @@ use Rattle.ev_phases.proofs.Moments.{run-append}
 use Rattle.ev_phases.proofs.Onetree.{run-here}
 use Rattle.ev_phases.proofs.Newtree.{none-quiet}
 use Rattle.ev_theory.specs.Real.{real}
-use Rattle.ev_frame.specs.Frame.{FrameParts}
+use Rattle.ev_message.specs.declared.stamped.StampedLoad.{StampedLoad}
+use Rattle.ev_message.specs.Message.{said}
 use Rattle.ev_model.specs.Parts.{NetParts}
 use Rattle.ev_model.specs.Nets.{phased_net}
 use Rattle.ev_model.specs.Sound.{IsSound}
 use Rattle.ev_model.proofs.SoundNets.{net-laws}
 use Rattle.ev_model.proofs.Counted.{stays-low}
-use Rattle.ev_server.specs.Step.{last_stamp}
-use Rattle.ev_net.specs.Links.{framed}
-use Rattle.ev_node.specs.Cell.{CellParts, machine_in}
-use Rattle.ev_node.specs.Entered.{state_of}
-use Rattle.ev_node.specs.InHand.{AreAllInHand}
-use Rattle.ev_node.specs.Together.{HasLast, IsWornSomewhere, sight, sights}
-use Rattle.ev_node.proofs.Gathered.{found-map}
+use Rattle.ev_numserver.specs.Step.{last_stamp}
+use Rattle.ev_lane.specs.Lane.{put_list}
+use Rattle.ev_numnode.specs.declared.link.Link.{Link}
+use Rattle.ev_numnode.specs.Acted.{Said}
+use Rattle.ev_numnode.specs.Links.{put_for}
+use Rattle.ev_numnode.specs.Cell.{CellParts, machine_in}
+use Rattle.ev_numnode.specs.Entered.{state_of}
+use Rattle.ev_numnode.specs.InHand.{AreAllInHand}
+use Rattle.ev_numnode.specs.Together.{HasLast, IsWornSomewhere, sight, sights}
+use Rattle.ev_numnode.proofs.Gathered.{found-map}
 use Rattle.ev_course.specs.Course.{IsPhaseBegun}
 use Rattle.ev_course.proofs.Going.{are-begun}
+
+-- what a lane carries has its stamps in each net
+said-stamp : (a b : NetParts) (items : List StampedLoad) (m : Said) → Has m (map (said a) items) → (n : Said) × Has n (map (said b) items) × (n.stamp ≡ m.stamp)
+said-stamp a b [] m h = absurd h
+said-stamp a b (item ∷ items) m (inl e) = (said b item, inl refl, ap (λ (x : Said). x.stamp) (sym e))
+said-stamp a b (item ∷ items) m (inr h) = let n = said-stamp a b items m h in (n.0, inr n.1, n.2)
+
+put-stamp : (a b : NetParts) (links : List Link) (to : ℕ) (m : Said) → Has m (put_for a links to) → (n : Said) × Has n (put_for b links to) × (n.stamp ≡ m.stamp)
+put-stamp a b [] to m h = absurd h
+put-stamp a b (link ∷ links) to m h = go (put-stamp a b links to m) (link.neighbour == to) h
+  where
+    go : (Has m (put_for a links to) → (n : Said) × Has n (put_for b links to) × (n.stamp ≡ m.stamp)) → (here : Bool)
+        → Has m (cond here (map (said a) (put_list link.enter)) (put_for a links to)) → (n : Said) × Has n (cond here (map (said b) (put_list link.enter)) (put_for b links to)) × (n.stamp ≡ m.stamp)
+    go rest true h = said-stamp a b (put_list link.enter) m h
+    go rest false h = rest h
 
 module _ (net : PhasedNet real) where
   -- the first entry begins the phase
@@ -170,9 +188,9 @@ module _ (net : NetParts) (last phase : ℕ) (old started now : List CellParts) 
             let last-one : f.0.held.core.clock ≡ last_stamp = c in
             omega (arith, low, same, last-one))
         | inr put ↦ (
-            let m = map-has framed put.1 ((hand.ends (suc k)).put put.0) (subst (λ l. Has put.1 l) (stands.put put.0) put.2) in
-            let low : m.0.stamp < 1000000000 = reached-low.puts (suc k) put.0 m.0 m.1 in
-            let same : put.1.stamp ≡ m.0.stamp = ap (λ (x : FrameParts). x.stamp) m.2 in
+            let m = put-stamp f.0.root.net.value net f.0.held.links.items put.0 put.1 put.2 in
+            let low : m.0.stamp < 1000000000 = reached-low.puts (suc k) put.0 m.0 (subst (λ l. Has m.0 l) (stands.put put.0) m.1) in
+            let same : m.0.stamp ≡ put.1.stamp = m.2 in
             let last-one : put.1.stamp ≡ last_stamp = put.3 in
             omega (arith, low, same, last-one))
       ]

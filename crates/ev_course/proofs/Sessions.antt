@@ -8,13 +8,13 @@ use Rattle.ev_model.specs.Parts.{NetParts, EntryParts}
 use Rattle.ev_model.specs.Meaning.{deliveries_of}
 use Rattle.ev_model.specs.Nets.{home_of, with_adverts}
 use Rattle.ev_session.specs.Session.{SessionParts}
-use Rattle.ev_server.specs.Clients.{bare}
-use Rattle.ev_server.specs.Core.{CoreParts}
+use Rattle.ev_numserver.specs.Clients.{bare}
+use Rattle.ev_numserver.specs.Core.{CoreParts}
 use Rattle.ev_turns.specs.Network.{network_parts, moment_by}
 use Rattle.ev_turns.specs.Sessions.{IsSessionOf}
-use Rattle.ev_net.proofs.Commanding.{taken_there, script_there, home_place}
-use Rattle.ev_node.specs.Cell.{CellParts}
-use Rattle.ev_node.proofs.Gathered.{map-found}
+use Rattle.ev_numnet.proofs.Commanding.{taken_there, script_there, home_place}
+use Rattle.ev_numnode.specs.Cell.{CellParts}
+use Rattle.ev_numnode.proofs.Gathered.{map-found}
 use Rattle.ev_course.specs.Course.{IsEndOf}
 
 one-semantics : (a b : Semantics) → with_adverts a ≡ by_adverts b → b ≡ a

@@ -9,12 +9,12 @@ use Rattle.ev_model.specs.Nets.{phased_net, of_clients}
 use Rattle.ev_model.specs.Sound.{IsSound}
 use Rattle.ev_merge.specs.Merging.{IsMergeOf, journals_in}
 use Rattle.ev_turns.specs.Network.{IsLegal, IsDrainedBy, moment_by, refused_by, received_by}
-use Rattle.ev_net.specs.Kept.{AreServers}
-use Rattle.ev_node.specs.Cell.{CellParts, IsKept, machine_in}
-use Rattle.ev_node.specs.Coming.{HaveCommand}
-use Rattle.ev_node.specs.Entered.{StandFor, IsEntered, state_of}
-use Rattle.ev_node.specs.Together.{AreTogether, AreBegun, IsFinished, cell_roots}
-use Rattle.ev_node.specs.InHand.{AreAllInHand}
+use Rattle.ev_numnet.specs.Kept.{AreServers}
+use Rattle.ev_numnode.specs.Cell.{CellParts, IsKept, machine_in}
+use Rattle.ev_numnode.specs.Coming.{HaveCommand}
+use Rattle.ev_numnode.specs.Entered.{StandFor, IsEntered, state_of}
+use Rattle.ev_numnode.specs.Together.{AreTogether, AreBegun, IsFinished, cell_roots}
+use Rattle.ev_numnode.specs.InHand.{AreAllInHand}
 use Rattle.ev_course.specs.declared.ran.Ran.{Ran}
 
 -- the journals of all servers

@@ -4,12 +4,12 @@ ghost use Rattle.ev_model.specs.Parts.{NetParts, EntryParts};
 ghost use Rattle.ev_model.specs.Nets.{phases_of};
 ghost use Rattle.ev_model.specs.Sound.{IsSound};
 ghost use Rattle.ev_merge.specs.Merging.{AreServerJournals, IsMergeOf};
-ghost use Rattle.ev_node.specs.declared.starting.Started.{Started};
-ghost use Rattle.ev_node.specs.Cell.{CellParts};
-ghost use Rattle.ev_node.specs.Coming.{HaveCommand};
-ghost use Rattle.ev_node.specs.Entered.{AreThrough, AreCalm};
-ghost use Rattle.ev_node.specs.Started.{AreStarted};
-ghost use Rattle.ev_node.specs.Together.{IsWornSomewhere, sights};
+ghost use Rattle.ev_numnode.specs.declared.starting.Started.{Started};
+ghost use Rattle.ev_numnode.specs.Cell.{CellParts};
+ghost use Rattle.ev_numnode.specs.Coming.{HaveCommand};
+ghost use Rattle.ev_numnode.specs.Entered.{AreThrough, AreCalm};
+ghost use Rattle.ev_numnode.specs.Started.{AreStarted};
+ghost use Rattle.ev_numnode.specs.Together.{IsWornSomewhere, sights};
 ghost use Rattle.ev_course.specs.Course.{StandBetween, IsPhaseBegun, IsPhaseDone, AreInHand, IsWholeMerge, journals_by};
 
 /// Cells before their first step stand between no phase and the first.
@@ -34,7 +34,7 @@ pub fn phase_done()
         → StandBetween net phase (suc phase) now }
 {}
 
-/// While a phase is made with all cells in hand, no clock and no frame that was put has the last stamp: the entries so far
+/// While a phase is made with all cells in hand, no clock and no message that was put has the last stamp: the entries so far
 /// are a run of a sound net, and by its limits no stamp of such a run comes near it.
 pub fn never_worn()
     ensures { (net : NetParts) (last phase : ℕ) (old started now : List CellParts) → IsPhaseBegun net last phase old started now

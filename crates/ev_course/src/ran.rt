@@ -4,15 +4,15 @@ ghost use Rattle.ev_model.specs.Nets.{home_of, phases_of, of_clients};
 ghost use Rattle.ev_model.specs.Sound.{IsSound};
 ghost use Rattle.ev_turns.specs.Network.{network_parts, refused_by, received_by};
 ghost use Rattle.ev_turns.specs.Sessions.{IsSessionOf};
-ghost use Rattle.ev_node.specs.Entered.{AreThrough};
+ghost use Rattle.ev_numnode.specs.Entered.{AreThrough};
 ghost use Rattle.ev_course.specs.Course.{StandBetween, AreInHand, IsWholeMerge, IsEndOf, IsRanBy, journals_by};
 
 use crate::law::whole_run;
 use ev_memory::NoMemory;
 use ev_merge::merge;
 use ev_model::{Delivery, Entry, Net};
-use ev_node::Cell;
-use ev_session::Session;
+use ev_numnode::Cell;
+use ev_numsession::Session;
 use ev_wire::Lists;
 use std::alloc::Global;
 
@@ -62,9 +62,9 @@ fn journals(alloc: Global, cells: &[Cell<'_>]) -> Result<Vec<Vec<Entry>>, NoMemo
 
 // The end of a run: its net, its cells, and the journal of all of them.
 #[derive(Drop)]
-struct End<'e> {
+struct End<'e, 'a> {
     net: &'e Net,
-    cells: &'e [Cell<'e>],
+    cells: &'e [Cell<'a>],
     journal: &'e [Entry],
 }
 
@@ -77,10 +77,10 @@ fn home(net: &Net, client: u32) -> u32
 }
 
 // The session of a client at its home.
-fn session<'e>(end: &End<'e>, client: u32) -> &'e Session
+fn session<'e, 'a>(end: &End<'e, 'a>, client: u32) -> &'e Session<'a>
     requires end { IsEndOf end.now.net.now end.now.cells.now end.now.journal.now }
     requires client { (1 ≤ client) × (client ≤ length end.now.net.now.clients) }
-    ensures { IsSessionOf (network_parts end.now.net.now end.now.journal.now) client result.now }
+    ensures { IsSessionOf (network_parts end.now.net.now end.now.journal.now) client result.now.session }
 {
     let cells = end.cells;
     let home = home(end.net, client);
@@ -88,7 +88,7 @@ fn session<'e>(end: &End<'e>, client: u32) -> &'e Session
 }
 
 // How many clients the net has.
-fn clients(end: &End<'_>) -> u32
+fn clients(end: &End<'_, '_>) -> u32
     requires { IsEndOf end.now.net.now end.now.cells.now end.now.journal.now }
     ensures { result ≡ length end.now.net.now.clients }
 {
@@ -97,7 +97,7 @@ fn clients(end: &End<'_>) -> u32
 }
 
 // The ordinals of a client's refused publishes.
-fn refused_of(alloc: Global, end: &End<'_>, client: u32) -> Result<Lists<u32>, NoMemory>
+fn refused_of(alloc: Global, end: &End<'_, '_>, client: u32) -> Result<Lists<u32>, NoMemory>
     requires end { IsEndOf end.now.net.now end.now.cells.now end.now.journal.now }
     requires client { (1 ≤ client) × (client ≤ length end.now.net.now.clients) }
     ensures { IfOk result (λ list. list ≡ refused_by end.now.net.now end.now.journal.now client) }
@@ -106,7 +106,7 @@ fn refused_of(alloc: Global, end: &End<'_>, client: u32) -> Result<Lists<u32>, N
 }
 
 // Of each client the ordinals of its refused publishes.
-fn refused(alloc: Global, end: &End<'_>) -> Result<Vec<Lists<u32>>, NoMemory>
+fn refused(alloc: Global, end: &End<'_, '_>) -> Result<Vec<Lists<u32>>, NoMemory>
     requires { IsEndOf end.now.net.now end.now.cells.now end.now.journal.now }
     ensures { IfOk result (λ lists. lists.items ≡ of_clients end.now.net.now (refused_by end.now.net.now end.now.journal.now)) }
 {
@@ -118,7 +118,7 @@ fn refused(alloc: Global, end: &End<'_>) -> Result<Vec<Lists<u32>>, NoMemory>
 }
 
 // What was delivered to each client.
-fn received(alloc: Global, end: &End<'_>) -> Result<Vec<Lists<Delivery>>, NoMemory>
+fn received(alloc: Global, end: &End<'_, '_>) -> Result<Vec<Lists<Delivery>>, NoMemory>
     requires { IsEndOf end.now.net.now end.now.cells.now end.now.journal.now }
     ensures { IfOk result (λ lists. lists.items ≡ of_clients end.now.net.now (received_by end.now.net.now end.now.journal.now)) }
 {

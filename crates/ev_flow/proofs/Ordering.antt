@@ -11,7 +11,7 @@ use Rattle.ev_tree.specs.Tree.{Topology, TreeLaws, IsServer, servers_of, links_o
 use Rattle.ev_tree.proofs.Servers.{server-in}
 use Rattle.ev_tree.proofs.Sums.{part-sum}
 use Rattle.ev_tree.proofs.Sizes.{weighs}
-use Rattle.ev_poset.proofs.Pairs.{un-push, at-has, has-at, has-push}
+use Rattle.ev_control.proofs.Places.{un-push, at-has, has-at, has-push}
 use Rattle.std.proofs.lemmas.List.FromFn.{length-range_with_len}
 use Rattle.ev_run.proofs.Lists.{Is, Not, compare}
 use Rattle.ev_control.proofs.Taken.{has-next}
@@ -56,12 +56,6 @@ module _ (tree : Topology) (laws : TreeLaws tree) where
   pub size-most : (a b : ℕ) → size_of tree a b ≤ length (servers_of tree)
   size-most a b = count-most (side (hop_of tree) a b) (servers_of tree)
 
-  pub order-none : IsOrder tree []
-  order-none = record { linked = λ i a b e. absurd (none i a b e); earlier = λ i a b e. absurd (none i a b e) }
-    where
-      none : (i a b : ℕ) → slice_get {X = ℕ × ℕ} [] i ≡ Some (a, b) → ⊥
-      none i a b e = cc
-
   -- one more link
   pub order-push : (order : List (ℕ × ℕ)) (a b : ℕ) → IsOrder tree order → Has b (links_of tree a) → ((c : ℕ) → Has c (links_of tree b) → (c ≡ a → ⊥) → Has (b, c) order) → IsOrder tree (order ++ (a, b) ∷ [])
   order-push order a b was near ready = record { linked = linked; earlier = earlier }
@@ -89,7 +83,6 @@ module _ (tree : Topology) (laws : TreeLaws tree) where
   pub in-order : (order : List (ℕ × ℕ)) → IsOrder tree order → (a b : ℕ) → Has (a, b) order → Has b (links_of tree a)
   in-order order is a b m = let i = has-at order (a, b) m in is.linked i.0 a b i.1
 
-  -- a link of one server with so many servers beyond, put at the end or not
   module _ (first order : List (ℕ × ℕ)) (links : List ℕ) (n at of many : ℕ) (here : links ≡ links_of tree at) (is : slice_get links n ≡ Some of)
       (less : (a b : ℕ) → Has b (links_of tree a) → size_of tree a b < many → Has (a, b) first)
       (good : IsOrder tree order) (kept : (a b : ℕ) → Has (a, b) first → Has (a, b) order) (all : (b : ℕ) → Has b (take n links) → size_of tree at b ≡ many → Has (at, b) order) where

@@ -47,8 +47,6 @@ not-among x ys low = go (is_among x ys) refl
     go true e = absurd (omega (arith, low x (one-has x ys e)))
 
 module _ (semantics : Semantics) (tree : Topology) (laws : TreeLaws tree) (net : Net real) (on : IsNetOn semantics tree net) where
-  size : ℕ → ℕ → ℕ
-  size = side_size (hop_of tree) (servers_of tree)
 
   shape : IsTreeBySizes net.servers net.links (side_size (hop_of tree) (servers_of tree))
   shape =
@@ -78,7 +76,6 @@ module _ (semantics : Semantics) (tree : Topology) (laws : TreeLaws tree) (net :
         ∙ ap (λ z. roots real.covers real.before (filter (λ x. not net.adverts || some_pass (real.overlaps x) z) (union_except real.before (holds real net sets b (flow real net sets ad_sets b)) a (interfaces real net b))))
         (cond-yes (is_among a (net.links b)) (flow_ad real net ad_sets b a) (ad_sets b a) (has-one a (net.links b) (near b a (laws.hops.both a b m))))
 
-  -- the union over the interfaces is what is given of the server with what its neighbours but one send
   module _ (sets : ℕ → ℕ → List (List ConstraintParts)) (given : ℕ → List (List ConstraintParts)) (union-of : IsUnionOfClients net sets given) (f : ℕ → List (List ConstraintParts)) (a b : ℕ) (m : Has b (links_of tree a)) where
     here : Has b net.servers
     here = subst (λ z. Has b z) (sym on.servers) (laws.hops.linked b a (laws.hops.both a b m))
@@ -88,9 +85,6 @@ module _ (semantics : Semantics) (tree : Topology) (laws : TreeLaws tree) (net :
 
     client-set : (c : ℕ) → Has c (net.clients b) → holds real net sets b f (64 + c) ≡ sets b (64 + c)
     client-set c lives = cond-no (is_among (64 + c) (net.links b)) (f (64 + c)) (sets b (64 + c)) (not-among (64 + c) (net.links b) (λ y h. omega (arith, low y h, on.counted b c lives)))
-
-    made-of : List (List ConstraintParts)
-    made-of = union_except list_before (holds real net sets b f) a (interfaces real net b)
 
     pub made-has : (x : List ConstraintParts) → Has x (union_except list_before (holds real net sets b f) a (interfaces real net b)) ↔ (Has x (given b) ⊎ ((c : ℕ) × Has c (links_of tree b) × (c ≡ a → ⊥) × Has x (f c)))
     made-has x = (to, from)

@@ -1,5 +1,5 @@
 -- What each server holds of its neighbours once a tree comes into force, from what the clients of each server have together.
-use Rattle.std.specs.Prelude.{◌≡◌, ◌↔◌, ℕ, zero, suc, ◌+◌, ◌≤◌, List, [], Option, Some, None, slice_get}
+use Rattle.std.specs.Prelude.{◌≡◌, ◌↔◌, ℕ, zero, suc, ◌≤◌, List, [], Option, Some, None, slice_get}
 use Rattle.ev_sets.specs.Sets.{Has, IsRising}
 use Rattle.ev_constraint.specs.Constraint.{ConstraintParts}
 use Rattle.ev_notice.specs.Before.{list_before}

@@ -135,8 +135,8 @@ impl<T: Drop> LaneOut<T> {
         )
     }
 
-    // The next item.
-    fn first(&self) -> &T
+    /// The next item, which this end knows to come.
+    pub fn first(&self) -> &T
         requires { 0 < length (coming_list self.now) }
         ensures { IsPrefix (result.now ∷ []) (coming_list self.now) }
     {

@@ -1,5 +1,4 @@
-//! Compares the matcher of a fixed list with the plain scan over made filters and notices, and measures both beside the
-//! forwarding table.
+//! Compares the matcher of a fixed list with the plain scan over made filters and notices, and measures both.
 #![tactic(auto)]
 
 mod agree;

@@ -1,6 +1,5 @@
-//! The measuring of the matcher beside the scan and the forwarding table.
+//! The measuring of the matcher beside the scan.
 use crate::scan::{Matching, filters, notices, scanned};
-use ev_counting::{Change, Scratch, Table};
 use ev_made::{Fault, Maker, WORKLOADS, Workload};
 use ev_notice::{Filter, Notice};
 use std::alloc::Global;
@@ -21,42 +20,11 @@ fn each(rt: &impl CpuClock, start: u64, count: usize) -> Result<u64, Fault> {
     Ok(nanos.checked_div(count as u64).unwrap_or(0))
 }
 
-/// The table of the filters.
-fn table(
-    alloc: Global,
-    maker: &mut Maker,
-    workload: &Workload,
-    filters: &[Filter],
-) -> Result<Table, Fault> {
-    let mut table = Table::new(alloc);
-    for filter in filters {
-        let iface = maker.iface(workload.interfaces);
-        let filter = filter.copy(alloc)?;
-        table.apply(&Change::Add { iface, filter })?;
-    }
-    Ok(table)
-}
-
 /// Nanoseconds a notice by the scan.
 fn time_scan(rt: &impl CpuClock, filters: &[Filter], notices: &[Notice]) -> Result<u64, Fault> {
     let start = used(rt)?;
     for notice in notices {
         let _count = scanned(filters, notice);
-    }
-    each(rt, start, notices.len())
-}
-
-/// Nanoseconds a notice by the table.
-fn time_table(
-    rt: &impl CpuClock,
-    alloc: Global,
-    table: &Table,
-    notices: &[Notice],
-) -> Result<u64, Fault> {
-    let mut scratch = Scratch::new(alloc);
-    let start = used(rt)?;
-    for notice in notices {
-        let _route = table.route(notice, &mut scratch)?;
     }
     each(rt, start, notices.len())
 }
@@ -96,7 +64,6 @@ fn measure_one(
     let mut maker = Maker::new(alloc, workload.seed, workload.plan)?;
     let filters = filters(alloc, &mut maker, workload, workload.filters)?;
     let notices = notices(alloc, &mut maker, workload.notices)?;
-    let table = table(alloc, &mut maker, workload, &filters)?;
     let scan = time_scan(
         rt,
         &filters,
@@ -106,17 +73,16 @@ fn measure_one(
     let mut matching = Matching::of(alloc, &filters)?;
     let made = each(rt, start, 1)?;
     let matcher = time_matcher(rt, &mut matching, &notices)?;
-    let table = time_table(rt, alloc, &table, &notices)?;
     println!(rt;
-        "{:<8}  {:>8}  {:>8}  {:>8}  {:>10}",
-        workload.name, scan, table, matcher, made
+        "{:<8}  {:>8}  {:>8}  {:>10}",
+        workload.name, scan, matcher, made
     )?;
     Ok(())
 }
 
 /// Measures each workload, and prints a line of nanoseconds of processor time a notice for it.
 pub(crate) fn measure(rt: &(impl CpuClock + Print), alloc: Global) -> Result<(), Fault> {
-    println!(rt; "workload      scan     table   matcher   made in all")?;
+    println!(rt; "workload      scan   matcher   made in all")?;
     for workload in WORKLOADS.as_slice() {
         measure_one(rt, alloc, workload)?;
     }

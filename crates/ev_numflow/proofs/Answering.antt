@@ -3,7 +3,7 @@ use Rattle.std.proofs.Common.{◌≡◌, inl, inr, ℕ, zero, suc, ◌+◌, ◌-
 use Rattle.std.proofs.lemmas.Option.{same_Some}
 use Rattle.ev_sets.specs.Sets.{Has}
 use Rattle.ev_bits.specs.Rows.{Numbers}
-use Rattle.ev_poset.proofs.Pairs.{has-push}
+use Rattle.ev_control.proofs.Places.{has-push}
 use Rattle.ev_tree.specs.Tree.{Topology, links_of}
 use Rattle.ev_model.specs.Parts.{NetParts}
 use Rattle.ev_routing.proofs.Listing.{has-map, map-has}

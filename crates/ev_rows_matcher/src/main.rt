@@ -1,19 +1,14 @@
-//! Worked rows of the matcher: the index of numbers, the index of texts, and the table. Standard input
-//! has the rows, each a question and the answer that is wanted.
-//!
-//! A list of changes that wants memory is tried once more, so under an allocator that fails once the
-//! rows tell that after want of memory the table is as before.
+//! Worked rows of matching: filters under numbers, which of them a notice matches, and where it goes. Standard input has the
+//! rows, each a question and the answer that is wanted.
 #![tactic(auto)]
 
-mod indexes;
-mod lists;
+mod held;
 mod matcher;
-mod tables;
 
 use ev_rows::{RowFault, try_rows};
-use matcher::Matcher;
+use matcher::Matching;
 
 fn main(rt: HostRuntime) -> Result<(), RowFault> {
-    let mut matcher = Matcher::new(rt.alloc());
-    try_rows(&rt, &mut matcher)
+    let mut matching = Matching::new(rt.alloc());
+    try_rows(&rt, &mut matching)
 }

@@ -2,7 +2,8 @@
 use crate::failure::Failure;
 use crate::run::net;
 use ev_model::Turn;
-use ev_net::Network;
+use ev_numnet::{Kept, Network};
+use ev_tables::Tables;
 use std::alloc::Global;
 
 /// Two servers in a line and then in the other tree of them: a filter, and a publication one phase later.
@@ -22,7 +23,7 @@ const TURNS: [(&str, Turn); 7] = [
 ];
 
 /// Asks for turns, and prints which were made.
-fn print_turns(rt: &impl Print, network: &mut Network<'_>) -> Result<(), Failure> {
+fn print_turns(rt: &impl Print, network: &mut Network<'_, Kept>) -> Result<(), Failure> {
     for (name, turn) in TURNS {
         let made = network.turn(turn)?;
         println!(rt; "{name}: {made}, entries {}", network.journal().len())?;
@@ -31,7 +32,7 @@ fn print_turns(rt: &impl Print, network: &mut Network<'_>) -> Result<(), Failure
 }
 
 /// Walks two phases, one at a time, and asks for a third, and prints whether there was something left.
-fn print_walked(rt: &impl Print, network: &mut Network<'_>) -> Result<(), Failure> {
+fn print_walked(rt: &impl Print, network: &mut Network<'_, Kept>) -> Result<(), Failure> {
     for call in 1..4u32 {
         let walked = network.walk_phase()?;
         println!(rt;
@@ -45,7 +46,8 @@ fn print_walked(rt: &impl Print, network: &mut Network<'_>) -> Result<(), Failur
 /// Prints what comes of turns and of phases.
 pub fn print_phases(rt: &impl Print, alloc: Global) -> Result<(), Failure> {
     let net = net(alloc, DOCUMENT.as_bytes())?;
-    let mut network = Network::start(alloc, &net)?;
+    let tables = Tables::of(alloc, &net)?;
+    let mut network: Network<'_, Kept> = Network::start(alloc, &tables)?;
     print_turns(rt, &mut network)?;
     print_walked(rt, &mut network)
 }

@@ -8,8 +8,9 @@ use ev_input::law::net_is_sound;
 use ev_input::read_net;
 use ev_memory::NoMemory;
 use ev_model::{Client, Command, Delivery, Entry, Net};
-use ev_net::Network;
+use ev_numnet::{Kept, Network};
 use ev_report::{deliveries_text, summary_text};
+use ev_tables::Tables;
 use ev_turns::ReplayFault;
 use ev_wire::Lists;
 use std::alloc::Global;
@@ -35,7 +36,7 @@ fn copied(alloc: Global, deliveries: &[Delivery]) -> Result<Vec<Delivery>, NoMem
 }
 
 /// Of each client the ordinals of its refused publishes.
-fn refused(alloc: Global, network: &Network<'_>, clients: u32) -> Result<Vec<Lists<u32>>, NoMemory>
+fn refused(alloc: Global, network: &Network<'_, Kept>, clients: u32) -> Result<Vec<Lists<u32>>, NoMemory>
     requires { length network.now.net.clients ≡ clients }
     ensures { IfOk result (λ lists. length lists.items ≡ clients) }
 {
@@ -50,7 +51,7 @@ fn refused(alloc: Global, network: &Network<'_>, clients: u32) -> Result<Vec<Lis
 /// What was delivered to each client.
 fn received(
     alloc: Global,
-    network: &Network<'_>,
+    network: &Network<'_, Kept>,
     clients: u32,
 ) -> Result<Vec<Lists<Delivery>>, NoMemory>
     requires { length network.now.net.clients ≡ clients }
@@ -73,7 +74,7 @@ fn clients(net: &Net) -> u32
 }
 
 /// The text of what the clients of a net received.
-fn text(alloc: Global, net: &Net, network: &Network<'_>, sorted: bool) -> Result<Vec<u8>, NoMemory>
+fn text(alloc: Global, net: &Net, network: &Network<'_, Kept>, sorted: bool) -> Result<Vec<u8>, NoMemory>
     requires sound { IsSound net.now }
     requires net { network.now.net ≡ net.now }
 {
@@ -91,7 +92,8 @@ pub fn run(
     sorted: bool,
 ) -> Result<Vec<u8>, Failure> {
     let net = net(alloc, document)?;
-    let mut network = Network::start(alloc, &net)?;
+    let tables = Tables::of(alloc, &net)?;
+    let mut network: Network<'_, Kept> = Network::start(alloc, &tables)?;
     if schedule == Schedule::Replay {
         match network.replay(&net.schedule) {
             Ok(()) => {}
@@ -147,7 +149,8 @@ fn all_publishes(clients: &[Client]) -> u64 {
 /// The summary of the walk of a document of which no publish is refused.
 pub fn summary(alloc: Global, document: &[u8]) -> Result<Vec<u8>, Failure> {
     let net = net(alloc, document)?;
-    let mut network = Network::start(alloc, &net)?;
+    let tables = Tables::of(alloc, &net)?;
+    let mut network: Network<'_, Kept> = Network::start(alloc, &tables)?;
     network.walk()?;
     let received = received(alloc, &network, clients(&net))?;
     let journal = network.journal();

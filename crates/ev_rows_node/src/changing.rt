@@ -1,15 +1,16 @@
 //! A change of tree between two phases, over all cells of a net.
 ghost use Rattle.std.specs.Prelude.{◌≡◌, ◌<◌, ℕ, Some, slice_get, IsTrue};
 ghost use Rattle.ev_model.specs.Sound.{IsSound};
-ghost use Rattle.ev_node.specs.Cell.{CellParts, HasNoneBelow};
-ghost use Rattle.ev_node.specs.Entered.{AreThrough};
-ghost use Rattle.ev_node.specs.Together.{AreTogether, cell_roots};
+ghost use Rattle.ev_numnode.specs.Cell.{CellParts, HasNoneBelow};
+ghost use Rattle.ev_numnode.specs.Entered.{AreThrough};
+ghost use Rattle.ev_numnode.specs.Together.{AreTogether, cell_roots};
 
 use crate::documents::line_then_star;
 use crate::hand::says;
 use crate::together::{cells_in, end_all};
-use ev_model::{Act, Net};
-use ev_node::{Cell, enter_next, finish_phase};
+use ev_model::Act;
+use ev_numnode::{Cell, enter_next, finish_phase};
+use ev_tables::Tables;
 use std::alloc::Global;
 use std::rt::HostRuntime;
 use std::sync::Wait;
@@ -49,14 +50,14 @@ fn is_row(cells: &[Cell<'_>]) -> bool {
 }
 
 /// Two phases, with a change of tree between them.
-fn two_phases<R: Wait>(
+fn two_phases<'a, R: Wait>(
     alloc: Global,
     rt: &R,
-    net: &Net,
-    cells: &mut [Cell<'_>],
+    tables: &'a Tables<'a>,
+    cells: &mut [Cell<'a>],
 ) -> Result<bool, Fail>
-    requires sound { IsSound net.now }
-    requires together { AreTogether net.now 0 (cell_roots cells.old) }
+    requires sound { IsSound tables.now }
+    requires together { AreTogether tables.now 0 (cell_roots cells.old) }
 {
     match finish_phase(rt, cells) {
         Ok(()) => (),
@@ -65,7 +66,7 @@ fn two_phases<R: Wait>(
     if !all_through(cells, 1) {
         return Ok(false);
     }
-    enter_next(alloc, rt, net, cells, 0, 1)?;
+    enter_next(alloc, rt, tables, cells, 0, 1)?;
     match finish_phase(rt, cells) {
         Ok(()) => Ok(is_row(cells) && all_through(cells, 2)),
         Err(fault) => Err(Fail::from(fault)),
@@ -78,8 +79,9 @@ fn what_is_published_after_a_change_of_tree_takes_the_new_link(
 ) -> Result<(), Fail> {
     let alloc = rt.alloc();
     let net = line_then_star(alloc)?;
-    let mut cells = cells_in(alloc, &rt, &net)?;
-    let told = two_phases(alloc, &rt, &net, &mut cells);
+    let tables = Tables::of(alloc, &net)?;
+    let mut cells = cells_in(alloc, &rt, &tables)?;
+    let told = two_phases(alloc, &rt, &tables, &mut cells);
     end_all(&rt, cells);
     assert!(rt; told?);
     Ok(())

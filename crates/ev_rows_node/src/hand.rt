@@ -1,15 +1,15 @@
 //! Steps of two cells by hand.
 ghost use Rattle.std.specs.Prelude.{◌≡◌, IfOk};
-ghost use Rattle.ev_versions.specs.Ends.{IsSameViewer};
+ghost use Rattle.ev_numversions.specs.Ends.{IsSameViewer};
 ghost use Rattle.ev_model.specs.Parts.{NetParts};
-ghost use Rattle.ev_node.specs.Started.{AreStarted};
+ghost use Rattle.ev_numnode.specs.Started.{AreStarted};
 
 use crate::documents::two_servers;
-use ev_counting::Scratch;
 use ev_model::{Act, Entry};
-use ev_node::{Cell, Started, Turned, What, start};
-use ev_server::StepFault;
-use ev_versions::match_ahead;
+use ev_numnode::{Cell, Started, Turned, What, start};
+use ev_numserver::StepFault;
+use ev_numversions::match_ahead;
+use ev_tables::Tables;
 use std::alloc::Global;
 use std::rt::HostRuntime;
 use std::sync::Wait;
@@ -28,7 +28,7 @@ fn step<R: Wait>(rt: &R, cell: &mut Cell<'_>, what: What) -> Result<Turned, Fail
     }
 }
 
-/// The same with the route of the next notice from a neighbour, matched ahead.
+/// The same with the route of the next publication from a neighbour, matched ahead.
 fn take_ahead<R: Wait>(
     rt: &R,
     alloc: Global,
@@ -41,11 +41,13 @@ fn take_ahead<R: Wait>(
     if !one.cell.suits(what) {
         return Err(Fail::new("nobody of that name"));
     }
-    let mut scratch = Scratch::new(alloc);
-    let Some(notice) = one.cell.look(rt, from)? else {
-        return Err(Fail::new("no notice"));
+    one.cell.tells();
+    let tables = one.cell.core().tables();
+    let Some(number) = one.cell.look(rt, from) else {
+        return Err(Fail::new("no publication"));
     };
-    let ahead = match_ahead(alloc, rt, &mut one.links, &notice, &mut scratch)?;
+    let matched = tables.found(number).matched();
+    let ahead = match_ahead(alloc, rt, &mut one.links, matched)?;
     match one.cell.turn_ahead(rt, what, &mut one.links, &ahead) {
         Ok(turned) => Ok(turned),
         Err(fault) => Err(Fail::from(fault)),
@@ -165,7 +167,8 @@ fn row_of<R: Wait>(
 /// The row from the start.
 fn whole_row<R: Wait>(rt: &R, alloc: Global, ahead: bool) -> Result<bool, Fail> {
     let net = two_servers(alloc)?;
-    let mut started = start(alloc, rt, &net)?;
+    let tables = Tables::of(alloc, &net)?;
+    let mut started = start(alloc, rt, &tables)?;
     let told = row_of(rt, alloc, &mut started, ahead);
     end_all(rt, started);
     told
@@ -193,7 +196,7 @@ fn is_worn<R: Wait>(rt: &R, cell: &mut Cell<'_>) -> Result<bool, Fail> {
         return Err(Fail::new("nobody of that name"));
     }
     match cell.turn(rt, What::Command(1)) {
-        Err(StepFault::Worn(stamp)) => Ok(stamp == last && cell.journal().is_empty()),
+        Err(StepFault::StampsExhausted(stamp)) => Ok(stamp == last && cell.journal().is_empty()),
         Err(fault) => Err(Fail::from(fault)),
         Ok(_) => Ok(false),
     }
@@ -203,7 +206,8 @@ fn is_worn<R: Wait>(rt: &R, cell: &mut Cell<'_>) -> Result<bool, Fail> {
 fn a_cell_without_a_stamp_left_is_worn(rt: HostRuntime) -> Result<(), Fail> {
     let alloc = rt.alloc();
     let net = two_servers(alloc)?;
-    let mut started = start(alloc, &rt, &net)?;
+    let tables = Tables::of(alloc, &net)?;
+    let mut started = start(alloc, &rt, &tables)?;
     let told = if started.is_empty() {
         Ok(false)
     } else {

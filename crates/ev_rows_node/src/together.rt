@@ -2,12 +2,12 @@
 ghost use Rattle.std.specs.Prelude.{◌≡◌, ◌≤◌, [], ◌++◌, length, map, vec_capacity, IfOk};
 ghost use Rattle.ev_model.specs.Sound.{IsSound};
 ghost use Rattle.ev_model.specs.Parts.{NetParts};
-ghost use Rattle.ev_node.specs.Together.{AreTogether, cell_roots};
-ghost use Rattle.ev_node.specs.Started.{AreStarted};
+ghost use Rattle.ev_numnode.specs.Together.{AreTogether, cell_roots};
+ghost use Rattle.ev_numnode.specs.Started.{AreStarted};
 
 use crate::documents::two_servers;
-use ev_model::Net;
-use ev_node::{Cell, Started, finish_phase, start};
+use ev_numnode::{Cell, Started, finish_phase, start};
+use ev_tables::Tables;
 use std::alloc::Global;
 use std::rt::HostRuntime;
 use std::sync::Wait;
@@ -52,12 +52,16 @@ fn is_finished<R: Wait>(rt: &R, cells: &mut [Cell<'_>]) -> Result<bool, Fail>
     Ok(true)
 }
 
-/// The cells of a net, before their first step.
-pub fn cells_in<'a, R: Wait>(alloc: Global, rt: &R, net: &'a Net) -> Result<Vec<Cell<'a>>, Fail>
-    requires { IsSound net.now }
-    ensures { IfOk result (λ cells. AreTogether net.now 0 (cell_roots cells.items)) }
+/// The cells of the tables' net, before their first step.
+pub fn cells_in<'a, R: Wait>(
+    alloc: Global,
+    rt: &R,
+    tables: &'a Tables<'a>,
+) -> Result<Vec<Cell<'a>>, Fail>
+    requires { IsSound tables.now }
+    ensures { IfOk result (λ cells. AreTogether tables.now 0 (cell_roots cells.items)) }
 {
-    let started = start(alloc, rt, net)?;
+    let started = start(alloc, rt, tables)?;
     match Vec::with_capacity(alloc, started.len()) {
         Ok(room) => Ok(cells_of(started, room)),
         Err(_) => {
@@ -71,7 +75,8 @@ pub fn cells_in<'a, R: Wait>(alloc: Global, rt: &R, net: &'a Net) -> Result<Vec<
 fn the_rest_of_a_phase_is_made(rt: HostRuntime) -> Result<(), Fail> {
     let alloc = rt.alloc();
     let net = two_servers(alloc)?;
-    let mut cells = cells_in(alloc, &rt, &net)?;
+    let tables = Tables::of(alloc, &net)?;
+    let mut cells = cells_in(alloc, &rt, &tables)?;
     let told = is_finished(&rt, &mut cells);
     end_all(&rt, cells);
     assert!(rt; told?);

@@ -7,8 +7,9 @@ use ev_input::law::net_is_sound;
 use ev_input::{InputFault, read_net};
 use ev_memory::NoMemory;
 use ev_model::{Net, Turn};
-use ev_net::{Network, retell};
+use ev_numnet::{Kept, Network, retell};
 use ev_rows::{Answers, RowFault, first_word, number};
+use ev_tables::Tables;
 use ev_turns::ReplayFault;
 use std::alloc::Global;
 
@@ -57,13 +58,13 @@ fn client_of(net: &Net, name: &str) -> Result<u32, RowFault>
 /// The network of a net after turns, where each of them is permitted.
 fn after<'a>(
     alloc: Global,
-    net: &'a Net,
+    tables: &'a Tables<'a>,
     turns: &[(u32, Turn)],
-) -> Result<Option<Network<'a>>, RowFault>
-    requires { IsSound net.now }
-    ensures { IfOk result (λ after. IfSome after (λ network. network.net ≡ net.now)) }
+) -> Result<Option<Network<'a, Kept>>, RowFault>
+    requires { IsSound tables.now }
+    ensures { IfOk result (λ after. IfSome after (λ network. network.net ≡ tables.now)) }
 {
-    let mut network = Network::start(alloc, net)?;
+    let mut network: Network<'_, Kept> = Network::start(alloc, tables)?;
     match network.replay(turns) {
         Ok(()) => Ok(Some(network)),
         Err(ReplayFault::BadTurn(_)) => Ok(None),
@@ -102,8 +103,9 @@ impl Steps {
     fn turn(&mut self, alloc: Global, verb: &str, rest: &str) -> Result<Vec<u8>, RowFault> {
         let net = net_of(alloc, &self.document)?;
         self.turns.push((0, turn_of(&net, verb, rest)?))?;
-        match after(alloc, &net, &self.turns)? {
-            Some(network) => last_step(alloc, &net, &network),
+        let tables = Tables::of(alloc, &net)?;
+        match after(alloc, &tables, &self.turns)? {
+            Some(network) => last_step(alloc, &tables, &network),
             None => {
                 self.turns.pop();
                 Ok(Vec::from_slice(alloc, b"barred")?)
@@ -115,7 +117,8 @@ impl Steps {
     fn received(&self, alloc: Global, name: &str) -> Result<Vec<u8>, RowFault> {
         let net = net_of(alloc, &self.document)?;
         let client = client_of(&net, name)?;
-        match after(alloc, &net, &self.turns)? {
+        let tables = Tables::of(alloc, &net)?;
+        match after(alloc, &tables, &self.turns)? {
             Some(network) => deliveries(alloc, &net, network.received(client)),
             None => Err(RowFault::Form),
         }
@@ -125,7 +128,8 @@ impl Steps {
     fn refused(&self, alloc: Global, name: &str) -> Result<Vec<u8>, RowFault> {
         let net = net_of(alloc, &self.document)?;
         let client = client_of(&net, name)?;
-        match after(alloc, &net, &self.turns)? {
+        let tables = Tables::of(alloc, &net)?;
+        match after(alloc, &tables, &self.turns)? {
             Some(network) => numbers(alloc, network.refused(client)),
             None => Err(RowFault::Form),
         }
@@ -133,10 +137,14 @@ impl Steps {
 }
 
 /// The last step of a network.
-fn last_step(alloc: Global, net: &Net, network: &Network<'_>) -> Result<Vec<u8>, RowFault>
-    requires { network.now.net ≡ net.now }
+fn last_step(
+    alloc: Global,
+    tables: &Tables<'_>,
+    network: &Network<'_, Kept>,
+) -> Result<Vec<u8>, RowFault>
+    requires { network.now.net ≡ tables.now }
 {
-    let told = retell(alloc, net, network.journal())?;
+    let told = retell(alloc, tables, network.journal())?;
     match (network.journal().last(), told.last()) {
         (Some(entry), Some(sent)) => step(alloc, entry, sent.as_slice()),
         _ => Err(RowFault::Form),

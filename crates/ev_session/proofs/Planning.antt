@@ -1,8 +1,5 @@
 -- What is planned is the difference of a client's lists, and doing it gives the next ones.
-use Rattle.std.proofs.Common.{◌≡◌, ℕ, suc, ◌≤◌, Bool, true, false, cond, not, List, [], ◌∷◌, ◌++◌, length, filter, map, slice_get, Some, refl, sym, ap, subst, ◌∙◌, inl, inr, arith, append-nil, zero-add}
-use Rattle.ev_constraint.specs.Constraint.{ConstraintParts}
-use Rattle.ev_notice.specs.Before.{list_before}
-use Rattle.ev_notice.specs.Cover.{filter_covers, advert_covers}
+use Rattle.std.proofs.Common.{◌≡◌, ℕ, suc, Bool, true, false, cond, not, List, [], ◌∷◌, ◌++◌, filter, map, slice_get, Some, refl, sym, ap, subst, ◌∙◌, inl, inr, append-nil, zero-add}
 use Rattle.ev_cover.specs.Laws.{sub_laws, ad_laws}
 use Rattle.ev_sets.specs.Laws.{CoverLaws}
 use Rattle.ev_sets.specs.Sets.{Has, member, minus}
@@ -18,13 +15,9 @@ use Rattle.ev_session.specs.declared.planned.Planned.TheVariants as plans
 use Rattle.ev_wire.specs.Messages.{Lists}
 use Rattle.ev_session.specs.Session.{SessionParts, first_commands, filters_at, adverts_at, publishes_at, refused_at, net_under}
 use Rattle.ev_session.specs.Plan.{filters_plan, adverts_plan, publish_plan, plan_by, next_plan}
-use Rattle.ev_session.specs.Own.{own_plan, filters_by, adverts_by, refusals_by, publishes_by, AddsFew}
-use Rattle.ev_session.proofs.Settling.{filter-same, filter-all, out, add, settled}
+use Rattle.ev_session.specs.Own.{own_plan, filters_by, adverts_by, refusals_by, publishes_by}
+use Rattle.ev_session.proofs.Settling.{filter-all, settled}
 use Rattle.ev_session.proofs.Listing.{get-map, filters-next, adverts-next, ordinal-next, refused-next}
-
-opposite : (b : Bool) → not (not b) ≡ b
-opposite true = refl
-opposite false = refl
 
 -- an adding, and a withdrawal
 abbrev pub with_new : {T : Type 0} → (T → T → Bool) → T → List T → List T
@@ -59,18 +52,6 @@ module _ {T : Type 0} {covers before : T → T → Bool} (laws : CoverLaws cover
           bad : false ≡ true → ⊥
           bad w = cc
 
-  pub adding-out : minus before now (with_new before f now) ≡ []
-  unfolding all
-  adding-out = ap (λ next. minus before now next) split ∙ out laws (λ x. true) now (new_of before f now) fresh ∙ none now
-    where
-      none : (xs : List T) → filter (λ x. not true) xs ≡ []
-      none [] = refl
-      none (x ∷ xs) = none xs
-
-  pub adding-add : minus before (with_new before f now) now ≡ new_of before f now
-  unfolding all
-  adding-add = ap (λ next. minus before next now) split ∙ add laws (λ x. true) now (new_of before f now) fresh
-
   pub adding-settled : minus before now (minus before now (with_new before f now)) ++ minus before (with_new before f now) now ≡ with_new before f now
   unfolding all
   adding-settled = ap (λ next. minus before now (minus before now next) ++ minus before next now) split ∙ settled laws (λ x. true) now (new_of before f now) fresh ∙ sym split
@@ -81,52 +62,8 @@ module _ {T : Type 0} {covers before : T → T → Bool} (laws : CoverLaws cover
   whole : without covers f now ≡ without covers f now ++ []
   whole = sym (append-nil (without covers f now))
 
-  pub withdrawing-out : minus before now (without covers f now) ≡ filter (λ g. covers f g) now
-  withdrawing-out = ap (λ next. minus before now next) whole ∙ out laws (λ g. not (covers f g)) now [] nothing ∙ filter-same (λ g. not (not (covers f g))) (λ g. covers f g) now (λ g h. opposite (covers f g))
-
-  pub withdrawing-add : minus before (without covers f now) now ≡ []
-  withdrawing-add = ap (λ next. minus before next now) whole ∙ add laws (λ g. not (covers f g)) now [] nothing
-
   pub withdrawing-settled : minus before now (minus before now (without covers f now)) ++ minus before (without covers f now) now ≡ without covers f now
   withdrawing-settled = ap (λ next. minus before now (minus before now next) ++ minus before next now) whole ∙ settled laws (λ g. not (covers f g)) now [] nothing ∙ sym whole
-
-  few-new : length (new_of before f now) ≤ 1
-  few-new = go (member before f now)
-    where
-      go : (b : Bool) → length (cond b [] (f ∷ [])) ≤ 1
-      go true = omega arith
-      go false = omega arith
-
-  pub adding-few : length (minus before (with_new before f now) now) ≤ 1
-  adding-few = rw adding-add few-new
-
-  pub withdrawing-few : length (minus before (without covers f now) now) ≤ 1
-  withdrawing-few = rw withdrawing-add (omega arith)
-
--- what the code says that a command does
-pub subscribe_plan : (f : List ConstraintParts) (filters come : Lists) → come ≡ new_of list_before f filters → plans.Subs [] come ≡ filters_plan filters (with_new list_before f filters)
-subscribe_plan f filters come e = rw (adding-out sub_laws f filters, adding-add sub_laws f filters) (ap (λ xs. plans.Subs [] xs) e)
-
-pub unsubscribe_plan : (f : List ConstraintParts) (filters go : Lists) → go ≡ filter (λ g. filter_covers f g) filters → plans.Subs go [] ≡ filters_plan filters (without filter_covers f filters)
-unsubscribe_plan f filters go e = rw (withdrawing-out sub_laws f filters, withdrawing-add sub_laws f filters) (ap (λ xs. plans.Subs xs []) e)
-
-pub advertise_plan : (a : List ConstraintParts) (adverts come : Lists) → come ≡ new_of list_before a adverts → plans.Advs [] come ≡ adverts_plan adverts (with_new list_before a adverts)
-advertise_plan a adverts come e = rw (adding-out ad_laws a adverts, adding-add ad_laws a adverts) (ap (λ xs. plans.Advs [] xs) e)
-
-pub unadvertise_plan : (a : List ConstraintParts) (adverts go : Lists) → go ≡ filter (λ b. advert_covers a b) adverts → plans.Advs go [] ≡ adverts_plan adverts (without advert_covers a adverts)
-unadvertise_plan a adverts go e = rw (withdrawing-out ad_laws a adverts, withdrawing-add ad_laws a adverts) (ap (λ xs. plans.Advs xs []) e)
-
--- at most one member comes
-pub plan-few : (client : ℕ) (semantics : Semantics) (filters adverts : Lists) (publishes : ℕ) (command : Command) → AddsFew (own_plan client semantics filters adverts publishes command)
-plan-few client semantics filters adverts publishes (commands.Subscribe f) = adding-few sub_laws f filters
-plan-few client semantics filters adverts publishes (commands.Unsubscribe f) = withdrawing-few sub_laws f filters
-plan-few client semantics filters adverts publishes (commands.Advertise a) = adding-few ad_laws a adverts
-plan-few client semantics filters adverts publishes (commands.Unadvertise a) = withdrawing-few ad_laws a adverts
-plan-few client semantics filters adverts publishes (commands.Publish n) = go (accepts real (net_under semantics) adverts n)
-  where
-    go : (b : Bool) → AddsFew (cond b (plans.Publish (record { publisher = client; ordinal = suc publishes }) n) (plans.Refused (suc publishes)))
-    go true = tt
-    go false = tt
 
 -- doing what is planned gives the next lists
 pub filters-done : (client : ℕ) (semantics : Semantics) (filters adverts : Lists) (publishes : ℕ) (command : Command) → filters_by (own_plan client semantics filters adverts publishes command) filters ≡ own_filters_step real filters (command_of command)

@@ -1,9 +1,7 @@
 -- What a session keeps is kept by its calls.
 use Rattle.std.proofs.Common.{◌≡◌, ℕ, zero, suc, ◌≤◌, ◌<◌, Bool, true, false, cond, List, [], ◌∷◌, ◌++◌, length, map, take, slice_get, get_or, Option, Some, None, refl, sym, ap, subst, ◌∙◌, arith}
-use Rattle.std.specs.Int.{IsInRange}
 use Rattle.std.proofs.lemmas.Option.{same_Some}
 use Rattle.ev_wire.specs.declared.command.Command.{Command}
-use Rattle.ev_wire.specs.declared.command.Command.TheVariants as commands
 use Rattle.ev_wire.specs.declared.delivery.Delivery.{Delivery}
 use Rattle.ev_routing.specs.Theory.{Theory}
 use Rattle.ev_routing.specs.Net.{PhasedCommand}
@@ -16,10 +14,9 @@ use Rattle.ev_session.specs.declared.planned.Planned.{Planned}
 use Rattle.ev_wire.specs.Messages.{Lists}
 use Rattle.ev_session.specs.Inbox.{IsDelivery, AreDeliveries}
 use Rattle.ev_session.specs.Session.{SessionParts, session_parts, IsSession, first_commands, filters_at, adverts_at, publishes_at, refused_at, net_under}
-use Rattle.ev_session.specs.declared.planned.Planned.TheVariants as plans
-use Rattle.ev_session.specs.Plan.{plan_in, next_plan, IsCounted}
-use Rattle.ev_session.specs.Own.{own_plan, filters_by, adverts_by, refusals_by, publishes_by, AddsFew}
-use Rattle.ev_session.proofs.Planning.{plan-few, filters-done, adverts-done, refused-done, publishes-done, next-filters, next-adverts, next-publishes, next-refused, plan-own}
+use Rattle.ev_session.specs.Plan.{plan_in, next_plan}
+use Rattle.ev_session.specs.Own.{own_plan, filters_by, adverts_by, refusals_by, publishes_by}
+use Rattle.ev_session.proofs.Planning.{filters-done, adverts-done, refused-done, publishes-done, next-filters, next-adverts, next-publishes, next-refused, plan-own}
 
 -- no part of a list has more publishes
 pub ordinal-take : (th : Theory) (cs : List (PhasedCommand th)) (j : ℕ) → ordinal th (take j cs) ≤ ordinal th cs
@@ -31,15 +28,6 @@ ordinal-take th (c ∷ cs) (suc j) = go (is_publish th c.command) (ordinal-take 
     go : (b : Bool) → ordinal th (take j cs) ≤ ordinal th cs → cond b (suc (ordinal th (take j cs))) (ordinal th (take j cs)) ≤ cond b (suc (ordinal th cs)) (ordinal th cs)
     go true l = omega (arith, l)
     go false l = l
-
--- nor more than it has members
-pub ordinal-length : (th : Theory) (cs : List (PhasedCommand th)) → ordinal th cs ≤ length cs
-ordinal-length th [] = omega arith
-ordinal-length th (c ∷ cs) = go (is_publish th c.command) (ordinal-length th cs)
-  where
-    go : (b : Bool) → ordinal th cs ≤ length cs → cond b (suc (ordinal th cs)) (ordinal th cs) ≤ suc (length cs)
-    go true l = omega (arith, l)
-    go false l = omega (arith, l)
 
 -- a member stands within its list
 get-within : {A : Type 0} (xs : List A) (j : ℕ) (x : A) → slice_get xs j ≡ Some x → suc j ≤ length xs
@@ -84,7 +72,6 @@ module _ (s : SessionParts) (fs xs : Lists) (rs : List ℕ) (p : ℕ) (kept : Is
     texts = tt;
   }
 
-  -- of the next command
   module _ (step : ℕ × Command) (at : slice_get s.script s.taken ≡ Some step) where
     by-lists : own_plan s.client s.semantics (filters_at s s.taken) (adverts_at s s.taken) (publishes_at s s.taken) step.1 ≡ own_plan s.client s.semantics fs xs p step.1
     by-lists =
@@ -126,30 +113,6 @@ module _ (s : SessionParts) (fs xs : Lists) (rs : List ℕ) (p : ℕ) (kept : Is
           bad : Some plan ≡ None → ⊥
           bad q = cc
       go (Some step) w = (step, w, same_Some _ _ (sym e ∙ planned-is step w))
-
-  pub adds-few : (plan : Planned) → next_plan s ≡ Some plan → AddsFew plan
-  adds-few plan e = let w = command-of-plan plan e in subst AddsFew (sym w.2) (plan-few s.client s.semantics fs xs p w.0.1)
-
-  -- an accepted publish, or a refused one, is among the publishes of the script
-  counted-own : (step : ℕ × Command) → slice_get s.script s.taken ≡ Some step → IsCounted (own_plan s.client s.semantics fs xs p step.1)
-  counted-own step at = go step.1 (next-publishes s step at)
-    where
-      within : publishes_at s (suc s.taken) ≡ suc (publishes_at s s.taken) → IsInRange 1 100000 (suc p)
-      within e = (omega arith, omega (arith, e, kept.counted, ordinal-take real (map phased_command s.script) (suc s.taken), kept.few))
-
-      go : (command : Command) → publishes_at s (suc s.taken) ≡ cond (is_publish real (command_of command)) (suc (publishes_at s s.taken)) (publishes_at s s.taken) → IsCounted (own_plan s.client s.semantics fs xs p command)
-      go (commands.Subscribe f) e = tt
-      go (commands.Unsubscribe f) e = tt
-      go (commands.Advertise a) e = tt
-      go (commands.Unadvertise a) e = tt
-      go (commands.Publish n) e = either (accepts real (net_under s.semantics) xs n)
-        where
-          either : (b : Bool) → IsCounted (cond b (plans.Publish (record { publisher = s.client; ordinal = suc p }) n) (plans.Refused (suc p)))
-          either true = within e
-          either false = within e
-
-  pub counted-plan : (plan : Planned) → next_plan s ≡ Some plan → IsCounted plan
-  counted-plan plan e = let w = command-of-plan plan e in subst IsCounted (sym w.2) (counted-own w.0 w.1)
 
   pub committed : (plan : Planned) → next_plan s ≡ Some plan → (taken : ℕ) → taken ≡ suc s.taken → IsSession (session_parts s.client s.semantics s.script taken s.inbox s.room false) (filters_by plan fs) (adverts_by plan xs) (refusals_by plan rs) (publishes_by plan p)
   committed plan e taken t =

@@ -26,10 +26,6 @@ filter-append p (x ∷ xs) ys = go (p x) (filter-append p xs ys)
     go true e = ap (λ zs. x ∷ zs) e
     go false e = e
 
-opposite : (b : Bool) → not (not b) ≡ b
-opposite true = refl
-opposite false = refl
-
 module _ {T : Type 0} {covers before : T → T → Bool} (laws : CoverLaws covers before) where
   pub absent : (x : T) (xs : List T) → (Has x xs → ⊥) → member before x xs ≡ false
   absent x xs missing = go (member before x xs) refl
@@ -38,7 +34,6 @@ module _ {T : Type 0} {covers before : T → T → Bool} (laws : CoverLaws cover
       go true e = absurd (missing (member-has laws x xs e))
       go false e = e
 
-  -- those of now that pass q stay, and others join them that are not in now
   module _ (q : T → Bool) (now added : List T) (new : (x : T) → Has x added → Has x now → ⊥) where
     abbrev next : List T
     next = filter q now ++ added

@@ -1,16 +1,13 @@
 -- A planned change turns the set that a server holds of a client into the next one, and what is refused depends on the semantics alone.
-use Rattle.std.proofs.Common.{◌≡◌, ℕ, suc, Bool, true, false, cond, not, ◌||◌, List, [], ◌∷◌, slice_get, Option, Some, None, refl, sym, ap, ap₂, subst, ◌∙◌}
+use Rattle.std.proofs.Common.{◌≡◌, ℕ, suc, Bool, true, false, cond, [], slice_get, Option, Some, None, refl, sym, ap, ap₂, ◌∙◌}
 use Rattle.std.proofs.lemmas.Option.{same_Some}
-use Rattle.ev_constraint.specs.Constraint.{ConstraintParts}
 use Rattle.ev_notice.specs.Before.{list_before}
 use Rattle.ev_cover.specs.Laws.{sub_laws, ad_laws}
-use Rattle.ev_sets.specs.Sets.{Has, union, minus}
-use Rattle.ev_sets.proofs.Sets.{minus-iff}
+use Rattle.ev_sets.specs.Sets.{union, minus}
 use Rattle.ev_wire.specs.declared.command.Command.{Command}
 use Rattle.ev_wire.specs.declared.command.Command.TheVariants as commands
-use Rattle.ev_routing.specs.Theory.{Theory}
-use Rattle.ev_routing.specs.Net.{Net, PhasedCommand, Command as RunCommand, Subscribe, Unsubscribe, Advertise, Unadvertise, Publish}
-use Rattle.ev_routing.specs.Clients.{some_pass, accepts, add_refused, refused_from, adverts_step, is_publish, filters_after, adverts_after}
+use Rattle.ev_routing.specs.Net.{Subscribe, Unsubscribe, Advertise, Unadvertise, Publish}
+use Rattle.ev_routing.specs.Clients.{accepts, filters_after, adverts_after}
 use Rattle.ev_theory.specs.Real.{real, real_laws}
 use Rattle.ev_model.proofs.Adding.{filters-sorted, adverts-sorted}
 use Rattle.ev_session.specs.declared.planned.Planned.{Planned}
@@ -112,29 +109,3 @@ module _ (s : SessionParts) where
       ∙ ap (λ (held : Lists). union list_before (minus list_before (adverts_at s (suc s.taken)) (adverts_at s s.taken)) (minus list_before held (minus list_before (adverts_at s s.taken) (adverts_at s (suc s.taken))))) (sym now)
       ∙ sets-settled ad_laws (adverts_at s s.taken) (adverts_at s (suc s.taken))
       ∙ adverts-sorted real real_laws (first_commands s (suc s.taken))
-
-  pub filters-apart : (out add : Lists) → next_plan s ≡ Some (plans.Subs out add) → (f : List ConstraintParts) → Has f out → Has f add → ⊥
-  filters-apart out add e f h k =
-      let w = subs-in (slice_get s.script s.taken) out add e in
-      ((minus-iff sub_laws f (filters_at s (suc s.taken)) (filters_at s s.taken)).0 (subst (λ (x : Lists). Has f x) w.1 k)).1 ((minus-iff sub_laws f (filters_at s s.taken) (filters_at s (suc s.taken))).0 (subst (λ (x : Lists). Has f x) w.0 h)).0
-
-  pub adverts-apart : (out add : Lists) → next_plan s ≡ Some (plans.Advs out add) → (a : List ConstraintParts) → Has a out → Has a add → ⊥
-  adverts-apart out add e a h k =
-      let w = advs-in (slice_get s.script s.taken) out add e in
-      ((minus-iff ad_laws a (adverts_at s (suc s.taken)) (adverts_at s s.taken)).0 (subst (λ (x : Lists). Has a x) w.1 k)).1 ((minus-iff ad_laws a (adverts_at s s.taken) (adverts_at s (suc s.taken))).0 (subst (λ (x : Lists). Has a x) w.0 h)).0
-
--- nets of one semantics accept and refuse the same
-module _ (th : Theory) (one other : Net th) (same : one.adverts ≡ other.adverts) where
-  pub accepts-alike : (adverts : List th.Advert) (n : th.Notice) → accepts th one adverts n ≡ accepts th other adverts n
-  accepts-alike adverts n = ap (λ b. not b || some_pass (λ a. th.allows a n) adverts) same
-
-  adds-alike : (adverts : List th.Advert) (o : ℕ) (y : RunCommand th) (os ps : List ℕ) → os ≡ ps → add_refused th one adverts o y os ≡ add_refused th other adverts o y ps
-  adds-alike adverts o (Subscribe f) os ps e = e
-  adds-alike adverts o (Unsubscribe f) os ps e = e
-  adds-alike adverts o (Advertise a) os ps e = e
-  adds-alike adverts o (Unadvertise a) os ps e = e
-  adds-alike adverts o (Publish n) os ps e = ap₂ (λ (b : Bool) (qs : List ℕ). cond b qs (suc o ∷ qs)) (accepts-alike adverts n) e
-
-  pub refused-alike : (cs : List (PhasedCommand th)) (adverts : List th.Advert) (o : ℕ) → refused_from th one adverts o cs ≡ refused_from th other adverts o cs
-  refused-alike [] adverts o = refl
-  refused-alike (c ∷ cs) adverts o = adds-alike adverts o c.command (refused_from th one (adverts_step th adverts c.command) (cond (is_publish th c.command) (suc o) o) cs) (refused_from th other (adverts_step th adverts c.command) (cond (is_publish th c.command) (suc o) o) cs) (refused-alike cs (adverts_step th adverts c.command) (cond (is_publish th c.command) (suc o) o))

@@ -1,5 +1,5 @@
 -- How the code of a session is followed on lists; no promise to a caller speaks of it.
-use Rattle.std.specs.Prelude.{ℕ, suc, ◌≤◌, List, [], ◌∷◌, ◌++◌, length}
+use Rattle.std.specs.Prelude.{ℕ, suc, List, [], ◌∷◌, ◌++◌}
 use Rattle.ev_notice.specs.Before.{list_before}
 use Rattle.ev_sets.specs.Sets.{minus}
 use Rattle.ev_wire.specs.declared.command.Command.{Command}
@@ -49,10 +49,3 @@ publishes_by (plans.Subs out add) publishes = publishes
 publishes_by (plans.Advs out add) publishes = publishes
 publishes_by (plans.Publish id n) publishes = suc publishes
 publishes_by (plans.Refused ordinal) publishes = suc publishes
-
--- at most one member comes
-abbrev pub AddsFew : Planned → Type 0
-AddsFew (plans.Subs out add) = length add ≤ 1
-AddsFew (plans.Advs out add) = length add ≤ 1
-AddsFew (plans.Publish id n) = Unit {0}
-AddsFew (plans.Refused ordinal) = Unit {0}

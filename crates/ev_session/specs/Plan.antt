@@ -1,6 +1,5 @@
 -- What a client's next command does: the difference from its lists to the next ones, or its publication.
 use Rattle.std.specs.Prelude.{ℕ, suc, cond, List, slice_get, Option, Some, None}
-use Rattle.std.specs.Int.{IsInRange}
 use Rattle.ev_constraint.specs.Constraint.{ConstraintParts}
 use Rattle.ev_notice.specs.Before.{list_before}
 use Rattle.ev_notice.specs.Notice.{Attribute}
@@ -47,10 +46,3 @@ plan_in session (Some step) = Some (plan_by session step.1)
 -- WHAT THE NEXT COMMAND DOES, where there is one
 abbrev pub next_plan : SessionParts → Option Planned
 next_plan session = plan_in session (slice_get session.script session.taken)
-
--- an ordinal is one of at most 100,000
-abbrev pub IsCounted : Planned → Type 0
-IsCounted (plans.Subs out add) = Unit {0}
-IsCounted (plans.Advs out add) = Unit {0}
-IsCounted (plans.Publish id n) = IsInRange 1 100000 id.ordinal
-IsCounted (plans.Refused ordinal) = IsInRange 1 100000 ordinal

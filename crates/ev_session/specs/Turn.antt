@@ -1,8 +1,6 @@
 -- What a planned change is to a server, which holds the sets of a client's members.
-use Rattle.std.specs.Prelude.{◌≡◌, ℕ, List, []}
+use Rattle.std.specs.Prelude.{ℕ, List, []}
 use Rattle.ev_constraint.specs.Constraint.{ConstraintParts}
-use Rattle.ev_notice.specs.Before.{list_before}
-use Rattle.ev_sets.specs.Sets.{Has, union, minus}
 use Rattle.ev_routing.specs.Clients.{filters_after, adverts_after}
 use Rattle.ev_theory.specs.Real.{real}
 use Rattle.ev_session.specs.Session.{SessionParts, first_commands}
@@ -13,8 +11,3 @@ filter_set_at session count = filters_after real [] (first_commands session coun
 
 abbrev pub advert_set_at : SessionParts → ℕ → List (List ConstraintParts)
 advert_set_at session count = adverts_after real [] (first_commands session count)
-
--- a change turns one set into another, and takes out nothing that it adds
-pub record TurnsInto (now next out add : List (List ConstraintParts)) : Type 0 where
-  pub turned : union list_before add (minus list_before now out) ≡ next
-  pub apart : (x : List ConstraintParts) → Has x out → Has x add → ⊥

@@ -1,14 +1,8 @@
 //! A client's session at its server: its lists, what its next command does, and its inbox.
+//!
+//! Layer: server. Definitions and lemmas alone; `ev_numsession` keeps a session by numbers.
 #![tactic(auto)]
 
-pub mod law;
-mod list;
-mod member;
-mod own;
 mod planned;
-mod reading;
-mod session;
 
 pub use planned::Planned;
-pub use reading::read;
-pub use session::Session;

@@ -2,10 +2,10 @@
 use Rattle.std.proofs.Common.{◌≡◌, ℕ, suc, List, sym, subst, ◌∙◌}
 use Rattle.ev_run.specs.Journals.{Cell}
 use Rattle.ev_model.specs.Parts.{NetParts}
-use Rattle.ev_node.specs.Cell.{CellParts, machine_in}
-use Rattle.ev_node.specs.Coming.{HaveCommand}
-use Rattle.ev_node.specs.InHand.{AreAllInHand}
-use Rattle.ev_node.specs.Together.{AreBegun, AreTogether, IsFinished, cell_roots}
+use Rattle.ev_numnode.specs.Cell.{CellParts, machine_in}
+use Rattle.ev_numnode.specs.Coming.{HaveCommand}
+use Rattle.ev_numnode.specs.InHand.{AreAllInHand}
+use Rattle.ev_numnode.specs.Together.{AreBegun, AreTogether, IsFinished, cell_roots}
 use Rattle.ev_course.specs.Course.{AreInHand, AreKept, IsPhaseBegun, IsPhaseDone, StandBetween}
 use Rattle.ev_workers.specs.declared.crew.Eyes.{Eyes}
 use Rattle.ev_workers.specs.Crews.{AreEyesOf, Pairwise}

@@ -8,11 +8,11 @@ use Rattle.ev_phases.specs.Cells.{entered}
 use Rattle.ev_theory.specs.Real.{real}
 use Rattle.ev_model.specs.Parts.{NetParts}
 use Rattle.ev_model.specs.Nets.{phased_net}
-use Rattle.ev_versions.specs.Ends.{IsSameViewer}
-use Rattle.ev_node.specs.declared.held.Root.{Root}
-use Rattle.ev_node.specs.Cell.{CellParts, IsCellOf}
-use Rattle.ev_node.specs.Entered.{AreEntered, AreSameCells, state_of}
-use Rattle.ev_node.specs.Together.{AreTogether, cell_roots}
+use Rattle.ev_numversions.specs.Ends.{IsSameViewer}
+use Rattle.ev_numnode.specs.declared.held.Root.{Root}
+use Rattle.ev_numnode.specs.Cell.{CellParts, IsCellOf}
+use Rattle.ev_numnode.specs.Entered.{AreEntered, AreSameCells, state_of}
+use Rattle.ev_numnode.specs.Together.{AreTogether, cell_roots}
 use Rattle.ev_course.specs.Course.{AreInHand, AreAtStart, StandBetween}
 use Rattle.ev_workers.specs.declared.crew.Eyes.{Eyes}
 use Rattle.ev_workers.specs.Crews.{AreEyesOf, AreInPlace, Pairwise}

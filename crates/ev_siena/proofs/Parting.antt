@@ -3,10 +3,10 @@ use Rattle.std.proofs.Common.{◌≡◌, ℕ, suc, ◌<◌, List, [], ◌∷◌,
 use Rattle.std.proofs.lemmas.List.{map-append}
 use Rattle.ev_model.specs.Parts.{NetParts}
 use Rattle.ev_model.specs.Nets.{first_tree}
-use Rattle.ev_node.specs.declared.starting.Started.{Started}
-use Rattle.ev_node.specs.Cell.{CellParts}
-use Rattle.ev_node.specs.Started.{AreStarted}
-use Rattle.ev_node.specs.Together.{AreTogether, cell_roots}
+use Rattle.ev_numnode.specs.declared.starting.Started.{Started}
+use Rattle.ev_numnode.specs.Cell.{CellParts}
+use Rattle.ev_numnode.specs.Started.{AreStarted}
+use Rattle.ev_numnode.specs.Together.{AreTogether, cell_roots}
 use Rattle.ev_course.specs.Course.{AreKept, StandBetween}
 use Rattle.ev_model.specs.Sound.{IsSound}
 use Rattle.ev_workers.specs.declared.crew.Eyes.{Eyes}

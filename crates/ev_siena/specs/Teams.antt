@@ -1,11 +1,11 @@
 -- The cells of a net with the viewers of their workers, between two phases.
 use Rattle.std.specs.Prelude.{◌≡◌, ℕ, List, [], ◌∷◌, map}
 use Rattle.ev_model.specs.Parts.{NetParts}
-use Rattle.ev_versions.specs.Ends.{IsSameViewer}
-use Rattle.ev_node.specs.declared.starting.Started.{Started}
-use Rattle.ev_node.specs.Cell.{CellParts}
-use Rattle.ev_node.specs.Entered.{IsEntered, state_of}
-use Rattle.ev_node.specs.Together.{AreTogether, cell_roots}
+use Rattle.ev_numversions.specs.Ends.{IsSameViewer}
+use Rattle.ev_numnode.specs.declared.starting.Started.{Started}
+use Rattle.ev_numnode.specs.Cell.{CellParts}
+use Rattle.ev_numnode.specs.Entered.{IsEntered, state_of}
+use Rattle.ev_numnode.specs.Together.{AreTogether, cell_roots}
 use Rattle.ev_course.specs.Course.{AreInHand, AreAtStart, StandBetween, journals_by}
 use Rattle.ev_workers.specs.declared.crew.Eyes.{Eyes}
 use Rattle.ev_workers.specs.Crews.{AreEyesOf, Pairwise}

@@ -5,43 +5,43 @@ ghost use Rattle.ev_model.specs.Nets.{phases_of};
 ghost use Rattle.ev_model.specs.Parts.{NetParts};
 ghost use Rattle.ev_model.specs.Sound.{IsSound};
 ghost use Rattle.ev_course.specs.Course.{AreInHand, AreKept, StandBetween};
-ghost use Rattle.ev_node.specs.Cell.{CellParts, machine_in};
-ghost use Rattle.ev_node.specs.Coming.{HaveCommand};
-ghost use Rattle.ev_node.specs.Entered.{AreThrough};
-ghost use Rattle.ev_node.specs.Together.{AreBegun, AreTogether, IsFinished, cell_roots};
+ghost use Rattle.ev_numnode.specs.Cell.{CellParts, machine_in};
+ghost use Rattle.ev_numnode.specs.Coming.{HaveCommand};
+ghost use Rattle.ev_numnode.specs.Entered.{AreThrough};
+ghost use Rattle.ev_numnode.specs.Together.{AreBegun, AreTogether, IsFinished, cell_roots};
 ghost use Rattle.ev_siena.specs.Teams.{AreBetweenPhases, AreUnderWay, HaveStarted, IsTeam};
 
 use crate::team::tell_all;
 use ev_course::law::{calm, never_worn, phase_done, stand_later};
 use ev_memory::NoMemory;
-use ev_model::Net;
-use ev_node::{Cell, enter_next, finish_phase, next_phase};
+use ev_numnode::{Cell, enter_next, finish_phase, next_phase};
+use ev_numserver::StepFault;
 use ev_outside::Gate;
-use ev_server::StepFault;
+use ev_tables::Tables;
 use ev_workers::{Eyes, run_phase};
 use std::alloc::Global;
 use std::sync::Wait;
 use std::thread::Threads;
 
 /// The cells enter a phase; where it is the one that they are in nothing was done in it.
-fn enter<R: Wait>(
+fn enter<'a, R: Wait>(
     alloc: Global,
     rt: &R,
-    net: &Net,
-    cells: &mut Vec<Cell<'_>>,
+    tables: &'a Tables<'a>,
+    cells: &mut Vec<Cell<'a>>,
     last: u32,
     phase: u32,
 ) -> Result<(), NoMemory>
-    requires hand { AreInHand net.now last cells.old.items }
-    requires stand { StandBetween net.now last phase cells.old.items }
+    requires hand { AreInHand tables.now last cells.old.items }
+    requires stand { StandBetween tables.now last phase cells.old.items }
     requires through { AreThrough phase cells.old.items }
-    ensures { OnOk result (HaveStarted net.now last phase cells.old.items cells.new.items) }
+    ensures { OnOk result (HaveStarted tables.now last phase cells.old.items cells.new.items) }
 {
     calm();
     if last == phase {
         return Ok(());
     }
-    enter_next(alloc, rt, net, cells, last, phase)
+    enter_next(alloc, rt, tables, cells, last, phase)
 }
 
 /// Makes the rest of the phase that the cells entered. No stamp reaches its bound, since all entries together are a run.
@@ -58,52 +58,52 @@ fn end_phase<R: Wait>(rt: &R, cells: &mut Vec<Cell<'_>>) -> Result<(), NoMemory>
     match answer {
         Ok(()) => Ok(()),
         Err(StepFault::NoMemory) => Err(NoMemory),
-        Err(StepFault::Worn(_)) => unreachable!(),
+        Err(StepFault::StampsExhausted(_)) => unreachable!(),
     }
 }
 
 /// The cells enter the phase of the next command, workers take its commands and messages, and what they leave is done.
-fn one_phase<R: Threads + Wait + Sync, G: Gate + Sync>(
+fn one_phase<'a, R: Threads + Wait + Sync, G: Gate + Sync>(
     alloc: Global,
     rt: &R,
-    net: &Net,
+    tables: &'a Tables<'a>,
     gate: &G,
-    cells: &mut Vec<Cell<'_>>,
+    cells: &mut Vec<Cell<'a>>,
     eyes: &mut Vec<Eyes>,
     last: u32,
     phase: u32,
 ) -> Result<(), NoMemory>
-    requires team { IsTeam net.now last cells.old.items eyes.old.items }
+    requires team { IsTeam tables.now last cells.old.items eyes.old.items }
     requires through { AreThrough phase cells.old.items }
     requires command { HaveCommand cells.old.items phase }
-    ensures { OnOk result (IsTeam net.now phase cells.new.items eyes.new.items) }
+    ensures { OnOk result (IsTeam tables.now phase cells.new.items eyes.new.items) }
 {
     stand_later();
     phase_done();
-    enter(alloc, rt, net, cells, last, phase)?;
-    run_phase(alloc, rt, net, gate, phase, cells, eyes)?;
+    enter(alloc, rt, tables, cells, last, phase)?;
+    run_phase(alloc, rt, tables, gate, phase, cells, eyes)?;
     end_phase(rt, cells)
 }
 
 /// Phase by phase, until no command is left.
-pub(crate) fn run_phases<R: Threads + Wait + Sync, G: Gate + Sync>(
+pub(crate) fn run_phases<'a, R: Threads + Wait + Sync, G: Gate + Sync>(
     alloc: Global,
     rt: &R,
-    net: &Net,
+    tables: &'a Tables<'a>,
     gate: &G,
-    cells: &mut Vec<Cell<'_>>,
+    cells: &mut Vec<Cell<'a>>,
     eyes: &mut Vec<Eyes>,
 ) -> Result<(), NoMemory>
-    requires { IsTeam net.now 0 cells.old.items eyes.old.items }
-    ensures between { OnOk result ((last : ℕ) × AreBetweenPhases net.now last cells.new.items) }
-    ensures through { OnOk result (AreThrough (phases_of net.now) cells.new.items) }
+    requires { IsTeam tables.now 0 cells.old.items eyes.old.items }
+    ensures between { OnOk result ((last : ℕ) × AreBetweenPhases tables.now last cells.new.items) }
+    ensures through { OnOk result (AreThrough (phases_of tables.now) cells.new.items) }
 {
     let mut last = 0;
     for _ in rt.forever() {
         let Some(phase) = next_phase(cells) else {
             return Ok(());
         };
-        one_phase(alloc, rt, net, gate, cells, eyes, last, phase)?;
+        one_phase(alloc, rt, tables, gate, cells, eyes, last, phase)?;
         last = phase;
     }
     unreachable!()

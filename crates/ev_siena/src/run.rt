@@ -9,27 +9,47 @@ use crate::team::Team;
 use ev_course::{Ran, collect};
 use ev_memory::NoMemory;
 use ev_model::Net;
-use ev_node::Cell;
+use ev_numnode::Cell;
 use ev_outside::Gate;
+use ev_tables::Tables;
 use ev_workers::Eyes;
 use std::alloc::Global;
 use std::sync::Wait;
 use std::thread::Threads;
 
 /// The run of cells that are in hand before their first step.
-fn ran<R: Threads + Wait + Sync, G: Gate + Sync>(
+fn ran<'a, R: Threads + Wait + Sync, G: Gate + Sync>(
     alloc: Global,
     rt: &R,
-    net: &Net,
+    tables: &'a Tables<'a>,
     gate: &G,
-    cells: &mut Vec<Cell<'_>>,
+    cells: &mut Vec<Cell<'a>>,
     eyes: &mut Vec<Eyes>,
 ) -> Result<Ran, NoMemory>
-    requires { IsTeam net.now 0 cells.old.items eyes.old.items }
-    ensures { IfOk result (IsThreaded net.now) }
+    requires { IsTeam tables.now 0 cells.old.items eyes.old.items }
+    ensures { IfOk result (IsThreaded tables.now) }
 {
-    run_phases(alloc, rt, net, gate, cells, eyes)?;
-    collect(alloc, net, cells)
+    run_phases(alloc, rt, tables, gate, cells, eyes)?;
+    collect(alloc, tables.net(), cells)
+}
+
+/// The run of a net over its tables.
+fn run_over<'a, R: Threads + Wait + Sync, G: Gate + Sync>(
+    alloc: Global,
+    rt: &R,
+    tables: &'a Tables<'a>,
+    gate: &G,
+) -> Result<Ran, NoMemory>
+    requires { IsSound tables.now }
+    ensures { IfOk result (IsThreaded tables.now) }
+{
+    let Team {
+        mut cells,
+        mut eyes,
+    } = Team::make(alloc, rt, tables)?;
+    let answer = ran(alloc, rt, tables, gate, &mut cells, &mut eyes);
+    Team { cells, eyes }.end(rt);
+    answer
 }
 
 /// The run of a net, phase by phase, with two workers a server, each in a thread where one can be had. The servers' journals are
@@ -43,11 +63,6 @@ pub fn run_net<R: Threads + Wait + Sync, G: Gate + Sync>(
     requires { IsSound net.now }
     ensures { IfOk result (IsThreaded net.now) }
 {
-    let Team {
-        mut cells,
-        mut eyes,
-    } = Team::make(alloc, rt, net)?;
-    let answer = ran(alloc, rt, net, gate, &mut cells, &mut eyes);
-    Team { cells, eyes }.end(rt);
-    answer
+    let tables = Tables::of(alloc, net)?;
+    run_over(alloc, rt, &tables, gate)
 }

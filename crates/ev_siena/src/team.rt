@@ -1,14 +1,14 @@
 //! The cells of all servers, with the viewers of their workers.
 ghost use Rattle.std.specs.Prelude.{◌≡◌, ◌≤◌, [], length, map, vec_capacity};
 ghost use Rattle.ev_course.specs.Course.{AreKept};
-ghost use Rattle.ev_node.specs.Together.{cell_roots};
+ghost use Rattle.ev_numnode.specs.Together.{cell_roots};
 ghost use Rattle.ev_workers.specs.Crews.{AreEyesOf, Pairwise};
 ghost use Rattle.ev_siena.specs.Teams.{HaveEyes};
 
 use ev_course::law::opens;
 use ev_memory::NoMemory;
-use ev_model::Net;
-use ev_node::{Cell, Started, start};
+use ev_numnode::{Cell, Started, start};
+use ev_tables::Tables;
 use ev_workers::Eyes;
 use std::alloc::Global;
 use std::sync::Wait;
@@ -53,16 +53,20 @@ impl<'a> Team<'a> {
     ghost use Rattle.ev_model.specs.Sound.{IsSound};
     ghost use Rattle.ev_siena.specs.Teams.{IsTeam};
 
-    /// The team of a net before its first step.
-    pub(crate) fn make<R: Wait>(alloc: Global, rt: &R, net: &'a Net) -> Result<Team<'a>, NoMemory>
-        requires { IsSound net.now }
-        ensures { IfOk result (λ team. IsTeam net.now 0 team.cells.items team.eyes.items) }
+    /// The team of the tables' net before its first step.
+    pub(crate) fn make<R: Wait>(
+        alloc: Global,
+        rt: &R,
+        tables: &'a Tables<'a>,
+    ) -> Result<Team<'a>, NoMemory>
+        requires { IsSound tables.now }
+        ensures { IfOk result (λ team. IsTeam tables.now 0 team.cells.items team.eyes.items) }
     {
         opens();
-        let count = net.tree(0).servers() as usize;
+        let count = tables.net().tree(0).servers() as usize;
         let mut eyes = Vec::with_capacity(alloc, count)?;
         let mut cells = Vec::with_capacity(alloc, count)?;
-        match start(alloc, rt, net) {
+        match start(alloc, rt, tables) {
             Ok(started) => {
                 part(started, &mut cells, &mut eyes);
                 tell_all(&cells);

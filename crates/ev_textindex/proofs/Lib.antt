@@ -2,16 +2,6 @@ pub mod Keys
 pub mod Codes
 pub mod Finds
 pub mod Meets
-pub mod Said
 pub mod Appended
-pub mod Walked
-pub mod Probes
-pub mod Beyond
 pub mod Parts
-pub mod Shelved
-pub mod Headed
-pub mod Probed
-pub mod Covered
 pub mod Apart
-pub mod Idle
-pub mod Sorts

@@ -1,7 +1,5 @@
 -- Which keys have a test that a text passes.
 use Rattle.std.proofs.Common.{◌≡◌, ◌∙◌, List, [], ◌∷◌, ℕ, Bool, true, false, not, refl, sym, ap}
-use Rattle.std.specs.Prelude.{Vec}
-use Rattle.std.specs.declared.alloc.Global.{Global}
 use Rattle.std.specs.declared.cmp.Ordering.{Ordering}
 use Rattle.std.specs.declared.cmp.Ordering.TheVariants.{Less, Equal, Greater}
 use Rattle.std.specs.Ordering.{nat_cmp, is_lt, is_eq, is_gt}
@@ -11,17 +9,13 @@ use Rattle.std.proofs.lemmas.Map.Text.{is_eq-slice_cmp}
 use Rattle.ev_values.specs.declared.value.Value.TheVariants as values
 use Rattle.ev_constraint.specs.declared.op.Op.{Op}
 use Rattle.ev_constraint.specs.declared.op.Op.TheVariants as ops
-use Rattle.ev_index.specs.Pairs.{passes, ids_met}
-use Rattle.ev_index.specs.Groups.{keyed}
-use Rattle.ev_index.proofs.Rows.{met-keyed}
-use Rattle.ev_index.proofs.Found.{ids_at}
+use Rattle.ev_index.specs.Pairs.{passes}
 use Rattle.ev_index.proofs.Orders.{same-turned}
 use Rattle.ev_index.specs.declared.sides.Sides.{Sides}
 use Rattle.ev_textindex.specs.Heads.{is_pattern_op}
 use Rattle.ev_textindex.specs.Keys.{test_at, same_bytes}
 use Rattle.ev_index.specs.Lines.{on_side}
 use Rattle.ev_textindex.proofs.Keys.{less-before, less-after}
-use Rattle.ev_textindex.specs.Rows.{said}
 
 -- what each operator asks of a key
 pub any-key : (x u : List ℕ) → same_bytes [] u ≡ passes (values.Str x) (test_at ops.Any u)
@@ -83,10 +77,6 @@ ge-side x k = go (slice_cmp nat_cmp k x) ∙ ap not (sym (less-after x k))
     go Less = refl
     go Equal = refl
     go Greater = refl
-
--- the ids of the keys that pass what the operator asks
-pub met-in : (op asked : Op) (x : List ℕ) (q : Vec ℕ Global → Bool) (es : List (Vec ℕ Global × Vec ℕ Global)) → op ≡ asked → ((k : Vec ℕ Global) → q k ≡ passes (values.Str x) (said asked k)) → ids_at q es ≡ ids_met (values.Str x) (keyed (said op) es)
-met-in op asked x q es e h = met-keyed (values.Str x) (said asked) q es h ∙ ap {B = List ℕ} (λ (o : Op). ids_met (values.Str x) (keyed (said o) es)) (sym e)
 
 -- a pattern of neither the beginning nor the end
 pub is-part : (op : Op) → is_pattern_op op ≡ true → (op ≡ ops.Prefix → ⊥) → (op ≡ ops.Suffix → ⊥) → op ≡ ops.Contains

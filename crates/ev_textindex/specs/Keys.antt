@@ -1,5 +1,5 @@
 -- Keys of groups: the bytes of the operand, and none where there is no operand.
-use Rattle.std.specs.Prelude.{ℕ, Bool, nat_lt, length, List, [], ◌∷◌, Option, Some, None, Vec}
+use Rattle.std.specs.Prelude.{ℕ, Bool, List, [], ◌∷◌, Option, Some, None, Vec}
 use Rattle.std.specs.declared.alloc.Global.{Global}
 use Rattle.std.specs.declared.cmp.Ordering.{Ordering}
 use Rattle.std.specs.Ordering.{nat_cmp, is_eq}
@@ -9,8 +9,7 @@ use Rattle.ev_values.specs.declared.value.Value.{Value}
 use Rattle.ev_values.specs.declared.value.Value.TheVariants as values
 use Rattle.ev_constraint.specs.declared.op.Op.{Op}
 use Rattle.ev_constraint.specs.declared.op.Op.TheVariants as ops
-use Rattle.ev_index.specs.Pairs.{Test, tally}
-use Rattle.ev_index.specs.Groups.{keyed}
+use Rattle.ev_index.specs.Pairs.{Test}
 
 abbrev pub bytes_of : Vec ℕ Global → List ℕ
 bytes_of k = k.items
@@ -24,10 +23,6 @@ at_key u k = same_bytes u k.items
 
 abbrev pub key_cmp : Vec ℕ Global → Vec ℕ Global → Ordering
 key_cmp a b = slice_cmp nat_cmp a.items b.items
-
--- how many ids stand under keys of more bytes than so many
-abbrev pub ids_beyond : ℕ → List (Vec ℕ Global × Vec ℕ Global) → ℕ
-ids_beyond n es = tally (λ x. nat_lt n (length x.0)) (keyed bytes_of es)
 
 -- the key of an operand
 abbrev pub key_of : Option Value → List ℕ

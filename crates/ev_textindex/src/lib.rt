@@ -1,24 +1,4 @@
-//! An index of str constraints.
+//! Texts and patterns as they stand in an index: by their bytes and by their ends.
+//!
+//! Layer: matching. Definitions and lemmas alone; `ev_textlists` finds the patterns that a text meets.
 #![tactic(auto)]
-
-mod bytes;
-mod counted;
-mod ends_parts;
-mod grouped;
-mod groups;
-mod head;
-mod heads;
-mod index;
-mod kept;
-mod key;
-mod longest;
-mod meet;
-mod patterns;
-mod plain;
-mod row;
-mod rows;
-mod shelf;
-mod short;
-mod walks;
-
-pub use index::TextIndex;

@@ -8,13 +8,13 @@ use Rattle.ev_turnlock.specs.declared.lock.Pass.{Pass}
 use Rattle.ev_turnlock.specs.Passes.{first_value, seen_by}
 use Rattle.ev_wire.specs.MessageText.{Each}
 use Rattle.ev_outside.specs.declared.gate.Worker.TheVariants.{Commands}
-use Rattle.ev_server.specs.declared.stepped.StepFault.{StepFault}
-use Rattle.ev_server.specs.declared.stepped.StepFault.TheVariants.{NoMemory, Worn}
-use Rattle.ev_server.specs.Step.{last_stamp}
+use Rattle.ev_numserver.specs.declared.stepped.StepFault.{StepFault}
+use Rattle.ev_numserver.specs.declared.stepped.StepFault.TheVariants.{NoMemory, StampsExhausted}
+use Rattle.ev_numserver.specs.Step.{last_stamp}
 use Rattle.ev_model.specs.Parts.{EntryParts}
-use Rattle.ev_node.specs.declared.held.Root.{Root}
-use Rattle.ev_node.specs.Cell.{CellParts}
-use Rattle.ev_node.specs.Together.{HasGrown, HaveGrown}
+use Rattle.ev_numnode.specs.declared.held.Root.{Root}
+use Rattle.ev_numnode.specs.Cell.{CellParts}
+use Rattle.ev_numnode.specs.Together.{HasGrown, HaveGrown}
 use Rattle.ev_workers.specs.Crews.{HasSeenFirst}
 use Rattle.ev_workers.specs.Hands.{CellLock}
 use Rattle.ev_workers.specs.Journals.{is_command_of, commands_of, entries_since, HasCommands, IsWornBy, HasTaken}
@@ -40,7 +40,7 @@ has-more phase root seen journal p has s h lives =
 pub back-taken : (cell : CellParts) (seen : List EntryParts) (fault : Option StepFault) → IsPrefix seen cell.journal → EndsWith Commands cell.root seen fault → (fault ≡ Some NoMemory → ⊥) → HasTaken cell
 back-taken cell seen None p ends some = inl (has-more cell.root.phase cell.root seen cell.journal p ends)
 back-taken cell seen (Some NoMemory) p ends some = absurd (some refl)
-back-taken cell seen (Some (Worn s)) p ends some = inr (seen, p, subst (λ z. IsWornBy z cell.root seen) ends.0 ends)
+back-taken cell seen (Some (StampsExhausted s)) p ends some = inr (seen, p, subst (λ z. IsWornBy z cell.root seen) ends.0 ends)
 
 -- one more cell at the end
 pub grown-more : (xs ys : List CellParts) (x y : CellParts) → HaveGrown xs ys → HasGrown x y → HaveGrown (xs ++ x ∷ []) (ys ++ y ∷ [])

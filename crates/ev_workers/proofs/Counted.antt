@@ -19,11 +19,11 @@ use Rattle.ev_model.specs.declared.turn.Act.TheVariants as acts
 use Rattle.ev_model.specs.Parts.{NetParts, EntryParts}
 use Rattle.ev_model.specs.Meaning.{journal_of, phased_command, act_of}
 use Rattle.ev_model.specs.Nets.{phased_net, clients_of}
-use Rattle.ev_node.specs.declared.held.ServerInHand.{ServerInHand}
-use Rattle.ev_node.specs.declared.held.Root.{Root}
-use Rattle.ev_node.specs.Cell.{IsKept, IsReplayed, HasNoneBelow}
-use Rattle.ev_node.proofs.Due.{map-get, session-of, done-of, script-of}
-use Rattle.ev_node.proofs.Keeping.{laws_at}
+use Rattle.ev_numnode.specs.declared.held.ServerInHand.{ServerInHand}
+use Rattle.ev_numnode.specs.declared.held.Root.{Root}
+use Rattle.ev_numnode.specs.Cell.{IsKept, IsReplayed, HasNoneBelow}
+use Rattle.ev_numnode.proofs.Due.{map-get, session-of, done-of, script-of}
+use Rattle.ev_numnode.proofs.Keeping.{laws_at}
 use Rattle.ev_workers.specs.Journals.{is_command_of, commands_of, entries_since, HasCommands, last_or, clock_by}
 
 -- whether an act takes a command of a client

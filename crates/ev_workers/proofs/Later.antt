@@ -6,12 +6,13 @@ use mathlib.Core.List.{IsPrefix}
 use Rattle.ev_turnlock.specs.declared.lock.Pass.{Pass}
 use Rattle.ev_turnlock.specs.Passes.{IsSamePass, has_in_hand, seen_by}
 use Rattle.ev_model.specs.Parts.{EntryParts}
-use Rattle.ev_versions.specs.Ends.{IsSameViewer}
-use Rattle.ev_node.specs.declared.held.Root.{Root}
+use Rattle.ev_numversions.specs.declared.viewer.Viewer.{Viewer}
+use Rattle.ev_numversions.specs.Ends.{IsSameViewer}
+use Rattle.ev_numnode.specs.declared.held.Root.{Root}
 use Rattle.ev_outside.specs.declared.gate.Worker.{Worker}
 use Rattle.ev_outside.specs.declared.gate.Worker.TheVariants.{Commands}
-use Rattle.ev_server.specs.declared.stepped.StepFault.{StepFault}
-use Rattle.ev_server.specs.declared.stepped.StepFault.TheVariants.{NoMemory, Worn}
+use Rattle.ev_numserver.specs.declared.stepped.StepFault.{StepFault}
+use Rattle.ev_numserver.specs.declared.stepped.StepFault.TheVariants.{NoMemory, StampsExhausted}
 use Rattle.ev_workers.specs.declared.ended.Ended.{Ended}
 use Rattle.ev_workers.specs.declared.hands.Hands.{Hands}
 use Rattle.ev_workers.specs.Work.{Keeps, EndsWith}
@@ -22,15 +23,18 @@ use Rattle.ev_workers.proofs.Lists.{prefix-of, prefix-along}
 pub same-pass : {I R : Type 0} (p q r : Pass I R) → IsSamePass p q → IsSamePass q r → IsSamePass p r
 same-pass p q r a b = (b.0 ∙ a.0, b.1 ∙ a.1, b.2 ∙ a.2)
 
+pub same-viewer : (u v w : Viewer) → IsSameViewer u v → IsSameViewer v w → IsSameViewer u w
+same-viewer u v w a b = record { book = b.book ∙ a.book; width = b.width ∙ a.width }
+
 pub later-along : (a b c : Hands) → AreLater a b → AreLater b c → AreLater a c
 later-along a b c p q = record {
   same = same-pass a.pass b.pass c.pass p.same q.same;
   seen = prefix-along (seen_by a.pass) (seen_by b.pass) (seen_by c.pass) p.seen q.seen;
-  viewer = q.viewer ∙ p.viewer;
+  viewer = same-viewer a.viewer b.viewer c.viewer p.viewer q.viewer;
 }
 
 pub later-same : (a : Hands) → AreLater a a
-later-same a = record { same = (refl, refl, refl); seen = prefix-of (seen_by a.pass) (seen_by a.pass) refl; viewer = refl }
+later-same a = record { same = (refl, refl, refl); seen = prefix-of (seen_by a.pass) (seen_by a.pass) refl; viewer = record { book = refl; width = refl } }
 
 -- a cell in hand was worn out, and its lock has it again
 pub worn-put : (s : ℕ) (lock : CellLock) (old new : Root) (journal seen : List EntryParts) → IsWornBy s new journal → new ≡ old → old ≡ lock_root lock → seen ≡ journal → IsWornBy s (lock_root lock) seen
@@ -53,9 +57,9 @@ keeps worker lock given now back first later last p v ends = record {
 }
 
 -- a worker for commands ends by its fault
-pub ends-fault : {T : Type 0} (root : Root) (seen : List EntryParts) (fault : StepFault) → ((s : ℕ) → IsErrOf {T = T} (Err fault) (Worn s) → IsWornBy s root seen) → EndsWith Commands root seen (Some fault)
+pub ends-fault : {T : Type 0} (root : Root) (seen : List EntryParts) (fault : StepFault) → ((s : ℕ) → IsErrOf {T = T} (Err fault) (StampsExhausted s) → IsWornBy s root seen) → EndsWith Commands root seen (Some fault)
 ends-fault root seen NoMemory worn = tt
-ends-fault root seen (Worn s) worn = worn s refl
+ends-fault root seen (StampsExhausted s) worn = worn s refl
 
 -- hands after the cell was taken, turned and put back
 pub turned-later : (old new : Hands) (taken : Pass EntryParts Root) (journal after : List EntryParts) → IsSamePass old.pass taken → IsSamePass taken new.pass → IsPrefix (seen_by old.pass) journal → IsPrefix journal after → seen_by new.pass ≡ after

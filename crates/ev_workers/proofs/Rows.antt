@@ -3,9 +3,9 @@ use Rattle.std.proofs.Common.{◌≡◌, ℕ, zero, suc, ◌+◌, List, [], ◌�
 use Rattle.std.proofs.lemmas.List.{length-map, map-append}
 use Rattle.ev_turnlock.specs.Passes.{first_value}
 use Rattle.ev_model.specs.Parts.{NetParts}
-use Rattle.ev_node.specs.declared.held.Root.{Root}
-use Rattle.ev_node.specs.Cell.{CellParts}
-use Rattle.ev_node.specs.Together.{cell_roots}
+use Rattle.ev_numnode.specs.declared.held.Root.{Root}
+use Rattle.ev_numnode.specs.Cell.{CellParts}
+use Rattle.ev_numnode.specs.Together.{cell_roots}
 use Rattle.ev_workers.specs.declared.crew.Eyes.{Eyes}
 use Rattle.ev_workers.specs.declared.crew.Crew.{Crew}
 use Rattle.ev_workers.specs.Crews.{Pairwise, AreCrews, AreEyesOf, AreInPlace, IsCrewOf}

@@ -1,9 +1,8 @@
 -- A cell may go to another thread, with all its parts, and so a worker may.
 use denote.RattleType.{RattleType}
 use denote.Ref.{NamedLft}
-use denote.Enum.Declared as enums
 use denote.Struct.Declared.{shape}
-use denote.Param.Send.{IsSend, IsSync, sendable, enum_send, struct_send, struct_sync}
+use denote.Param.Send.{IsSend, IsSync, sendable, struct_send, struct_sync}
 use Rattle.std.proofs.Crossing.{crosses}
 use Rattle.std.proofs.MapsCrossing as maps
 use Rattle.std_heap.specs.contracts.Global as Heap
@@ -29,62 +28,67 @@ use Rattle.ev_notice.specs.contracts.filter.Filter as Filter
 use Rattle.ev_notice.specs.contracts.filter.Advert as Advert
 use Rattle.ev_notice.specs.contracts.notice.Notice as Notice
 use Rattle.ev_numindex.specs.contracts.index.NumIndex as NumIndex
-use Rattle.ev_textindex.specs.contracts.index.TextIndex as TextIndex
 use Rattle.ev_numindex.specs.contracts.row.Row as NumRow
-use Rattle.ev_textindex.specs.contracts.row.Row as TextRow
-use Rattle.ev_textindex.specs.contracts.plain.Rows as Rows
-use Rattle.ev_counting.specs.contracts.pairs.Pairs as Pairs
-use Rattle.ev_textindex.specs.contracts.heads.Heads as Heads
-use Rattle.ev_textindex.specs.contracts.counted.Counted as Counted
-use Rattle.ev_textindex.specs.contracts.shelf.Shelf as Shelf
-use Rattle.ev_counting.specs.contracts.change.Change as Change
-use Rattle.ev_counting.specs.contracts.index.Index as Index
-use Rattle.ev_counting.specs.contracts.places.Places as Places
-use Rattle.ev_counting.specs.contracts.table.Table as Table
-use Rattle.slab.specs.contracts.Slab as Slab
+use Rattle.ev_bits.specs.contracts.row.Row as Row
+use Rattle.ev_textlists.specs.contracts.key.TextKey as TextKey
+use Rattle.ev_textlists.specs.contracts.order.Order as TextOrder
+use Rattle.ev_textlists.specs.contracts.orders.Orders as TextOrders
+use Rattle.ev_textlists.specs.contracts.group.Group as Group
+use Rattle.ev_textlists.specs.contracts.marked.Marked as Marked
+use Rattle.ev_textlists.specs.contracts.patterns.Patterns as Patterns
+use Rattle.ev_textlists.specs.contracts.texts.Texts as Texts
+use Rattle.ev_matcher.specs.contracts.pairs.Pairs as Pairs
+use Rattle.ev_matcher.specs.contracts.index.Index as Index
+use Rattle.ev_matcher.specs.contracts.matcher.Matcher as Matcher
 use Rattle.ev_wire.specs.contracts.command.Command as Command
 use Rattle.ev_wire.specs.contracts.delivery.Delivery as Delivery
-use Rattle.ev_wire.specs.contracts.bytes.Bytes as Bytes
 use Rattle.ev_wire.specs.contracts.id.Id as Id
 use Rattle.ev_wire.specs.contracts.lists.Lists as Lists
-use Rattle.ev_wire.specs.contracts.message.Message as Message
-use Rattle.ev_wire.specs.contracts.sent_text.SentText as SentText
-use Rattle.ev_wire.specs.contracts.sent_text.Source as Source
-use Rattle.ev_wire.specs.contracts.shared_notice.SharedNotice as SharedNotice
-use Rattle.ev_session.specs.contracts.own.Own as Own
-use Rattle.ev_session.specs.contracts.session.Session as Session
-use Rattle.ev_server.specs.contracts.clients.Clients as Clients
+use Rattle.ev_wire.specs.contracts.shared_text.SharedText as SharedText
+use Rattle.ev_catalogue.specs.contracts.numbered.NumberedCommand as NumberedCommand
+use Rattle.ev_catalogue.specs.contracts.publication.Publication as Publication
+use Rattle.ev_catalogue.specs.contracts.catalogue.Catalogue as Catalogue
+use Rattle.ev_order.specs.contracts.order.Order as Order
+use Rattle.ev_tables.specs.contracts.found.Found as Found
+use Rattle.ev_tables.specs.contracts.tables.Tables as Tables
+use Rattle.ev_stock.specs.contracts.holders.Holders as Holders
+use Rattle.ev_stock.specs.contracts.sides.Side as Side
+use Rattle.ev_stock.specs.contracts.table.Table as Table
+use Rattle.ev_stock.specs.contracts.stock.Stock as Stock
+use Rattle.ev_numcontrol.specs.contracts.control.Control as Control
+use Rattle.ev_numsession.specs.contracts.own.Own as Own
+use Rattle.ev_numsession.specs.contracts.session.Session as Session
+use Rattle.ev_numserver.specs.contracts.clients.Clients as Clients
+use Rattle.ev_numserver.specs.contracts.ledger.Ledger as Ledger
+use Rattle.ev_numserver.specs.contracts.server.Core as Core
+use Rattle.ev_forwarding.specs.contracts.change.Change as Change
+use Rattle.ev_forwarding.specs.contracts.forwarding.Forwarding as Forwarding
+use Rattle.ev_message.specs.contracts.change.Change as MessageChange
+use Rattle.ev_message.specs.contracts.load.Load as Load
+use Rattle.ev_message.specs.contracts.stamped.StampedLoad as StampedLoad
 use Rattle.ev_cover.specs.contracts.items.Sub as Sub
 use Rattle.ev_cover.specs.contracts.items.Ad as Ad
-use Rattle.ev_control.specs.contracts.control.Control as Control
-use Rattle.ev_control.specs.contracts.stock.Stock as Stock
-use Rattle.ev_pool.specs.contracts.counted.Pool as Pool
-use Rattle.ev_poset.specs.contracts.holding.Poset as Poset
-use Rattle.ev_poset.specs.contracts.graph.Graph as Graph
-use Rattle.ev_poset.specs.contracts.node.Node as Node
-use Rattle.ev_server.specs.contracts.ledger.Ledger as Ledger
-use Rattle.ev_server.specs.contracts.server.Core as Core
 use Rattle.ev_tree.specs.contracts.tree.Tree as Tree
 use Rattle.ev_model.specs.contracts.client.Client as Client
 use Rattle.ev_model.specs.contracts.net.Net as Net
 use Rattle.ev_model.specs.contracts.entry.Entry as Entry
-use Rattle.ev_frame.specs.contracts.frame.Frame as Frame
 use Rattle.ev_lane.specs.contracts.putting.LaneIn as LaneIn
 use Rattle.ev_lane.specs.contracts.taking.LaneOut as LaneOut
-use Rattle.ev_versions.specs.contracts.history.Front as Front
-use Rattle.ev_versions.specs.contracts.version.Step as Step
-use Rattle.ev_versions.specs.contracts.version.Version as Version
-use Rattle.ev_versions.specs.contracts.publisher.Publisher as Publisher
-use Rattle.ev_versions.specs.contracts.viewer.Viewer as Viewer
+use Rattle.ev_numversions.specs.contracts.history.Front as Front
+use Rattle.ev_numversions.specs.contracts.version.Step as Step
+use Rattle.ev_numversions.specs.contracts.version.Version as Version
+use Rattle.ev_numversions.specs.contracts.publisher.Publisher as Publisher
+use Rattle.ev_numversions.specs.contracts.viewer.Viewer as Viewer
 use Rattle.atomic_table.proofs.badge.Badge.TheSendSync as badge
 use Rattle.ev_turnlock.specs.contracts.lock.TurnLock as TurnLock
 use Rattle.ev_turnlock.specs.contracts.lock.Pass as Pass
-use Rattle.ev_node.specs.contracts.link.Link as Link
-use Rattle.ev_node.specs.contracts.held.ServerInHand as Held
-use Rattle.ev_node.specs.contracts.held.Root as Root
-use Rattle.ev_node.specs.contracts.cell.Cell as Cell
-use Rattle.ev_node.specs.contracts.cell.CellStanding.TheImpl as standing
+use Rattle.ev_numnode.specs.contracts.link.Link as Link
+use Rattle.ev_numnode.specs.contracts.held.ServerInHand as Held
+use Rattle.ev_numnode.specs.contracts.held.Root as Root
+use Rattle.ev_numnode.specs.contracts.cell.Cell as Cell
+use Rattle.ev_numnode.specs.contracts.cell.CellStanding.TheImpl as standing
 use Rattle.ev_workers.specs.contracts.crew.Seat as OwnSeat
+use Rattle.ev_workers.specs.contracts.ended.Ended as OwnEnded
 use Rattle.ev_workers.specs.contracts.desk.Desk as OwnDesk
 use Rattle.ev_workers.specs.contracts.hire.Hire as Hire
 use Rattle.ev_workers.specs.contracts.pace.Pace as Pace
@@ -128,7 +132,13 @@ pub notice_sync : IsSync Notice.the_field.row
 notice_sync = let a = name_send in let b = value_send in let c = name_sync in let d = value_sync in search (sendable, crosses) depth 20
 
 pub change_send : IsSend Change.the_field.row
-change_send = let a = filter_send in search (sendable, crosses) depth 20
+change_send = search (sendable, crosses) depth 20
+
+pub row_send : IsSend Row.the_field.row
+row_send = search (sendable, crosses) depth 20
+
+pub row_sync : IsSync Row.the_field.row
+row_sync = search (sendable, crosses) depth 20
 
 pub number_row_send : IsSend NumRow.the_field.row
 number_row_send = search (sendable, crosses) depth 20
@@ -142,41 +152,41 @@ numbers_send = let a = number_row_send in search (sendable, crosses) depth 20
 pub numbers_sync : IsSync NumIndex.the_field.row
 numbers_sync = let a = number_row_sync in search (sendable, crosses) depth 20
 
-pub text_row_send : IsSend TextRow.the_field.row
-text_row_send = search (sendable, crosses, maps.BTreeMap-send, maps.BTreeMap-sync) depth 20
+pub key_send : IsSend TextKey.the_field.row
+key_send = search (sendable, crosses) depth 20
 
-pub text_row_sync : IsSync TextRow.the_field.row
-text_row_sync = search (sendable, crosses, maps.BTreeMap-send, maps.BTreeMap-sync) depth 20
+pub key_sync : IsSync TextKey.the_field.row
+key_sync = search (sendable, crosses) depth 20
 
-pub rows_send : IsSend Rows.the_field.row
-rows_send = let a = text_row_send in search (sendable, crosses) depth 20
+pub text_order_send : IsSend TextOrder.the_row
+text_order_send = let a = key_send in search (sendable, crosses) depth 20
 
-pub rows_sync : IsSync Rows.the_field.row
-rows_sync = let a = text_row_sync in search (sendable, crosses) depth 20
+pub text_order_sync : IsSync TextOrder.the_row
+text_order_sync = let a = key_sync in search (sendable, crosses) depth 20
 
-pub counted_send : IsSend Counted.the_field.row
-counted_send = let a = rows_send in search (sendable, crosses) depth 20
+pub text_orders_send : IsSend TextOrders.the_field.row
+text_orders_send = let a = text_order_send in search (sendable, crosses) depth 20
 
-pub counted_sync : IsSync Counted.the_field.row
-counted_sync = let a = rows_sync in search (sendable, crosses) depth 20
+pub text_orders_sync : IsSync TextOrders.the_field.row
+text_orders_sync = let a = text_order_sync in search (sendable, crosses) depth 20
 
-pub shelf_send : IsSend Shelf.the_field.row
-shelf_send = let a = counted_send in search ours depth 20
+pub marked_send : IsSend Marked.the_field.row
+marked_send = search (sendable, crosses, maps.BTreeMap-send) depth 20
 
-pub shelf_sync : IsSync Shelf.the_field.row
-shelf_sync = let a = counted_sync in search ours depth 20
+pub marked_sync : IsSync Marked.the_field.row
+marked_sync = search (sendable, crosses, maps.BTreeMap-sync) depth 20
 
-pub heads_send : IsSend Heads.the_field.row
-heads_send = let a = shelf_send in search (ours, maps.BTreeMap-send, maps.BTreeMap-sync) depth 20
+pub patterns_send : IsSend Patterns.the_field.row
+patterns_send = let a = marked_send in search (sendable, crosses) depth 20
 
-pub heads_sync : IsSync Heads.the_field.row
-heads_sync = let a = shelf_sync in search (ours, maps.BTreeMap-send, maps.BTreeMap-sync) depth 20
+pub patterns_sync : IsSync Patterns.the_field.row
+patterns_sync = let a = marked_sync in search (sendable, crosses) depth 20
 
-pub texts_send : IsSend TextIndex.the_field.row
-texts_send = let a = rows_send in let b = heads_send in search (sendable, crosses) depth 20
+pub texts_send : IsSend Texts.the_field.row
+texts_send = let a = text_orders_send in let b = patterns_send in search ours depth 20
 
-pub texts_sync : IsSync TextIndex.the_field.row
-texts_sync = let a = rows_sync in let b = heads_sync in search (sendable, crosses) depth 20
+pub texts_sync : IsSync Texts.the_field.row
+texts_sync = let a = text_orders_sync in let b = patterns_sync in search ours depth 20
 
 pub pairs_send : IsSend Pairs.the_field.row
 pairs_send = let a = numbers_send in let b = texts_send in search (sendable, crosses) depth 20
@@ -185,22 +195,13 @@ pub pairs_sync : IsSync Pairs.the_field.row
 pairs_sync = let a = numbers_sync in let b = texts_sync in search (sendable, crosses) depth 20
 
 pub index_send : IsSend Index.the_field.row
-index_send = let a = pairs_send in search (sendable, crosses, maps.BTreeMap-send, maps.BTreeMap-sync) depth 20
+index_send = let a = pairs_send in search (ours, maps.BTreeMap-send) depth 20
 
 pub index_sync : IsSync Index.the_field.row
-index_sync = let a = pairs_sync in search (sendable, crosses, maps.BTreeMap-send, maps.BTreeMap-sync) depth 20
+index_sync = let a = pairs_sync in search (ours, maps.BTreeMap-sync) depth 20
 
-pub places_send : IsSend Places.the_field.row
-places_send = let a = filter_send in search (sendable, crosses) depth 20
-
-pub places_sync : IsSync Places.the_field.row
-places_sync = let a = filter_sync in search (sendable, crosses) depth 20
-
-pub table_send : IsSend Table.the_field.row
-table_send = let a = index_send in let b = places_send in search (sendable, crosses) depth 20
-
-pub table_sync : IsSync Table.the_field.row
-table_sync = let a = index_sync in let b = places_sync in search (sendable, crosses) depth 20
+pub matcher_sync : IsSync Matcher.the_field.row
+matcher_sync = let a = index_sync in let b = filter_sync in search (sendable, crosses) depth 20
 
 pub front_send : IsSend Front.the_field.row
 front_send = search ours depth 20
@@ -208,11 +209,17 @@ front_send = search ours depth 20
 pub front_sync : IsSync Front.the_field.row
 front_sync = search ours depth 20
 
+pub forwarding_send : IsSend Forwarding.the_field.row
+forwarding_send = let a = row_send in search (sendable, crosses) depth 20
+
+pub forwarding_sync : IsSync Forwarding.the_field.row
+forwarding_sync = let a = row_sync in search (sendable, crosses) depth 20
+
 pub version_send : IsSend Version.the_row
-version_send = let a = front_send in let b = table_send in search ours depth 20
+version_send = let a = front_send in let b = forwarding_send in search ours depth 20
 
 pub version_sync : IsSync Version.the_row
-version_sync = let a = front_sync in let b = table_sync in search ours depth 20
+version_sync = let a = front_sync in let b = forwarding_sync in search ours depth 20
 
 pub step_send : IsSend Step.the_row
 step_send = let a = front_send in let b = change_send in search ours depth 20
@@ -268,50 +275,29 @@ command_send = let a = filter_send in let b = advert_send in let c = notice_send
 pub command_sync : IsSync Command.the_field.row
 command_sync = let a = filter_sync in let b = advert_sync in let c = notice_sync in search (sendable, crosses) depth 20
 
+pub text_send : IsSend SharedText.the_field.row
+text_send = search (sendable, crosses) depth 20
+
+pub text_sync : IsSync SharedText.the_field.row
+text_sync = search (sendable, crosses) depth 20
+
 pub delivery_send : IsSend Delivery.the_field.row
-delivery_send = search (sendable, crosses) depth 20
+delivery_send = let a = text_send in search (sendable, crosses) depth 20
 
-pub own_send : IsSend Own.the_field.row
-own_send = let a = filter_send in let b = advert_send in search (sendable, crosses) depth 20
+pub numbered_sync : IsSync NumberedCommand.the_field.row
+numbered_sync = search (sendable, crosses) depth 20
 
-pub session_send : IsSend Session.the_field.row
-session_send = let a = command_send in let b = own_send in let c = delivery_send in search (sendable, crosses) depth 20
+pub publication_sync : IsSync Publication.the_row
+publication_sync = let a = notice_sync in search (sendable, crosses) depth 20
 
-pub clients_send : IsSend Clients.the_field.row
-clients_send = let a = session_send in search (sendable, crosses) depth 20
+pub lists_sync : (T : RattleType) → IsSync T → IsSync (Lists.the_field T).row
+lists_sync T a = search (sendable, crosses) depth 20
 
-pub slab_send : (T : RattleType) → IsSend T → IsSend (Slab.the_field T Heap.the_row heap_impl.ghosts).row
-slab_send T a = search (sendable, crosses) depth 20
+pub sub_sync : IsSync Sub.the_row
+sub_sync = let a = filter_sync in search (sendable, crosses) depth 20
 
-pub node_send : (T : RattleType) → IsSend (Node.the_field T).row
-node_send T = search (sendable, crosses) depth 20
-
-pub graph_send : (T : RattleType) → IsSend (Graph.the_field T).row
-graph_send T = search (sendable, crosses, node_send) depth 20
-
-pub pool_send : (T : RattleType) (g : _) → IsSend T → IsSend (Pool.the_field T g).row
-pool_send T g a = search (sendable, crosses, slab_send) depth 20
-
-pub poset_send : (T : RattleType) (g : _) → IsSend (Poset.the_field T g).row
-poset_send T g = search (sendable, crosses, heap.the_field_send, graph_send) depth 20
-
-pub stock_send : (T : RattleType) (g : _) → IsSend T → IsSend (Stock.the_field T g).row
-stock_send T g a = search (sendable, crosses, heap.the_field_send, pool_send, poset_send) depth 20
-
-pub sub_send : IsSend Sub.the_row
-sub_send = let a = filter_send in search (sendable, crosses) depth 20
-
-pub ad_send : IsSend Ad.the_row
-ad_send = let a = advert_send in search (sendable, crosses) depth 20
-
-pub control_send : IsSend Control.the_field.row
-control_send = let a = sub_send in let b = ad_send in search (sendable, crosses, heap.the_field_send, stock_send) depth 20
-
-pub ledger_send : IsSend Ledger.the_field.row
-ledger_send = let a = control_send in let b = change_send in search (sendable, crosses) depth 20
-
-pub core_send : IsSend Core.the_field.row
-core_send = let a = ledger_send in let b = clients_send in search (sendable, crosses) depth 20
+pub ad_sync : IsSync Ad.the_row
+ad_sync = let a = advert_sync in search (sendable, crosses) depth 20
 
 pub tree_sync : IsSync Tree.the_field.row
 tree_sync = search (sendable, crosses) depth 20
@@ -325,41 +311,63 @@ net_sync = let a = tree_sync in let b = client_sync in search (sendable, crosses
 pub entry_send : IsSend Entry.the_field.row
 entry_send = search (sendable, crosses) depth 20
 
-pub lists_send : (T : RattleType) → IsSend T → IsSend (Lists.the_field T).row
-lists_send T a = search (sendable, crosses) depth 20
+pub catalogue_sync : (κ : NamedLft) → IsSync (Catalogue.the_field κ).row
+catalogue_sync κ =
+    let a = net_sync in let b = sub_sync in let c = ad_sync in let d = publication_sync in let e = numbered_sync in let f = matcher_sync in
+    search (sendable, crosses, lists_sync) depth 20
 
-pub filter_row_send : IsSend Filter.the_row
-filter_row_send = let a = filter_send in search (sendable, crosses) depth 20
+pub order_sync : (T : RattleType) (g : _) → IsSync T → IsSync (Order.the_field T g).row
+order_sync T g a = let b = row_sync in search (sendable, crosses) depth 20
 
-pub advert_row_send : IsSend Advert.the_row
-advert_row_send = let a = advert_send in search (sendable, crosses) depth 20
+pub found_sync : IsSync Found.the_field.row
+found_sync = let a = text_sync in let b = row_sync in search (sendable, crosses) depth 20
 
-pub id_send : IsSend Id.the_field.row
-id_send = search (sendable, crosses) depth 20
+pub tables_sync : (κ : NamedLft) → IsSync (Tables.the_field κ).row
+tables_sync κ =
+    let a = catalogue_sync κ in let b = sub_sync in let c = ad_sync in let d = row_sync in let e = found_sync in
+    search (sendable, crosses, order_sync) depth 20
 
-pub filters_send : IsSend (Lists.the_field Filter.the_row).row
-filters_send = lists_send Filter.the_row filter_row_send
+pub tables_row_sync : (κ : NamedLft) → IsSync (Tables.the_row κ)
+tables_row_sync κ = let a = tables_sync κ in search (sendable, crosses) depth 20
 
-pub adverts_send : IsSend (Lists.the_field Advert.the_row).row
-adverts_send = lists_send Advert.the_row advert_row_send
+pub holders_send : IsSend Holders.the_field.row
+holders_send = let a = row_send in search (sendable, crosses) depth 20
 
-pub message_send : IsSend Message.the_field.row
-message_send = enum_send (enums.shape Message.the_type) ((id_send, (notice_send, tt)), ((filters_send, (filters_send, tt)), ((adverts_send, (adverts_send, tt)), tt)))
+pub side_send : IsSend Side.the_row
+side_send = let a = row_send in search (sendable, crosses) depth 20
 
-pub publication_send : IsSend SharedNotice.the_field.row
-publication_send = let a = notice_send in search (sendable, crosses) depth 20
+pub table_send : (κ : NamedLft) (T : RattleType) (g : _) → IsSync T → IsSend (Table.the_field κ T g).row
+table_send κ T g a = let b = holders_send in let c = side_send in search (sendable, crosses, order_sync) depth 20
 
-pub bytes_send : IsSend Bytes.the_field.row
-bytes_send = search (sendable, crosses) depth 20
+pub stock_send : (κ : NamedLft) (T : RattleType) (g : _) → IsSync T → IsSend (Stock.the_field κ T g).row
+stock_send κ T g a = search (sendable, crosses, table_send) depth 20
 
-pub source_send : IsSend Source.the_field.row
-source_send = enum_send (enums.shape Source.the_type) ((bytes_send, tt), ((message_send, tt), ((publication_send, tt), tt)))
+pub control_send : (κ : NamedLft) → IsSend (Control.the_field κ).row
+control_send κ = let a = sub_sync in let b = ad_sync in let c = row_send in let d = row_sync in search (sendable, crosses, stock_send) depth 20
 
-pub text_send : IsSend SentText.the_field.row
-text_send = let a = source_send in search (sendable, crosses) depth 20
+pub ledger_send : (κ : NamedLft) → IsSend (Ledger.the_field κ).row
+ledger_send κ = let a = control_send κ in let b = change_send in let c = tables_row_sync κ in search ours depth 20
 
-pub frame_send : IsSend Frame.the_row
-frame_send = let a = text_send in search (sendable, crosses) depth 20
+pub own_send : IsSend Own.the_row
+own_send = let a = row_send in search (sendable, crosses) depth 20
+
+pub session_send : (κ : NamedLft) → IsSend (Session.the_field κ).row
+session_send κ = let a = command_sync in let b = own_send in let c = delivery_send in let d = tables_row_sync κ in let e = numbered_sync in search ours depth 20
+
+pub clients_send : (κ : NamedLft) → IsSend (Clients.the_field κ).row
+clients_send κ = let a = session_send κ in let b = tables_row_sync κ in search (sendable, crosses) depth 20
+
+pub core_send : (κ : NamedLft) → IsSend (Core.the_field κ).row
+core_send κ = let a = ledger_send κ in let b = clients_send κ in search ours depth 20
+
+pub changed_send : IsSend MessageChange.the_field.row
+changed_send = search (sendable, crosses) depth 20
+
+pub load_send : IsSend Load.the_field.row
+load_send = let a = changed_send in search (sendable, crosses) depth 20
+
+pub stamped_send : IsSend StampedLoad.the_row
+stamped_send = let a = load_send in search (sendable, crosses) depth 20
 
 pub in_send : (F : RattleType) → IsSend F → IsSend (LaneIn.the_field F).row
 in_send F f = struct_send (shape (LaneIn.the_type F))
@@ -369,36 +377,39 @@ pub out_send : (F : RattleType) → IsSend F → IsSend (LaneOut.the_field F).ro
 out_send F f = struct_send (shape (LaneOut.the_type F)) (search ours depth 20, (search ours depth 20, (search ours depth 20, (search ours depth 20, (search ours depth 20, tt)))))
 
 pub link_send : IsSend Link.the_field.row
-link_send = let f = frame_send in let a = in_send Frame.the_row f in let b = out_send Frame.the_row f in search (sendable, crosses) depth 20
+link_send = let f = stamped_send in let a = in_send StampedLoad.the_row f in let b = out_send StampedLoad.the_row f in search (sendable, crosses) depth 20
 
-pub held_send : IsSend Held.the_field.row
-held_send = let a = core_send in let b = link_send in let c = publisher_send in let d = change_send in search (sendable, crosses) depth 20
+pub held_send : (κ : NamedLft) → IsSend (Held.the_field κ).row
+held_send κ = let a = core_send κ in let b = link_send in let c = publisher_send in let d = change_send in search (sendable, crosses) depth 20
 
-pub root_send : IsSend Root.the_field.row
-root_send = search (sendable, crosses) depth 20
+pub root_send : (κ : NamedLft) → IsSend (Root.the_field κ).row
+root_send κ = search (sendable, crosses) depth 20
 
 pub cell_send : (κ : NamedLft) → IsSend (Cell.the_field κ).row
-cell_send κ = let a = held_send in let b = root_send in let c = entry_send in let d = net_sync in search ours depth 20
+cell_send κ = let a = held_send κ in let b = root_send κ in let c = entry_send in let d = tables_row_sync κ in search ours depth 20
 
 pub cell_row_send : (κ : NamedLft) → IsSend (Cell.the_row κ)
 cell_row_send κ = let a = cell_send κ in search (sendable, crosses) depth 20
 
-pub lock_sync : (κ : NamedLft) (g : _) → IsSync (TurnLock.the_field (Cell.the_row κ) Root.the_row Entry.the_row g).row
-lock_sync κ g = let a = cell_row_send κ in struct_sync (shape (TurnLock.the_type (Cell.the_row κ) Root.the_row Entry.the_row g)) (search (ours, shared_sync) depth 20, tt)
+pub lock_sync : (κ : NamedLft) (g : _) → IsSync (TurnLock.the_field (Cell.the_row κ) (Root.the_row κ) Entry.the_row g).row
+lock_sync κ g = let a = cell_row_send κ in struct_sync (shape (TurnLock.the_type (Cell.the_row κ) (Root.the_row κ) Entry.the_row g)) (search (ours, shared_sync) depth 20, tt)
 
 pub pass_send : (I R : RattleType) → IsSend (Pass.the_field I R).row
 pass_send I R = struct_send (shape (Pass.the_type I R)) (search (sendable, badge.the_send) depth 20, tt)
 
-pub seat_send : IsSend OwnSeat.the_field.row
-seat_send = let a = viewer_send in search (sendable, pass_send) depth 20
+pub seat_send : (κ : NamedLft) → IsSend (OwnSeat.the_field κ).row
+seat_send κ = let a = viewer_send in search (sendable, pass_send) depth 20
+
+pub ended_send : (κ : NamedLft) → IsSend (OwnEnded.the_field κ).row
+ended_send κ = let a = viewer_send in search (sendable, crosses, pass_send) depth 20
 
 pub pace_sync : IsSync Pace.the_field.row
 pace_sync = search (sendable, crosses) depth 20
 
 pub desk_is_send : (κ ν : NamedLft) (R G : RattleType) → IsSync R → IsSync G → IsSend (OwnDesk.the_field κ ν R G).row
-desk_is_send κ ν R G r h = let a = lock_sync ν standing.ghosts in let b = net_sync in let e = pace_sync in
+desk_is_send κ ν R G r h = let a = lock_sync ν standing.ghosts in let b = tables_row_sync ν in let e = pace_sync in
     struct_send (shape (OwnDesk.the_type κ ν R G))
     (search sendable depth 20, (search ours depth 20, (search sendable depth 20, (search sendable depth 20, (search sendable depth 20, (search sendable depth 20, (search sendable depth 20, (search sendable depth 20, (search sendable depth 20, tt)))))))))
 
 pub hire_send : (κ ν : NamedLft) (R G : RattleType) → IsSync R → IsSync G → IsSend (Hire.the_field κ ν R G).row
-hire_send κ ν R G r h = let a = desk_is_send κ ν R G r h in let b = seat_send in struct_send (shape (Hire.the_type κ ν R G)) (search sendable depth 20, (search sendable depth 20, tt))
+hire_send κ ν R G r h = let a = desk_is_send κ ν R G r h in let b = seat_send ν in struct_send (shape (Hire.the_type κ ν R G)) (search sendable depth 20, (search sendable depth 20, tt))

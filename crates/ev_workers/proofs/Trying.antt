@@ -3,19 +3,19 @@ use Rattle.std.proofs.Common.{◌≡◌, ℕ, List, sym, subst, ◌∙◌}
 use Rattle.std.specs.Prelude.{Result, Ok, Err, IfOk, OnErr, IsErrOf}
 use mathlib.Core.List.{IsPrefix}
 use Rattle.ev_model.specs.Parts.{EntryParts}
-use Rattle.ev_server.specs.declared.stepped.StepFault.{StepFault}
-use Rattle.ev_server.specs.declared.stepped.StepFault.TheVariants.{Worn}
-use Rattle.ev_versions.specs.declared.ahead.Ahead.{Ahead}
-use Rattle.ev_node.specs.declared.held.ServerInHand.{ServerInHand}
-use Rattle.ev_node.specs.declared.held.Root.{Root}
-use Rattle.ev_node.specs.declared.what.What.{What}
-use Rattle.ev_node.specs.declared.what.What.TheVariants.{Command}
-use Rattle.ev_node.specs.declared.what.Turned.{Turned}
-use Rattle.ev_node.specs.declared.what.Turned.TheVariants.{Made, Stale, Idle}
-use Rattle.ev_node.specs.Cell.{IsKept}
-use Rattle.ev_node.specs.Turns.{IsStill}
-use Rattle.ev_node.specs.Asked.{Answers, IsWorn}
-use Rattle.ev_node.specs.Ahead.{AnswersAhead}
+use Rattle.ev_numserver.specs.declared.stepped.StepFault.{StepFault}
+use Rattle.ev_numserver.specs.declared.stepped.StepFault.TheVariants.{StampsExhausted}
+use Rattle.ev_numversions.specs.declared.ahead.Ahead.{Ahead}
+use Rattle.ev_numnode.specs.declared.held.ServerInHand.{ServerInHand}
+use Rattle.ev_numnode.specs.declared.held.Root.{Root}
+use Rattle.ev_numnode.specs.declared.what.What.{What}
+use Rattle.ev_numnode.specs.declared.what.What.TheVariants.{Command}
+use Rattle.ev_numnode.specs.declared.what.Turned.{Turned}
+use Rattle.ev_numnode.specs.declared.what.Turned.TheVariants.{Made, Stale, Idle}
+use Rattle.ev_numnode.specs.Cell.{IsKept}
+use Rattle.ev_numnode.specs.Turns.{IsStill}
+use Rattle.ev_numnode.specs.Asked.{Answers, IsWorn}
+use Rattle.ev_numnode.specs.Ahead.{AnswersAhead}
 use Rattle.ev_workers.specs.Journals.{IsWornBy}
 use Rattle.ev_workers.proofs.Counted.{clock-kept}
 use Rattle.ev_workers.proofs.Lists.{prefix-of, prefix-more}
@@ -34,13 +34,13 @@ module _ (old new : ServerInHand) (before after : List EntryParts) where
   grows-ahead phase what ahead (Ok Idle) a s = prefix-of before after a.0.journal
   grows-ahead phase what ahead (Err e) a s = prefix-of before after s.journal
 
-  same-after : (s : ℕ) (r : Result Turned StepFault) → OnErr r (IsStill old new before after) → IsErrOf r (Worn s) → after ≡ before
+  same-after : (s : ℕ) (r : Result Turned StepFault) → OnErr r (IsStill old new before after) → IsErrOf r (StampsExhausted s) → after ≡ before
   same-after s (Ok t) still e = absurd cc
   same-after s (Err f) still e = still.journal
 
   -- where a command is refused for want of stamps, the last one is the clock by the journal
   pub worn-by : (root then : Root) → IsKept root.net.value root before old → then ≡ root → (what : What) (client s : ℕ) → what ≡ Command client → (r : Result Turned StepFault) → OnErr r (IsStill old new before after)
-      → (IsErrOf r (Worn s) → IsWorn what s old new) → IsErrOf r (Worn s) → IsWornBy s then after
+      → (IsErrOf r (StampsExhausted s) → IsWorn what s old new) → IsErrOf r (StampsExhausted s) → IsWornBy s then after
   worn-by root then kept same what client s is r still worn e =
       let w : IsWorn (Command client) s old new = subst (λ z. IsWorn z s old new) is (worn e) in
       subst (λ z. IsWornBy s z after) (sym same)

@@ -1,23 +1,28 @@
 -- Who has a command left, of the clients of a cell in hand.
-use Rattle.std.proofs.Common.{◌≡◌, inl, inr, ◌<◌, ◌≤◌, ℕ, zero, suc, List, [], ◌∷◌, length, get_or, Option, Some, None, IfNone, slice_get, refl, sym, ap, subst, ◌∙◌, arith}
+use Rattle.std.proofs.Common.{◌≡◌, inl, inr, ◌<◌, ◌≤◌, Bool, true, false, ℕ, zero, suc, List, [], ◌∷◌, length, get_or, Option, Some, None, IfNone, IfSome, slice_get, refl, sym, ap, subst, ◌∙◌, arith}
 use Rattle.std.proofs.lemmas.Bool.Decides.{nat_tests}
+use Rattle.std.proofs.lemmas.Option.{same_Some}
 use Rattle.ev_sets.specs.Sets.{Has}
 use Rattle.ev_tree.specs.Tree.{Topology, IsServer, links_of}
 use Rattle.ev_wire.specs.declared.command.Command.{Command as WireCommand}
 use Rattle.ev_model.specs.Parts.{NetParts, EntryParts}
 use Rattle.ev_model.specs.Nets.{clients_of, topology_at}
 use Rattle.ev_session.specs.Session.{SessionParts}
-use Rattle.ev_server.specs.Core.{CoreParts}
-use Rattle.ev_server.specs.Clients.{client_numbers}
-use Rattle.ev_node.specs.declared.held.ServerInHand.{ServerInHand}
-use Rattle.ev_node.specs.declared.held.Root.{Root}
-use Rattle.ev_node.specs.declared.what.What.TheVariants.{Command}
-use Rattle.ev_node.specs.Asked.{Suits}
-use Rattle.ev_node.specs.Cell.{IsKept, IsPast}
-use Rattle.ev_node.proofs.Housed.{at-home, all-past}
-use Rattle.ev_node.proofs.Keeping.{replayed, some-server, suits-held}
-use Rattle.ev_node.proofs.Phased.{past-by, past-none}
-use Rattle.ev_node.proofs.Trees.{server-known}
+use Rattle.ev_numserver.specs.Core.{CoreParts}
+use Rattle.ev_numserver.specs.Clients.{client_numbers}
+use Rattle.ev_numnode.specs.declared.held.ServerInHand.{ServerInHand}
+use Rattle.ev_numnode.specs.declared.held.Root.{Root}
+use Rattle.ev_numnode.specs.declared.what.What.TheVariants.{Command}
+use Rattle.ev_numnode.specs.Asked.{Suits}
+use Rattle.ev_numnode.specs.Cell.{IsKept, IsPast}
+use Rattle.ev_numnode.proofs.Housed.{at-home, all-past}
+use Rattle.ev_numnode.proofs.Keeping.{replayed, some-server, suits-held}
+use Rattle.ev_numnode.proofs.Phased.{past-by, past-none}
+use Rattle.ev_numnode.proofs.Trees.{server-known}
+use Rattle.ev_catalogue.specs.Known.{known_filters, known_publications}
+use Rattle.ev_numnode.specs.declared.link.Link.{Link}
+use Rattle.ev_numnode.specs.Looking.{IsLookedFor, IsPublicationOf}
+use Rattle.ev_workers.specs.Hands.{CanMatch}
 use Rattle.ev_workers.specs.Journals.{HasCommands}
 use Rattle.ev_workers.proofs.Counted.{has-commands}
 
@@ -55,6 +60,34 @@ module _ (root : Root) (journal : List EntryParts) (held : ServerInHand) (kept :
       → row ≡ links_of (topology_at root.net.value root.phase) root.server
   row-there net server phase tree row e f p t r =
       r ∙ ap (λ z. links_of z server) t ∙ ap (λ z. links_of (topology_at net z) server) p ∙ ap (λ z. links_of (topology_at z root.phase) server) (sym e) ∙ ap (λ z. links_of (topology_at root.net.value root.phase) z) (sym f)
+
+  -- each publication of the net can be matched ahead
+  pub matchable : (core : CoreParts) → core ≡ held.core → (number : ℕ) → number < length (known_publications 1 core.net.clients) → CanMatch root number
+  matchable core e number lt =
+      let run : core.net ≡ root.net.value = ap (λ (z : CoreParts). z.net) e ∙ kept.run in (
+        subst (λ (z : NetParts). number < length (known_publications 1 z.clients)) run lt,
+        kept.publisher.width ∙ kept.now.shown.wide.width ∙ ap (λ (z : NetParts). length (known_filters z.clients)) kept.run,
+      )
+
+  -- so can one that a look found
+  pub looked-matchable : (from : ℕ) (xs ys : List Link) (o : Option ℕ) → IsLookedFor root.net.value from xs ys o → IfSome o (CanMatch root)
+  looked-matchable from xs ys o l = go o l.seen l.told
+    where
+      go : (o : Option ℕ) (seen : Bool) → IsPublicationOf root.net.value l.place ys seen o → IfSome o (CanMatch root)
+      go None seen t = tt
+      go (Some number) false t = absurd cc
+      go (Some number) true t = (
+        t.2.1,
+        kept.publisher.width ∙ kept.now.shown.wide.width ∙ ap (λ (z : NetParts). length (known_filters z.clients)) kept.run,
+      )
+
+pub some-matchable : {P Q : ℕ → Type 0} (o : Option ℕ) → ((n : ℕ) → P n → Q n) → IfSome o P → IfSome o Q
+some-matchable None f p = tt
+some-matchable (Some n) f p = f n p
+
+pub some-gives : (P : ℕ → Type 0) (o : Option ℕ) (n : ℕ) → o ≡ Some n → IfSome o P → P n
+some-gives P None n e p = absurd cc
+some-gives P (Some m) n e p = subst P (same_Some m n e) p
 
 -- what is read at a place is there
 pub has-get : (xs : List ℕ) (k other : ℕ) → k < length xs → Has (get_or xs k other) xs

@@ -4,9 +4,9 @@ use Rattle.ev_outside.specs.declared.gate.Worker.TheVariants.{Commands}
 use Rattle.ev_turnlock.specs.declared.lock.Pass.{Pass}
 use Rattle.ev_turnlock.specs.Passes.{IsPassOf, first_value, has_in_hand, pass_count, seen_by}
 use Rattle.ev_model.specs.Parts.{NetParts, EntryParts}
-use Rattle.ev_versions.specs.Ends.{IsSameViewer}
-use Rattle.ev_node.specs.declared.held.Root.{Root}
-use Rattle.ev_node.specs.Cell.{CellParts}
+use Rattle.ev_numversions.specs.Ends.{IsSameViewer}
+use Rattle.ev_numnode.specs.declared.held.Root.{Root}
+use Rattle.ev_numnode.specs.Cell.{CellParts}
 use Rattle.ev_workers.specs.declared.crew.Crew.{Crew}
 use Rattle.ev_workers.specs.declared.crew.Spare.{Spare}
 use Rattle.ev_workers.specs.declared.crew.Eyes.{Eyes}
@@ -30,18 +30,18 @@ IsFreePass lock pass = IsPassOf (λ (c : CellParts). c.root) lock pass × (has_i
 abbrev pub HasSeenFirst : CellLock → Pass EntryParts Root → Type 0
 HasSeenFirst lock pass = seen_by pass ≡ (first_value lock).journal
 
--- what stays of the three passes of the lock of a server in a phase of the net: one with nothing in hand, with room for all
-pub record IsSpareOf (net : NetParts) (phase : ℕ) (lock : CellLock) (spare : Spare) : Type 0 where
-  pub lock_for : IsLockFor net spare.server phase lock
+-- what stays of the three passes of a lock: one with nothing in hand, with room for all
+pub record IsSpareOf (lock : CellLock) (spare : Spare) : Type 0 where
   pub count : pass_count lock ≡ 3
   pub one : length spare.passes.items ≡ 1
   pub room : 3 ≤ vec_capacity spare.passes
   pub own : All (IsFreePass lock) spare.passes.items
   pub seen : All (HasSeenFirst lock) spare.passes.items
 
--- the crew of a lock: each worker has a pass with nothing in hand, and a viewer of its cell's publisher
+-- the crew of the lock of a server in a phase of the net: each worker has a pass with nothing in hand, and a viewer of its cell's publisher
 pub record IsCrewOf (net : NetParts) (phase : ℕ) (lock : CellLock) (crew : Crew) : Type 0 where
-  pub spare_of : IsSpareOf net phase lock crew.spare
+  pub lock_for : IsLockFor net crew.server phase lock
+  pub spare_of : IsSpareOf lock crew.spare
   pub commands : AreFreeHands lock crew.commands.pass crew.commands.viewer
   pub links : AreFreeHands lock crew.links.pass crew.links.viewer
 
@@ -54,7 +54,7 @@ AreBackAt lock done = AreFreeHands lock done.commands.pass done.commands.viewer 
     × EndsWith Commands (lock_root lock) (seen_by done.commands.pass) done.commands.fault
 
 -- both workers of a server keep what their jobs do
-abbrev pub BothKeep : {Job : Type 0} → (Job → Ended → Type 0) → Both Job → Both Ended → Type 0
+abbrev pub BothKeep : {Job Back : Type 0} → (Job → Back → Type 0) → Both Job → Both Back → Type 0
 BothKeep keeps jobs done = keeps jobs.commands done.commands × keeps jobs.links done.links
 
 -- two viewers of the publisher that a root names

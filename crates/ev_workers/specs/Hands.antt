@@ -1,16 +1,17 @@
 -- What a worker has in its hands.
-use Rattle.std.specs.Prelude.{◌≡◌, ℕ, false, List}
+use Rattle.std.specs.Prelude.{◌≡◌, ◌<◌, ℕ, false, List, length}
 use mathlib.Core.List.{IsPrefix}
 use Rattle.ev_turnlock.specs.declared.lock.Pass.{Pass}
 use Rattle.ev_turnlock.specs.declared.lock.TurnLock.{TurnLock}
 use Rattle.ev_turnlock.specs.Passes.{IsPassOf, IsSamePass, first_value, has_in_hand, seen_by}
 use Rattle.ev_model.specs.Parts.{NetParts, EntryParts}
-use Rattle.ev_versions.specs.declared.viewer.Viewer.{Viewer}
-use Rattle.ev_versions.specs.Ends.{IsSameViewer}
-use Rattle.ev_node.specs.declared.held.Root.{Root}
-use Rattle.ev_node.specs.declared.what.What.TheVariants.{Command, Take}
-use Rattle.ev_node.specs.Asked.{Suits}
-use Rattle.ev_node.specs.Cell.{CellParts}
+use Rattle.ev_numversions.specs.declared.viewer.Viewer.{Viewer}
+use Rattle.ev_catalogue.specs.Known.{known_filters, known_publications}
+use Rattle.ev_numversions.specs.Ends.{IsSameViewer, width_of}
+use Rattle.ev_numnode.specs.declared.held.Root.{Root}
+use Rattle.ev_numnode.specs.declared.what.What.TheVariants.{Command, Take}
+use Rattle.ev_numnode.specs.Asked.{Suits}
+use Rattle.ev_numnode.specs.Cell.{CellParts}
 use Rattle.ev_workers.specs.declared.hands.Hands.{Hands}
 use Rattle.ev_workers.specs.declared.tried.Picked.{Picked}
 use Rattle.ev_workers.specs.declared.tried.Picked.TheVariants.{Done, Taken, Ahead}
@@ -47,14 +48,19 @@ pub record AreLater (old new : Hands) : Type 0 where
   pub seen : IsPrefix (seen_by old.pass) (seen_by new.pass)
   pub viewer : IsSameViewer old.viewer new.viewer
 
+-- a viewer of the cell's publisher can match the publication with a number ahead: the net has it, and the viewer sees as many filters as the net has
+abbrev pub CanMatch : Root → ℕ → Type 0
+CanMatch root number = (number < length (known_publications 1 root.net.value.clients))
+    × (width_of root.viewer.value ≡ length (known_filters root.net.value.clients))
+
 -- what was picked: who has the next command lives there, and nothing was picked only where the journal has every command
 abbrev pub IsPicked : Picked → Root → List EntryParts → Type 0
 IsPicked Done root journal = HasCommands root.phase root journal
 IsPicked (Taken client turned) root journal = Unit {0}
-IsPicked (Ahead client notice) root journal = Suits (Command client) root
+IsPicked (Ahead client number) root journal = Suits (Command client) root × CanMatch root number
 
--- what was looked at: who sent the notice is a neighbour
+-- what was looked at: who sent the publication is a neighbour
 abbrev pub SuitsLooked : Looked → Root → Type 0
 SuitsLooked (looks.Taken from turned) root = Unit {0}
-SuitsLooked (looks.Ahead from notice) root = Suits (Take from) root
+SuitsLooked (looks.Ahead from number) root = Suits (Take from) root × CanMatch root number
 SuitsLooked (looks.Version turned) root = Unit {0}

@@ -11,9 +11,9 @@ use Rattle.ev_model.specs.Parts.{EntryParts}
 use Rattle.ev_model.specs.Meaning.{phased_command}
 use Rattle.ev_model.specs.Nets.{clients_of}
 use Rattle.ev_session.specs.Session.{SessionParts}
-use Rattle.ev_server.specs.Step.{last_stamp}
-use Rattle.ev_node.specs.declared.held.Root.{Root}
-use Rattle.ev_node.specs.Cell.{CellParts}
+use Rattle.ev_numserver.specs.Step.{last_stamp}
+use Rattle.ev_numnode.specs.declared.held.Root.{Root}
+use Rattle.ev_numnode.specs.Cell.{CellParts}
 
 -- whether an act is a command of this client
 abbrev pub is_command_of : ℕ → Act → Bool

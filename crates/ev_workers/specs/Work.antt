@@ -7,11 +7,11 @@ use Rattle.ev_turnlock.specs.declared.lock.Pass.{Pass}
 use Rattle.ev_turnlock.specs.Rule.{view_in}
 use Rattle.ev_turnlock.specs.Passes.{IsSamePass, has_in_hand, seen_by}
 use Rattle.ev_model.specs.Parts.{EntryParts}
-use Rattle.ev_server.specs.declared.stepped.StepFault.{StepFault}
-use Rattle.ev_server.specs.declared.stepped.StepFault.TheVariants.{NoMemory, Worn}
-use Rattle.ev_versions.specs.declared.viewer.Viewer.{Viewer}
-use Rattle.ev_versions.specs.Ends.{IsSameViewer}
-use Rattle.ev_node.specs.declared.held.Root.{Root}
+use Rattle.ev_numserver.specs.declared.stepped.StepFault.{StepFault}
+use Rattle.ev_numserver.specs.declared.stepped.StepFault.TheVariants.{NoMemory, StampsExhausted}
+use Rattle.ev_numversions.specs.declared.viewer.Viewer.{Viewer}
+use Rattle.ev_numversions.specs.Ends.{IsSameViewer}
+use Rattle.ev_numnode.specs.declared.held.Root.{Root}
 use Rattle.ev_workers.specs.declared.ended.Ended.{Ended}
 use Rattle.ev_workers.specs.Journals.{HasCommands, IsWornBy}
 
@@ -24,10 +24,10 @@ pass_root pass = (view_in pass.badge.views).root
 abbrev pub EndsWith : Worker → Root → List EntryParts → Option StepFault → Type 0
 EndsWith Commands root journal None = HasCommands root.phase root journal
 EndsWith Commands root journal (Some NoMemory) = Unit {0}
-EndsWith Commands root journal (Some (Worn stamp)) = IsWornBy stamp root journal
+EndsWith Commands root journal (Some (StampsExhausted stamp)) = IsWornBy stamp root journal
 EndsWith Links root journal None = Unit {0}
 EndsWith Links root journal (Some NoMemory) = Unit {0}
-EndsWith Links root journal (Some (Worn stamp)) = ⊥
+EndsWith Links root journal (Some (StampsExhausted stamp)) = ⊥
 
 -- WHAT A WORKER GIVES BACK: the pass that it was given, with nothing in hand, which has seen at least what it had seen; a viewer of the same publisher;
 -- and it ends as it may

@@ -1,8 +1,8 @@
 //! The workers of one lock.
 use ev_model::Entry;
-use ev_node::Root;
+use ev_numnode::Root;
+use ev_numversions::Viewer;
 use ev_turnlock::Pass;
-use ev_versions::Viewer;
 
 /// The viewers of a cell's publisher, one for each worker.
 #[derive(Drop)]
@@ -15,22 +15,22 @@ pub struct Eyes {
 
 /// What one worker is given: a pass and a viewer.
 #[derive(Drop)]
-pub(crate) struct Seat {
-    pub(crate) pass: Pass<Entry, Root>,
+pub(crate) struct Seat<'a> {
+    pub(crate) pass: Pass<Entry, Root<'a>>,
     pub(crate) viewer: Viewer,
 }
 
 /// What stays of the passes of a server's lock while its workers have theirs: one, with room for the others.
 #[derive(Drop)]
-pub(crate) struct Spare {
-    pub(crate) server: u32,
-    pub(crate) passes: Vec<Pass<Entry, Root>>,
+pub(crate) struct Spare<'a> {
+    pub(crate) passes: Vec<Pass<Entry, Root<'a>>>,
 }
 
-/// What the workers of one server are given, and what stays.
+/// What the workers of a server are given, and what stays.
 #[derive(Drop)]
-pub(crate) struct Crew {
-    pub(crate) spare: Spare,
-    pub(crate) commands: Seat,
-    pub(crate) links: Seat,
+pub(crate) struct Crew<'a> {
+    pub(crate) server: u32,
+    pub(crate) spare: Spare<'a>,
+    pub(crate) commands: Seat<'a>,
+    pub(crate) links: Seat<'a>,
 }

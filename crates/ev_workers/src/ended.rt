@@ -1,15 +1,15 @@
 //! What a worker gives back.
 use ev_model::Entry;
-use ev_node::Root;
-use ev_server::StepFault;
+use ev_numnode::Root;
+use ev_numserver::StepFault;
+use ev_numversions::Viewer;
 use ev_turnlock::Pass;
-use ev_versions::Viewer;
 
 /// What a worker gives back: its pass, its viewer, and the fault that it met, if any.
 #[derive(Drop)]
-pub struct Ended {
+pub struct Ended<'a> {
     /// Its pass, with nothing in hand.
-    pub pass: Pass<Entry, Root>,
+    pub pass: Pass<Entry, Root<'a>>,
     /// Its viewer.
     pub viewer: Viewer,
     /// Why it ended early, if it did.

@@ -1,20 +1,19 @@
 //! What a worker does with the cell in hand.
-ghost use Rattle.std.specs.Prelude.{◌≡◌, ◌≤◌, ◌<◌, ℕ, suc, IfOk, IfSome, IfNone, IsErrOf, IsTrue, IsFalse};
+ghost use Rattle.std.specs.Prelude.{◌≡◌, ◌≤◌, ◌<◌, ℕ, suc, length, IfOk, IfSome, IfNone, IsErrOf, IsTrue, IsFalse};
 ghost use mathlib.Core.List.{IsPrefix};
-ghost use Rattle.ev_versions.specs.Ends.{IsAheadBy, IsSameViewer};
-ghost use Rattle.ev_node.specs.Asked.{Suits};
-ghost use Rattle.ev_node.specs.Cell.{IsPast};
-ghost use Rattle.ev_workers.specs.Hands.{IsPicked, SuitsLooked};
+ghost use Rattle.ev_model.specs.Sound.{IsSound};
+ghost use Rattle.ev_numversions.specs.Ends.{IsAheadBy, IsSameViewer};
+ghost use Rattle.ev_numnode.specs.Asked.{Suits};
+ghost use Rattle.ev_numnode.specs.Cell.{IsPast};
+ghost use Rattle.ev_workers.specs.Hands.{CanMatch, IsPicked, SuitsLooked};
 ghost use Rattle.ev_workers.specs.Journals.{HasCommands, IsWornBy};
 
 use crate::tried::{Looked, Picked};
-use ev_memory::NoMemory;
 use ev_model::Net;
-use ev_node::{Cell, Turned, What};
-use ev_notice::Notice;
-use ev_server::StepFault;
-use ev_versions::{Ahead, Viewer};
-use std::alloc::Global;
+use ev_numnode::{Cell, Turned, What};
+use ev_numserver::StepFault;
+use ev_numversions::{Ahead, Viewer};
+use ev_tables::Tables;
 use std::sync::Wait;
 
 /// Whether a client lives at the cell's server and has a command of its phase, or of one below it, left.
@@ -46,39 +45,46 @@ fn first_waiting(cell: &Cell<'_>, from: u32, to: u32) -> Option<u32>
     None
 }
 
+/// How many clients a net has.
+fn clients(net: &Net) -> u32
+    requires { IsSound net.now }
+    ensures count { result ≡ length net.now.clients }
+    ensures few { result ≤ 1024 }
+{
+    net.clients.len() as u32
+}
+
 /// The next client in turn that waits, after this one, by the order of the document. Where none waits, all commands are taken.
-fn next_in_turn(cell: &Cell<'_>, net: &Net, last: u32) -> Option<u32>
-    requires { cell.now.root.net.value ≡ net.now }
+fn next_in_turn(cell: &Cell<'_>, tables: &Tables<'_>, last: u32) -> Option<u32>
+    requires { cell.now.root.net.value ≡ tables.now }
     ensures lives { IfSome result (λ client. Suits (What.Command client) cell.now.root) }
     ensures done { IfNone result (HasCommands cell.now.root.phase cell.now.root cell.now.journal) }
 {
     cell.tells();
-    let end = net.clients.len() as u32 + 1;
+    let end = clients(tables.net()) + 1;
     match first_waiting(cell, last.wrapping_add(1), end) {
         Some(client) => Some(client),
         None => first_waiting(cell, 1, end),
     }
 }
 
-/// The notice of a client's next command, where that is a publish that will be accepted.
-fn next_notice(alloc: Global, cell: &Cell<'_>, client: u32) -> Result<Option<Notice>, NoMemory>
+/// The number of the publication of a client's next command, where that is a publish that will be accepted.
+fn next_publication(cell: &Cell<'_>, client: u32) -> Option<u32>
     requires { Suits (What.Command client) cell.now.root }
+    ensures { IfSome result (CanMatch cell.now.root) }
 {
     cell.tells();
-    match cell.core().next_publish(client) {
-        Some(notice) => Ok(Some(notice.copy(alloc)?)),
-        None => Ok(None),
-    }
+    cell.core().next_publication(client)
 }
 
 /// The neighbour at a place in the tree of the cell's phase.
-fn neighbour_at(cell: &Cell<'_>, net: &Net, server: u32, place: usize) -> Option<u32>
-    requires net { cell.now.root.net.value ≡ net.now }
+fn neighbour_at(cell: &Cell<'_>, tables: &Tables<'_>, server: u32, place: usize) -> Option<u32>
+    requires net { cell.now.root.net.value ≡ tables.now }
     requires server { cell.now.root.server ≡ server }
     ensures { IfSome result (λ from. Suits (What.Take from) cell.now.root) }
 {
     cell.tells();
-    let neighbours = net.tree(cell.phase()).neighbours(server);
+    let neighbours = tables.net().tree(cell.phase()).neighbours(server);
     if place >= neighbours.len() {
         return None;
     }
@@ -94,7 +100,7 @@ pub(crate) fn make_turn<R: Wait>(
     requires { Suits what cell.old.root }
     ensures root { cell.new.root ≡ cell.old.root }
     ensures grows { IsPrefix cell.old.journal cell.new.journal }
-    ensures worn { (client s : ℕ) → what ≡ What.Command client → IsErrOf result (StepFault.Worn s) → IsWornBy s cell.new.root cell.new.journal }
+    ensures worn { (client s : ℕ) → what ≡ What.Command client → IsErrOf result (StepFault.StampsExhausted s) → IsWornBy s cell.new.root cell.new.journal }
 {
     cell.tells();
     cell.turn(rt, what)
@@ -113,7 +119,7 @@ pub(crate) fn make_turn_ahead<R: Wait>(
     requires ahead { IsAheadBy cell.old.root.viewer.value ahead.now }
     ensures root { cell.new.root ≡ cell.old.root }
     ensures grows { IsPrefix cell.old.journal cell.new.journal }
-    ensures worn { (client s : ℕ) → what ≡ What.Command client → IsErrOf result (StepFault.Worn s) → IsWornBy s cell.new.root cell.new.journal }
+    ensures worn { (client s : ℕ) → what ≡ What.Command client → IsErrOf result (StepFault.StampsExhausted s) → IsWornBy s cell.new.root cell.new.journal }
     ensures viewer { IsSameViewer viewer.old viewer.new }
 {
     cell.tells();
@@ -123,22 +129,21 @@ pub(crate) fn make_turn_ahead<R: Wait>(
 /// The next command of the next client in turn; a publish is to be matched ahead.
 pub(crate) fn pick_command<R: Wait>(
     rt: &R,
-    alloc: Global,
     cell: &mut Cell<'_>,
-    net: &Net,
+    tables: &Tables<'_>,
     last: u32,
 ) -> Result<Picked, StepFault>
-    requires { cell.old.root.net.value ≡ net.now }
+    requires { cell.old.root.net.value ≡ tables.now }
     ensures root { cell.new.root ≡ cell.old.root }
     ensures grows { IsPrefix cell.old.journal cell.new.journal }
     ensures picked { IfOk result (λ picked. IsPicked picked cell.new.root cell.new.journal) }
-    ensures worn { (s : ℕ) → IsErrOf result (StepFault.Worn s) → IsWornBy s cell.new.root cell.new.journal }
+    ensures worn { (s : ℕ) → IsErrOf result (StepFault.StampsExhausted s) → IsWornBy s cell.new.root cell.new.journal }
 {
-    let Some(client) = next_in_turn(cell, net, last) else {
+    let Some(client) = next_in_turn(cell, tables, last) else {
         return Ok(Picked::Done);
     };
-    if let Some(notice) = next_notice(alloc, cell, client)? {
-        return Ok(Picked::Ahead(client, notice));
+    if let Some(number) = next_publication(cell, client) {
+        return Ok(Picked::Ahead(client, number));
     }
     match make_turn(rt, cell, What::Command(client)) {
         Ok(turned) => Ok(Picked::Taken(client, turned)),
@@ -146,15 +151,16 @@ pub(crate) fn pick_command<R: Wait>(
     }
 }
 
-/// A taking from a neighbour; a notice is to be matched ahead.
+/// A taking from a neighbour; a publication is to be matched ahead.
 fn look_from<R: Wait>(rt: &R, cell: &mut Cell<'_>, from: u32) -> Result<Looked, StepFault>
     requires { Suits (What.Take from) cell.old.root }
     ensures root { cell.new.root ≡ cell.old.root }
     ensures grows { IsPrefix cell.old.journal cell.new.journal }
     ensures looked { IfOk result (λ looked. SuitsLooked looked cell.new.root) }
 {
-    if let Some(notice) = cell.look(rt, from)? {
-        return Ok(Looked::Ahead(from, notice));
+    cell.tells();
+    if let Some(number) = cell.look(rt, from) {
+        return Ok(Looked::Ahead(from, number));
     }
     let turned = make_turn(rt, cell, What::Take(from))?;
     Ok(Looked::Taken(from, turned))
@@ -164,17 +170,17 @@ fn look_from<R: Wait>(rt: &R, cell: &mut Cell<'_>, from: u32) -> Result<Looked, 
 pub(crate) fn look_at<R: Wait>(
     rt: &R,
     cell: &mut Cell<'_>,
-    net: &Net,
+    tables: &Tables<'_>,
     server: u32,
     place: usize,
 ) -> Result<Looked, StepFault>
-    requires net { cell.old.root.net.value ≡ net.now }
+    requires net { cell.old.root.net.value ≡ tables.now }
     requires server { cell.old.root.server ≡ server }
     ensures root { cell.new.root ≡ cell.old.root }
     ensures grows { IsPrefix cell.old.journal cell.new.journal }
     ensures looked { IfOk result (λ looked. SuitsLooked looked cell.new.root) }
 {
-    match neighbour_at(cell, net, server, place) {
+    match neighbour_at(cell, tables, server, place) {
         Some(from) => look_from(rt, cell, from),
         None => {
             let turned = make_turn(rt, cell, What::Version)?;

@@ -2,31 +2,25 @@
 ghost use Rattle.std.specs.Prelude.{◌≡◌};
 
 use crate::ended::Ended;
-use ev_counting::Scratch;
 use ev_model::Entry;
-use ev_node::Root;
-use ev_server::StepFault;
+use ev_numnode::Root;
+use ev_numserver::StepFault;
+use ev_numversions::Viewer;
 use ev_turnlock::Pass;
-use ev_versions::Viewer;
 
-/// The pass and the viewer of a worker, with room for its matches.
+/// The pass and the viewer of a worker.
 #[derive(Drop)]
-pub(crate) struct Hands {
-    pub(crate) pass: Pass<Entry, Root>,
+pub(crate) struct Hands<'a> {
+    pub(crate) pass: Pass<Entry, Root<'a>>,
     pub(crate) viewer: Viewer,
-    pub(crate) scratch: Scratch,
 }
 
-impl Hands {
+impl<'a> Hands<'a> {
     /// What the worker gives back.
-    pub(crate) fn ended(self, fault: Option<StepFault>) -> Ended
-        ensures { (result.pass ≡ self.pass) × (result.viewer ≡ self.viewer) × (result.fault ≡ fault) }
+    pub(crate) fn ended(self, fault: Option<StepFault>) -> Ended<'a>
+        ensures { (result.pass ≡ self.entry.pass) × (result.viewer ≡ self.entry.viewer) × (result.fault ≡ fault) }
     {
-        let Hands {
-            pass,
-            viewer,
-            scratch: _scratch,
-        } = self;
+        let Hands { pass, viewer } = self;
         Ended {
             pass,
             viewer,

@@ -2,20 +2,17 @@
 ghost use Rattle.std.specs.Prelude.{◌≡◌, ◌≤◌, [], IfErr, IfOk, length, vec_capacity};
 ghost use Rattle.ev_workers.specs.Crews.{BothKeep, Pairwise};
 
-use crate::ended::Ended;
 use std::snapshot::Snapshot;
 use std::sync::Wait;
 use std::thread::{Promise, PromisedHandle, Scope, Threads, scope, scope_env};
 
 /// What a thread is given.
-pub(crate) trait Job: Drop {
-    ghost use Rattle.ev_workers.specs.declared.ended.Ended.{Ended as EndedParts};
-
+pub(crate) trait Job<B>: Drop {
     /// What it gives back.
-    ghost keeps: { Self → EndedParts → Type 0 };
+    ghost keeps: { Self → B → Type 0 };
 
     /// Works.
-    fn run(self) -> Ended
+    fn run(self) -> B
         ensures { keeps self result };
 }
 
@@ -28,19 +25,22 @@ pub(crate) struct Both<T> {
 
 /// What a thread promises: what its job keeps.
 #[derive(Drop)]
-struct Gives<J: Job> {
+struct Gives<J> {
     job: Snapshot<J>,
 }
 
-impl<J: Job> Promise<Ended> for Gives<J> {
+impl<B, J: Job<B>> Promise<B> for Gives<J> {
     ghost kept_by = { λ p r. J.keeps p.job.value r };
 }
 
 /// A job in a thread, or what it gave back where no thread could be had and it was run here.
-type Started<J> = Result<PromisedHandle<Ended, Gives<J>>, Ended>;
+type Started<B, J> = Result<PromisedHandle<B, Gives<J>>, B>;
 
 /// Starts a job in a thread of the scope, or runs it here.
-fn start<'s, J: Job + Send + 's, E>(scope: &'s Scope<'s, E>, job: J) -> Started<J>
+fn start<'s, B: Drop + Send + 's, J: Job<B> + Send + 's, E>(
+    scope: &'s Scope<'s, E>,
+    job: J,
+) -> Started<B, J>
     ensures there { IfOk result (λ h. h.promise.job.value ≡ job) }
     ensures here { IfErr result (λ e. J.keeps job e) }
 {
@@ -49,7 +49,7 @@ fn start<'s, J: Job + Send + 's, E>(scope: &'s Scope<'s, E>, job: J) -> Started<
     };
     match scope.spawn_with(
         gives,
-        move || -> Ended
+        move || -> B
             ensures { J.keeps job result }
         { job.run() },
     ) {
@@ -59,7 +59,7 @@ fn start<'s, J: Job + Send + 's, E>(scope: &'s Scope<'s, E>, job: J) -> Started<
 }
 
 /// What a job gives back, once its thread has ended.
-fn finish<J: Job, R: Threads + Wait>(rt: &R, started: Started<J>) -> Ended
+fn finish<B: Drop + Send, J: Job<B>, R: Threads + Wait>(rt: &R, started: Started<B, J>) -> B
     ensures there { IfOk started (λ h. J.keeps h.promise.job.value result) }
     ensures here { IfErr started (λ e. result ≡ e) }
 {
@@ -70,12 +70,12 @@ fn finish<J: Job, R: Threads + Wait>(rt: &R, started: Started<J>) -> Ended
 }
 
 /// Starts all jobs, the last ones first, and joins them.
-fn start_all<'s, J: Job + Send + 's, E, R: Threads + Wait>(
+fn start_all<'s, B: Drop + Send + 's, J: Job<B> + Send + 's, E, R: Threads + Wait>(
     rt: &R,
     scope: &'s Scope<'s, E>,
     mut jobs: Vec<Both<J>>,
-    done: Vec<Both<Ended>>,
-) -> Vec<Both<Ended>>
+    done: Vec<Both<B>>,
+) -> Vec<Both<B>>
     requires empty { done.items ≡ [] }
     requires room { length jobs.items ≤ vec_capacity done }
     ensures kept { Pairwise (BothKeep J.keeps) jobs.items result.items }
@@ -95,11 +95,11 @@ fn start_all<'s, J: Job + Send + 's, E, R: Threads + Wait>(
 }
 
 /// Runs all jobs, each in a thread where one can be had, and gives what each gave back, in their order.
-pub(crate) fn run_all<J: Job + Send, R: Threads + Wait>(
+pub(crate) fn run_all<B: Drop + Send, J: Job<B> + Send, R: Threads + Wait>(
     rt: &R,
     jobs: Vec<Both<J>>,
-    done: Vec<Both<Ended>>,
-) -> Vec<Both<Ended>>
+    done: Vec<Both<B>>,
+) -> Vec<Both<B>>
     requires empty { done.items ≡ [] }
     requires room { length jobs.items ≤ vec_capacity done }
     ensures kept { Pairwise (BothKeep J.keeps) jobs.items result.items }
@@ -108,7 +108,7 @@ pub(crate) fn run_all<J: Job + Send, R: Threads + Wait>(
     scope(
         scope_env(),
         rt,
-        |scope| -> Vec<Both<Ended>>
+        |scope| -> Vec<Both<B>>
             requires { (done.items ≡ []) × (length jobs.items ≤ vec_capacity done) }
             ensures kept { Pairwise (BothKeep J.keeps) jobs.items result.items }
             ensures capacity { vec_capacity result ≡ vec_capacity done }

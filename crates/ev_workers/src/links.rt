@@ -3,9 +3,9 @@ use crate::desk::Desk;
 use crate::ended::Ended;
 use crate::hands::Hands;
 use crate::tried::Looked;
-use ev_node::{Turned, What};
+use ev_numnode::{Turned, What};
+use ev_numserver::StepFault;
 use ev_outside::{Gate, Worker};
-use ev_server::StepFault;
 use std::sync::Wait;
 use std::thread::{Parker, yield_now};
 use std::time::Duration;
@@ -22,7 +22,7 @@ impl<'l, 'a, R: Wait, G: Gate> Desk<'l, 'a, R, G> {
 
     /// One look: one try for one turn, at the neighbour at a place or behind the last one for a version. Answers the place
     /// that comes next, and whether the turn was made.
-    fn look_next(&self, hands: &mut Hands, place: usize) -> Result<(usize, bool), StepFault>
+    fn look_next(&self, hands: &mut Hands<'a>, place: usize) -> Result<(usize, bool), StepFault>
         requires { AreHands self.now.lock.now hands.old }
         ensures hands { AreHands self.now.lock.now hands.new }
         ensures later { AreLater hands.old hands.new }
@@ -31,8 +31,8 @@ impl<'l, 'a, R: Wait, G: Gate> Desk<'l, 'a, R, G> {
             None => Ok((place, false)),
             Some(Looked::Taken(_, turned)) => Ok((place.wrapping_add(1), turned != Turned::Idle)),
             Some(Looked::Version(turned)) => Ok((0, turned != Turned::Idle)),
-            Some(Looked::Ahead(from, notice)) => {
-                let ahead = self.match_notice(hands, &notice)?;
+            Some(Looked::Ahead(from, number)) => {
+                let ahead = self.match_publication(hands, number)?;
                 let turned = self.turn_ahead(hands, What::Take(from), &ahead)?;
                 Ok((place.wrapping_add(1), turned.is_some()))
             }
@@ -54,9 +54,9 @@ impl<'l, 'a, R: Wait, G: Gate> Desk<'l, 'a, R, G> {
 
     /// Takes from each neighbour in turn and publishes what is staged, until a hundred looks in a row made no turn, or until a
     /// fault. A worn clock is none.
-    pub(crate) fn take_links(&self, mut hands: Hands) -> Ended
+    pub(crate) fn take_links(&self, mut hands: Hands<'a>) -> Ended<'a>
         requires { AreHands self.now.lock.now hands }
-        ensures { Keeps Worker.Links hands.pass hands.viewer result }
+        ensures { Keeps Worker.Links hands.entry.pass hands.entry.viewer result }
     {
         let mut idle = 0u32;
         let mut place = 0;
@@ -75,7 +75,7 @@ impl<'l, 'a, R: Wait, G: Gate> Desk<'l, 'a, R, G> {
                     self.rest(idle);
                 }
                 Err(StepFault::NoMemory) => return hands.ended(Some(StepFault::NoMemory)),
-                Err(StepFault::Worn(_)) => return hands.ended(None),
+                Err(StepFault::StampsExhausted(_)) => return hands.ended(None),
             }
         }
         unreachable!()

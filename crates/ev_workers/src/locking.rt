@@ -3,7 +3,7 @@ ghost use Rattle.std.specs.Prelude.{◌≡◌, ◌≤◌, ◌<◌, [], All, IsTr
 ghost use mathlib.Core.List.{IsPrefix};
 ghost use Rattle.ev_turnlock.specs.Passes.{first_value, pass_count};
 ghost use Rattle.ev_wire.specs.MessageText.{Each};
-ghost use Rattle.ev_node.specs.Together.{cell_roots, HaveGrown};
+ghost use Rattle.ev_numnode.specs.Together.{cell_roots, HaveGrown};
 ghost use Rattle.ev_workers.specs.Crews.{AreBackAt, AreCrews, AreEyesOf, AreInPlace, HasSeenFirst, IsCrewOf, IsFreePass, IsSpareOf, Pairwise};
 ghost use Rattle.ev_workers.specs.Hands.{IsLockFor, lock_root};
 ghost use Rattle.ev_workers.specs.Journals.{HasTaken};
@@ -11,29 +11,30 @@ ghost use Rattle.ev_workers.specs.Journals.{HasTaken};
 use crate::crew::{Crew, Eyes, Seat, Spare};
 use crate::ended::Ended;
 use crate::jobs::Both;
-use ev_model::{Entry, Net};
-use ev_node::{Cell, Root};
-use ev_server::StepFault;
+use ev_model::Entry;
+use ev_numnode::{Cell, Root};
+use ev_numserver::StepFault;
+use ev_tables::Tables;
 use ev_turnlock::{Pass, TurnLock};
 use std::alloc::Global;
 
 /// The crew of a lock with its three passes.
-fn crew_of(
-    net: &Net,
+fn crew_of<'a>(
+    tables: &Tables<'a>,
     phase: u32,
     server: u32,
-    lock: &TurnLock<Cell<'_>>,
-    mut passes: Vec<Pass<Entry, Root>>,
+    lock: &TurnLock<Cell<'a>>,
+    mut passes: Vec<Pass<Entry, Root<'a>>>,
     eyes: Eyes,
-) -> Crew
-    requires lock { IsLockFor net.now server phase lock.now }
+) -> Crew<'a>
+    requires lock { IsLockFor tables.now server phase lock.now }
     requires passes { All (IsFreePass lock.now) passes.items }
     requires seen { All (HasSeenFirst lock.now) passes.items }
     requires three { (length passes.items ≡ 3) × (pass_count lock.now ≡ 3) }
     requires eyes { AreEyesOf (lock_root lock.now) eyes }
-    ensures { IsCrewOf net.now phase lock.now result }
+    ensures { IsCrewOf tables.now phase lock.now result }
 {
-    let (_net, _phase, _lock) = (net, phase, lock);
+    let (_tables, _phase, _lock) = (tables, phase, lock);
     let Some(links) = passes.pop() else {
         unreachable!()
     };
@@ -41,7 +42,8 @@ fn crew_of(
         unreachable!()
     };
     Crew {
-        spare: Spare { server, passes },
+        server,
+        spare: Spare { passes },
         commands: Seat {
             pass: commands,
             viewer: eyes.commands,
@@ -54,25 +56,15 @@ fn crew_of(
 }
 
 /// Takes a cell out of its lock after its workers.
-fn unlock<'a>(
-    net: &Net,
-    phase: u32,
-    lock: TurnLock<Cell<'a>>,
-    spare: Spare,
-    done: Both<Ended>,
-) -> (Cell<'a>, Eyes)
-    requires spare { IsSpareOf net.now phase lock spare }
+fn unlock<'a>(lock: TurnLock<Cell<'a>>, spare: Spare<'a>, done: Both<Ended<'a>>) -> (Cell<'a>, Eyes)
+    requires spare { IsSpareOf lock spare }
     requires back { AreBackAt lock done }
     ensures root { result.0.root ≡ lock_root lock.entry }
     ensures grown { IsPrefix (first_value lock.entry).journal result.0.journal }
-    ensures taken { (done.commands.fault ≡ Some StepFault.NoMemory → ⊥) → HasTaken result.0 }
+    ensures taken { (done.entry.commands.fault ≡ Some StepFault.NoMemory → ⊥) → HasTaken result.0 }
     ensures eyes { AreEyesOf (lock_root lock.entry) result.1 }
 {
-    let (_net, _phase) = (net, phase);
-    let Spare {
-        server: _,
-        mut passes,
-    } = spare;
+    let Spare { mut passes } = spare;
     let Both { commands, links } = done;
     passes.push_reserved(commands.pass);
     passes.push_reserved(links.pass);
@@ -84,18 +76,18 @@ fn unlock<'a>(
 }
 
 /// Whether a worker met no want of memory.
-fn had_memory(ended: &Ended) -> bool
+fn had_memory(ended: &Ended<'_>) -> bool
     ensures { IsTrue result → ended.now.fault ≡ Some StepFault.NoMemory → ⊥ }
 {
     match ended.fault {
         None => true,
         Some(StepFault::NoMemory) => false,
-        Some(StepFault::Worn(_)) => true,
+        Some(StepFault::StampsExhausted(_)) => true,
     }
 }
 
 /// Whether neither worker of a server met want of memory.
-fn had_both(done: &Both<Ended>) -> bool
+fn had_both(done: &Both<Ended<'_>>) -> bool
     ensures { IsTrue result → done.now.commands.fault ≡ Some StepFault.NoMemory → ⊥ }
 {
     had_memory(&done.commands) && had_memory(&done.links)
@@ -105,19 +97,19 @@ fn had_both(done: &Both<Ended>) -> bool
 /// cells are out of their locks again.
 pub(crate) fn lock_all<'a>(
     alloc: Global,
-    net: &Net,
+    tables: &Tables<'a>,
     phase: u32,
     cells: &mut Vec<Cell<'a>>,
     eyes: &mut Vec<Eyes>,
     locks: &mut Vec<TurnLock<Cell<'a>>>,
-    crews: &mut Vec<Crew>,
+    crews: &mut Vec<Crew<'a>>,
 ) -> bool
-    requires place { AreInPlace net.now phase (cell_roots cells.old.items) }
+    requires place { AreInPlace tables.now phase (cell_roots cells.old.items) }
     requires few { length cells.old.items < 2 ^ 32 }
     requires eyes { Pairwise AreEyesOf (cell_roots cells.old.items) eyes.old.items }
     requires empty { (locks.old.items ≡ []) × (crews.old.items ≡ []) }
     requires room { (length cells.old.items ≤ vec_capacity locks.old) × (length cells.old.items ≤ vec_capacity crews.old) }
-    ensures locked { MatchBool result (AreCrews net.now phase locks.new.items crews.new.items × (map lock_root locks.new.items ≡ cell_roots cells.old.items))
+    ensures locked { MatchBool result (AreCrews tables.now phase locks.new.items crews.new.items × (map lock_root locks.new.items ≡ cell_roots cells.old.items))
         ((locks.new.items ≡ []) × (crews.new.items ≡ [])) }
     ensures cells { MatchBool result ((cells.new.items ≡ []) × (eyes.new.items ≡ []))
         ((cell_roots cells.new.items ≡ cell_roots cells.old.items) × Pairwise AreEyesOf (cell_roots cells.old.items) eyes.new.items) }
@@ -138,27 +130,25 @@ pub(crate) fn lock_all<'a>(
             return false;
         }
     };
-    if !lock_all(alloc, net, phase, cells, eyes, locks, crews) {
+    if !lock_all(alloc, tables, phase, cells, eyes, locks, crews) {
         cells.push_reserved(lock.close(passes));
         eyes.push_reserved(both);
         return false;
     }
-    crews.push_reserved(crew_of(net, phase, server, &lock, passes, both));
+    crews.push_reserved(crew_of(tables, phase, server, &lock, passes, both));
     locks.push_reserved(lock);
     true
 }
 
 /// Takes all cells out of their locks, in the same order, and answers whether no worker met want of memory.
 pub(crate) fn unlock_all<'a>(
-    net: &Net,
-    phase: u32,
     locks: &mut Vec<TurnLock<Cell<'a>>>,
-    mut spares: Vec<Spare>,
-    mut done: Vec<Both<Ended>>,
+    mut spares: Vec<Spare<'a>>,
+    mut done: Vec<Both<Ended<'a>>>,
     cells: &mut Vec<Cell<'a>>,
     eyes: &mut Vec<Eyes>,
 ) -> bool
-    requires spares { Pairwise (IsSpareOf net.now phase) locks.old.items spares.items }
+    requires spares { Pairwise IsSpareOf locks.old.items spares.items }
     requires back { Pairwise AreBackAt locks.old.items done.items }
     requires empty { (cells.old.items ≡ []) × (eyes.old.items ≡ []) }
     requires room { (length locks.old.items ≤ vec_capacity cells.old) × (length locks.old.items ≤ vec_capacity eyes.old) }
@@ -177,8 +167,8 @@ pub(crate) fn unlock_all<'a>(
         unreachable!()
     };
     let here = had_both(&both);
-    let (cell, viewers) = unlock(net, phase, lock, spare, both);
-    let rest = unlock_all(net, phase, locks, spares, done, cells, eyes);
+    let (cell, viewers) = unlock(lock, spare, both);
+    let rest = unlock_all(locks, spares, done, cells, eyes);
     cells.push_reserved(cell);
     eyes.push_reserved(viewers);
     rest && here

@@ -1,7 +1,7 @@
 //! The workers of all servers in one phase.
 ghost use Rattle.std.specs.Prelude.{◌≡◌, ◌<◌, ◌^◌, length, OnOk};
 ghost use Rattle.ev_wire.specs.MessageText.{Each};
-ghost use Rattle.ev_node.specs.Together.{cell_roots, HaveGrown};
+ghost use Rattle.ev_numnode.specs.Together.{cell_roots, HaveGrown};
 ghost use Rattle.ev_workers.specs.Crews.{AreEyesOf, AreInPlace, Pairwise};
 ghost use Rattle.ev_workers.specs.Journals.{HasTaken};
 
@@ -11,9 +11,9 @@ use crate::jobs::run_all;
 use crate::locking::{lock_all, unlock_all};
 use crate::pace::Pace;
 use ev_memory::NoMemory;
-use ev_model::Net;
-use ev_node::Cell;
+use ev_numnode::Cell;
 use ev_outside::Gate;
+use ev_tables::Tables;
 use std::alloc::Global;
 use std::sync::Wait;
 use std::thread::Threads;
@@ -24,13 +24,13 @@ use std::thread::Threads;
 pub fn run_phase<'a, R: Threads + Wait + Sync, G: Gate + Sync>(
     alloc: Global,
     rt: &R,
-    net: &Net,
+    tables: &Tables<'a>,
     gate: &G,
     phase: u32,
     cells: &mut Vec<Cell<'a>>,
     eyes: &mut Vec<Eyes>,
 ) -> Result<(), NoMemory>
-    requires place { AreInPlace net.now phase (cell_roots cells.old.items) }
+    requires place { AreInPlace tables.now phase (cell_roots cells.old.items) }
     requires few { length cells.old.items < 2 ^ 32 }
     requires eyes { Pairwise AreEyesOf (cell_roots cells.old.items) eyes.old.items }
     ensures roots { cell_roots cells.new.items ≡ cell_roots cells.old.items }
@@ -48,21 +48,21 @@ pub fn run_phase<'a, R: Threads + Wait + Sync, G: Gate + Sync>(
         locks.destroy_empty();
         return Err(NoMemory);
     };
-    if !lock_all(alloc, net, phase, cells, eyes, &mut locks, &mut crews) {
+    if !lock_all(alloc, tables, phase, cells, eyes, &mut locks, &mut crews) {
         locks.destroy_empty();
         return Err(NoMemory);
     }
     let site = Site {
         rt,
         alloc,
-        net,
+        tables,
         phase,
         gate,
         pace: &pace,
     };
     hire_all(&site, &locks, crews, &mut jobs, &mut spares);
     let done = run_all(rt, jobs, done);
-    let enough = unlock_all(net, phase, &mut locks, spares, done, cells, eyes);
+    let enough = unlock_all(&mut locks, spares, done, cells, eyes);
     locks.destroy_empty();
     if enough { Ok(()) } else { Err(NoMemory) }
 }

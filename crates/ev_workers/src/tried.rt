@@ -1,6 +1,5 @@
 //! What came of one try with the cell in hand.
-use ev_node::Turned;
-use ev_notice::Notice;
+use ev_numnode::Turned;
 
 /// What the worker for commands did with the cell in hand.
 #[derive(Drop)]
@@ -9,8 +8,8 @@ pub(crate) enum Picked {
     Done,
     /// It took the next command of this client.
     Taken(u32, Turned),
-    /// Nothing yet: the next command of this client publishes this notice, which is to be matched ahead.
-    Ahead(u32, Notice),
+    /// Nothing yet: the next command of this client publishes the publication with this number, which is to be matched ahead.
+    Ahead(u32, u32),
 }
 
 /// What the worker for links did with the cell in hand.
@@ -18,8 +17,8 @@ pub(crate) enum Picked {
 pub(crate) enum Looked {
     /// It tried a taking from this neighbour.
     Taken(u32, Turned),
-    /// Nothing yet: this neighbour's next message is this notice, which is to be matched ahead.
-    Ahead(u32, Notice),
+    /// Nothing yet: this neighbour's next message is the publication with this number, which is to be matched ahead.
+    Ahead(u32, u32),
     /// It tried a version.
     Version(Turned),
 }

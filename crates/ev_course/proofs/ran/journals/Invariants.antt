@@ -1,5 +1,5 @@
 use Rattle.std.proofs.Common.{◌≡◌, map, take}
-use Rattle.ev_node.specs.Cell.{CellParts}
+use Rattle.ev_numnode.specs.Cell.{CellParts}
 use Rattle.ev_course.proofs.ran.journals.Given as goal
 
 abbrev pub invariant-loop-cell : goal.invariant-loop-cell

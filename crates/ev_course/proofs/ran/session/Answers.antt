@@ -1,12 +1,12 @@
 use Rattle.std.proofs.Common.{◌≡◌, ◌≤◌, ◌-◌, map, Some, slice_get, sym, ap, subst, ◌∙◌, arith}
 use Rattle.ev_sets.specs.Sets.{Has}
 use Rattle.ev_model.specs.Nets.{first_tree, home_of}
-use Rattle.ev_server.specs.Clients.{bare, client_numbers}
-use Rattle.ev_server.specs.Core.{CoreParts}
+use Rattle.ev_numserver.specs.Clients.{bare, client_numbers}
+use Rattle.ev_numserver.specs.Core.{CoreParts}
 use Rattle.ev_turns.specs.Network.{moment_by}
-use Rattle.ev_net.proofs.Commanding.{home_low, lives_there}
-use Rattle.ev_node.specs.Cell.{CellParts}
-use Rattle.ev_node.proofs.Places.{placed}
+use Rattle.ev_numnet.proofs.Commanding.{home_low, lives_there}
+use Rattle.ev_numnode.specs.Cell.{CellParts}
+use Rattle.ev_numnode.proofs.Places.{placed}
 use Rattle.ev_course.proofs.Sessions.{session-at, as-many, core-at}
 use Rattle.ev_course.proofs.ran.session.Goals as goal
 
@@ -36,8 +36,8 @@ session-requires c =
 pub returns : goal.returns
 returns c =
     session-at c.args.end.now.net.now c.args.end.now.cells.now c.args.end.now.journal.now c.requires.end c.args.client c.index-cells-home.result.held.core
-    (core-at c.args.end.now.cells.now (home_of c.args.end.now.net.now c.args.client) c.index-cells-home.result at) c.session.result.now
-    (subst (λ (z : CoreParts). Has (bare c.session.result.now) z.clients) c.core.ensures c.session.ensures.session) c.session.ensures.client
+    (core-at c.args.end.now.cells.now (home_of c.args.end.now.net.now c.args.client) c.index-cells-home.result at) c.session.result.now.session
+    (subst (λ (z : CoreParts). Has (bare c.session.result.now.session) z.clients) c.core.ensures c.session.ensures.session) c.session.ensures.client
     (c.session.ensures.semantics ∙ ap (λ (z : CoreParts). z.control.semantics) c.core.ensures)
   where
     at : slice_get c.args.end.now.cells.now (home_of c.args.end.now.net.now c.args.client - 1) ≡ Some c.index-cells-home.result

@@ -2,7 +2,7 @@ use Rattle.std.proofs.Common.{◌≡◌, Some, slice_get, get_or, subst, sym, ap
 use Rattle.std.proofs.lemmas.Option.{slice_get-get_or}
 use Rattle.ev_sets.specs.Sets.{Has}
 use Rattle.ev_bits.specs.Rows.{Numbers}
-use Rattle.ev_poset.proofs.Pairs.{at-has}
+use Rattle.ev_control.proofs.Places.{at-has}
 use Rattle.ev_control.proofs.Taken.{take-all}
 use Rattle.ev_flow.proofs.Ordering.{to-small}
 use Rattle.ev_numheld.specs.Held.{NetHeld, net_held}

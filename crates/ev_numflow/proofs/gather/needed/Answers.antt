@@ -2,7 +2,7 @@ use Rattle.std.proofs.Common.{get_or, sym, subst, ap, ◌∙◌}
 use Rattle.std.proofs.lemmas.Option.{slice_get-get_or}
 use Rattle.ev_sets.specs.Sets.{Has}
 use Rattle.ev_bits.specs.Rows.{Numbers}
-use Rattle.ev_poset.proofs.Pairs.{at-has}
+use Rattle.ev_control.proofs.Places.{at-has}
 use Rattle.ev_flow.proofs.Ordering.{to-small}
 use Rattle.ev_numflow.proofs.Needed.{need-start, need-step, need-skip, need-end}
 use Rattle.ev_numflow.proofs.gather.needed.Goals as goal

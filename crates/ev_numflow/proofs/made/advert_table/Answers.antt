@@ -3,7 +3,7 @@ use Rattle.std.proofs.lemmas.Option.{slice_get-get_or}
 use Rattle.ev_sets.specs.Sets.{Has}
 use Rattle.ev_notice.specs.Before.{list_before}
 use Rattle.ev_notice.specs.Cover.{advert_covers}
-use Rattle.ev_poset.proofs.Pairs.{at-has}
+use Rattle.ev_control.proofs.Places.{at-has}
 use Rattle.ev_wire.specs.Messages.{Lists}
 use Rattle.ev_catalogue.specs.Known.{known_adverts}
 use Rattle.ev_control.specs.Control.{by_adverts}

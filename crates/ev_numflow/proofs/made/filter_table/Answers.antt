@@ -5,7 +5,7 @@ use Rattle.ev_bits.specs.Rows.{Numbers}
 use Rattle.ev_notice.specs.Before.{list_before}
 use Rattle.ev_notice.specs.Cover.{filter_covers}
 use Rattle.ev_order.specs.Order.{picked}
-use Rattle.ev_poset.proofs.Pairs.{at-has}
+use Rattle.ev_control.proofs.Places.{at-has}
 use Rattle.ev_wire.specs.Messages.{Lists}
 use Rattle.ev_catalogue.specs.Known.{known_filters, known_adverts}
 use Rattle.ev_control.specs.Control.{is_wanted}

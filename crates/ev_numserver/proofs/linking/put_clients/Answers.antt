@@ -1,7 +1,7 @@
 use Rattle.std.proofs.Common.{◌∷◌, [], ◌+◌, get_or, subst, sym, ◌∙◌, arith}
 use Rattle.std.proofs.lemmas.Option.{slice_get-get_or}
 use Rattle.ev_sets.specs.Sets.{Has}
-use Rattle.ev_poset.proofs.Pairs.{at-has}
+use Rattle.ev_control.proofs.Places.{at-has}
 use Rattle.ev_control.specs.declared.control.HeldLink.{HeldLink}
 use Rattle.ev_numserver.specs.Putting.{ArePut, held_by, held_by_clients}
 use Rattle.ev_numserver.proofs.Putting.{put-next}

@@ -1,7 +1,7 @@
 use Rattle.std.proofs.Common.{refl, subst, sym, ◌∙◌}
 use Rattle.std.proofs.lemmas.Option.{slice_get_read}
 use Rattle.ev_sets.specs.Sets.{Has}
-use Rattle.ev_poset.proofs.Pairs.{at-has}
+use Rattle.ev_control.proofs.Places.{at-has}
 use Rattle.ev_routing.proofs.Listing.{has-map}
 use Rattle.ev_control.specs.declared.control.HeldLink.{HeldLink}
 use Rattle.ev_numheld.specs.Held.{NetHeld, held_in}

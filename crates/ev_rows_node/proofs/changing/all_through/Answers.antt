@@ -1,7 +1,7 @@
 use Rattle.std.proofs.Common.{inl, inr, sym, ap, subst, ◌∙◌, slice_get, arith}
 use Rattle.std.proofs.lemmas.Option.{same_Some}
-use Rattle.ev_node.specs.Cell.{CellParts, HasNoneBelow}
-use Rattle.ev_node.proofs.Places.{split, below-found, placed}
+use Rattle.ev_numnode.specs.Cell.{CellParts, HasNoneBelow}
+use Rattle.ev_numnode.proofs.Places.{split, below-found, placed}
 use Rattle.ev_rows_node.proofs.changing.all_through.Goals as goal
 
 pub loop-cell-preserved : goal.loop-cell-preserved

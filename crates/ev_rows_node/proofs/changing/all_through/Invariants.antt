@@ -1,5 +1,5 @@
 use Rattle.std.proofs.Common.{◌≡◌, ◌<◌, ℕ, Some, slice_get}
-use Rattle.ev_node.specs.Cell.{CellParts, HasNoneBelow}
+use Rattle.ev_numnode.specs.Cell.{CellParts, HasNoneBelow}
 use Rattle.ev_rows_node.proofs.changing.all_through.Given as goal
 
 abbrev pub invariant-loop-cell : goal.invariant-loop-cell

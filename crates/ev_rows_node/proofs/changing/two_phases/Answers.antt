@@ -1,4 +1,4 @@
-use Rattle.ev_node.proofs.Onward.{calm-done}
+use Rattle.ev_numnode.proofs.Onward.{calm-done}
 use Rattle.ev_rows_node.proofs.changing.two_phases.Goals as goal
 
 pub enter_next-requires-clause-calm : goal.enter_next-requires-clause-calm

@@ -1,5 +1,5 @@
 use Rattle.std.proofs.Common.{◌≡◌, ◌≤◌, ◌+◌, ◌++◌, length, map, vec_capacity}
-use Rattle.ev_node.specs.Together.{cell_roots}
+use Rattle.ev_numnode.specs.Together.{cell_roots}
 use Rattle.ev_rows_node.proofs.together.cells_of.Given as goal
 
 abbrev pub invariant-loop-started : goal.invariant-loop-started

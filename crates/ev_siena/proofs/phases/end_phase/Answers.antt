@@ -1,6 +1,6 @@
 use Rattle.std.proofs.Common.{◌≡◌, ◌∙◌, Err, ap, sym, subst, arith}
 use Rattle.std.proofs.lemmas.Grind.{common_steps}
-use Rattle.ev_server.specs.declared.stepped.StepFault.{StepFault}
+use Rattle.ev_numserver.specs.declared.stepped.StepFault.{StepFault}
 use Rattle.ev_course.specs.Course.{AreKept}
 use Rattle.ev_siena.specs.Teams.{AreUnderWay}
 use Rattle.ev_siena.proofs.Ending.{phase-begun}
@@ -9,12 +9,12 @@ use Rattle.ev_siena.proofs.phases.end_phase.Goals as goal
 pub unreachable-requires : goal.unreachable-requires
 unreachable-requires g c =
     let w = c.requires in
-    let s = c.in-Err-Worn.field-0-0 in
+    let s = c.in-Err-StampsExhausted.field-0-0 in
     let now = c.finish_phase-answer.new.cells in
     let handed = c.deref_mut.result.now in
     let way = subst (AreUnderWay w.0 w.1 w.2 w.3 w.4) (sym c.deref_mut.ensures.value) w.5 in
-    let fault : c.in-Err-Worn.field-0 ≡ StepFault.Worn s = grind (arith, common_steps, c.in-Err-Worn.field-0-is) in
-    let is = c.in-Err-Worn.is ∙ ap Err fault in
+    let fault : c.in-Err-StampsExhausted.field-0 ≡ StepFault.StampsExhausted s = grind (arith, common_steps, c.in-Err-StampsExhausted.field-0-is) in
+    let is = c.in-Err-StampsExhausted.is ∙ ap Err fault in
     let worn = c.finish_phase-answer.ensures.worn s is in
     let hand = c.finish_phase-answer.ensures.hand s is in
     c.never_worn.ensures w.0 w.1 w.2 w.3 w.4 now (phase-begun w.0 w.1 w.2 w.3 w.4 handed now way c.finish_phase-answer.ensures.roots (hand w.0 w.2)) s worn

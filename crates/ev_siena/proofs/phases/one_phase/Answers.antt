@@ -1,5 +1,5 @@
 use Rattle.std.proofs.Common.{sym, subst, ◌∙◌}
-use Rattle.ev_node.specs.Together.{AreTogether}
+use Rattle.ev_numnode.specs.Together.{AreTogether}
 use Rattle.ev_workers.specs.Crews.{AreEyesOf, Pairwise}
 use Rattle.ev_siena.proofs.Entering.{eyes-stay, on-both}
 use Rattle.ev_siena.proofs.Ending.{phase-ended}
@@ -13,9 +13,9 @@ pub returns : goal.returns
 returns g c =
     let have = c.in_ok-enter.ensures in
     on-both c.end_phase.result _ _
-    (λ f. phase-ended c.args.net.now c.args.last c.args.phase c.args.cells.now.items c.enter.new.cells.items c.end_phase.new.cells.items c.run_phase.new.eyes.items
+    (λ f. phase-ended c.args.tables.now c.args.last c.args.phase c.args.cells.now.items c.enter.new.cells.items c.end_phase.new.cells.items c.run_phase.new.eyes.items
     c.requires.team.between.hand have c.requires.command (c.end_phase.ensures.roots ∙ c.run_phase.ensures.roots) c.end_phase.ensures.kept
-    (f c.args.net.now c.args.phase (subst (AreTogether c.args.net.now c.args.phase) (sym c.run_phase.ensures.roots) have.together))
+    (f c.args.tables.now c.args.phase (subst (AreTogether c.args.tables.now c.args.phase) (sym c.run_phase.ensures.roots) have.together))
     (subst (λ r. Pairwise AreEyesOf r c.run_phase.new.eyes.items) (sym c.end_phase.ensures.roots) c.run_phase.ensures.eyes)
-    (c.phase_done.ensures c.args.net.now c.args.last c.args.phase c.args.cells.now.items c.enter.new.cells.items c.end_phase.new.cells.items))
+    (c.phase_done.ensures c.args.tables.now c.args.last c.args.phase c.args.cells.now.items c.enter.new.cells.items c.end_phase.new.cells.items))
     c.end_phase.ensures.finished

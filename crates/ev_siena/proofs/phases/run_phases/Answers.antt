@@ -1,10 +1,10 @@
 use Rattle.std.proofs.Common.{subst}
 use Rattle.ev_model.specs.Nets.{phases_of}
-use Rattle.ev_node.specs.Entered.{AreThrough}
+use Rattle.ev_numnode.specs.Entered.{AreThrough}
 use Rattle.ev_siena.proofs.Entering.{none-of}
 use Rattle.ev_siena.proofs.phases.run_phases.Goals as goal
 
 pub returns-in_default-clause-through : goal.returns-in_default-clause-through
 returns-in_default-clause-through g c =
-    subst (AreThrough (phases_of c.args.net.now)) c.deref.ensures.value
-    (none-of c.next_phase.result _ c.in_default.not-Some c.next_phase.ensures.none (phases_of c.args.net.now))
+    subst (AreThrough (phases_of c.args.tables.now)) c.deref.ensures.value
+    (none-of c.next_phase.result _ c.in_default.not-Some c.next_phase.ensures.none (phases_of c.args.tables.now))

@@ -2,4 +2,4 @@ use Rattle.ev_siena.specs.Teams.{IsTeam}
 use Rattle.ev_siena.proofs.phases.run_phases.Given as goal
 
 abbrev pub invariant-loop : goal.invariant-loop
-invariant-loop g l = IsTeam l.net l.last l.cells.items l.eyes.items
+invariant-loop g l = IsTeam l.tables l.last l.cells.items l.eyes.items

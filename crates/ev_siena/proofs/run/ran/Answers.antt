@@ -1,3 +1,4 @@
+use Rattle.std.proofs.Common.{subst}
 use Rattle.std.specs.Prelude.{Result, Ok, Err, IfOk}
 use Rattle.ev_course.specs.Course.{IsRanBy, journals_by}
 use Rattle.ev_siena.specs.Runs.{IsThreaded}
@@ -10,12 +11,13 @@ if-ok (Err e) P Q f p = tt
 
 pub returns : goal.returns
 returns g c =
-    if-ok c.collect.result (IsRanBy c.args.net.now c.deref.result.now) (IsThreaded c.args.net.now)
+    let run = c.net.ensures in
+    if-ok c.collect.result (IsRanBy c.args.tables.now c.deref.result.now) (IsThreaded c.args.tables.now)
     (λ ran r. record {
       legal = r.whole.legal;
       drained = r.whole.drained;
-      order = by-stamp c.args.net.now (journals_by c.deref.result.now) ran.journal.items r.whole.merge;
+      order = by-stamp c.args.tables.now (journals_by c.deref.result.now) ran.journal.items r.whole.merge;
       refused = r.refused;
       received = r.received;
     })
-    c.collect.ensures
+    (subst (λ z. IfOk c.collect.result (IsRanBy z c.deref.result.now)) run c.collect.ensures)

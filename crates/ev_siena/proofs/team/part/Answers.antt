@@ -1,8 +1,8 @@
 use Rattle.std.proofs.Common.{◌≡◌, List, [], ◌∷◌, ◌++◌, length, map, sym, ap, subst, ◌∙◌, arith}
 use Rattle.std.proofs.lemmas.List.{append_assoc, length-append}
-use Rattle.ev_node.specs.declared.starting.Started.{Started}
-use Rattle.ev_node.specs.Cell.{CellParts}
-use Rattle.ev_node.specs.Together.{cell_roots}
+use Rattle.ev_numnode.specs.declared.starting.Started.{Started}
+use Rattle.ev_numnode.specs.Cell.{CellParts}
+use Rattle.ev_numnode.specs.Together.{cell_roots}
 use Rattle.ev_workers.specs.declared.crew.Eyes.{Eyes}
 use Rattle.ev_workers.specs.Crews.{AreEyesOf, Pairwise}
 use Rattle.ev_siena.specs.Teams.{HaveEyes}

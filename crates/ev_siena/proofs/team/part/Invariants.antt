@@ -1,5 +1,5 @@
 use Rattle.std.proofs.Common.{◌≡◌, ◌≤◌, ◌+◌, ◌++◌, length, map, vec_capacity}
-use Rattle.ev_node.specs.Together.{cell_roots}
+use Rattle.ev_numnode.specs.Together.{cell_roots}
 use Rattle.ev_workers.specs.Crews.{AreEyesOf, Pairwise}
 use Rattle.ev_siena.specs.Teams.{HaveEyes}
 use Rattle.ev_siena.proofs.team.part.Given as goal

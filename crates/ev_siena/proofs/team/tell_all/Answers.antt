@@ -1,7 +1,7 @@
 use Rattle.std.proofs.Common.{inl, inr, sym, ap, subst, ◌∙◌, slice_get, arith}
 use Rattle.std.proofs.lemmas.Option.{same_Some}
-use Rattle.ev_node.specs.Cell.{CellParts, IsKept}
-use Rattle.ev_node.proofs.Places.{split, below-found, placed}
+use Rattle.ev_numnode.specs.Cell.{CellParts, IsKept}
+use Rattle.ev_numnode.proofs.Places.{split, below-found, placed}
 use Rattle.ev_siena.proofs.team.tell_all.Goals as goal
 
 pub loop-cell-preserved : goal.loop-cell-preserved

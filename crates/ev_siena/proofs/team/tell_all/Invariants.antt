@@ -1,5 +1,5 @@
 use Rattle.std.proofs.Common.{◌≡◌, ◌<◌, ℕ, Some, slice_get}
-use Rattle.ev_node.specs.Cell.{CellParts, IsKept}
+use Rattle.ev_numnode.specs.Cell.{CellParts, IsKept}
 use Rattle.ev_siena.proofs.team.tell_all.Given as goal
 
 abbrev pub invariant-loop-cell : goal.invariant-loop-cell

@@ -1,8 +1,8 @@
 use Rattle.std.proofs.Common.{◌≤◌, suc, arith}
-use Rattle.ev_node.specs.declared.what.What.TheVariants.{Command}
-use Rattle.ev_node.specs.Asked.{Suits}
-use Rattle.ev_node.specs.Cell.{IsPast}
-use Rattle.ev_node.proofs.Leftover.{place-more}
+use Rattle.ev_numnode.specs.declared.what.What.TheVariants.{Command}
+use Rattle.ev_numnode.specs.Asked.{Suits}
+use Rattle.ev_numnode.specs.Cell.{IsPast}
+use Rattle.ev_numnode.proofs.Leftover.{place-more}
 use Rattle.ev_workers.proofs.hand.first_waiting.Goals as goal
 
 pub loop-client-init : goal.loop-client-init

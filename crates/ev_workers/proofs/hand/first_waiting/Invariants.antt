@@ -1,7 +1,7 @@
 use Rattle.std.proofs.Common.{◌≤◌, ◌<◌, ℕ, suc}
-use Rattle.ev_node.specs.declared.what.What.TheVariants.{Command}
-use Rattle.ev_node.specs.Asked.{Suits}
-use Rattle.ev_node.specs.Cell.{IsPast}
+use Rattle.ev_numnode.specs.declared.what.What.TheVariants.{Command}
+use Rattle.ev_numnode.specs.Asked.{Suits}
+use Rattle.ev_numnode.specs.Cell.{IsPast}
 use Rattle.ev_workers.proofs.hand.first_waiting.Given as goal
 
 abbrev pub invariant-loop-client : goal.invariant-loop-client

@@ -1,16 +1,15 @@
 use Rattle.std.proofs.Common.{◌≡◌, List, ◌∷◌, [], ◌++◌, sym, subst, arith}
 use Rattle.std.specs.Prelude.{Result, Ok, Err, IfOk, IfErr}
-use Rattle.ev_workers.specs.declared.ended.Ended.{Ended}
 use Rattle.ev_workers.specs.declared.jobs.Both.{Both}
 use Rattle.ev_workers.specs.Crews.{BothKeep, Pairwise}
 use Rattle.ev_workers.proofs.Pairs.{pairs-more, pairs-long}
 use Rattle.ev_workers.proofs.jobs.+start_all.Goals as goal
 
-kept : {H J : Type 0} (of : H → J) (K : J → Ended → Type 0) (s : Result H Ended) (job : J) (back : Ended) → IfOk s (λ h. of h ≡ job) → IfErr s (K job) → IfOk s (λ h. K (of h) back) → IfErr s (λ e. back ≡ e) → K job back
+kept : {H J B : Type 0} (of : H → J) (K : J → B → Type 0) (s : Result H B) (job : J) (back : B) → IfOk s (λ h. of h ≡ job) → IfErr s (K job) → IfOk s (λ h. K (of h) back) → IfErr s (λ e. back ≡ e) → K job back
 kept of K (Ok h) job back e here there same = subst (λ j. K j back) e there
 kept of K (Err x) job back e here there same = subst (K job) (sym same) here
 
-pairs-back : {J : Type 0} (K : J → Ended → Type 0) (jobs rest : List (Both J)) (job : Both J) (all done : List (Both Ended)) (back : Both Ended) → jobs ≡ rest ++ job ∷ [] → all ≡ done ++ back ∷ [] → Pairwise (BothKeep K) rest done → BothKeep K job back
+pairs-back : {J B : Type 0} (K : J → B → Type 0) (jobs rest : List (Both J)) (job : Both J) (all done : List (Both B)) (back : Both B) → jobs ≡ rest ++ job ∷ [] → all ≡ done ++ back ∷ [] → Pairwise (BothKeep K) rest done → BothKeep K job back
     → Pairwise (BothKeep K) jobs all
 pairs-back K jobs rest job all done back e f p k =
     subst (λ js. Pairwise (BothKeep K) js all) (sym e) (subst (Pairwise (BothKeep K) (rest ++ job ∷ [])) (sym f) (pairs-more (BothKeep K) rest done job back p k))

@@ -1,20 +1,20 @@
 use Rattle.std.proofs.Common.{◌<◌, length, ap, ◌∙◌, arith}
-use Rattle.ev_node.specs.Cell.{CellParts}
+use Rattle.ev_numnode.specs.Cell.{CellParts}
 use Rattle.ev_workers.specs.Crews.{IsCrewOf}
 use Rattle.ev_workers.proofs.Pairs.{pairs-long}
 use Rattle.ev_workers.proofs.Rows.{eyes-last, place-less, roots-back, eyes-back, lock-for, lock-eyes, locked-back, same-long, eyes-long, locks-long}
 use Rattle.std.proofs.Common.{◌++◌, ◌∷◌, [], map, sym, subst}
 use mathlib.Core.List.{IsPrefix}
 use Rattle.ev_turnlock.specs.Passes.{first_value, seen_by}
-use Rattle.ev_node.specs.Together.{HaveGrown}
-use Rattle.ev_node.proofs.Growing.{grown-same}
+use Rattle.ev_numnode.specs.Together.{HaveGrown}
+use Rattle.ev_numnode.proofs.Growing.{grown-same}
 use Rattle.ev_workers.proofs.Back.{firsts-more, grown-more, seen-grown}
 use Rattle.ev_workers.proofs.locking.+lock_all.Goals as goal
 
 pub lock_all-requires : goal.lock_all-requires
 lock_all-requires t c = (
   (let lt : length c.pop.new.self.items < t = omega (arith, c.in-Some.ensures.cases, c.pop.new.self.ok.0, c.args.cells.now.ok.0, c.decreases) in lt),
-  (place-less c.args.cells.now.items c.pop.new.self.items c.in-Some.cell c.in-Some.ensures.items c.args.net.now c.args.phase c.requires.place, (omega (arith, c.in-Some.ensures.cases, c.pop.new.self.ok.0, c.args.cells.now.ok.0, c.requires.few), ((eyes-last c.args.cells.now.items c.pop.new.self.items c.in-Some.cell c.in-Some.ensures.items c.args.eyes.now.items c.pop-2.new.self.items c.in-Some-pop.both c.in-Some-pop.ensures.items c.requires.eyes).0, (c.requires.empty, (omega (arith, c.in-Some.ensures.cases, c.pop.new.self.ok.0, c.args.cells.now.ok.0, c.requires.room.0), omega (arith, c.in-Some.ensures.cases, c.pop.new.self.ok.0, c.args.cells.now.ok.0, c.requires.room.1)))))),
+  (place-less c.args.cells.now.items c.pop.new.self.items c.in-Some.cell c.in-Some.ensures.items c.args.tables.now c.args.phase c.requires.place, (omega (arith, c.in-Some.ensures.cases, c.pop.new.self.ok.0, c.args.cells.now.ok.0, c.requires.few), ((eyes-last c.args.cells.now.items c.pop.new.self.items c.in-Some.cell c.in-Some.ensures.items c.args.eyes.now.items c.pop-2.new.self.items c.in-Some-pop.both c.in-Some-pop.ensures.items c.requires.eyes).0, (c.requires.empty, (omega (arith, c.in-Some.ensures.cases, c.pop.new.self.ok.0, c.args.cells.now.ok.0, c.requires.room.0), omega (arith, c.in-Some.ensures.cases, c.pop.new.self.ok.0, c.args.cells.now.ok.0, c.requires.room.1)))))),
 )
 
 pub push_reserved-requires-then-not-lock_all : goal.push_reserved-requires-then-not-lock_all
@@ -38,7 +38,7 @@ returns-then-not-lock_all-clause-cells t c = (
 
 pub crew_of-requires-clause-lock : goal.crew_of-requires-clause-lock
 crew_of-requires-clause-lock t c =
-    lock-for c.args.cells.now.items c.pop.new.self.items c.in-Some.cell c.in-Some.ensures.items c.args.net.now c.args.phase c.len.result c.in-Ok.made.0 c.in-Ok.ensures.lock.0 c.requires.place (c.len.ensures ∙ c.pop.new.self.ok.0)
+    lock-for c.args.cells.now.items c.pop.new.self.items c.in-Some.cell c.in-Some.ensures.items c.args.tables.now c.args.phase c.len.result c.in-Ok.made.0 c.in-Ok.ensures.lock.0 c.requires.place (c.len.ensures ∙ c.pop.new.self.ok.0)
 
 pub crew_of-requires-clause-eyes : goal.crew_of-requires-clause-eyes
 crew_of-requires-clause-eyes t c =
@@ -47,7 +47,7 @@ crew_of-requires-clause-eyes t c =
 
 pub push_reserved-requires-2 : goal.push_reserved-requires-2
 push_reserved-requires-2 t c =
-    let s = pairs-long (IsCrewOf c.args.net.now c.args.phase) c.lock_all.new.locks.items c.lock_all.new.crews.items c.if-not-lock_all.ensures.locked.0 in
+    let s = pairs-long (IsCrewOf c.args.tables.now c.args.phase) c.lock_all.new.locks.items c.lock_all.new.crews.items c.if-not-lock_all.ensures.locked.0 in
     let m = locks-long c.lock_all.new.locks.items c.pop.new.self.items c.if-not-lock_all.ensures.locked.1 in
     omega (arith, s, m, c.lock_all.new.crews.ok.0, c.pop.new.self.ok.0, c.args.cells.now.ok.0, c.in-Some.ensures.cases, c.lock_all.ensures.room.1, c.requires.room.1)
 
@@ -58,7 +58,7 @@ push_reserved-requires-3 t c =
 
 pub returns-clause-locked : goal.returns-clause-locked
 returns-clause-locked t c =
-    locked-back c.args.cells.now.items c.pop.new.self.items c.in-Some.cell c.in-Some.ensures.items c.args.net.now c.args.phase c.lock_all.new.locks.items _ c.lock_all.new.crews.items _ c.in-Ok.made.0 c.crew_of.result c.push_reserved-3.ensures.items
+    locked-back c.args.cells.now.items c.pop.new.self.items c.in-Some.cell c.in-Some.ensures.items c.args.tables.now c.args.phase c.lock_all.new.locks.items _ c.lock_all.new.crews.items _ c.in-Ok.made.0 c.crew_of.result c.push_reserved-3.ensures.items
     c.push_reserved-2.ensures.items c.if-not-lock_all.ensures.locked.0 c.crew_of.ensures c.if-not-lock_all.ensures.locked.1 c.in-Ok.ensures.lock.0
 
 pub crew_of-requires-clause-seen : goal.crew_of-requires-clause-seen

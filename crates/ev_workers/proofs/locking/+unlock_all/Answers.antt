@@ -1,18 +1,18 @@
 use Rattle.std.proofs.Common.{◌<◌, length, sym, subst, arith}
-use Rattle.ev_node.specs.declared.held.Root.{Root}
+use Rattle.ev_numnode.specs.declared.held.Root.{Root}
 use Rattle.ev_workers.specs.Crews.{AreBackAt, AreEyesOf, IsSpareOf}
 use Rattle.ev_workers.proofs.Rows.{beside-last, eyes-back, eyes-long, locks-long}
 use Rattle.std.proofs.Common.{◌++◌, ◌∷◌, [], map}
 use Rattle.ev_turnlock.specs.Passes.{first_value}
 use Rattle.ev_wire.specs.MessageText.{Each}
-use Rattle.ev_node.specs.Together.{HaveGrown}
+use Rattle.ev_numnode.specs.Together.{HaveGrown}
 use Rattle.ev_workers.specs.Journals.{HasTaken}
 use Rattle.ev_workers.proofs.Back.{firsts-more, grown-more, each-more}
 use Rattle.ev_workers.proofs.locking.+unlock_all.Goals as goal
 
 pub unlock-cell-requires-clause-spare : goal.unlock-cell-requires-clause-spare
 unlock-cell-requires-clause-spare t c =
-    (beside-last (IsSpareOf c.args.net.now c.args.phase) c.args.locks.now.items c.pop.new.self.items c.in-Some.lock c.args.spares.items c.pop-2.new.self.items c.in-Some-pop.spare c.in-Some.ensures.items c.in-Some-pop.ensures.items c.requires.spares).1
+    (beside-last IsSpareOf c.args.locks.now.items c.pop.new.self.items c.in-Some.lock c.args.spares.items c.pop-2.new.self.items c.in-Some-pop.spare c.in-Some.ensures.items c.in-Some-pop.ensures.items c.requires.spares).1
 
 pub unlock-cell-requires-clause-back : goal.unlock-cell-requires-clause-back
 unlock-cell-requires-clause-back t c =
@@ -22,7 +22,7 @@ pub unlock_all-rest-requires : goal.unlock_all-rest-requires
 unlock_all-rest-requires t c = (
   (let lt : length c.pop.new.self.items < t = omega (arith, c.in-Some.ensures.cases, c.pop.new.self.ok.0, c.args.locks.now.ok.0, c.decreases) in lt),
   (
-    (beside-last (IsSpareOf c.args.net.now c.args.phase) c.args.locks.now.items c.pop.new.self.items c.in-Some.lock c.args.spares.items c.pop-2.new.self.items c.in-Some-pop.spare c.in-Some.ensures.items c.in-Some-pop.ensures.items c.requires.spares).0,
+    (beside-last IsSpareOf c.args.locks.now.items c.pop.new.self.items c.in-Some.lock c.args.spares.items c.pop-2.new.self.items c.in-Some-pop.spare c.in-Some.ensures.items c.in-Some-pop.ensures.items c.requires.spares).0,
     (
       (beside-last AreBackAt c.args.locks.now.items c.pop.new.self.items c.in-Some.lock c.args.done.items c.pop-3.new.self.items c.in-Some-pop-2.both c.in-Some.ensures.items c.in-Some-pop-2.ensures.items c.requires.back).0,
       (c.requires.empty, (omega (arith, c.in-Some.ensures.cases, c.pop.new.self.ok.0, c.args.locks.now.ok.0, c.requires.room.0), omega (arith, c.in-Some.ensures.cases, c.pop.new.self.ok.0, c.args.locks.now.ok.0, c.requires.room.1))),

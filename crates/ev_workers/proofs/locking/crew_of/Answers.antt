@@ -8,8 +8,8 @@ returns c =
     let a = all-less (IsFreePass c.args.lock.now) c.args.passes.items c.pop.new.self.items c.in-Some.links c.in-Some.ensures.items c.requires.passes in
     let b = all-less (IsFreePass c.args.lock.now) c.pop.new.self.items c.pop-2.new.self.items c.in-Some-pop.commands c.in-Some-pop.ensures.items a.0 in
     record {
+      lock_for = c.requires.lock;
       spare_of = record {
-        lock_for = c.requires.lock;
         count = c.requires.three.1;
         one = one-left c.args.passes.items c.pop.new.self.items c.pop-2.new.self.items c.in-Some.links c.in-Some-pop.commands c.in-Some.ensures.items c.in-Some-pop.ensures.items c.requires.three.0;
         room = omega (arith, c.pop.ensures.capacity, c.pop-2.ensures.capacity, c.requires.three.0, c.args.passes.ok.0, c.args.passes.ok.1);

@@ -5,22 +5,23 @@ use Rattle.ev_outside.specs.declared.gate.Worker.TheVariants.{Commands}
 use Rattle.ev_turnlock.specs.declared.lock.Pass.{Pass}
 use Rattle.ev_turnlock.specs.Passes.{seen_by}
 use Rattle.ev_model.specs.Parts.{EntryParts}
-use Rattle.ev_versions.specs.declared.viewer.Viewer.{Viewer}
-use Rattle.ev_node.specs.declared.held.Root.{Root}
+use Rattle.ev_numversions.specs.declared.viewer.Viewer.{Viewer}
+use Rattle.ev_numnode.specs.declared.held.Root.{Root}
 use Rattle.ev_workers.specs.declared.ended.Ended.{Ended}
 use Rattle.ev_workers.specs.Crews.{AreBackAt, Pairwise}
 use Rattle.ev_workers.specs.Hands.{CellLock, AreFreeHands, lock_root}
 use Rattle.ev_workers.specs.Work.{EndsWith, Keeps}
+use Rattle.ev_workers.proofs.Later.{same-viewer}
 use Rattle.ev_workers.proofs.Pairs.{pairs-over}
 use Rattle.ev_workers.proofs.Rows.{eyes-long, locks-long}
-use Rattle.ev_workers.proofs.Sends.{hire_send}
-use Rattle.ev_node.specs.Together.{HaveGrown}
-use Rattle.ev_node.proofs.Growing.{grown-same}
+use Rattle.ev_workers.proofs.Sends.{ended_send, hire_send}
+use Rattle.ev_numnode.specs.Together.{HaveGrown}
+use Rattle.ev_numnode.proofs.Growing.{grown-same}
 use Rattle.ev_workers.proofs.phase.run_phase.Goals as goal
 
 -- what a worker gives back is as free as what it was given
 free-back : (lock : CellLock) (pass : Pass EntryParts Root) (viewer : Viewer) (worker : Worker) (ended : Ended) → AreFreeHands lock pass viewer → Keeps worker pass viewer ended → AreFreeHands lock ended.pass ended.viewer
-free-back lock pass viewer worker ended f k = record { own = (k.same.0 ∙ f.own.0, k.same.1 ∙ f.own.1); free = k.free; viewer_is = k.viewer_is ∙ f.viewer_is }
+free-back lock pass viewer worker ended f k = record { own = (k.same.0 ∙ f.own.0, k.same.1 ∙ f.own.1); free = k.free; viewer_is = same-viewer (lock_root lock).viewer.value viewer ended.viewer f.viewer_is k.viewer_is }
 
 -- and a worker for commands ended as it may
 ends-back : (lock : CellLock) (pass : Pass EntryParts Root) (viewer : Viewer) (worker : Worker) (ended : Ended) → AreFreeHands lock pass viewer → Keeps worker pass viewer ended → worker ≡ Commands
@@ -29,6 +30,9 @@ ends-back lock pass viewer worker ended f k is = subst (λ w. EndsWith w (lock_r
 
 pub run_all-done-requires-send-J : goal.run_all-done-requires-send-J
 run_all-done-requires-send-J g c κs within = let b = c.type_bounds.sync-R in let d = c.type_bounds.sync-G in search (sendable, param_send, hire_send) depth 20
+
+pub run_all-done-requires-send-B : goal.run_all-done-requires-send-B
+run_all-done-requires-send-B g c κs within = search (sendable, ended_send) depth 20
 
 pub unlock_all-enough-requires-clause-back : goal.unlock_all-enough-requires-clause-back
 unlock_all-enough-requires-clause-back g c =

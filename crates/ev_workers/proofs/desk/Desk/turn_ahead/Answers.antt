@@ -7,10 +7,10 @@ returns-in-Err-clause-worn g c client s is e =
 
 pub returns-in-Ok-clause-later : goal.returns-in-Ok-clause-later
 returns-in-Ok-clause-later g c =
-    turned-later c.args.hands.now (record { pass = c.put.new.pass; viewer = c.make_turn_ahead-turned.new.viewer; scratch = c.args.hands.now.scratch }) c.take.new.pass c.in-Some.cell.journal c.make_turn_ahead-turned.new.cell.journal c.take.ensures.own.1
+    turned-later c.args.hands.now (record { pass = c.put.new.pass; viewer = c.make_turn_ahead-turned.new.viewer }) c.take.new.pass c.in-Some.cell.journal c.make_turn_ahead-turned.new.cell.journal c.take.ensures.own.1
     c.put.ensures.own.1 c.in-Some.ensures.found.1 c.make_turn_ahead-turned.ensures.grows c.put.ensures.put.0 c.make_turn_ahead-turned.ensures.viewer
 
 pub returns-in-Err-clause-later : goal.returns-in-Err-clause-later
 returns-in-Err-clause-later g c =
-    turned-later c.args.hands.now (record { pass = c.put.new.pass; viewer = c.make_turn_ahead-turned.new.viewer; scratch = c.args.hands.now.scratch }) c.take.new.pass c.in-Some.cell.journal c.make_turn_ahead-turned.new.cell.journal c.take.ensures.own.1
+    turned-later c.args.hands.now (record { pass = c.put.new.pass; viewer = c.make_turn_ahead-turned.new.viewer }) c.take.new.pass c.in-Some.cell.journal c.make_turn_ahead-turned.new.cell.journal c.take.ensures.own.1
     c.put.ensures.own.1 c.in-Some.ensures.found.1 c.make_turn_ahead-turned.ensures.grows c.put.ensures.put.0 c.make_turn_ahead-turned.ensures.viewer

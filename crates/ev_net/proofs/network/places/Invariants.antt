@@ -1,6 +1,0 @@
-use Rattle.std.proofs.Common.{◌≡◌, length}
-use Rattle.ev_net.specs.Kept.{ArePlacesUpTo}
-use Rattle.ev_net.proofs.network.places.Given as goal
-
-abbrev pub invariant-loop-place : goal.invariant-loop-place
-invariant-loop-place l = (length l.places.items ≡ l.place) × ArePlacesUpTo l.net l.places.items

@@ -1,7 +1,0 @@
-use Rattle.std.proofs.Common.{sym, subst}
-use Rattle.ev_server.specs.Core.{CoreParts}
-use Rattle.ev_net.specs.Kept.{IsTableOf}
-use Rattle.ev_net.proofs.place.Place.exchange.Goals as goal
-
-pub invariant_of-self : goal.invariant_of-self
-invariant_of-self c = subst (λ (z : CoreParts). IsTableOf z c.self-2.inside.table) (sym c.raise.ensures) c.self-2.invariant

@@ -1,5 +1,0 @@
-use Rattle.std.proofs.Common.{true}
-use Rattle.ev_rows_server.proofs.kept.Kept.roots.Given as goal
-
-abbrev pub ghost-roots_without : goal.ghost-roots_without
-ghost-roots_without a = λ x. true

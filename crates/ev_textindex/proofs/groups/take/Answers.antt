@@ -1,5 +1,0 @@
-use Rattle.std.proofs.Common.{arith}
-use Rattle.ev_textindex.proofs.groups.take.Goals as goal
-
-pub returns-then-there-clause-there : goal.returns-then-there-clause-there
-returns-then-there-clause-there c = λ e p. omega (arith, c.pull-there.ensures.there e p, c.prune.ensures p)

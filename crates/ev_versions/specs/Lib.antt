@@ -1,4 +1,0 @@
-pub mod Pairs
-pub mod History
-pub mod Chain
-pub mod Ends

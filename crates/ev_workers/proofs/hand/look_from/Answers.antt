@@ -1,0 +1,18 @@
+use Rattle.std.proofs.Common.{Some, sym, subst, ◌∙◌}
+use Rattle.ev_numnode.specs.declared.held.Root.{Root}
+use Rattle.ev_numnode.specs.declared.what.What.TheVariants.{Take}
+use Rattle.ev_numnode.specs.Asked.{Suits}
+use Rattle.ev_workers.specs.Hands.{CanMatch}
+use Rattle.ev_workers.proofs.Lists.{prefix-of}
+use Rattle.ev_workers.proofs.Waiting.{looked-matchable, some-gives}
+use Rattle.ev_workers.proofs.hand.look_from.Goals as goal
+
+pub returns-in-Some-clause-grows : goal.returns-in-Some-clause-grows
+returns-in-Some-clause-grows g c = prefix-of c.args.cell.now.journal c.look.new.self.journal c.look.ensures.still.journal
+
+pub returns-in-Some-clause-looked : goal.returns-in-Some-clause-looked
+returns-in-Some-clause-looked g c = (
+  subst (Suits (Take c.args.from)) (sym c.look.ensures.root) c.requires,
+  subst (λ (z : Root). CanMatch z c.in-Some.number) (sym c.look.ensures.root)
+      (some-gives (CanMatch c.args.cell.now.root) c.look.result c.in-Some.number c.in-Some.is (looked-matchable _ _ _ c.tells.ensures c.args.from _ _ c.look.result c.look.ensures.looked)),
+)
