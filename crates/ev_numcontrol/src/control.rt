@@ -117,6 +117,13 @@ impl<'a> Control<'a> {
         })
     }
 
+    /// The semantics.
+    pub fn semantics(&self) -> Semantics
+        ensures { result ≡ self.now.semantics }
+    {
+        self.semantics
+    }
+
     /// The filters that interfaces hold, by numbers; after a change of filters or of advertisements it tells of each link whose
     /// filters this can change what it changes of what is sent there.
     pub fn filters(&self) -> &Stock<'a, Sub>

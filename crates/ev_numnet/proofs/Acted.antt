@@ -32,12 +32,12 @@ use Rattle.ev_numnet.proofs.Sending.{receivers-told, messages-told, map-append, 
 
 -- lists
 
-drop-append : {T : Type 0} (k : ℕ) (xs ys : List T) → k ≤ length xs → drop k (xs ++ ys) ≡ drop k xs ++ ys
+pub drop-append : {T : Type 0} (k : ℕ) (xs ys : List T) → k ≤ length xs → drop k (xs ++ ys) ≡ drop k xs ++ ys
 drop-append zero xs ys l = refl
 drop-append (suc k) [] ys l = absurd (omega (arith, l))
 drop-append (suc k) (x ∷ xs) ys l = drop-append k xs ys (omega (arith, l))
 
-drop-drop : {T : Type 0} (k : ℕ) (xs : List T) → drop 1 (drop k xs) ≡ drop (suc k) xs
+pub drop-drop : {T : Type 0} (k : ℕ) (xs : List T) → drop 1 (drop k xs) ≡ drop (suc k) xs
 drop-drop zero xs = refl
 drop-drop (suc k) [] = refl
 drop-drop (suc k) (x ∷ xs) = drop-drop k xs

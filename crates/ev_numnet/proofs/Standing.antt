@@ -45,7 +45,7 @@ run_of net journal sound legal = record {
 pub low_at : (net : NetParts) (journal : List EntryParts) (sound : IsSound net) (legal : IsLegal net journal) → StaysLow (run_of net journal sound legal)
 low_at net journal sound legal = stays-low net sound (run_of net journal sound legal) refl
 
-drop-has : {T : Type 0} (xs : List T) (k : ℕ) (x : T) → Has x (drop k xs) → Has x xs
+pub drop-has : {T : Type 0} (xs : List T) (k : ℕ) (x : T) → Has x (drop k xs) → Has x xs
 drop-has xs zero x h = h
 drop-has [] (suc k) x h = absurd h
 drop-has (y ∷ ys) (suc k) x h = inr (drop-has ys k x h)

@@ -23,5 +23,10 @@ mod waiting;
 mod walking;
 
 pub use keeping::{Keeping, Kept, Passed};
+pub use links::Links;
 pub use network::Network;
+pub use place::{unexhausted, unpublished};
 pub use retelling::{retell, turn_of};
+pub use servers::put;
+pub use telling::last_on;
+pub use waiting::Waiting;

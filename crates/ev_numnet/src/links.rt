@@ -18,7 +18,7 @@ const QUEUES: usize = (LAST_SERVER + 1) * (LAST_SERVER + 1);
 
 /// The messages on the links between servers; contracts see a queue for each two numbers.
 #[derive(Drop)]
-pub(crate) struct Links<'a> {
+pub struct Links<'a> {
     queues: Vec<Queue<'a>>,
 }
 
@@ -44,7 +44,7 @@ fn place(from: u32, to: u32) -> usize
 
 impl<'a> Links<'a> {
     /// Links with no messages.
-    pub(crate) fn new(alloc: Global) -> Result<Links<'a>, NoMemory>
+    pub fn new(alloc: Global) -> Result<Links<'a>, NoMemory>
         ensures { IfOk result (λ links. (from to : ℕ) → messages_at links from to ≡ []) }
     {
         let mut queues = Vec::with_capacity(alloc, QUEUES)?;
@@ -55,7 +55,7 @@ impl<'a> Links<'a> {
     }
 
     /// The next message on a link.
-    pub(crate) fn first(&self, from: u32, to: u32) -> Option<&Waiting<'a>>
+    pub fn first(&self, from: u32, to: u32) -> Option<&Waiting<'a>>
         requires { (from ≤ 64) × (to ≤ 64) }
         ensures some { IfSome result (λ first. slice_get (messages_at self.now from to) 0 ≡ Some first.now) }
         ensures none { IfNone result (messages_at self.now from to ≡ []) }
@@ -64,7 +64,7 @@ impl<'a> Links<'a> {
     }
 
     /// Whether a link has no message.
-    pub(crate) fn is_empty(&self, from: u32, to: u32) -> bool
+    pub fn is_empty(&self, from: u32, to: u32) -> bool
         requires { (from ≤ 64) × (to ≤ 64) }
         ensures { IsTrue result → messages_at self.now from to ≡ [] }
     {
@@ -72,7 +72,7 @@ impl<'a> Links<'a> {
     }
 
     /// The last message on a link.
-    pub(crate) fn last(&self, from: u32, to: u32) -> Option<&Waiting<'a>>
+    pub fn last(&self, from: u32, to: u32) -> Option<&Waiting<'a>>
         requires { (from ≤ 64) × (to ≤ 64) }
         ensures some { IfSome result (λ last. slice_get (messages_at self.now from to) (length (messages_at self.now from to) - 1) ≡ Some last.now) }
         ensures none { IfNone result (messages_at self.now from to ≡ []) }
@@ -91,7 +91,7 @@ impl<'a> Links<'a> {
     }
 
     /// Makes room for one more message on each of these links of a server.
-    pub(crate) fn make_rooms(&mut self, from: u32, links: &[u32]) -> Result<(), NoMemory>
+    pub fn make_rooms(&mut self, from: u32, links: &[u32]) -> Result<(), NoMemory>
         requires from { from ≤ 64 }
         requires small { (link : ℕ) → Has link links.now → link ≤ 64 }
         ensures room { OnOk result ((link : ℕ) → Has link links.now → has_room self.new from link ≡ true) }
@@ -104,7 +104,7 @@ impl<'a> Links<'a> {
     }
 
     /// Puts a message on a link, where there is room for it. It takes no memory.
-    pub(crate) fn put(&mut self, from: u32, to: u32, message: Waiting<'a>)
+    pub fn put(&mut self, from: u32, to: u32, message: Waiting<'a>)
         requires small { (from ≤ 64) × (to ≤ 64) }
         requires room { has_room self.old from to ≡ true }
         ensures here { messages_at self.new from to ≡ messages_at self.old from to ++ message.entry ∷ [] }
@@ -115,7 +115,7 @@ impl<'a> Links<'a> {
     }
 
     /// Gives up the next message on a link.
-    pub(crate) fn drop_first(&mut self, from: u32, to: u32)
+    pub fn drop_first(&mut self, from: u32, to: u32)
         requires { (from ≤ 64) × (to ≤ 64) }
         ensures here { messages_at self.new from to ≡ drop 1 (messages_at self.old from to) }
         ensures others { (a b : ℕ) → (a ≡ from → b ≡ to → ⊥) → messages_at self.new a b ≡ messages_at self.old a b }
@@ -138,7 +138,7 @@ impl<'a> Links<'a> {
     }
 
     /// Whether no link has a message.
-    pub(crate) fn are_empty(&self) -> bool
+    pub fn are_empty(&self) -> bool
         ensures { IsTrue result ↔ ((from to : ℕ) → messages_at self.now from to ≡ []) }
     {
         for from in 0..=LAST_SERVER as u32 {

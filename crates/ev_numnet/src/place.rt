@@ -47,7 +47,7 @@ impl<'a> Model for Place<'a> {
 }
 
 /// The forwarding of a server with these interfaces, of which nothing is published.
-pub(crate) fn unpublished(
+pub fn unpublished(
     alloc: Global,
     tables: &Tables<'_>,
     interfaces: &[u32],
@@ -195,7 +195,7 @@ impl<'a> Place<'a> {
 }
 
 /// What a step answers that no stamp can keep from being made.
-fn unexhausted<T>(answer: Result<T, StepFault>) -> Result<T, NoMemory>
+pub fn unexhausted<T>(answer: Result<T, StepFault>) -> Result<T, NoMemory>
     requires { (s : ℕ) → answer ≡ Err (StepFault.StampsExhausted s) → ⊥ }
     ensures ok { IfOk result (λ x. answer ≡ Ok x) }
     ensures err { OnErr result (answer ≡ Err StepFault.NoMemory) }

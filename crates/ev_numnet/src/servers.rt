@@ -78,7 +78,7 @@ fn without_room(alloc: Global, list: Vec<u32>) -> Vec<u32>
 
 /// What a step sends goes on the links of its server, and the step joins the journal. There is room for both, so it takes
 /// no memory.
-fn put<'a>(
+pub fn put<'a>(
     alloc: Global,
     links: &mut Links<'a>,
     journal: &mut Journal,

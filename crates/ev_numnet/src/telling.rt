@@ -49,7 +49,7 @@ fn last_sent(
 }
 
 /// The texts of the messages that lie last on these links of a server, one for each.
-fn last_on(
+pub fn last_on(
     alloc: Global,
     tables: &Tables<'_>,
     links: &Links<'_>,

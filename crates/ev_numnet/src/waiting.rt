@@ -4,11 +4,11 @@ use std::marker::Model;
 
 /// A message that waits on a link to be taken, under the stamp of the step that sent it.
 #[derive(Drop)]
-pub(crate) struct Waiting<'a> {
+pub struct Waiting<'a> {
     /// The stamp, below 2^62.
-    pub(crate) stamp: u64,
+    pub stamp: u64,
     /// The message.
-    pub(crate) message: Message<'a>,
+    pub message: Message<'a>,
 }
 
 impl<'a> Model for Waiting<'a> {

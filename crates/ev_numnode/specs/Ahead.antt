@@ -40,7 +40,8 @@ PublishesNext core client numbers = (s : SessionParts) × Has s core.clients × 
 
 -- a message is a notice that matches these numbers of a net's filters
 abbrev pub CarriesMatched : NetParts → Message real → List ℕ → Type 0
-CarriesMatched net m numbers = (publisher ordinal : ℕ) × (n : List Attribute) × (m ≡ Noticed publisher ordinal n) × (matched n (known_filters net.clients) ≡ numbers)
+CarriesMatched net m numbers =
+    (publisher ordinal : ℕ) × (n : List Attribute) × (m ≡ Noticed publisher ordinal n) × (matched n (known_filters net.clients) ≡ numbers)
 
 -- a step routes a publication that matches these numbers
 abbrev pub RoutesMatched : CoreParts → StampedInput → List ℕ → Type 0

@@ -60,7 +60,8 @@ pub(crate) fn enter(
     requires order { AreInOrder (map (λ s. s.to) step.sent.items) (map (λ link. link.neighbour) links.old.items) }
     requires entry { vec_len journal.old < vec_capacity journal.old }
     requires outs { (outs.items ≡ []) × (length links.old.items ≤ vec_capacity outs) }
-    ensures given { (net : NetParts) → AreOfNet net step.entry.sent.items → Both (IsGiven net step.entry.stamp step.entry.sent.items) links.old.items links.new.items }
+    ensures given { (net : NetParts) → AreOfNet net step.entry.sent.items
+        → Both (IsGiven net step.entry.stamp step.entry.sent.items) links.old.items links.new.items }
     ensures entry { journal.new.items ≡ journal.old.items ++ entry_parts step.entry.stamp server act (map (λ s. s.to) step.entry.sent.items) ∷ [] }
 {
     let Step { stamp, sent } = step;

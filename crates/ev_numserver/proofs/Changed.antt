@@ -84,7 +84,7 @@ module _ (net : NetParts) (links : List ℕ) (old published : Numbered) (staged 
     pub kept : IsLedger net links new published more
     kept = record {
       links_are = is.links_are ∙ sym same-links;
-      semantics = changed.semantics ∙ is.semantics;
+      semantics = λ on. changed.semantics ∙ is.semantics (ap by_adverts (sym changed.semantics) ∙ on);
       filter_items = changed.items ∙ is.filter_items;
       advert_items = ap (λ z. z.items) changed.adverts ∙ is.advert_items;
       few = subst (λ z. length z < 2 ^ 32) (sym changed.interfaces) is.few;
@@ -155,7 +155,7 @@ module _ (net : NetParts) (links : List ℕ) (old published : Numbered) (staged 
       pub kept-back : IsLedger net links back published staged
       kept-back = record {
         links_are = is.links_are ∙ sym (ap (λ n. take n back.filters.interfaces) same-told ∙ ap (take (length old.filters.told)) same-interfaces);
-        semantics = undone.semantics ∙ (changed.semantics ∙ is.semantics);
+        semantics = λ on. undone.semantics ∙ (changed.semantics ∙ is.semantics (ap by_adverts (sym (undone.semantics ∙ changed.semantics)) ∙ on));
         filter_items = undone.items ∙ (changed.items ∙ is.filter_items);
         advert_items = ap (λ z. z.items) (undone.adverts ∙ changed.adverts) ∙ is.advert_items;
         few = subst (λ z. length z < 2 ^ 32) (sym same-interfaces) is.few;
@@ -244,7 +244,7 @@ module _ (net : NetParts) (links : List ℕ) (old published : Numbered) (staged 
     pub kept-ads : IsLedger net links new published staged
     kept-ads = record {
       links_are = is.links_are ∙ sym still-links;
-      semantics = changed.semantics ∙ is.semantics;
+      semantics = λ on. changed.semantics ∙ is.semantics (ap by_adverts (sym changed.semantics) ∙ on);
       filter_items = changed.filter_items ∙ is.filter_items;
       advert_items = changed.items ∙ is.advert_items;
       few = subst (λ z. length z < 2 ^ 32) (sym changed.filter_interfaces) is.few;
@@ -318,7 +318,7 @@ module _ (net : NetParts) (links : List ℕ) (old published : Numbered) (staged 
       pub ads-kept-back : IsLedger net links back published staged
       ads-kept-back = record {
         links_are = is.links_are ∙ sym back-links;
-        semantics = undone.semantics ∙ (changed.semantics ∙ is.semantics);
+        semantics = λ on. undone.semantics ∙ (changed.semantics ∙ is.semantics (ap by_adverts (sym (undone.semantics ∙ changed.semantics)) ∙ on));
         filter_items = undone.filter_items ∙ (changed.filter_items ∙ is.filter_items);
         advert_items = undone.items ∙ (changed.items ∙ is.advert_items);
         few = subst (λ z. length z < 2 ^ 32) (sym (undone.filter_interfaces ∙ changed.filter_interfaces)) is.few;
@@ -343,7 +343,7 @@ first-shown c semantics interfaces links d e f g h =
     controls-same c.semantics semantics (take (length c.filters.told) c.filters.interfaces) (take links interfaces) (holdings_by c.filters.interfaces (subs c)) [] (holdings_by c.adverts.interfaces (advs c)) [] d
     (ap (λ n. take n c.filters.interfaces) f ∙ ap (take links) e) (none-held c.filters.interfaces c.filters.holdings g) (none-held c.adverts.interfaces c.adverts.holdings h)
 
-pub first-kept : (net : NetParts) (links : List ℕ) (c : Numbered) → links ≡ take (length c.filters.told) c.filters.interfaces → c.semantics ≡ net.semantics → c.filters.items ≡ known_filters net.clients
+pub first-kept : (net : NetParts) (links : List ℕ) (c : Numbered) → links ≡ take (length c.filters.told) c.filters.interfaces → (by_adverts c.semantics ≡ true → c.semantics ≡ net.semantics) → c.filters.items ≡ known_filters net.clients
     → c.adverts.items ≡ known_adverts net.clients → length c.filters.interfaces < 2 ^ 32 → c.adverts.interfaces ≡ c.filters.interfaces → length c.adverts.told ≡ length c.filters.told → IsLedger net links c c []
 first-kept net links c a b d e k f g = record {
   links_are = a;

@@ -47,6 +47,16 @@ offered-links : (semantics : Semantics) (i : ℕ) (moved : Moved) (old new : Led
 offered-links Subscription i moved old new sent h = ap (λ z. z.control.links) h.0
 offered-links Advertisement i moved old new sent h = h.links
 
+offered-semantics : (semantics : Semantics) (i : ℕ) (moved : Moved) (old new : LedgerParts) (sent : List SendingParts) → HasOffered semantics i moved old new sent → new.control.semantics ≡ old.control.semantics
+offered-semantics Subscription i moved old new sent h = ap (λ z. z.control.semantics) h.0
+offered-semantics Advertisement i moved old new sent h = h.semantics
+
+pub changed-semantics : (i : ℕ) (q : numbers.Planned) (old new : LedgerParts) (sent : List SendingParts) → HasChanged i q old new sent → new.control.semantics ≡ old.control.semantics
+changed-semantics i (plans_by.Filters moved) old new sent h = h.semantics
+changed-semantics i (plans_by.Adverts moved) old new sent h = offered-semantics old.control.semantics i moved old new sent h
+changed-semantics i (plans_by.Publish id number) old new sent h = absurd h
+changed-semantics i (plans_by.Refused o) old new sent h = ap (λ z. z.control.semantics) h.0
+
 pub changed-net : (i : ℕ) (q : numbers.Planned) (old new : LedgerParts) (sent : List SendingParts) → HasChanged i q old new sent → new.net ≡ old.net
 changed-net i (plans_by.Filters moved) old new sent h = h.net
 changed-net i (plans_by.Adverts moved) old new sent h = offered-net old.control.semantics i moved old new sent h
@@ -61,11 +71,12 @@ changed-links i (plans_by.Refused o) old new sent h = ap (λ z. z.control.links)
 
 -- a core keeps its interfaces where its links and clients stay
 pub keeps : (server clock clock_after : ℕ) (old new : LedgerParts) (before after : List SessionParts) (net net_after : NetParts) → IsKept old.interfaces net (core_parts server old before clock)
-    → IsCore (core_parts server new after clock_after) → new.interfaces ≡ old.interfaces → new.net ≡ old.net → net_after ≡ net → new.control.links ≡ old.control.links → client_numbers after ≡ client_numbers before
+    → IsCore (core_parts server new after clock_after) → new.interfaces ≡ old.interfaces → new.net ≡ old.net → net_after ≡ net → new.control.semantics ≡ old.control.semantics → new.control.links ≡ old.control.links → client_numbers after ≡ client_numbers before
     → IsKept new.interfaces net_after (core_parts server new after clock_after)
-keeps server clock clock_after old new before after net net_after was kept same nets of links numbers = record {
+keeps server clock clock_after old new before after net net_after was kept same nets of semantics links numbers = record {
   kept = kept;
   of_net = of ∙ (was.of_net ∙ sym nets);
+  of_semantics = semantics ∙ (was.of_semantics ∙ ap (λ z. z.semantics) (sym nets));
   whole = same ∙ (was.whole ∙ ap₂ (λ ls ns. interfaces_on ls ns) (sym links) (sym numbers));
   linked = λ l h. subst (Has l) (sym same) (was.linked l (subst (Has l) links h));
   reached = λ s h.
@@ -131,7 +142,7 @@ one-more : (to : List ℕ) (d : Delivery) (s : SessionParts) (ss : List SessionP
 one-more to d s ss true e = ap (λ z. s.client ∷ z) e
 one-more to d s ss false e = ap (λ z. s.client ∷ z) e
 
-numbers-delivered : (to : List ℕ) (d : Delivery) (ss : List SessionParts) → client_numbers (map bare (delivered to d ss)) ≡ client_numbers (map bare ss)
+pub numbers-delivered : (to : List ℕ) (d : Delivery) (ss : List SessionParts) → client_numbers (map bare (delivered to d ss)) ≡ client_numbers (map bare ss)
 numbers-delivered to d [] = refl
 numbers-delivered to d (s ∷ ss) = one-more to d s ss (is_among s.client to) (numbers-delivered to d ss)
 
@@ -145,6 +156,11 @@ pub acted-net : (from : ℕ) (old new : LedgerParts) (clients after : List Sessi
 acted-net from old new clients after route sent (Subs out add) a = a.0.net
 acted-net from old new clients after route sent (Advs out add) a = a.0.net
 acted-net from old new clients after route sent (Noticed publisher ordinal n) a = ap (λ z. z.net) a.0
+
+pub acted-semantics : (from : ℕ) (old new : LedgerParts) (clients after : List SessionParts) (route : List ℕ) (sent : List SendingParts) (m : Message real) → HasActed from m route old new clients after sent → new.control.semantics ≡ old.control.semantics
+acted-semantics from old new clients after route sent (Subs out add) a = a.0.semantics
+acted-semantics from old new clients after route sent (Advs out add) a = a.0.semantics
+acted-semantics from old new clients after route sent (Noticed publisher ordinal n) a = ap (λ z. z.control.semantics) a.0
 
 pub acted-links : (from : ℕ) (old new : LedgerParts) (clients after : List SessionParts) (route : List ℕ) (sent : List SendingParts) (m : Message real) → HasActed from m route old new clients after sent → new.control.links ≡ old.control.links
 acted-links from old new clients after route sent (Subs out add) a = a.0.links

@@ -48,6 +48,7 @@ module _ (server clock : ℕ) (old new : LedgerParts) (clients : List SessionPar
   relinked-kept = record {
     kept = relinked-core;
     of_net = kept.of_net ∙ sym suits.net;
+    of_semantics = suits.semantics ∙ (kept.of_semantics ∙ ap (λ z. z.semantics) (sym suits.net));
     whole = suits.interfaces;
     linked = λ l m. subst (Has l) (sym suits.interfaces) (front-has new.control.links (map (λ n. 64 + n) (client_numbers clients)) l m);
     reached = λ s m. subst (Has (64 + s.client)) (sym suits.interfaces)

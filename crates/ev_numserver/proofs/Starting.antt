@@ -155,7 +155,7 @@ numbers-rise semantics server n (y ∷ cs) = go (y.home == server) (numbers-rise
     go false ih = ih
 
 -- they have nothing that is not told
-bare-same : (semantics : Semantics) (server n : ℕ) (cs : List ClientParts) → map bare (sessions_of semantics server n cs) ≡ sessions_of semantics server n cs
+pub bare-same : (semantics : Semantics) (server n : ℕ) (cs : List ClientParts) → map bare (sessions_of semantics server n cs) ≡ sessions_of semantics server n cs
 bare-same semantics server n [] = refl
 bare-same semantics server n (y ∷ cs) = go (y.home == server) (bare-same semantics server (suc n) cs)
   where
@@ -304,6 +304,7 @@ module _ (net : NetParts) (sound : IsSound net) (server : ℕ) (links : List ℕ
   is-kept rising = record {
     kept = is-core rising;
     of_net = refl;
+    of_semantics = refl;
     whole = ap (λ z. interfaces_by links (client_numbers z)) (sym (bare-same net.semantics server 1 net.clients));
     linked = λ l h. front-has links (map (λ n. 64 + n) home-numbers) l h;
     reached = λ s h.

@@ -23,10 +23,11 @@ pub record IsCore (core : CoreParts) : Type 0 where
   pub own_adverts : (s : SessionParts) → Has s core.clients → by_adverts core.control.semantics ≡ true
       → advs core.control (client_interface s.client) ≡ advert_set_at s s.taken
 
--- beside it, the sessions are of the ledger's net, and the interfaces are the links and those of the clients
+-- beside it, the sessions are of the ledger's net, the semantics is the net's, and the interfaces are the links and those of the clients
 pub record IsKept (interfaces : List ℕ) (net : NetParts) (core : CoreParts) : Type 0 where
   pub kept : IsCore core
   pub of_net : net ≡ core.net
+  pub of_semantics : core.control.semantics ≡ core.net.semantics
   pub whole : interfaces ≡ interfaces_on core.control.links (client_numbers core.clients)
   pub linked : (link : ℕ) → Has link core.control.links → Has link interfaces
   pub reached : (s : SessionParts) → Has s core.clients → Has (client_interface s.client) interfaces

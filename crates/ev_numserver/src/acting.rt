@@ -24,6 +24,7 @@ pub(crate) fn act<'a>(
     route: &[u32],
 ) -> Result<Vec<Sending<'a>>, NoMemory>
     requires from { Has from ledger.old.interfaces }
+    requires semantics { ledger.old.control.semantics ≡ ledger.old.net.semantics }
     requires load { IsLoad ledger.old.net load.now }
     requires routed { IsRouted (meaning ledger.old.net load.now) route.now }
     ensures acted { IfOk result (λ sent. HasActed from (meaning ledger.old.net load.now) route.now ledger.old ledger.new
@@ -34,7 +35,6 @@ pub(crate) fn act<'a>(
     ensures ledger { OnErr result (ledger.new ≡ ledger.old) }
     ensures clients { OnErr result (map bare clients.new.sessions ≡ map bare clients.old.sessions) }
 {
-    ledger.is_of_net();
     match load {
         Load::Filters(change) => ledger.set_filters(from, change.withdrawn(), change.added()),
         Load::Adverts(change) => ledger.set_adverts(from, change.withdrawn(), change.added()),
@@ -46,7 +46,7 @@ pub(crate) fn act<'a>(
 }
 
 /// What a planned change of a client does, which is no publish that is accepted.
-pub(crate) fn act_on<'a>(
+pub fn act_on<'a>(
     alloc: Global,
     ledger: &mut Ledger<'a>,
     from: u32,

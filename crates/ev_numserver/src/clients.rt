@@ -15,7 +15,7 @@ use std::marker::Model;
 
 /// The sessions of the clients of a server, by rising numbers. Contracts see the net and the sessions.
 #[derive(Drop)]
-pub(crate) struct Clients<'a> {
+pub struct Clients<'a> {
     tables: &'a Tables<'a>,
     numbers: Vec<u32>,
     sessions: Vec<Session<'a>>,
@@ -54,14 +54,14 @@ impl<'a> Clients<'a> {
     }
 
     /// Their numbers.
-    pub(crate) fn numbers(&self) -> &[u32]
+    pub fn numbers(&self) -> &[u32]
         ensures { result.now ≡ client_numbers self.now.sessions }
     {
         &self.numbers
     }
 
     /// Does nothing; its contract tells that the clients rise.
-    pub(crate) fn rise(&self)
+    pub fn rise(&self)
         ensures { IsStrictlyIncreasing (client_numbers self.now.sessions) }
     {
         let _ = &self.numbers;
@@ -77,7 +77,7 @@ impl<'a> Clients<'a> {
     }
 
     /// The session of a client that lives here.
-    pub(crate) fn session(&self, client: u32) -> Option<&Session<'a>>
+    pub fn session(&self, client: u32) -> Option<&Session<'a>>
         ensures session { IfSome result (λ s. Has s.now.session self.now.sessions × (s.now.session.client ≡ client)) }
         ensures net { IfSome result (λ s. s.now.net ≡ self.now.net) }
         ensures none { IfNone result (Has client (client_numbers self.now.sessions) → ⊥) }
@@ -87,7 +87,7 @@ impl<'a> Clients<'a> {
     }
 
     /// What the next command of a client does that lives here and has one left.
-    pub(crate) fn plan(&mut self, client: u32) -> Result<Planned, NoMemory>
+    pub fn plan(&mut self, client: u32) -> Result<Planned, NoMemory>
         requires lives { Has client (client_numbers self.old.sessions) }
         requires left { (s : SessionParts) → Has s self.old.sessions → s.client ≡ client → s.taken < length s.script }
         ensures plan { IfOk result (λ p. (s : SessionParts) → Has s self.old.sessions → s.client ≡ client → PlansNext self.old.net s p) }
@@ -101,7 +101,7 @@ impl<'a> Clients<'a> {
     }
 
     /// Takes the next command of a client that lives here, whose plan the caller gives back.
-    pub(crate) fn commit(&mut self, client: u32, p: &Planned)
+    pub fn commit(&mut self, client: u32, p: &Planned)
         requires planned { (s : SessionParts) → Has s self.old.sessions → s.client ≡ client → s.planned ≡ true }
         requires plan { (s : SessionParts) → Has s self.old.sessions → s.client ≡ client → PlansNext self.old.net s p.now }
         ensures { self.new ≡ clients_parts self.old.net (at_client client stepped self.old.sessions) }
@@ -138,7 +138,7 @@ impl<'a> Clients<'a> {
     }
 
     /// Hands on what was delivered to a client that lives here, whose inbox is empty then. It takes no memory.
-    pub(crate) fn take_inbox(&mut self, client: u32) -> Vec<Delivery>
+    pub fn take_inbox(&mut self, client: u32) -> Vec<Delivery>
         requires { Has client (client_numbers self.old.sessions) }
         ensures inbox { (s : SessionParts) → Has s self.old.sessions → s.client ≡ client → result.items ≡ s.inbox }
         ensures emptied { self.new ≡ clients_parts self.old.net (at_client client emptied self.old.sessions) }

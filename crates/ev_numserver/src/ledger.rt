@@ -27,7 +27,7 @@ use std::snapshot::Snapshot;
 
 /// What a server holds from whom, with what of it was published, as contracts alone see it, and the changes since.
 #[derive(Drop)]
-pub(crate) struct Ledger<'a> {
+pub struct Ledger<'a> {
     alloc: Global,
     tables: &'a Tables<'a>,
     links: Vec<u32>,
@@ -55,27 +55,29 @@ impl<'a> Model for Ledger<'a> {
 }
 
 impl<'a> Ledger<'a> {
-    /// Nothing is held from these interfaces, of which the first are links, and nothing is published. All memory of what can
-    /// be held is taken here.
-    pub(crate) fn new(
+    /// Nothing is held from these interfaces, of which the first are links, and nothing is published. Advertisements steer the
+    /// filters by the net's semantics, or not at all. All memory of what can be held is taken here.
+    pub fn new(
         alloc: Global,
         tables: &'a Tables<'a>,
+        semantics: Semantics,
         interfaces: &[u32],
         links: usize,
     ) -> Result<Ledger<'a>, NoMemory>
+        requires semantics { by_adverts semantics ≡ true → semantics ≡ tables.now.semantics }
         requires rising { IsRising nat_lt interfaces.now }
         requires few { length interfaces.now < 2 ^ 32 }
         requires links { links ≤ length interfaces.now }
         ensures net { IfOk result (λ ledger. ledger.net ≡ tables.now) }
         ensures interfaces { IfOk result (λ ledger. ledger.interfaces ≡ interfaces.now) }
         ensures control { IfOk result (λ ledger. ledger.control
-            ≡ record { semantics = tables.now.semantics; links = take links interfaces.now; filters = []; adverts = [] }) }
+            ≡ record { semantics = semantics; links = take links interfaces.now; filters = []; adverts = [] }) }
         ensures published { IfOk result (λ ledger. ledger.published ≡ []) }
         ensures staged { IfOk result (λ ledger. ledger.staged ≡ []) }
     {
         let control = Control::new(
             alloc,
-            tables.semantics(),
+            semantics,
             tables.filters(),
             tables.adverts(),
             tables.overlaps(),
@@ -95,21 +97,21 @@ impl<'a> Ledger<'a> {
     }
 
     /// The tables of the run.
-    pub(crate) fn tables(&self) -> &'a Tables<'a>
+    pub fn tables(&self) -> &'a Tables<'a>
         ensures { result.now ≡ self.now.net }
     {
         self.tables
     }
 
     /// The links, rising.
-    pub(crate) fn links(&self) -> &[u32]
+    pub fn links(&self) -> &[u32]
         ensures { result.now ≡ self.now.control.links }
     {
         &self.links
     }
 
     /// The interfaces, rising.
-    pub(crate) fn interfaces(&self) -> &[u32]
+    pub fn interfaces(&self) -> &[u32]
         ensures interfaces { result.now ≡ self.now.interfaces }
         ensures rising { IsRising nat_lt self.now.interfaces }
         ensures few { length self.now.interfaces < 2 ^ 32 }
@@ -119,23 +121,21 @@ impl<'a> Ledger<'a> {
     }
 
     /// Whether advertisements steer the filters.
-    pub(crate) fn semantics(&self) -> Semantics
-        ensures control { result ≡ self.now.control.semantics }
-        ensures net { result ≡ self.now.net.semantics }
+    pub fn semantics(&self) -> Semantics
+        ensures { result ≡ self.now.control.semantics }
     {
-        let _ = &self.control;
-        self.tables.semantics()
+        self.control.semantics()
     }
 
-    /// Does nothing; its contract tells that what is held is under the net's semantics.
+    /// Does nothing; its contract tells that advertisements that steer the filters are the net's.
     pub(crate) fn is_of_net(&self)
-        ensures { self.now.control.semantics ≡ self.now.net.semantics }
+        ensures { by_adverts self.now.control.semantics ≡ true → self.now.control.semantics ≡ self.now.net.semantics }
     {
         let _ = &self.control;
     }
 
     /// What changed since the last version.
-    pub(crate) fn staged(&self) -> &[Change]
+    pub fn staged(&self) -> &[Change]
         ensures changes { result.now ≡ self.now.staged }
         ensures staged { IsStaged (known_filters self.now.net.clients) self.now.interfaces (λ i. held_from real.before i self.now.published)
             (subs self.now.control) self.now.staged }
@@ -145,7 +145,7 @@ impl<'a> Ledger<'a> {
 
     /// An interface holds the filters with the first numbers no more and then those with the second ones too, which is
     /// staged. The answer is the messages that this makes due, by link.
-    pub(crate) fn set_filters(
+    pub fn set_filters(
         &mut self,
         interface: u32,
         out: &[u32],
@@ -182,7 +182,7 @@ impl<'a> Ledger<'a> {
 
     /// An interface holds the advertisements with the first numbers no more and then those with the second ones too, under
     /// advertisement semantics. The answer is the messages that this makes due, by link.
-    pub(crate) fn set_adverts(
+    pub fn set_adverts(
         &mut self,
         interface: u32,
         out: &[u32],
@@ -271,7 +271,7 @@ impl<'a> Ledger<'a> {
 
     /// Does nothing; its contract tells that what is held is held from one of the interfaces, and that the filters that are held
     /// are filters of the net.
-    pub(crate) fn is_known(&self)
+    pub fn is_known(&self)
         ensures known { (i : ℕ) (f : List ConstraintParts) → Has f (subs self.now.control i) → Has f (known_filters self.now.net.clients) }
         ensures filters { (i : ℕ) (x : List ConstraintParts) → Has x (subs self.now.control i) → Has i self.now.interfaces }
         ensures adverts { (i : ℕ) (x : List ConstraintParts) → Has x (advs self.now.control i) → Has i self.now.interfaces }
@@ -295,7 +295,7 @@ impl<'a> Ledger<'a> {
     }
 
     /// All that is held is published. It takes no memory.
-    pub(crate) fn publish(&mut self)
+    pub fn publish(&mut self)
         ensures net { self.new.net ≡ self.old.net }
         ensures interfaces { self.new.interfaces ≡ self.old.interfaces }
         ensures control { self.new.control ≡ self.old.control }

@@ -133,13 +133,13 @@ impl<'a> Core<'a> {
         ensures published { IfOk result (λ r. r.published ≡ []) }
     {
         self.clients.rise();
-        self.ledger.is_of_net();
         self.ledger.is_known();
         let links = links_of(self.alloc, held)?;
         let numbers = self.clients.numbers();
         let interfaces = interfaces_of(self.alloc, &links, numbers)?;
         let tables = self.ledger.tables();
-        let mut ledger = Ledger::new(self.alloc, tables, &interfaces, links.len())?;
+        let semantics = self.ledger.semantics();
+        let mut ledger = Ledger::new(self.alloc, tables, semantics, &interfaces, links.len())?;
         put_links(&mut ledger, held)?;
         put_clients(&mut ledger, &self.ledger, numbers)?;
         Ok(Relinked { ledger })

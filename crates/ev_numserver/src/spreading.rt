@@ -28,7 +28,7 @@ struct Ready {
 }
 
 /// Sends the publication with a number on and delivers it, by its route.
-pub(crate) fn spread<'a>(
+pub fn spread<'a>(
     alloc: Global,
     tables: &'a Tables<'a>,
     links: &[u32],

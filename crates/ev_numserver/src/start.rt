@@ -35,17 +35,13 @@ impl<'a> Core<'a> {
         let links = tables.net().tree(0).neighbours(server);
         let clients = at_home(alloc, tables, server)?;
         let interfaces = interfaces_of(alloc, links, clients.numbers())?;
-        let ledger = Ledger::new(alloc, tables, &interfaces, links.len())?;
+        let ledger = Ledger::new(alloc, tables, tables.semantics(), &interfaces, links.len())?;
         Ok(Core::of(alloc, server, ledger, clients))
     }
 }
 
 /// The interfaces of a server with these links and clients, rising.
-pub(crate) fn interfaces_of(
-    alloc: Global,
-    links: &[u32],
-    clients: &[u32],
-) -> Result<Vec<u32>, NoMemory>
+pub fn interfaces_of(alloc: Global, links: &[u32], clients: &[u32]) -> Result<Vec<u32>, NoMemory>
     requires { (n : ℕ) → Has n clients.now → n ≤ 1024 }
     ensures { IfOk result (λ list. list.items ≡ links.now ++ map (λ n. 64 + n) clients.now) }
 {
@@ -57,7 +53,11 @@ pub(crate) fn interfaces_of(
 }
 
 /// The sessions of the clients that live at a server.
-fn at_home<'a>(alloc: Global, tables: &'a Tables<'a>, server: u32) -> Result<Clients<'a>, NoMemory>
+pub fn at_home<'a>(
+    alloc: Global,
+    tables: &'a Tables<'a>,
+    server: u32,
+) -> Result<Clients<'a>, NoMemory>
     requires { IsSound tables.now }
     ensures { IfOk result (λ clients. clients ≡ clients_parts tables.now (sessions_of tables.now.semantics server 1 tables.now.clients)) }
 {

@@ -37,7 +37,8 @@ pub fn seats(
     ensures shown { writer.new.desk.shown ≡ writer.old.desk.shown }
     ensures log { (writer.new.log ≡ writer.old.log) × (writer.new.behind ≡ writer.old.behind) }
     ensures told { view writer.new.desk.place ≡ view writer.old.desk.place }
-    ensures viewers { IfOk result (λ vs. (length vs.items ≡ count) × All (λ v. (v.front.seen ≡ front.now.seen) × (width_of v ≡ (view writer.old.desk.place).width)) vs.items) }
+    ensures viewers { IfOk result (λ vs. (length vs.items ≡ count)
+        × All (λ v. (v.front.seen ≡ front.now.seen) × (width_of v ≡ (view writer.old.desk.place).width)) vs.items) }
 {
     let mut viewers = Vec::new(alloc);
     for _ in 0..count {

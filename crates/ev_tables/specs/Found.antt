@@ -29,7 +29,8 @@ pub record IsFound (net : NetParts) (known : PublicationParts) (found : FoundPar
 
 -- what was found for a number, below which all are found
 abbrev pub found_at : List FoundParts → ℕ → FoundParts
-found_at found number = slice_index_or found number (record { id = record { publisher = 0; ordinal = 0 }; text = []; matched = record { width = 0; members = [] } })
+found_at found number =
+    slice_index_or found number (record { id = record { publisher = 0; ordinal = 0 }; text = []; matched = record { width = 0; members = [] } })
 
 -- all publications of the net, in the order of their numbers
 pub record AreFound (net : NetParts) (found : List FoundParts) : Type 0 where

@@ -1,4 +1,5 @@
 use Rattle.std.proofs.Common.{◌≡◌, ◌<◌, ◌^◌, [], take, length, sym, ap, subst, ◌∙◌}
+use Rattle.ev_control.specs.Control.{by_adverts}
 use Rattle.ev_numcontrol.specs.Control.{Controlled as Numbered}
 use Rattle.ev_numserver.specs.Keeps.{IsLedger}
 use Rattle.ev_numserver.specs.Showing.{shown}
@@ -14,13 +15,13 @@ invariant_of-result c =
     subst (λ (z : Numbered). length z.adverts.told ≡ length z.filters.told) c.control.view_is c.control.invariant.links in
     subst (λ (z : Numbered). IsLedger c.args.tables.now c.in_ok-links.links.items control z c.new-2.result.items) (sym c.of-published.ensures)
     (subst (IsLedger c.args.tables.now c.in_ok-links.links.items control control) (sym c.new-2.ensures.items)
-    (first-kept c.args.tables.now c.in_ok-links.links.items control (links ∙ sym (ap (λ n. take n control.filters.interfaces) e.links ∙ ap (take c.args.links) e.filter_interfaces)) (e.semantics ∙ c.semantics.ensures)
+    (first-kept c.args.tables.now c.in_ok-links.links.items control (links ∙ sym (ap (λ n. take n control.filters.interfaces) e.links ∙ ap (take c.args.links) e.filter_interfaces)) (λ on. e.semantics ∙ c.requires.semantics (ap by_adverts (sym e.semantics) ∙ on))
     (e.filter_items ∙ c.filters.ensures) (e.advert_items ∙ c.adverts.ensures) (subst (λ z. length z < 2 ^ 32) (sym e.filter_interfaces) c.requires.few) (e.advert_interfaces ∙ sym e.filter_interfaces) same))
 
 pub returns-clause-control : goal.returns-clause-control
 returns-clause-control c =
     let e = c.in_ok-control.ensures in
-    first-shown c.in_ok-control.control c.args.tables.now.semantics c.args.interfaces.now c.args.links (e.semantics ∙ c.semantics.ensures) e.filter_interfaces e.links e.filters e.adverts
+    first-shown c.in_ok-control.control c.args.semantics c.args.interfaces.now c.args.links e.semantics e.filter_interfaces e.links e.filters e.adverts
 
 pub returns-clause-published : goal.returns-clause-published
 returns-clause-published c =

@@ -3,6 +3,7 @@ use Rattle.ev_run.specs.Machine.{Does}
 use Rattle.ev_routing.specs.Step.{Version}
 use Rattle.ev_sets.specs.Sets.{Has}
 use Rattle.ev_control.specs.Control.{Controlled}
+use Rattle.ev_model.specs.Parts.{NetParts}
 use Rattle.ev_numserver.specs.Clients.{bare, client_numbers}
 use Rattle.ev_numserver.specs.Core.{CoreParts, core_parts}
 use Rattle.ev_numserver.specs.Linked.{interfaces_on}
@@ -23,6 +24,7 @@ invariant_of-self c =
     record {
       kept = version-kept c.self.inside.server c.self.inside.clock c.in-Ok.stamp c.self.inside.ledger c.publish.new.self (map bare c.self.inside.clients.sessions) e.net e.control e.published e.staged i.kept c.in-Ok.ensures.ok.1;
       of_net = i.of_net ∙ sym e.net;
+      of_semantics = ap (λ (z : Controlled). z.semantics) e.control ∙ (i.of_semantics ∙ ap (λ (z : NetParts). z.semantics) (sym e.net));
       whole = e.interfaces ∙ (i.whole ∙ ap (λ (z : Controlled). interfaces_on z.links (client_numbers (map bare c.self.inside.clients.sessions))) (sym e.control));
       linked = λ l h. subst (Has l) (sym e.interfaces) (i.linked l (subst (λ (z : Controlled). Has l z.links) e.control h));
       reached = λ s h. subst (Has (64 + s.client)) (sym e.interfaces) (i.reached s h);

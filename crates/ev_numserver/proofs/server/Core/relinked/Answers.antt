@@ -2,7 +2,6 @@ use Rattle.std.proofs.Common.{◌≡◌, ℕ, ◌+◌, ◌<◌, ◌≤◌, nat_l
 use Rattle.std.specs.List.Sorted.{IsStrictlyIncreasing}
 use Rattle.ev_constraint.specs.Constraint.{ConstraintParts}
 use Rattle.ev_sets.specs.Sets.{Has, IsRising}
-use Rattle.ev_model.specs.Parts.{NetParts}
 use Rattle.ev_control.specs.declared.control.HeldLink.{HeldLink}
 use Rattle.ev_control.specs.Control.{Controlled, subs, advs}
 use Rattle.ev_numheld.specs.Held.{held_in}
@@ -196,7 +195,7 @@ returns-clause-suits c =
     ap (λ (z : Controlled). z.links) e.control ∙ (ap₂ (λ n xs. take n xs) (c.len.ensures ∙ (sym c.deref.ensures.len ∙ (ap length c.deref.ensures.value ∙ ap length links))) interfaces ∙ first-links given (map (λ n. 64 + n) ns)) in
     let clients : ArePut (held_by_clients c.self.inside.ledger.control (client_numbers (map bare c.self.inside.clients.sessions))) c.put_links.new.ledger c.put_clients.new.ledger =
     subst (λ z. ArePut (held_by_clients c.self.inside.ledger.control z) c.put_links.new.ledger c.put_clients.new.ledger) numbers c.in_ok-put_clients.ensures in
-    subst (λ (z : CoreParts). SuitsCore z new) c.self.view_is (made-suits core (held_in c.args.held.now) first mid new ok kept known-filters known-adverts (ap (λ (z : Controlled). z.filters) e.control) (ap (λ (z : Controlled). z.adverts) e.control) first-are c.in_ok-put_links.ensures clients net (ap (λ (z : Controlled). z.semantics) e.control ∙ (ap (λ (z : NetParts). z.semantics) c.tables-tables.ensures ∙ sym c.is_of_net.ensures)) whole)
+    subst (λ (z : CoreParts). SuitsCore z new) c.self.view_is (made-suits core (held_in c.args.held.now) first mid new ok kept known-filters known-adverts (ap (λ (z : Controlled). z.filters) e.control) (ap (λ (z : Controlled). z.adverts) e.control) first-are c.in_ok-put_links.ensures clients net (ap (λ (z : Controlled). z.semantics) e.control ∙ c.semantics-semantics.ensures) whole)
 
 pub returns-clause-published : goal.returns-clause-published
 returns-clause-published c =

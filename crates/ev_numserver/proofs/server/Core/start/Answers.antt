@@ -55,7 +55,7 @@ of-requires c =
     let interfaces : c.deref.result.now ≡ interfaces_by links (home-numbers net c.requires.sound c.args.server links linked) = c.deref.ensures.value ∙ (c.in_ok-interfaces.ensures ∙ ap (interfaces_by links) numbers) in
     let e = c.in_ok-ledger.ensures in
     let control : c.in_ok-ledger.ledger.control ≡ first_control net.semantics links =
-    e.control ∙ (ap (λ z. first_control net.semantics (take (length links) z)) interfaces ∙ ap (first_control net.semantics) (first-links links (map (λ n. 64 + n) (home-numbers net c.requires.sound c.args.server links linked)))) in
+    e.control ∙ (ap (λ z. first_control z (take (length links) c.deref.result.now)) c.semantics.ensures ∙ (ap (λ z. first_control net.semantics (take (length links) z)) interfaces ∙ ap (first_control net.semantics) (first-links links (map (λ n. 64 + n) (home-numbers net c.requires.sound c.args.server links linked))))) in
     let core : core_parts c.args.server c.in_ok-ledger.ledger (map bare c.in_ok-clients.clients.sessions) 0 ≡ first_core net c.requires.sound c.args.server links linked =
     is-first-core net c.requires.sound c.args.server links linked c.in_ok-ledger.ledger c.in_ok-clients.clients.sessions e.net (e.interfaces ∙ interfaces) control e.published e.staged
     (ap (λ (z : ClientsParts). z.sessions) c.in_ok-clients.ensures) in
@@ -72,7 +72,7 @@ returns-clause-state c =
     let interfaces : c.deref.result.now ≡ interfaces_by links (home-numbers net c.requires.sound c.args.server links linked) = c.deref.ensures.value ∙ (c.in_ok-interfaces.ensures ∙ ap (interfaces_by links) numbers) in
     let e = c.in_ok-ledger.ensures in
     let control : c.in_ok-ledger.ledger.control ≡ first_control net.semantics links =
-    e.control ∙ (ap (λ z. first_control net.semantics (take (length links) z)) interfaces ∙ ap (first_control net.semantics) (first-links links (map (λ n. 64 + n) (home-numbers net c.requires.sound c.args.server links linked)))) in
+    e.control ∙ (ap (λ z. first_control z (take (length links) c.deref.result.now)) c.semantics.ensures ∙ (ap (λ z. first_control net.semantics (take (length links) z)) interfaces ∙ ap (first_control net.semantics) (first-links links (map (λ n. 64 + n) (home-numbers net c.requires.sound c.args.server links linked))))) in
     let core : core_parts c.args.server c.in_ok-ledger.ledger (map bare c.in_ok-clients.clients.sessions) 0 ≡ first_core net c.requires.sound c.args.server links linked =
     is-first-core net c.requires.sound c.args.server links linked c.in_ok-ledger.ledger c.in_ok-clients.clients.sessions e.net (e.interfaces ∙ interfaces) control e.published e.staged
     (ap (λ (z : ClientsParts). z.sessions) c.in_ok-clients.ensures) in

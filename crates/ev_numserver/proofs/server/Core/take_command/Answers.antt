@@ -15,7 +15,7 @@ use Rattle.ev_numserver.specs.Kept.{IsCore}
 use Rattle.ev_numserver.specs.Step.{MakesStep}
 use Rattle.ev_numserver.proofs.Commands.{command-made, command-kept, bare-stepped, numbers-stepped, numbers-bare}
 use Rattle.ev_numserver.proofs.Plans.{change-in, kept-mid, commanded, plans-bare}
-use Rattle.ev_numserver.proofs.Keeping.{changed-net, changed-links, keeps, plans-later}
+use Rattle.ev_numserver.proofs.Keeping.{changed-net, changed-links, changed-semantics, keeps, plans-later}
 use Rattle.ev_numserver.proofs.Sessions.{map-has, has-map}
 use Rattle.ev_numserver.proofs.Stamps.{next-is, exhausted-of, exhausted-none}
 use Rattle.ev_numserver.proofs.server.Core.take_command.Goals as goal
@@ -81,7 +81,7 @@ invariant_of-self-2 c =
     (subst (λ z. IsCore (core_parts server new (map bare z) c.in-Ok.stamp)) (sym stepped-are)
     (command-kept server clock c.in-Ok.stamp c.args.client old new mid mid [] c.in_ok-sent.sent.items kept-then deed.0 deed.1 some-left deed.2 c.in-Ok.ensures.ok.1))
     c.in_ok-sent.ensures.interfaces (changed-net (64 + c.args.client) c.in_ok-plan.plan old new c.in_ok-sent.sent.items c.in_ok-sent.ensures.changed)
-    (ap (λ (z : ClientsParts). z.net) c.commit.ensures ∙ c.in_ok-plan.ensures.net) (changed-links (64 + c.args.client) c.in_ok-plan.plan old new c.in_ok-sent.sent.items c.in_ok-sent.ensures.changed)
+    (ap (λ (z : ClientsParts). z.net) c.commit.ensures ∙ c.in_ok-plan.ensures.net) (changed-semantics (64 + c.args.client) c.in_ok-plan.plan old new c.in_ok-sent.sent.items c.in_ok-sent.ensures.changed) (changed-links (64 + c.args.client) c.in_ok-plan.plan old new c.in_ok-sent.sent.items c.in_ok-sent.ensures.changed)
     (ap (λ z. client_numbers (map bare z)) stepped-are ∙ (ap client_numbers (bare-stepped c.args.client mid) ∙ (numbers-stepped c.args.client (map bare mid) ∙ ap client_numbers same)))
 
 pub returns-clause-step : goal.returns-clause-step

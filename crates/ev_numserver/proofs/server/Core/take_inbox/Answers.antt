@@ -23,7 +23,7 @@ invariant_of-self c =
     keeps c.self.inside.server c.self.inside.clock c.self.inside.clock ledger ledger before (map bare c.take_inbox.new.self.sessions) c.self.inside.clients.net c.take_inbox.new.self.net inv
     (subst (λ z. IsCore (core_parts c.self.inside.server ledger z c.self.inside.clock)) (sym same)
     (emptied-kept c.self.inside.server c.self.inside.clock c.args.client ledger before inv.kept))
-    refl refl (ap (λ (z : ClientsParts). z.net) c.take_inbox.ensures.emptied) refl (ap client_numbers same ∙ numbers-emptied c.args.client before)
+    refl refl (ap (λ (z : ClientsParts). z.net) c.take_inbox.ensures.emptied) refl refl (ap client_numbers same ∙ numbers-emptied c.args.client before)
 
 pub returns-clause-inbox : goal.returns-clause-inbox
 returns-clause-inbox c = λ s m e.

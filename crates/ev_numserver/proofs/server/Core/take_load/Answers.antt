@@ -8,7 +8,7 @@ use Rattle.ev_run.specs.Machine.{Takes}
 use Rattle.ev_numserver.specs.Routed.{RoutesMessage}
 use Rattle.ev_message.specs.Message.{IsLoad, meaning}
 use Rattle.ev_numserver.proofs.Made.{message-made, message-kept, routed-message}
-use Rattle.ev_numserver.proofs.Keeping.{keeps, acted-net, acted-links, adds-rise, numbers-left}
+use Rattle.ev_numserver.proofs.Keeping.{keeps, acted-net, acted-links, acted-semantics, adds-rise, numbers-left}
 use Rattle.ev_numserver.proofs.server.Core.take_load.Goals as goal
 
 pub returns-in-Err-clause-exhausted : goal.returns-in-Err-clause-exhausted
@@ -16,6 +16,9 @@ returns-in-Err-clause-exhausted c = λ s. exhausted-of c.in-Err.fault s (c.in-Er
 
 pub act-requires-clause-from : goal.act-requires-clause-from
 act-requires-clause-from c = c.self.invariant.linked c.args.from (subst (λ (z : CoreParts). Has c.args.from z.control.links) (sym c.self.view_is) c.requires.from)
+
+pub act-requires-clause-semantics : goal.act-requires-clause-semantics
+act-requires-clause-semantics c = c.self.invariant.of_semantics
 
 pub act-requires-clause-load : goal.act-requires-clause-load
 act-requires-clause-load c = subst (λ (z : CoreParts). IsLoad z.net c.args.load.now) (sym c.self.view_is) c.requires.load
@@ -42,7 +45,7 @@ invariant_of-self-2 c =
     keeps server clock c.in-Ok.stamp old new (map bare before) (map bare after) c.self.inside.clients.net c.act.new.clients.net inv
     (message-kept server clock c.in-Ok.stamp c.args.from old new before after c.args.route.now c.in_ok-sent.sent.items inv.kept m acted low c.in-Ok.ensures.ok.1)
     c.in_ok-sent.ensures.interfaces (acted-net c.args.from old new before after c.args.route.now c.in_ok-sent.sent.items m acted) c.in_ok-sent.ensures.net
-    (acted-links c.args.from old new before after c.args.route.now c.in_ok-sent.sent.items m acted) (numbers-left c.args.from old new before after c.args.route.now c.in_ok-sent.sent.items m acted)
+    (acted-semantics c.args.from old new before after c.args.route.now c.in_ok-sent.sent.items m acted) (acted-links c.args.from old new before after c.args.route.now c.in_ok-sent.sent.items m acted) (numbers-left c.args.from old new before after c.args.route.now c.in_ok-sent.sent.items m acted)
 
 pub returns-clause-step : goal.returns-clause-step
 returns-clause-step c =

@@ -107,7 +107,7 @@ invariant_of-self-2 c =
     keeps server clock c.in-Ok.stamp old old (map bare before) (map bare c.commit.new.self.sessions) c.self.inside.clients.net c.commit.new.self.net inv
     (subst (λ z. IsCore (core_parts server old (map bare z) c.in-Ok.stamp)) (sym stepped-are)
     (command-kept server clock c.in-Ok.stamp c.args.client old old mid after c.args.route.now c.in_ok-sent.sent.items kept (plans.Publish publication.id publication.notice) planned some-left deed c.in-Ok.ensures.ok.1))
-    refl refl (ap (λ (z : ClientsParts). z.net) c.commit.ensures ∙ (c.in_ok-sent.ensures.net ∙ c.in_ok-plan.ensures.net)) refl
+    refl refl (ap (λ (z : ClientsParts). z.net) c.commit.ensures ∙ (c.in_ok-sent.ensures.net ∙ c.in_ok-plan.ensures.net)) refl refl
     (ap (λ z. client_numbers (map bare z)) stepped-are ∙ (ap client_numbers (bare-stepped c.args.client after) ∙ (numbers-stepped c.args.client (map bare after)
     ∙ (numbers-left from old old mid after c.args.route.now c.in_ok-sent.sent.items (Noticed publication.id.publisher publication.id.ordinal publication.notice) deed ∙ ap client_numbers same))))
 
