@@ -47,7 +47,6 @@ not-among x ys low = go (is_among x ys) refl
     go true e = absurd (omega (arith, low x (one-has x ys e)))
 
 module _ (semantics : Semantics) (tree : Topology) (laws : TreeLaws tree) (net : Net real) (on : IsNetOn semantics tree net) where
-
   shape : IsTreeBySizes net.servers net.links (side_size (hop_of tree) (servers_of tree))
   shape =
       subst (λ z. IsTreeBySizes z net.links (side_size (hop_of tree) (servers_of tree))) (sym on.servers)

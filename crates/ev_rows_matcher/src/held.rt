@@ -118,6 +118,13 @@ fn routed(
     }
     let mut matched = Row::new(alloc, forwarding.width())?;
     let mut scratch = Scratch::new(alloc);
-    let route = law::route(alloc, matcher, forwarding, notice, &mut scratch, &mut matched)?;
+    let route = law::route(
+        alloc,
+        matcher,
+        forwarding,
+        notice,
+        &mut scratch,
+        &mut matched,
+    )?;
     numbers(alloc, route.interfaces())
 }

@@ -36,7 +36,11 @@ fn copied(alloc: Global, deliveries: &[Delivery]) -> Result<Vec<Delivery>, NoMem
 }
 
 /// Of each client the ordinals of its refused publishes.
-fn refused(alloc: Global, network: &Network<'_, Kept>, clients: u32) -> Result<Vec<Lists<u32>>, NoMemory>
+fn refused(
+    alloc: Global,
+    network: &Network<'_, Kept>,
+    clients: u32,
+) -> Result<Vec<Lists<u32>>, NoMemory>
     requires { length network.now.net.clients ≡ clients }
     ensures { IfOk result (λ lists. length lists.items ≡ clients) }
 {
@@ -74,7 +78,12 @@ fn clients(net: &Net) -> u32
 }
 
 /// The text of what the clients of a net received.
-fn text(alloc: Global, net: &Net, network: &Network<'_, Kept>, sorted: bool) -> Result<Vec<u8>, NoMemory>
+fn text(
+    alloc: Global,
+    net: &Net,
+    network: &Network<'_, Kept>,
+    sorted: bool,
+) -> Result<Vec<u8>, NoMemory>
     requires sound { IsSound net.now }
     requires net { network.now.net ≡ net.now }
 {
