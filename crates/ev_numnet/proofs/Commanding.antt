@@ -46,41 +46,41 @@ use Rattle.ev_numnet.proofs.Grown.{is_made, is_kept}
 use Rattle.ev_numnet.proofs.Tried.{IsSame, same_kept}
 use Rattle.ev_numnet.proofs.Standing.{At, Found, get-at, laws_at, low_at, run_of}
 
-drop-all : {A : Type 0} (xs : List A) → drop (length xs) xs ≡ []
+pub drop-all : {A : Type 0} (xs : List A) → drop (length xs) xs ≡ []
 drop-all [] = refl
 drop-all (x ∷ xs) = drop-all xs
 
-no-map : {A B : Type 0} (f : A → B) (xs : List A) → map f xs ≡ [] → xs ≡ []
+pub no-map : {A B : Type 0} (f : A → B) (xs : List A) → map f xs ≡ [] → xs ≡ []
 no-map f [] e = refl
 no-map f (x ∷ xs) e = absurd cc
 
-all-taken : {A : Type 0} (xs : List A) (k : ℕ) → k ≤ length xs → drop k xs ≡ [] → k ≡ length xs
+pub all-taken : {A : Type 0} (xs : List A) (k : ℕ) → k ≤ length xs → drop k xs ≡ [] → k ≡ length xs
 all-taken xs zero l e = sym (ap length e)
 all-taken [] (suc k) l e = absurd (omega (arith, l))
 all-taken (x ∷ xs) (suc k) l e = ap suc (all-taken xs k (omega (arith, l)) e)
 
-not-true : (b : Bool) → not b ≡ true → b ≡ false
+pub not-true : (b : Bool) → not b ≡ true → b ≡ false
 not-true true e = absurd cc
 not-true false e = refl
 
-and-both : (a b : Bool) → a ≡ true → b ≡ true → a && b ≡ true
+pub and-both : (a b : Bool) → a ≡ true → b ≡ true → a && b ≡ true
 and-both true true e f = refl
 and-both true false e f = f
 and-both false b e f = e
 
-both-of : (a b : Bool) → a && b ≡ true → (a ≡ true) × (b ≡ true)
+pub both-of : (a b : Bool) → a && b ≡ true → (a ≡ true) × (b ≡ true)
 both-of true true e = (refl, refl)
 both-of true false e = absurd cc
 both-of false b e = absurd cc
 
-eqb-eq : (a b : ℕ) → (a == b) ≡ true → a ≡ b
+pub eqb-eq : (a b : ℕ) → (a == b) ≡ true → a ≡ b
 eqb-eq a b e = go (compare a b) e
   where
     go : Same a b → (a == b) ≡ true → a ≡ b
     go (Is q v) e = q
     go (Not n v) e = absurd (not_both (a == b) e v)
 
-length-of-map : {A B : Type 0} (f : A → B) (xs : List A) → length (map f xs) ≡ length xs
+pub length-of-map : {A B : Type 0} (f : A → B) (xs : List A) → length (map f xs) ≡ length xs
 length-of-map f [] = refl
 length-of-map f (x ∷ xs) = ap suc (length-of-map f xs)
 
@@ -93,7 +93,7 @@ phase-some net phase own (Some x) e = e
 pub data Next (o : Option (PhasedCommand real)) (own : ℕ) : Type 0 where
   Comes : (x : PhasedCommand real) → o ≡ Some x → x.phase ≡ own → Next o own
 
-next-is : (o : Option (PhasedCommand real)) (own : ℕ) → phase_in o ≡ Some own → Next o own
+pub next-is : (o : Option (PhasedCommand real)) (own : ℕ) → phase_in o ≡ Some own → Next o own
 next-is None own e = absurd cc
 next-is (Some x) own e = Comes x refl cc
 

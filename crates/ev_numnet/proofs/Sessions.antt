@@ -16,7 +16,7 @@ use Rattle.ev_numnet.specs.Acted.{Servers}
 use Rattle.ev_turns.specs.Sessions.{IsSessionOf}
 use Rattle.ev_numnet.proofs.Commanding.{taken_there, script_there, home_place}
 
-one-semantics : (a b : Semantics) → with_adverts a ≡ by_adverts b → b ≡ a
+pub one-semantics : (a b : Semantics) → with_adverts a ≡ by_adverts b → b ≡ a
 one-semantics Subscription Subscription e = refl
 one-semantics Advertisement Advertisement e = refl
 one-semantics Subscription Advertisement e = absurd cc

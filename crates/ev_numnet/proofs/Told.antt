@@ -37,13 +37,13 @@ use Rattle.ev_numnet.proofs.Standing.{laws_at, run_of}
 use Rattle.ev_turns.proofs.Within.{taken-low, found-within}
 use Rattle.ev_numnet.proofs.Last.{split-last, last-is}
 
-drop-append : {T : Type 0} (k : ℕ) (xs ys : List T) → k ≤ length xs → drop k (xs ++ ys) ≡ drop k xs ++ ys
+pub drop-append : {T : Type 0} (k : ℕ) (xs ys : List T) → k ≤ length xs → drop k (xs ++ ys) ≡ drop k xs ++ ys
 drop-append zero xs ys l = refl
 drop-append (suc k) [] ys l = absurd (omega (arith, l))
 drop-append (suc k) (x ∷ xs) ys l = drop-append k xs ys (omega (arith, l))
 
 -- a list of at most one has its member alone
-alone : {T : Type 0} (xs : List T) (x : T) → Has x xs → length xs ≤ 1 → xs ≡ x ∷ []
+pub alone : {T : Type 0} (xs : List T) (x : T) → Has x xs → length xs ≤ 1 → xs ≡ x ∷ []
 alone [] x h l = absurd h
 alone (y ∷ []) x (inl e) l = ap (λ z. z ∷ []) (sym e)
 alone (y ∷ []) x (inr h) l = absurd h
@@ -59,7 +59,7 @@ same-texts : (net : NetParts) (link : ℕ) (ms : List (Message real)) → map te
 same-texts net link [] = refl
 same-texts net link (m ∷ ms) = ap (λ z. sent_to link m ∷ z) (same-texts net link ms)
 
-texts-are : (net : NetParts) (messages : ℕ → List (Message real)) (links : List ℕ) → map text_of_sending (sent_by net messages links) ≡ texts messages links
+pub texts-are : (net : NetParts) (messages : ℕ → List (Message real)) (links : List ℕ) → map text_of_sending (sent_by net messages links) ≡ texts messages links
 texts-are net messages [] = refl
 texts-are net messages (l ∷ links) =
     map-append text_of_sending (map (onto net l) (messages l)) (sent_by net messages links)

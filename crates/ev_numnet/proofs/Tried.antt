@@ -28,13 +28,13 @@ use Rattle.ev_numnet.proofs.Grown.{is_made, is_kept, stays_kept}
 use Rattle.ev_numnet.proofs.Standing.{laws_at, links_at}
 
 -- the first of what is left of a list
-first-left : {A B : Type 0} (f : A → B) (xs : List A) (k : ℕ) (x : A) → slice_get xs k ≡ Some x → slice_get (map f (drop k xs)) 0 ≡ Some (f x)
+pub first-left : {A B : Type 0} (f : A → B) (xs : List A) (k : ℕ) (x : A) → slice_get xs k ≡ Some x → slice_get (map f (drop k xs)) 0 ≡ Some (f x)
 first-left f [] zero x e = absurd cc
 first-left f [] (suc k) x e = absurd cc
 first-left f (y ∷ ys) zero x e = cc
 first-left f (y ∷ ys) (suc k) x e = first-left f ys k x e
 
-none-left : {A : Type 0} (xs : List A) (k : ℕ) → slice_get xs k ≡ None → drop k xs ≡ []
+pub none-left : {A : Type 0} (xs : List A) (k : ℕ) → slice_get xs k ≡ None → drop k xs ≡ []
 none-left [] zero e = refl
 none-left [] (suc k) e = refl
 none-left (y ∷ ys) zero e = absurd cc

@@ -24,9 +24,11 @@ mod walking;
 
 pub use keeping::{Keeping, Kept, Passed};
 pub use links::Links;
-pub use network::Network;
+pub use making::{home, is_among, is_below};
+pub use network::{Network, all_clients};
 pub use place::{unexhausted, unpublished};
 pub use retelling::{retell, turn_of};
 pub use servers::put;
 pub use telling::last_on;
+pub use trying::script_len;
 pub use waiting::Waiting;

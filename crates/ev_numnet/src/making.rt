@@ -29,7 +29,7 @@ fn has_server(servers: &Servers<'_>, server: u32) -> bool
 }
 
 /// Whether a number is in a list.
-pub(crate) fn is_among(number: u32, list: &[u32]) -> bool
+pub fn is_among(number: u32, list: &[u32]) -> bool
     ensures { IsTrue result ↔ Has number list.now }
 {
     list.contains(&number)
@@ -91,7 +91,7 @@ fn is_calm(place: &Place<'_>) -> bool
 }
 
 /// The server of a client.
-pub(crate) fn home(net: &Net, client: u32) -> u32
+pub fn home(net: &Net, client: u32) -> u32
     requires { (1 ≤ client) × (client ≤ length net.now.clients) }
     ensures { result ≡ home_of net.now client }
 {
@@ -266,7 +266,7 @@ fn none_below(net: &Net, servers: &Servers<'_>, own: u32) -> bool
 }
 
 /// Whether a next command is of a lower phase.
-fn is_below(next: Option<u32>, own: u32) -> bool
+pub fn is_below(next: Option<u32>, own: u32) -> bool
     ensures { result ≡ is_phase_below next own }
 {
     match next {

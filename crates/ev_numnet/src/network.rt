@@ -90,7 +90,7 @@ fn places<'a>(alloc: Global, tables: &'a Tables<'a>, count: u32) -> Result<Vec<P
 }
 
 /// The clients of each server.
-fn all_clients(alloc: Global, net: &Net, count: u32) -> Result<Vec<Lists<u32>>, NoMemory>
+pub fn all_clients(alloc: Global, net: &Net, count: u32) -> Result<Vec<Lists<u32>>, NoMemory>
     requires few { length net.now.clients ≤ 1024 }
     requires count { (count ≡ (first_tree net.now.trees).count) × (count ≤ 64) }
     ensures { IfOk result (λ clients. AreClients net.now clients.items) }

@@ -133,7 +133,7 @@ impl<'a, K: Keeping> Network<'a, K> {
 }
 
 /// How many commands a client has.
-fn script_len(net: &Net, client: u32) -> usize
+pub fn script_len(net: &Net, client: u32) -> usize
     requires { (1 ≤ client) × (client ≤ length net.now.clients) }
     ensures { result ≡ length (script_of net.now client) }
 {
