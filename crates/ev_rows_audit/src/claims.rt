@@ -1,7 +1,7 @@
 //! Audits of what the program writes itself, and of what was made of it.
 use crate::examples::{Document, EXAMPLES};
-use crate::failure::Failure;
 use crate::tried::{Tried, outcome, shown};
+use ev_rows::Failure;
 use std::alloc::Global;
 
 /// How many places of an output are changed.

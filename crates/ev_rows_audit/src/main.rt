@@ -3,10 +3,9 @@
 
 mod claims;
 mod examples;
-mod failure;
 mod tried;
 
-use failure::Failure;
+use ev_rows::Failure;
 
 fn main(rt: HostRuntime) -> Result<(), Failure> {
     let alloc = rt.alloc();

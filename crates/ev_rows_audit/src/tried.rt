@@ -1,7 +1,7 @@
 //! One call of the program over devices in memory.
-use crate::failure::Failure;
 use ev_outside::{MemorySink, MemorySource, Word};
 use ev_quiet::{fault_text, is_quiet, quiet};
+use ev_rows::Failure;
 use std::alloc::Global;
 
 /// How many bytes are read and written at a time.

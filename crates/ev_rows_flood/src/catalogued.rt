@@ -3,12 +3,12 @@
 ghost use Rattle.ev_model.specs.Sound.{IsSound};
 
 use crate::documents::shown;
-use crate::failure::Failure;
 use crate::flooded::net;
 use ev_bits::Row;
 use ev_catalogue::{Catalogue, NumberedCommand};
 use ev_matcher::Scratch;
 use ev_model::Net;
+use ev_rows::Failure;
 use ev_wire::{write_advert, write_filter};
 use std::alloc::Global;
 

@@ -1,6 +1,6 @@
 //! Documents and what flooding brings of them.
-use crate::failure::Failure;
 use crate::flooded::{checked, flooded};
+use ev_rows::Failure;
 use std::alloc::Global;
 
 /// Documents, each with what it is for.

@@ -2,12 +2,12 @@
 ghost use Rattle.std.specs.Prelude.{IfOk};
 ghost use Rattle.ev_model.specs.Sound.{IsSound};
 
-use crate::failure::Failure;
 use ev_flood::must_may;
 use ev_input::law::net_is_sound;
-use ev_input::read_net;
+use ev_input::{InputFault, read_net};
 use ev_model::Net;
 use ev_report::{check_text, flood_text};
+use ev_rows::Failure;
 use std::alloc::Global;
 
 /// The net of a document.
@@ -17,7 +17,8 @@ pub fn net(alloc: Global, document: &[u8]) -> Result<Net, Failure>
     net_is_sound();
     match read_net(alloc, document) {
         Ok(net) => Ok(net),
-        Err(fault) => Err(Failure::from(fault)),
+        Err(InputFault::NoMemory) => Err(Failure::NoMemory),
+        Err(InputFault::Bad { .. }) => Err(Failure::Refused),
     }
 }
 

@@ -1,8 +1,8 @@
 //! A generated document and what flooding brings of it.
 use crate::documents::shown;
-use crate::failure::Failure;
 use crate::flooded::{checked, flooded};
 use ev_generate::generate;
+use ev_rows::Failure;
 use md5::{Digest, Md5};
 use std::alloc::Global;
 

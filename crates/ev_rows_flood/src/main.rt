@@ -4,12 +4,11 @@
 
 mod catalogued;
 mod documents;
-mod failure;
 mod flooded;
 mod generated;
 mod many;
 
-use failure::Failure;
+use ev_rows::Failure;
 use std::io::{Read, Write};
 use std::rt::Env;
 

@@ -2,11 +2,11 @@
 ghost use Rattle.std.specs.Prelude.{◌≡◌, IfOk};
 ghost use Rattle.ev_model.specs.Sound.{IsSound};
 
-use crate::failure::Failure;
 use crate::flooded::net;
 use ev_bits::Row;
 use ev_catalogue::Catalogue;
 use ev_model::Net;
+use ev_rows::Failure;
 use std::alloc::Global;
 
 /// A document of one client with so many subscriptions to a number above some bound: above 0, or each above the next.

@@ -1,6 +1,6 @@
 //! Documents at the limits.
-use crate::failure::Failure;
 use crate::outcome::print_outcome;
+use ev_rows::Failure;
 use std::alloc::Global;
 
 /// The lines before the clients, with one server.

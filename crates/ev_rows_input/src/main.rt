@@ -2,7 +2,6 @@
 //! that are read. With the word `measure` it reads standard input as a document and tells the time.
 #![tactic(auto)]
 
-mod failure;
 mod large;
 mod measure;
 mod nets;
@@ -10,7 +9,7 @@ mod outcome;
 mod prefixes;
 mod refused;
 
-use failure::Failure;
+use ev_rows::Failure;
 use std::alloc::Global;
 use std::io::Read;
 use std::rt::Env;

@@ -1,7 +1,7 @@
 //! The measuring of reading.
-use crate::failure::Failure;
 use crate::outcome::print_outcome;
 use ev_input::read_net;
+use ev_rows::Failure;
 use std::alloc::Global;
 use std::rt::Clock;
 use std::time::Instant;

@@ -1,7 +1,7 @@
 //! Documents that are read, and their nets.
-use crate::failure::Failure;
 use ev_input::read_net;
 use ev_model::{Client, Command, Net};
+use ev_rows::Failure;
 use ev_tree::Tree;
 use ev_wire::{write_advert, write_filter, write_notice};
 use std::alloc::Global;

@@ -1,6 +1,6 @@
 //! What reading a document gives, as lines.
-use crate::failure::Failure;
 use ev_input::{InputFault, read_net};
+use ev_rows::Failure;
 use std::alloc::Global;
 
 /// Prints that a document is read, or its line and fault.

@@ -1,7 +1,7 @@
 //! The beginnings of a document.
-use crate::failure::Failure;
 use crate::nets::FEED;
 use crate::outcome::print_outcome;
+use ev_rows::Failure;
 use std::alloc::Global;
 
 /// Prints the outcome of each beginning of a realistic document.

@@ -1,6 +1,6 @@
 //! Documents that are refused, some of them beside one that is read.
-use crate::failure::Failure;
 use crate::outcome::print_outcomes;
+use ev_rows::Failure;
 use std::alloc::Global;
 
 /// The first three lines.

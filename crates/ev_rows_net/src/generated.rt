@@ -1,9 +1,9 @@
 //! A generated document and its walk.
-use crate::failure::Failure;
 use crate::rows::Schedule;
 use crate::run::{run, summary};
 use crate::shown;
 use ev_generate::generate;
+use ev_rows::Failure;
 use md5::{Digest, Md5};
 use std::alloc::Global;
 

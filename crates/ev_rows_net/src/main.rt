@@ -2,13 +2,12 @@
 //! `walk` it reads standard input as a document and writes the deliveries of its walk.
 #![tactic(auto)]
 
-mod failure;
 mod generated;
 mod phases;
 mod rows;
 mod run;
 
-use failure::Failure;
+use ev_rows::Failure;
 use rows::{ROWS, Schedule};
 use std::alloc::Global;
 use std::io::{Read, Write};

@@ -1,8 +1,8 @@
 //! A network that is asked for single turns and for one phase at a time.
-use crate::failure::Failure;
 use crate::run::net;
 use ev_model::Turn;
 use ev_numnet::{Kept, Network};
+use ev_rows::Failure;
 use ev_tables::Tables;
 use std::alloc::Global;
 

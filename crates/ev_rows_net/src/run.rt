@@ -2,14 +2,14 @@
 ghost use Rattle.std.specs.Prelude.{◌≡◌, ◌≤◌, length, IfOk};
 ghost use Rattle.ev_model.specs.Sound.{IsSound};
 
-use crate::failure::Failure;
 use crate::rows::Schedule;
 use ev_input::law::net_is_sound;
-use ev_input::read_net;
+use ev_input::{InputFault, read_net};
 use ev_memory::NoMemory;
 use ev_model::{Client, Command, Delivery, Entry, Net};
 use ev_numnet::{Kept, Network};
 use ev_report::{deliveries_text, summary_text};
+use ev_rows::Failure;
 use ev_tables::Tables;
 use ev_turns::ReplayFault;
 use ev_wire::Lists;
@@ -22,7 +22,8 @@ pub fn net(alloc: Global, document: &[u8]) -> Result<Net, Failure>
     net_is_sound();
     match read_net(alloc, document) {
         Ok(net) => Ok(net),
-        Err(fault) => Err(Failure::from(fault)),
+        Err(InputFault::NoMemory) => Err(Failure::NoMemory),
+        Err(InputFault::Bad { .. }) => Err(Failure::Refused),
     }
 }
 

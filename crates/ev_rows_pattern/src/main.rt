@@ -1,14 +1,13 @@
 //! Prints what reading gives of many inputs with patterns, and where patterns occur in what is published.
 #![tactic(auto)]
 
-mod failure;
 mod large;
 mod occurring;
 mod outcome;
 mod prefixes;
 mod refused;
 
-use failure::Failure;
+use ev_rows::Failure;
 
 fn main(rt: HostRuntime) -> Result<(), Failure> {
     let alloc = rt.alloc();

@@ -1,12 +1,12 @@
 //! Where patterns occur in what is published.
 ghost use Rattle.std.specs.Prelude.{◌≡◌, [], length};
 
-use crate::failure::Failure;
 use crate::prefixes::EXAMPLE;
 use ev_memory::NoMemory;
 use ev_model::{Command, Net};
 use ev_notice::{Filter, Notice};
 use ev_pattern::Detector;
+use ev_rows::Failure;
 use ev_watch::{Watch, read_patterns};
 use std::alloc::Global;
 

@@ -1,5 +1,5 @@
 //! What reading an input with patterns gives, as lines.
-use crate::failure::Failure;
+use ev_rows::Failure;
 use ev_watch::{Pattern, PatternFault, read_patterns};
 use ev_wire::write_filter;
 use std::alloc::Global;

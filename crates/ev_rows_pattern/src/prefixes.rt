@@ -1,6 +1,6 @@
 //! The beginnings of an input.
-use crate::failure::Failure;
 use crate::outcome::print_outcome;
+use ev_rows::Failure;
 use std::alloc::Global;
 
 /// A document with a pattern.

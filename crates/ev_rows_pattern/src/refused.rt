@@ -1,6 +1,6 @@
 //! Inputs that are refused, and some that are read.
-use crate::failure::Failure;
 use crate::outcome::print_outcomes;
+use ev_rows::Failure;
 use std::alloc::Global;
 
 /// A document of 9 lines.

@@ -1,8 +1,8 @@
 //! Audits of outputs.
-use crate::failure::Failure;
 use crate::row::Row;
 use crate::tried::outcome;
 use crate::usage::USAGE_LINE;
+use ev_rows::Failure;
 use std::alloc::Global;
 
 /// Inputs that are audited.

@@ -1,6 +1,6 @@
 //! Devices that fail in mid-stream.
-use crate::failure::Failure;
 use crate::tried::failing;
+use ev_rows::Failure;
 use std::alloc::Global;
 
 /// A document of 153 bytes.

@@ -1,6 +1,6 @@
 //! A generated document.
-use crate::failure::Failure;
 use crate::tried::{outcome, print_verdict, shown};
+use ev_rows::Failure;
 use std::alloc::Global;
 
 /// How many lines begin with these bytes.

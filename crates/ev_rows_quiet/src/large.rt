@@ -1,6 +1,6 @@
 //! Documents at the limits, and each beginning of a document.
-use crate::failure::Failure;
 use crate::tried::{outcome, print_verdict};
+use ev_rows::Failure;
 use std::alloc::Global;
 
 /// The lines before the clients, with one server.

@@ -4,7 +4,6 @@
 
 mod audits;
 mod devices;
-mod failure;
 mod faults;
 mod formats;
 mod generated;
@@ -18,7 +17,7 @@ mod traffic;
 mod tried;
 mod usage;
 
-use failure::Failure;
+use ev_rows::Failure;
 
 fn main(rt: HostRuntime) -> Result<(), Failure> {
     let alloc = rt.alloc();

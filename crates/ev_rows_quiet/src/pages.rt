@@ -1,6 +1,6 @@
 //! What the program says of itself, which it says whatever its input is.
-use crate::failure::Failure;
 use crate::tried::{failing, print_verdict, shown};
+use ev_rows::Failure;
 use std::alloc::Global;
 
 /// What help must name.

@@ -1,8 +1,8 @@
 //! One call of the program over devices in memory.
-use crate::failure::Failure;
 use crate::row::Row;
 use ev_outside::{MemorySink, MemorySource, Word};
 use ev_quiet::{fault_text, is_quiet, quiet};
+use ev_rows::Failure;
 use std::alloc::Global;
 
 /// Room for what is written.

@@ -1,7 +1,7 @@
 //! A generated document.
-use crate::failure::Failure;
 use crate::tried::{free, print_verdict};
 use ev_generate::generate;
+use ev_rows::Failure;
 use std::alloc::Global;
 use std::sync::Wait;
 use std::thread::Threads;

@@ -2,7 +2,6 @@
 #![tactic(auto)]
 
 mod documents;
-mod failure;
 mod generated;
 mod meeting;
 mod moving;
@@ -15,7 +14,7 @@ mod starts;
 mod tried;
 mod waiting;
 
-use failure::Failure;
+use ev_rows::Failure;
 
 fn main(rt: HostRuntime) -> Result<(), Failure> {
     let alloc = rt.alloc();

@@ -1,8 +1,8 @@
 //! Two workers that meet.
-use crate::failure::Failure;
 use crate::tried::{held, print_verdict};
 use crate::waiting::{add, counted, wait_for};
 use ev_outside::{Gate, Place, Spot, Worker};
+use ev_rows::Failure;
 use std::alloc::Global;
 use std::sync::Wait;
 use std::sync::atomic::AtomicU64;

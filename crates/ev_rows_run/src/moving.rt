@@ -1,7 +1,7 @@
 //! Runs whose outcome may move, and their audits.
 use crate::documents::{DOCUMENTS, Document};
-use crate::failure::Failure;
 use crate::tried::free;
+use ev_rows::Failure;
 use std::alloc::Global;
 use std::sync::Wait;
 use std::thread::Threads;

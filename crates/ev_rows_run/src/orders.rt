@@ -1,8 +1,8 @@
 //! Four workers in every order of their first turns.
-use crate::failure::Failure;
 use crate::tried::{free, held, is_written};
 use crate::waiting::{add, counted, wait_for};
 use ev_outside::{Gate, Place, Worker};
+use ev_rows::Failure;
 use std::alloc::Global;
 use std::sync::Wait;
 use std::sync::atomic::AtomicU64;

@@ -1,6 +1,6 @@
 //! Many starts and ends of workers.
-use crate::failure::Failure;
 use crate::tried::{free, is_written};
+use ev_rows::Failure;
 use std::alloc::Global;
 use std::sync::Wait;
 use std::thread::Threads;

@@ -1,8 +1,8 @@
 //! One call of the program over devices in memory.
-use crate::failure::Failure;
 use crate::row::Row;
 use ev_outside::{Gate, MemorySink, MemorySource, NoGate, Word};
 use ev_quiet::fault_text;
+use ev_rows::Failure;
 use ev_siena::siena;
 use std::alloc::Global;
 use std::sync::Wait;

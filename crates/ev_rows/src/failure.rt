@@ -8,13 +8,19 @@ use std::io;
 pub enum Failure {
     /// Memory ran out.
     NoMemory,
-    /// The output failed.
+    /// A document was refused.
+    Refused,
+    /// The words after the program's name are not known.
+    Usage,
+    /// The words ask for threads, which are not here.
+    Threads,
+    /// The clock, the input or the output failed.
     Outside(io::Error),
 }
 
 impl From<NoMemory> for Failure {
     ghost use Rattle.std.specs.Prelude.{◌≡◌};
-    ghost use Rattle.ev_rows_pattern.specs.declared.failure.Failure.TheVariants.{NoMemory};
+    ghost use Rattle.ev_rows.specs.declared.failure.Failure.TheVariants.{NoMemory};
 
     ghost from_gives = { λ _ e. e ≡ NoMemory };
 
@@ -25,7 +31,7 @@ impl From<NoMemory> for Failure {
 
 impl From<AllocError> for Failure {
     ghost use Rattle.std.specs.Prelude.{◌≡◌};
-    ghost use Rattle.ev_rows_pattern.specs.declared.failure.Failure.TheVariants.{NoMemory};
+    ghost use Rattle.ev_rows.specs.declared.failure.Failure.TheVariants.{NoMemory};
 
     ghost from_gives = { λ _ e. e ≡ NoMemory };
 
@@ -36,7 +42,7 @@ impl From<AllocError> for Failure {
 
 impl<T: Drop> From<AllocFailed<T>> for Failure {
     ghost use Rattle.std.specs.Prelude.{◌≡◌};
-    ghost use Rattle.ev_rows_pattern.specs.declared.failure.Failure.TheVariants.{NoMemory};
+    ghost use Rattle.ev_rows.specs.declared.failure.Failure.TheVariants.{NoMemory};
 
     ghost from_gives = { λ _ e. e ≡ NoMemory };
 
@@ -47,7 +53,7 @@ impl<T: Drop> From<AllocFailed<T>> for Failure {
 
 impl From<io::Error> for Failure {
     ghost use Rattle.std.specs.Prelude.{◌≡◌};
-    ghost use Rattle.ev_rows_pattern.specs.declared.failure.Failure.TheVariants.{Outside};
+    ghost use Rattle.ev_rows.specs.declared.failure.Failure.TheVariants.{Outside};
 
     ghost from_gives = { λ error e. e ≡ Outside error };
 
