@@ -1,0 +1,148 @@
+-- The clocks of the servers: a later phase raises all to the greatest, and what was set is set back.
+use Rattle.std.proofs.Common.{◌≡◌, ℕ, zero, suc, ◌+◌, ◌<◌, ◌≤◌, max, List, [], ◌∷◌, ◌++◌, length, map, take, slice_get, slice_set, slice_index_or, ◌⊎◌, Some, inl, inr, refl, sym, ap, subst, ◌∙◌, arith, add-one}
+use Rattle.std.proofs.lemmas.Option.{same_Some}
+use Rattle.std.proofs.lemmas.List.{map-append}
+use Rattle.std.specs.List.{range_with_len}
+use Rattle.ev_sets.specs.Sets.{Has}
+use Rattle.ev_run.specs.Machine.{Machine}
+use Rattle.ev_run.specs.Runs.{greatest, raised}
+use Rattle.ev_run.proofs.Lists.{has-append}
+use Rattle.ev_theory.specs.Real.{real}
+use Rattle.ev_hierarchy.specs.Step.{Hierarchy}
+use Rattle.ev_model.specs.Parts.{NetParts}
+use Rattle.ev_model.specs.Nets.{first_tree}
+use Rattle.ev_hierserver.specs.Core.{HierarchyParts, unsteered, IsHierarchyState}
+use Rattle.ev_hierturns.specs.Network.{net_of, servers_of}
+use Rattle.ev_numnet.proofs.Beginning.{any-clock}
+use Rattle.ev_hier.specs.Clocks.{with_clock, with_clocks, clock_from, greatest_clock}
+use Rattle.ev_hier.specs.Kept.{AreServers}
+
+-- one clock more is set
+set-next : (clocks : List ℕ) (cores : List HierarchyParts) (i : ℕ) (clock : ℕ) (parts : HierarchyParts) → slice_get clocks i ≡ Some clock → slice_get cores i ≡ Some parts
+    → slice_set (with_clocks (take i clocks) cores) i (with_clock clock parts) ≡ with_clocks (take (suc i) clocks) cores
+set-next [] cores i clock parts e f = absurd cc
+set-next (c ∷ clocks) [] i clock parts e f = absurd cc
+set-next (c ∷ clocks) (p ∷ cores) zero clock parts e f = λ k. with_clock (sym (same_Some c clock e) k) (sym (same_Some p parts f) k) ∷ cores
+set-next (c ∷ clocks) (p ∷ cores) (suc i) clock parts e f = ap (λ z. with_clock c p ∷ z) (set-next clocks cores i clock parts e f)
+
+pub set-more : (clocks : List ℕ) (cores : List HierarchyParts) (i : ℕ) (clock : ℕ) (parts : HierarchyParts) → slice_get clocks i ≡ Some clock → slice_get cores i ≡ Some parts
+    → slice_set (with_clocks (take i clocks) cores) i (with_clock clock parts) ≡ with_clocks (take (i + 1) clocks) cores
+set-more clocks cores i clock parts e f = set-next clocks cores i clock parts e f ∙ ap (λ n. with_clocks (take n clocks) cores) (sym (add-one i))
+
+-- of the clocks one more is listed
+take-one : {X : Type 0} (xs : List X) (i : ℕ) (x : X) → slice_get xs i ≡ Some x → take (suc i) xs ≡ take i xs ++ x ∷ []
+take-one [] i x e = absurd cc
+take-one (y ∷ xs) zero x e = ap (λ z. z ∷ []) (same_Some y x e)
+take-one (y ∷ xs) (suc i) x e = ap (λ z. y ∷ z) (take-one xs i x e)
+
+pub clock-more : (least : ℕ) (places : List HierarchyParts) (i : ℕ) (parts : HierarchyParts) (x : ℕ) (clocks new : List ℕ) → slice_get places i ≡ Some parts → x ≡ clock_from least parts
+    → new ≡ clocks ++ x ∷ [] → clocks ≡ map (clock_from least) (take i places) → new ≡ map (clock_from least) (take (i + 1) places)
+clock-more least places i parts x clocks new at is more so =
+    more ∙ (λ k. so k ++ is k ∷ []) ∙ sym (ap (λ n. map (clock_from least) (take n places)) (add-one i) ∙ ap (map (clock_from least)) (take-one places i parts at) ∙ map-append (clock_from least) (take i places) (parts ∷ []))
+
+pub low-more : (clocks new : List ℕ) (x n : ℕ) → new ≡ clocks ++ x ∷ [] → ((c : ℕ) → Has c clocks → c < n) → x < n → (c : ℕ) → Has c new → c < n
+low-more clocks new x n more all low c h = go (has-append c clocks (x ∷ []) (subst (Has c) more h))
+  where
+    go : Has c clocks ⊎ Has c (x ∷ []) → c < n
+    go (inl m) = all c m
+    go (inr (inl e)) = subst (λ z. z < n) (sym e) low
+    go (inr (inr m)) = absurd m
+
+-- the clock at a place
+pub clock-at : (clocks : List ℕ) (i : ℕ) → i < length clocks → slice_get clocks i ≡ Some (slice_index_or clocks i 0)
+clock-at [] i l = absurd (omega (arith, l))
+clock-at (c ∷ clocks) zero l = refl
+clock-at (c ∷ clocks) (suc i) l = clock-at clocks i (omega (arith, l))
+
+-- at the next place all is as it was
+pub next-there : (clocks : List ℕ) (cores : List HierarchyParts) (i : ℕ) → slice_get (with_clocks (take i clocks) cores) i ≡ slice_get cores i
+next-there clocks cores zero = refl
+next-there [] cores (suc i) = refl
+next-there (c ∷ clocks) [] (suc i) = refl
+next-there (c ∷ clocks) (p ∷ cores) (suc i) = next-there clocks cores i
+
+pub clocks-long : (clocks : List ℕ) (cores : List HierarchyParts) → length (with_clocks clocks cores) ≡ length cores
+clocks-long [] cores = refl
+clocks-long (c ∷ clocks) [] = refl
+clocks-long (c ∷ clocks) (p ∷ cores) = ap suc (clocks-long clocks cores)
+
+-- clocks of all servers
+pub all-set : (f : HierarchyParts → ℕ) (cores : List HierarchyParts) → with_clocks (map f cores) cores ≡ map (λ p. with_clock (f p) p) cores
+all-set f [] = refl
+all-set f (p ∷ cores) = ap (λ z. with_clock (f p) p ∷ z) (all-set f cores)
+
+-- what was set goes back
+pub set-back : (f : HierarchyParts → ℕ) (cores : List HierarchyParts) → with_clocks (map (clock_from 0) cores) (with_clocks (map f cores) cores) ≡ cores
+set-back f [] = refl
+set-back f (p ∷ cores) = λ k. with_clock (own k) (with_clock (f p) p) ∷ set-back f cores k
+  where
+    own : max p.core.clock 0 ≡ p.core.clock
+    own = omega arith
+
+-- the greatest clock
+greatest-is : (m : Machine) (f : ℕ → ℕ) (n k : ℕ) (cores : List HierarchyParts) → length cores ≡ k → ((place : ℕ) (parts : HierarchyParts) → slice_get cores place ≡ Some parts → parts.core.clock ≡ f (n + place))
+    → greatest_clock cores ≡ greatest m f (range_with_len n k)
+greatest-is m f n zero [] e all = refl
+greatest-is m f n (suc k) [] e all = absurd (omega (arith, e))
+greatest-is m f n zero (c ∷ cs) e all = absurd (omega (arith, e))
+greatest-is m f n (suc k) (c ∷ cs) e all =
+    let first : c.core.clock ≡ f n = all 0 c refl ∙ ap f (plus-zero n) in
+    let rest : greatest_clock cs ≡ greatest m f (range_with_len (n + 1) k) = greatest-is m f (n + 1) k cs (omega (arith, e)) (λ place parts at. all (suc place) parts at ∙ ap f (plus-suc n place)) in
+    ap (λ z. max z (greatest_clock cs)) first ∙ ap (max (f n)) rest
+  where
+    plus-zero : (n : ℕ) → n + 0 ≡ n
+    plus-zero n = omega arith
+
+    plus-suc : (n p : ℕ) → n + suc p ≡ n + 1 + p
+    plus-suc n p = omega arith
+
+below-greatest : (cores : List HierarchyParts) (place : ℕ) (parts : HierarchyParts) → slice_get cores place ≡ Some parts → parts.core.clock ≤ greatest_clock cores
+below-greatest [] place parts e = absurd cc
+below-greatest (c ∷ cs) zero parts e = let same = ap (λ (z : HierarchyParts). z.core.clock) (same_Some c parts e) in omega (arith, same)
+below-greatest (c ∷ cs) (suc place) parts e = let ih = below-greatest cs place parts e in omega (arith, ih)
+
+map-got : {X Y : Type 0} (f : X → Y) (xs : List X) (i : ℕ) (y : Y) → slice_get (map f xs) i ≡ Some y → (x : X) × (slice_get xs i ≡ Some x) × (f x ≡ y)
+map-got f [] i y e = absurd cc
+map-got f (x ∷ xs) zero y e = (x, refl, same_Some _ _ e)
+map-got f (x ∷ xs) (suc i) y e = map-got f xs i y e
+
+-- raised to the greatest, the servers are those of the raised state
+module _ (net : NetParts) (state : Hierarchy real (net_of net)) (cores : List HierarchyParts) (servers : AreServers net state cores) where
+  clock-is : greatest_clock cores ≡ greatest (servers_of net) state.clock (net_of net).servers
+  clock-is = greatest-is (servers_of net) state.clock 1 (first_tree net.trees).count cores servers.all (λ place parts at. servers.clocks place parts at ∙ ap state.clock (one-more place))
+    where
+      one-more : (place : ℕ) → suc place ≡ 1 + place
+      one-more place = omega arith
+
+  abbrev up : HierarchyParts → HierarchyParts
+  up p = with_clock (clock_from (greatest_clock cores) p) p
+
+  record Was (place : ℕ) (parts : HierarchyParts) : Type 0 where
+    old : HierarchyParts
+    there : slice_get cores place ≡ Some old
+    is : up old ≡ parts
+
+  was : (place : ℕ) (parts : HierarchyParts) → slice_get (with_clocks (map (clock_from (greatest_clock cores)) cores) cores) place ≡ Some parts → Was place parts
+  was place parts e =
+      let x = map-got up cores place parts (sym (ap (λ z. slice_get z place) (all-set (clock_from (greatest_clock cores)) cores)) ∙ e) in
+      record { old = x.0; there = x.1; is = x.2 }
+
+  pub raised-servers : AreServers net (raised (servers_of net) state) (with_clocks (map (clock_from (greatest_clock cores)) cores) cores)
+  raised-servers = record {
+    all = clocks-long (map (clock_from (greatest_clock cores)) cores) cores ∙ servers.all;
+    nets = λ place parts e. let w = was place parts e in subst (λ (z : HierarchyParts). z.core.net ≡ net) w.is (servers.nets place w.old w.there);
+    number = λ place parts e. let w = was place parts e in subst (λ (z : HierarchyParts). z.core.server ≡ suc place) w.is (servers.number place w.old w.there);
+    states = λ place parts e. let w = was place parts e in subst (λ (z : HierarchyParts). IsHierarchyState (net_of net) z (state.state (suc place))) w.is
+        (stands-up (state.state (suc place)) w.old (servers.states place w.old w.there));
+    clocks = λ place parts e. let w = was place parts e in sym (ap (λ (z : HierarchyParts). z.core.clock) w.is) ∙ high w.old (below-greatest cores place w.old w.there) ∙ clock-is;
+  }
+    where
+      high : (old : HierarchyParts) → old.core.clock ≤ greatest_clock cores → clock_from (greatest_clock cores) old ≡ greatest_clock cores
+      high old l = omega (arith, l)
+
+      stands-up : (s : _) (old : HierarchyParts) → IsHierarchyState (net_of net) old s → IsHierarchyState (net_of net) (up old) s
+      stands-up s old is = record {
+        stands = any-clock (unsteered (net_of net)) old.core (clock_from (greatest_clock cores) old) s is.stands;
+        refuses = is.refuses;
+        masters = is.masters;
+      }

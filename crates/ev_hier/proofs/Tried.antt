@@ -1,0 +1,150 @@
+-- A taking or a version that is tried: made where it is permitted, and else nothing changes; and the network is kept.
+use Rattle.std.proofs.Common.{◌≡◌, ℕ, suc, ◌-◌, ◌≤◌, Bool, true, false, [], map, slice_get, Option, Some, None, Result, Ok, Err, IfOk, OnErr, refl, sym, ap, subst, ◌∙◌, arith}
+use Rattle.ev_sets.specs.Sets.{Has}
+use Rattle.ev_run.specs.Machine.{Does, Takes, Did, Took, Stamped}
+use Rattle.ev_routing.specs.Server.{Message}
+use Rattle.ev_routing.specs.Step.{Version}
+use Rattle.ev_theory.specs.Real.{real}
+use Rattle.ev_tree.specs.Tree.{links_of}
+use Rattle.ev_hierarchy.specs.Step.{Hierarchy}
+use Rattle.ev_memory.specs.declared.NoMemory.{NoMemory}
+use Rattle.ev_model.specs.declared.turn.Act.TheVariants as acts
+use Rattle.ev_model.specs.declared.turn.Turn.TheVariants as turns
+use Rattle.ev_message.specs.Parts.{SendingParts}
+use Rattle.ev_model.specs.Parts.{NetParts, entry_parts}
+use Rattle.ev_model.specs.Nets.{topology_at}
+use Rattle.ev_hierserver.specs.Core.{HierarchyParts}
+use Rattle.ev_numserver.specs.Staged.{is_some_there}
+use Rattle.ev_hierturns.specs.Network.{network_parts, net_of, moment_by}
+use Rattle.ev_hierturns.specs.Turns.{IsTurn, IsMade, IsBarred}
+use Rattle.ev_hierturns.proofs.Lawful.{laws-of}
+use Rattle.ev_numnet.specs.Links.{waiting_in}
+use Rattle.ev_numnet.proofs.Tried.{first-left, none-left}
+use Rattle.ev_hier.specs.Kept.{IsNetwork}
+use Rattle.ev_hier.specs.declared.servers.Servers as code
+use Rattle.ev_hier.specs.Seen.{seen, IsUnchanged}
+use Rattle.ev_hier.specs.Acted.{Servers, IsActed}
+use Rattle.ev_hier.proofs.Acted.{network-step, IsNetworkStep}
+use Rattle.ev_hier.proofs.Barred.{permits}
+use Rattle.ev_hier.proofs.Grown.{is_made, is_kept, stays_kept}
+use Rattle.ev_hier.proofs.Standing.{links_at}
+
+-- nothing of the servers changed
+pub record IsSame (old new : Servers) : Type 0 where
+  pub run : new.run ≡ old.run
+  pub cores : new.cores ≡ old.cores
+  pub messages : (a b : ℕ) → new.messages a b ≡ old.messages a b
+  pub journal : new.journal ≡ old.journal
+
+-- what the code tells of that
+pub same_of : (old new : code.Servers) (answer : Result Bool NoMemory) → IfOk answer (λ made. (made ≡ false) × IsUnchanged old new)
+    → IfOk answer (λ made. (made ≡ false) × IsSame (seen old) (seen new))
+same_of old new (Ok made) same = (same.0, record { run = same.1.run; cores = same.1.cores; messages = same.1.messages; journal = same.1.journal })
+same_of old new (Err e) same = tt
+
+pub same_on_err : {T : Type 0} (old new : code.Servers) (answer : Result T NoMemory) → OnErr answer (IsUnchanged old new) → OnErr answer (IsSame (seen old) (seen new))
+same_on_err old new (Ok made) same = tt
+same_on_err old new (Err e) same = record { run = same.run; cores = same.cores; messages = same.messages; journal = same.journal }
+
+module _ (net : NetParts) (phase : ℕ) (old new : Servers) (kept : IsNetwork net phase old) where
+  abbrev state : Hierarchy real (net_of net)
+  state = (moment_by net old.journal).network
+
+  -- a turn that was made or not, and the network after it
+  pub record Tells (turn : turns.the_data) (answer : Result Bool NoMemory) : Type 0 where
+    pub turned : IfOk answer (λ made. IsTurn made turn (network_parts net old.journal) (network_parts net new.journal))
+    pub kept_on : IsNetwork net phase new
+
+  pub same_kept : IsSame old new → IsNetwork net phase new
+  same_kept same = stays_kept net phase old new kept same.run same.cores same.messages same.journal
+
+  same_parts : IsSame old new → network_parts net new.journal ≡ network_parts net old.journal
+  same_parts same = ap (network_parts net) same.journal
+
+  -- a taking finds the network as it is
+  taking_barred : (server from : ℕ) → (Has server (net_of net).servers → Has from (links_of (topology_at net 0) server)
+      → (m : Stamped (Message real)) → slice_get (state.put from server) (state.taken from server) ≡ Some m → ⊥)
+      → IsBarred net old.journal (turns.Take server from)
+  taking_barred server from none entry next now permitted =
+      let p = permits net (moment_by net old.journal) (server, Took from) entry next now permitted in
+      none p.needs.0
+      (subst (Has from) (links_at net server) p.needs.1)
+      p.needs.2.0 (subst (λ (z : Hierarchy real (net_of net)). slice_get (z.put from server) (z.taken from server) ≡ Some p.needs.2.0) (sym p.ready.0) p.needs.2.1)
+
+  pub taken_none : (server from : ℕ) → (Has server (net_of net).servers → Has from (links_of (topology_at net 0) server) → ⊥)
+      → IsBarred net old.journal (turns.Take server from)
+  taken_none server from none = taking_barred server from (λ a b m e. none a b)
+
+  pub taken_turn : (server from : ℕ) → 1 ≤ server → (answer : Result Bool NoMemory)
+      → ((of : NetParts) (m : Stamped (Message real)) → slice_get (old.messages from server) 0 ≡ Some (waiting_in of m)
+      → IfOk answer (λ made. (made ≡ true) × IsActed (server - 1) (Takes from m) (acts.Take from) old new))
+      → (old.messages from server ≡ [] → IfOk answer (λ made. (made ≡ false) × IsSame old new))
+      → OnErr answer (IsSame old new)
+      → Tells (turns.Take server from) answer
+  taken_turn server from counted (Err e) acted none same = record { turned = tt; kept_on = same_kept same }
+  taken_turn server from counted (Ok made) acted none same = go (slice_get (state.put from server) (state.taken from server)) refl
+    where
+      go : (o : Option (Stamped (Message real))) → slice_get (state.put from server) (state.taken from server) ≡ o → Tells (turns.Take server from) (Ok made)
+      go None e = record {
+        turned = subst (λ z. IsTurn z (turns.Take server from) (network_parts net old.journal) (network_parts net new.journal)) (sym n.0)
+            (same_parts n.1, taking_barred server from (λ a b m f. absurd (none-some (sym e ∙ f))));
+        kept_on = same_kept n.1;
+      }
+        where
+          none-some : {m : Stamped (Message real)} → ◌≡◌ {A = Option (Stamped (Message real))} None (Some m) → ⊥
+          none-some q = cc
+
+          n : (made ≡ false) × IsSame old new
+          n = none (kept.links.messages_are from server ∙ ap (map (waiting_in net)) (none-left (state.put from server) (state.taken from server) e))
+      go (Some m) e = record {
+        turned = subst (λ z. IsTurn z (turns.Take server from) (network_parts net old.journal) (network_parts net new.journal)) (sym a.0)
+            (is_made net phase old new kept (entry_parts a.1.stamp a.1.parts.core.server (acts.Take from) (map (λ (s : SendingParts). s.to) a.1.sent)) state phase step.after a.1.journal ready step.step (turns.Take server from) (λ i. (sym here i, Took from)));
+        kept_on = is_kept net phase old new kept (entry_parts a.1.stamp a.1.parts.core.server (acts.Take from) (map (λ (s : SendingParts). s.to) a.1.sent)) state phase step.after a.1.journal ready step.step a.1.same_run step.servers step.links;
+      }
+        where
+          a : (made ≡ true) × IsActed (server - 1) (Takes from m) (acts.Take from) old new
+          a = acted net m (ap (λ z. slice_get z 0) (kept.links.messages_are from server) ∙ first-left (waiting_in net) (state.put from server) (state.taken from server) m e)
+
+          here : a.1.parts.core.server ≡ server
+          here = kept.cores.number (server - 1) a.1.parts a.1.here ∙ omega (arith, counted)
+
+          step : IsNetworkStep net (laws-of net kept.sound) state (entry_parts a.1.stamp a.1.parts.core.server (acts.Take from) (map (λ (s : SendingParts). s.to) a.1.sent)) new
+          step = network-step net (laws-of net kept.sound) state (server - 1) (Takes from m) (acts.Take from) old new kept.cores kept.links a.1 refl
+              (subst (λ z. slice_get (state.put from z) (state.taken from z) ≡ Some m) (sym here) e)
+
+          ready : (state ≡ state) × ((moment_by net old.journal).phase ≡ phase)
+          ready = (refl, kept.in_hand)
+
+  -- a version needs something staged
+  pub version_barred : (server : ℕ) → (Has server (net_of net).servers → (state.state server).staged ≡ true → ⊥) → IsBarred net old.journal (turns.Version server)
+  version_barred server none entry next now permitted =
+      let p = permits net (moment_by net old.journal) (server, Did Version) entry next now permitted in
+      none p.needs.0 (subst (λ (z : Hierarchy real (net_of net)). (z.state server).staged ≡ true) (sym p.ready.0) p.needs.1)
+
+  pub version_none : (server : ℕ) (parts : HierarchyParts) → 1 ≤ server → slice_get old.cores (server - 1) ≡ Some parts → parts.core.staged ≡ [] → IsBarred net old.journal (turns.Version server)
+  version_none server parts counted at empty = version_barred server (λ a e. absurd (true-false (sym e ∙ off)))
+    where
+      true-false : true ≡ false → ⊥
+      true-false q = cc
+
+      off : (state.state server).staged ≡ false
+      off = ap (λ z. (state.state z).staged) (sym place) ∙ (kept.cores.states (server - 1) parts at).stands.staged ∙ ap is_some_there empty
+        where
+          place : suc (server - 1) ≡ server
+          place = omega (arith, counted)
+
+  pub version_turn : (server : ℕ) → 1 ≤ server → (acted : IsActed (server - 1) (Does Version) acts.Version old new)
+      → IsMade (turns.Version server) (network_parts net old.journal) (network_parts net new.journal) × IsNetwork net phase new
+  version_turn server counted acted = (
+    is_made net phase old new kept (entry_parts acted.stamp acted.parts.core.server acts.Version (map (λ (s : SendingParts). s.to) acted.sent)) state phase step.after acted.journal ready step.step (turns.Version server) (λ i. (sym here i, Did Version)),
+    is_kept net phase old new kept (entry_parts acted.stamp acted.parts.core.server acts.Version (map (λ (s : SendingParts). s.to) acted.sent)) state phase step.after acted.journal ready step.step acted.same_run step.servers step.links,
+  )
+    where
+      here : acted.parts.core.server ≡ server
+      here = kept.cores.number (server - 1) acted.parts acted.here ∙ omega (arith, counted)
+
+      step : IsNetworkStep net (laws-of net kept.sound) state (entry_parts acted.stamp acted.parts.core.server acts.Version (map (λ (s : SendingParts). s.to) acted.sent)) new
+      step = network-step net (laws-of net kept.sound) state (server - 1) (Does Version) acts.Version old new kept.cores kept.links acted refl tt
+
+      ready : (state ≡ state) × ((moment_by net old.journal).phase ≡ phase)
+      ready = (refl, kept.in_hand)

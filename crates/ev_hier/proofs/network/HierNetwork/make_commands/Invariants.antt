@@ -1,0 +1,15 @@
+use Rattle.std.proofs.Common.{◌-◌, drop}
+use Rattle.ev_routing.specs.Walk.{command_turns}
+use Rattle.ev_phases.specs.Trees.{net_at}
+use Rattle.ev_theory.specs.Real.{real}
+use Rattle.ev_model.specs.Nets.{phased_net, servers_in}
+use Rattle.ev_turns.specs.Network.{IsLater}
+use Rattle.ev_turns.specs.Trying.{commands_turns}
+use Rattle.ev_hier.proofs.Tries.{Going}
+use Rattle.ev_hier.proofs.network.HierNetwork.make_commands.Given as goal
+
+abbrev pub invariant-loop-server : goal.invariant-loop-server
+invariant-loop-server g l = record {
+  later : IsLater l.fn.self l.self;
+  way : Going l.phase (commands_turns l.fn.self.net 0) (command_turns real (net_at real (phased_net l.fn.self.net) 0) (drop (l.server - 1) (servers_in l.fn.self.net))) l.fn.self l.self;
+}

@@ -1,0 +1,19 @@
+//! A network of a hierarchy on one thread, by the numbers of its run: server 1 at the top, filters go up to masters alone, and
+//! notices always go up and go down by filters. Whatever turns it is asked for, its journal is a legal run of that.
+//!
+//! Layer: network on one thread. Its links, its journal and its sessions are those of the network of peers.
+#![tactic(auto)]
+
+mod clocks;
+mod inboxes;
+mod making;
+mod network;
+mod place;
+mod retelling;
+mod servers;
+mod telling;
+mod trying;
+mod walking;
+
+pub use network::HierNetwork;
+pub use retelling::retell;

@@ -1,0 +1,201 @@
+//! Networks of a hierarchy.
+ghost use Rattle.std.specs.Prelude.{◌≡◌, ◌≤◌, ◌++◌, ◌∷◌, List, [], length, IfOk, OnErr};
+ghost use Rattle.ev_sets.specs.Sets.{Has};
+ghost use Rattle.ev_model.specs.Parts.{EntryParts};
+ghost use Rattle.ev_model.specs.Nets.{first_tree, servers_in, clients_of, of_clients};
+ghost use Rattle.ev_model.specs.Sound.{IsSound};
+ghost use Rattle.ev_hierturns.specs.Network.{opening_of};
+ghost use Rattle.ev_hierturns.specs.Told.{found_of, told_of};
+ghost use Rattle.ev_hier.specs.Kept.{AreServers};
+
+use crate::inboxes::take_inboxes;
+use crate::making::{command, next_phase, received, refused, take, version};
+use crate::place::Place;
+use crate::servers::Servers;
+use crate::telling::last_told;
+use ev_journal::Journal;
+use ev_memory::NoMemory;
+use ev_model::{Delivery, Entry, Net, Sent, Turn};
+use ev_numnet::{Keeping, Kept, Links, all_clients};
+use ev_tables::Tables;
+use ev_wire::Lists;
+use std::alloc::Global;
+use std::marker::{Model, PhantomData};
+
+/// The servers and links of a net with server 1 at its top, and the journal of what was done: whatever turns it is asked for, a
+/// legal run of a hierarchy, over the tree of phase 0.
+///
+/// Contracts see the net and the journal; what the servers hold, what is on the links and what was delivered follows from
+/// these. The entries of the journal stand in memory where they are to be shown (`Kept`), and else in proofs alone (`Passed`).
+#[derive(Drop)]
+pub struct HierNetwork<'a, K: Keeping> {
+    tables: &'a Tables<'a>,
+    phase: u32,
+    clients: Vec<Lists<u32>>,
+    servers: Servers<'a>,
+    keeping: PhantomData<K>,
+}
+
+impl<'a, K: Keeping> Model for HierNetwork<'a, K> {
+    ghost use Rattle.std.specs.Prelude.{◌≡◌};
+    ghost use Rattle.ev_turns.specs.Network.{NetworkParts, network_parts};
+    ghost use Rattle.ev_numnet.specs.Seen.{AreClients};
+    ghost use Rattle.ev_hier.specs.Kept.{IsNetwork};
+    ghost use Rattle.ev_hier.specs.Seen.{seen};
+
+    ghost Value = { NetworkParts };
+
+    ghost view = { λ network. network_parts network.tables.now network.servers.journal.entries };
+
+    ghost invariant = { λ network. IsNetwork network.tables.now network.phase (seen network.servers) × AreClients network.tables.now network.clients.items
+        × (network.servers.journal.kept ≡ K.keeps) };
+}
+
+/// The servers of a net before their first steps.
+fn places<'a>(alloc: Global, tables: &'a Tables<'a>, count: u32) -> Result<Vec<Place<'a>>, NoMemory>
+    requires sound { IsSound tables.now }
+    requires count { (count ≡ (first_tree tables.now.trees).count) × (count ≤ 64) }
+    ensures { IfOk result (λ places. AreServers tables.now (opening_of tables.now).network places.items) }
+{
+    let mut places = Vec::with_capacity(alloc, count as usize)?;
+    for place in 0..count {
+        places.push(Place::start(alloc, tables, place + 1)?)?;
+    }
+    Ok(places)
+}
+
+impl<'a, K: Keeping> HierNetwork<'a, K> {
+    ghost use Rattle.ev_turns.specs.Network.{network_parts};
+    ghost use Rattle.ev_hierturns.specs.Network.{moment_by, next_phase_by, IsLegal, received_by, refused_by};
+    ghost use Rattle.ev_hierturns.specs.Turns.{IsTurn};
+
+    /// The network of a net before its first turn, over the tables of its run.
+    pub fn start(alloc: Global, tables: &'a Tables<'a>) -> Result<HierNetwork<'a, K>, NoMemory>
+        requires { IsSound tables.now }
+        ensures { IfOk result (λ network. network ≡ network_parts tables.now []) }
+    {
+        let net = tables.net();
+        let count = net.tree(0).servers();
+        let servers = Servers {
+            alloc,
+            places: places(alloc, tables, count)?,
+            links: Links::new(alloc)?,
+            journal: Journal::new(alloc, K::keeps()),
+            tables,
+        };
+        Ok(HierNetwork {
+            tables,
+            phase: 0,
+            clients: all_clients(alloc, net, count)?,
+            servers,
+            keeping: PhantomData,
+        })
+    }
+
+    /// How many turns were made; always a legal run of a hierarchy.
+    pub fn made(&self) -> u64
+        ensures count { result ≡ length self.now.journal }
+        ensures sound { IsSound self.now.net }
+        ensures legal { IsLegal self.now.net self.now.journal }
+    {
+        self.servers.journal.len()
+    }
+
+    /// What was done, and what each client received, where nothing else is wanted any more: both are handed on and not copied.
+    pub fn into_parts(self) -> Result<(Journal, Vec<Lists<Delivery>>), NoMemory>
+        ensures journal { IfOk result (λ parts. parts.0.entries ≡ self.entry.journal) }
+        ensures kept { IfOk result (λ parts. parts.0.kept ≡ K.keeps) }
+        ensures received { IfOk result (λ parts. parts.1.items ≡ of_clients self.entry.net (received_by self.entry.net self.entry.journal)) }
+    {
+        let HierNetwork {
+            tables,
+            mut servers,
+            ..
+        } = self;
+        let received = take_inboxes(tables.net(), &mut servers)?;
+        Ok((servers.journal, received))
+    }
+
+    /// The net.
+    pub(crate) fn net(&self) -> &'a Net
+        ensures net { result.now ≡ self.now.net }
+        ensures sound { IsSound self.now.net }
+        ensures legal { IsLegal self.now.net self.now.journal }
+    {
+        self.tables.net()
+    }
+
+    /// The phase of the last command.
+    pub(crate) fn phase(&self) -> u32
+        ensures { result ≡ (moment_by self.now.net self.now.journal).phase }
+    {
+        self.phase
+    }
+
+    /// The clients of a server, rising.
+    pub(crate) fn clients(&self, server: u32) -> &[u32]
+        requires { Has server (servers_in self.now.net) }
+        ensures { result.now ≡ clients_of self.now.net server }
+    {
+        self.clients[server as usize - 1].as_slice()
+    }
+
+    /// The phase of a client's next command; `None` where it has none left.
+    pub(crate) fn next_phase(&self, client: u32) -> Option<u32>
+        requires { (1 ≤ client) × (client ≤ length self.now.net.clients) }
+        ensures { result ≡ next_phase_by self.now.net self.now.journal client }
+    {
+        next_phase(self.tables.net(), &self.servers, client)
+    }
+
+    /// What a client received, in order.
+    pub fn received(&self, client: u32) -> &[Delivery]
+        requires { (1 ≤ client) × (client ≤ length self.now.net.clients) }
+        ensures { result.now ≡ received_by self.now.net self.now.journal client }
+    {
+        received(self.tables.net(), &self.servers, client)
+    }
+
+    /// The ordinals of a client's publishes that were refused, rising.
+    pub fn refused(&self, client: u32) -> &[u32]
+        requires { (1 ≤ client) × (client ≤ length self.now.net.clients) }
+        ensures { result.now ≡ refused_by self.now.net self.now.journal client }
+    {
+        refused(self.tables.net(), &self.servers, client)
+    }
+
+    /// The texts of the messages of the last turn, by rising neighbour.
+    pub fn last_told(&self) -> Result<Lists<Sent>, NoMemory>
+        ensures { IfOk result (λ told. (before : List EntryParts) (entry : EntryParts) → self.now.journal ≡ before ++ entry ∷ []
+            → told ≡ told_of self.now.net (found_of self.now.net self.now.journal (length before) entry) entry) }
+    {
+        last_told(self.tables, &self.servers)
+    }
+
+    /// Makes a turn where it is permitted, and answers whether it is. Where it is not, and after want of memory, the
+    /// network is as before.
+    pub fn turn(&mut self, turn: Turn) -> Result<bool, NoMemory>
+        ensures turn { IfOk result (λ made. IsTurn made turn self.old self.new) }
+        ensures err { OnErr result (self.new ≡ self.old) }
+    {
+        let net = self.tables.net();
+        match turn {
+            Turn::Command(client) => command(net, &mut self.phase, &mut self.servers, client),
+            Turn::Take { server, from } => take(net, self.phase, &mut self.servers, server, from),
+            Turn::Version(server) => version(net, self.phase, &mut self.servers, server),
+        }
+    }
+}
+
+impl<'a> HierNetwork<'a, Kept> {
+    ghost use Rattle.ev_hierturns.specs.Network.{IsLegal};
+
+    /// What was done, in the order of the turns: always a legal run of a hierarchy.
+    pub fn journal(&self) -> &[Entry]
+        ensures journal { result.now ≡ self.now.journal }
+        ensures sound { IsSound self.now.net }
+        ensures legal { IsLegal self.now.net self.now.journal }
+    {
+        self.servers.journal.entries()
+    }
+}

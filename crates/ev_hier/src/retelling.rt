@@ -1,0 +1,34 @@
+//! The messages of a hierarchy's journal.
+ghost use Rattle.std.specs.Prelude.{◌≡◌, IfOk};
+ghost use Rattle.ev_model.specs.Sound.{IsSound};
+ghost use Rattle.ev_hierturns.specs.Network.{IsLegal};
+ghost use Rattle.ev_hierturns.specs.Told.{told_by};
+
+use crate::network::HierNetwork;
+use ev_memory::NoMemory;
+use ev_model::{Entry, Sent};
+use ev_numnet::{Passed, turn_of};
+use ev_tables::Tables;
+use ev_wire::Lists;
+use std::alloc::Global;
+
+/// For each entry of a journal that is a legal run of a hierarchy of the net of these tables, the texts of its messages by rising
+/// neighbour.
+pub fn retell(
+    alloc: Global,
+    tables: &Tables<'_>,
+    journal: &[Entry],
+) -> Result<Vec<Lists<Sent>>, NoMemory>
+    requires sound { IsSound tables.now }
+    requires legal { IsLegal tables.now journal.now }
+    ensures { IfOk result (λ told. told.items ≡ told_by tables.now journal.now) }
+{
+    let mut network: HierNetwork<'_, Passed> = HierNetwork::start(alloc, tables)?;
+    let mut told = Vec::with_capacity(alloc, journal.len())?;
+    for entry in journal {
+        network.turn(turn_of(entry))?;
+        let texts = network.last_told()?;
+        told.push(texts)?;
+    }
+    Ok(told)
+}

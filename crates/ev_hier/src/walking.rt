@@ -1,0 +1,42 @@
+//! The walk schedule.
+ghost use Rattle.std.specs.Prelude.{OnOk, OnErr, IfOk};
+
+use crate::network::HierNetwork;
+use ev_memory::NoMemory;
+use ev_numnet::Keeping;
+
+impl<'a, K: Keeping> HierNetwork<'a, K> {
+    ghost use Rattle.ev_hierturns.specs.Network.{IsLater};
+    ghost use Rattle.ev_hierturns.specs.Walked.{IsWalked, IsWalkBegun, IsPhaseOf, IsPhaseBegun};
+
+    /// Makes what is left of the phase in hand, or else of the next phase that has something left, and answers whether
+    /// there was something: false exactly where all commands are taken, all links are empty and nothing is staged. After want
+    /// of memory the turns that were made stand: a beginning of these.
+    pub fn walk_phase(&mut self) -> Result<bool, NoMemory>
+        ensures walked { IfOk result (λ some. IsPhaseOf some self.old self.new) }
+        ensures begun { OnErr result (IsPhaseBegun self.old self.new) }
+        ensures err { OnErr result (IsLater self.old self.new) }
+    {
+        let before = self.made();
+        for phase in self.phase()..self.net().phases() {
+            self.make_phase(phase)?;
+            if self.made() > before {
+                return Ok(true);
+            }
+        }
+        Ok(false)
+    }
+
+    /// Makes what is left of all phases, so that all commands are taken, all links are empty and nothing is staged.
+    /// After want of memory the turns that were made stand: a beginning of these.
+    pub fn walk(&mut self) -> Result<(), NoMemory>
+        ensures walked { OnOk result (IsWalked self.old self.new) }
+        ensures begun { OnErr result (IsWalkBegun self.old self.new) }
+        ensures err { OnErr result (IsLater self.old self.new) }
+    {
+        for phase in self.phase()..self.net().phases() {
+            self.make_phase(phase)?;
+        }
+        Ok(())
+    }
+}

@@ -1,0 +1,9 @@
+pub mod Plain
+pub mod Sent
+pub mod Effects
+pub mod Takings
+pub mod Versions
+pub mod Commanded
+pub mod Silent
+pub mod Keeping
+pub mod Starting

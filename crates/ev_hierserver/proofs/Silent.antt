@@ -1,0 +1,110 @@
+-- A next command that is no publish that is accepted, by its plan in numbers.
+use Rattle.std.proofs.Common.{◌≡◌, ℕ, suc, max, ◌+◌, ◌^◌, ◌<◌, List, [], map, length, Some, refl, sym, ap, subst, ◌∙◌}
+use Rattle.std.proofs.lemmas.Option.{same_Some}
+use Rattle.std.specs.List.Sorted.{IsStrictlyIncreasing}
+use Rattle.ev_sets.specs.Sets.{Has}
+use Rattle.ev_run.specs.Machine.{Does}
+use Rattle.ev_routing.specs.Step.{NextCommand}
+use Rattle.ev_wire.specs.declared.semantics.Semantics.TheVariants.{Subscription}
+use Rattle.ev_message.specs.Parts.{SendingParts}
+use Rattle.ev_session.specs.declared.planned.Planned.{Planned}
+use Rattle.ev_session.specs.declared.planned.Planned.TheVariants as plans
+use Rattle.ev_session.specs.Session.{SessionParts}
+use Rattle.ev_session.specs.Plan.{next_plan}
+use Rattle.ev_numsession.specs.declared.planned.Planned as numbers
+use Rattle.ev_numsession.specs.declared.planned.Planned.TheVariants as plans_by
+use Rattle.ev_numsession.specs.Session.{PlansNext}
+use Rattle.ev_numserver.specs.Clients.{bare, client_numbers, at_client, stepped}
+use Rattle.ev_numserver.specs.Ledger.{LedgerParts}
+use Rattle.ev_numserver.specs.Acting.{HasChanged, HasDone, planned_message}
+use Rattle.ev_numserver.specs.Core.{core_parts}
+use Rattle.ev_numserver.specs.Kept.{IsCore}
+use Rattle.ev_numserver.specs.Routed.{RoutesNext}
+use Rattle.ev_numserver.proofs.Sessions.{has-map, map-has, only}
+use Rattle.ev_numserver.proofs.Keeping.{changed-net, changed-links}
+use Rattle.ev_numserver.proofs.Plans.{done-of}
+use Rattle.ev_numserver.proofs.Commands.{planned-bare, numbers-bare}
+use Rattle.ev_hierserver.specs.Core.{hierarchy_parts}
+use Rattle.ev_hierserver.specs.Step.{MakesHierarchyStep}
+use Rattle.ev_hierserver.specs.Acting.{sent_up}
+use Rattle.ev_hierserver.specs.Kept.{plain}
+use Rattle.ev_hierserver.proofs.Plain.{plain-bare, AllOf}
+use Rattle.ev_hierserver.proofs.Commanded.{MadeIn, RefusesNone, plain-plan, filters-step, adverts-step, refused-step, commanded-kept, refused-kept}
+
+module _ (server clock stamp client master : ℕ) (old new : LedgerParts) (mid : List SessionParts) (all : List SendingParts)
+    (kept : IsCore (core_parts server old (map bare (map plain mid)) clock))
+    (plainly : old.control.semantics ≡ Subscription) (all-of : AllOf old.net.semantics (map bare mid))
+    (lives : Has client (client_numbers (map bare mid)))
+    (some-left : (s : SessionParts) → Has s (map bare mid) → s.client ≡ client → s.taken < length s.script)
+    (rises : IsStrictlyIncreasing (client_numbers mid)) where
+  one : (t : SessionParts) × Has t mid × (t.client ≡ client)
+  one = let r = has-map (λ (s : SessionParts). s.client) mid client (subst (Has client) (numbers-bare mid) lives) in (r.0, r.1, sym r.2)
+
+  of-all : (p : Planned) → next_plan one.0 ≡ Some p → (s : SessionParts) → Has s (map bare mid) → s.client ≡ client → next_plan s ≡ Some p
+  of-all p q = planned-bare client p mid mid refl (λ s h e. subst (λ z. next_plan z ≡ Some p) (only mid rises one.0 s one.1 h (one.2 ∙ sym e)) q)
+
+  rises-bare : IsStrictlyIncreasing (client_numbers (map bare mid))
+  rises-bare = subst IsStrictlyIncreasing (sym (numbers-bare mid)) rises
+
+  there-plain : Has (plain (bare one.0)) (map bare (map plain mid))
+  there-plain = subst (Has (plain (bare one.0))) (sym (plain-bare mid)) (map-has plain (map bare mid) (bare one.0) (map-has bare mid one.0 one.1))
+
+  plain-routes : (p : Planned) → RefusesNone p → next_plan one.0 ≡ Some p → ((s : SessionParts) → Has s (map bare (map plain mid)) → s.client ≡ client → next_plan s ≡ Some p)
+  plain-routes p none q s h e =
+      let r = has-map plain (map bare mid) s (subst (Has s) (plain-bare mid) h) in
+      subst (λ z. next_plan z ≡ Some p) (sym r.2) (plain-plan r.0 p none (of-all p q r.0 r.1 (ap (λ (z : SessionParts). z.client) (sym r.2) ∙ e)))
+
+  no-publish : (p : Planned) → ((i : _) (n : _) → p ≡ plans.Publish i n → ⊥) → RefusesNone p → next_plan one.0 ≡ Some p → RoutesNext (core_parts server old (map bare (map plain mid)) clock) client []
+  no-publish p never none q = λ s i n h e f. absurd (never i n (same_Some _ _ (sym (plain-routes p none q s h e) ∙ f)))
+
+  -- what the plan by numbers does is what this plan of the plain session does
+  done-plain : (q : numbers.Planned) (p : Planned) → next_plan (plain (bare one.0)) ≡ Some p → PlansNext old.net (plain (bare one.0)) q → HasChanged (64 + client) q old new all
+      → HasDone (64 + client) (planned_message old.control.semantics p) [] old new (map plain mid) (map plain mid) all
+  done-plain q p e n changed =
+      let d = done-of server clock client old new (map plain mid) all kept (plain (bare one.0)) there-plain one.2 q n changed in
+      subst (λ z. HasDone (64 + client) (planned_message old.control.semantics z) [] old new (map plain mid) (map plain mid) all) (same_Some _ _ (sym d.1 ∙ e)) d.2
+
+  module _ (sent : List SendingParts) (stamps : stamp ≡ suc (max clock 0)) (up : sent ≡ sent_up master all) where
+    pub silent-step : (q : numbers.Planned) → ((s : SessionParts) → Has s mid → s.client ≡ client → PlansNext old.net s q) → HasChanged (64 + client) q old new all
+        → MadeIn server clock stamp client master old new mid mid [] kept plainly all-of lives some-left sent
+    silent-step (plans_by.Filters moved) plans-are changed =
+        let n = plans-are one.0 one.1 one.2 in
+        let p : Planned = plans.Subs n.0.0 n.0.1 in
+        let d = done-plain (plans_by.Filters moved) p (plain-plan (bare one.0) p (λ o e. cc) n.0.2) ((n.0.0, n.0.1, plain-plan (bare one.0) p (λ o e. cc) n.0.2), n.1) changed in
+        filters-step server clock stamp client master old new mid mid [] kept plainly all-of lives some-left n.0.0 n.0.1 (of-all p n.0.2) all sent d (no-publish p (λ i m e. cc) (λ o e. cc) n.0.2) stamps up
+    silent-step (plans_by.Adverts moved) plans-are changed =
+        let n = plans-are one.0 one.1 one.2 in
+        let p : Planned = plans.Advs n.0.0 n.0.1 in
+        let d = done-plain (plans_by.Adverts moved) p (plain-plan (bare one.0) p (λ o e. cc) n.0.2) ((n.0.0, n.0.1, plain-plan (bare one.0) p (λ o e. cc) n.0.2), n.1) changed in
+        adverts-step server clock stamp client master old new mid mid [] kept plainly all-of lives some-left n.0.0 n.0.1 (of-all p n.0.2) all sent d (no-publish p (λ i m e. cc) (λ o e. cc) n.0.2) stamps up
+    silent-step (plans_by.Publish id number) plans-are changed = absurd changed
+    silent-step (plans_by.Refused o) plans-are changed =
+        refused-step server clock stamp client master old new mid mid [] kept plainly all-of lives some-left o (of-all (plans.Refused o) (plans-are one.0 one.1 one.2)) sent changed.0 refl (up ∙ ap (sent_up master) changed.1)
+
+    pub silent-made : (q : numbers.Planned) → ((s : SessionParts) → Has s mid → s.client ≡ client → PlansNext old.net s q) → HasChanged (64 + client) q old new all
+        → MakesHierarchyStep (Does (NextCommand client)) 0 (hierarchy_parts (core_parts server old (map bare mid) clock) master) (hierarchy_parts (core_parts server new (map bare (at_client client stepped mid)) stamp) master) stamp sent
+    silent-made q plans-are changed = record {
+      step = silent-step q plans-are changed;
+      stamp_is = stamps;
+      clock_is = refl;
+      same_net = changed-net (64 + client) q old new all changed;
+      same_server = refl;
+      same_links = changed-links (64 + client) q old new all changed;
+      same_master = refl;
+    }
+
+  pub silent-kept : (q : numbers.Planned) → ((s : SessionParts) → Has s mid → s.client ≡ client → PlansNext old.net s q) → HasChanged (64 + client) q old new all → stamp < 2 ^ 62
+      → IsCore (core_parts server new (map bare (map plain (at_client client stepped mid))) stamp)
+  silent-kept (plans_by.Filters moved) plans-are changed low =
+      let n = plans-are one.0 one.1 one.2 in
+      let p : Planned = plans.Subs n.0.0 n.0.1 in
+      let d = done-plain (plans_by.Filters moved) p (plain-plan (bare one.0) p (λ o e. cc) n.0.2) ((n.0.0, n.0.1, plain-plan (bare one.0) p (λ o e. cc) n.0.2), n.1) changed in
+      commanded-kept server clock stamp client master old new mid mid [] kept plainly all-of lives some-left p (λ o e. cc) (of-all p n.0.2) all d low
+  silent-kept (plans_by.Adverts moved) plans-are changed low =
+      let n = plans-are one.0 one.1 one.2 in
+      let p : Planned = plans.Advs n.0.0 n.0.1 in
+      let d = done-plain (plans_by.Adverts moved) p (plain-plan (bare one.0) p (λ o e. cc) n.0.2) ((n.0.0, n.0.1, plain-plan (bare one.0) p (λ o e. cc) n.0.2), n.1) changed in
+      commanded-kept server clock stamp client master old new mid mid [] kept plainly all-of lives some-left p (λ o e. cc) (of-all p n.0.2) all d low
+  silent-kept (plans_by.Publish id number) plans-are changed low = absurd changed
+  silent-kept (plans_by.Refused o) plans-are changed low =
+      refused-kept server clock stamp client master old new mid mid [] kept plainly all-of lives some-left o (of-all (plans.Refused o) (plans-are one.0 one.1 one.2)) rises-bare changed.0 refl low

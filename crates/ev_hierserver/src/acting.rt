@@ -1,0 +1,124 @@
+//! What a message does at a server of a hierarchy.
+ghost use Rattle.std.specs.Prelude.{◌≡◌, ◌<◌, length, map, IfOk, OnErr};
+ghost use Rattle.std.specs.List.Sorted.{IsStrictlyIncreasing};
+ghost use Rattle.ev_sets.specs.Sets.{Has};
+ghost use Rattle.ev_catalogue.specs.Known.{known_publications};
+ghost use Rattle.ev_tables.specs.Found.{publication_at};
+ghost use Rattle.ev_message.specs.Message.{IsLoad, meaning};
+ghost use Rattle.ev_numserver.specs.Clients.{bare, StayPlanned};
+ghost use Rattle.ev_numserver.specs.Acting.{IsRouted, sent_on};
+ghost use Rattle.ev_hierserver.specs.Acting.{sent_up, goes, links_from, IsSpreadUp, HasActedUp};
+
+use ev_memory::NoMemory;
+use ev_message::{Load, Message, Sending};
+use ev_numserver::{Clients, Ledger, spread};
+use ev_tables::Tables;
+use std::alloc::Global;
+
+/// Drops what is for other neighbours than the master. It takes no memory.
+pub(crate) fn keep_up<'a>(sent: &mut Vec<Sending<'a>>, master: u32)
+    ensures { sent.new.items ≡ sent_up master sent.old.items }
+{
+    sent.retain(|one| one.to == master);
+}
+
+/// Whether a notice from an interface goes on to a link.
+fn goes_on(master: u32, from: u32, route: &[u32], link: u32) -> bool
+    ensures { result ≡ goes master from route.now link }
+{
+    link != from && (link == master || route.contains(&link))
+}
+
+/// The publication with a number on its way to the master and to the links of a route, but not back.
+fn onward<'a>(
+    alloc: Global,
+    tables: &'a Tables<'a>,
+    links: &[u32],
+    master: u32,
+    from: u32,
+    number: u32,
+    route: &[u32],
+) -> Result<Vec<Sending<'a>>, NoMemory>
+    requires { number < length (known_publications 1 tables.now.clients) }
+    ensures { IfOk result (λ sent. sent.items
+        ≡ sent_on tables.now (meaning tables.now (Load.Publication number)) (links_from master from route.now links.now)) }
+{
+    let mut sent = Vec::new(alloc);
+    for link in links {
+        if goes_on(master, from, route, *link) {
+            let message = Message::of(tables, Load::Publication(number));
+            sent.push(Sending { to: *link, message })?;
+        }
+    }
+    Ok(sent)
+}
+
+/// Sends the publication with a number on, to the master and by its route, and delivers it by its route.
+pub(crate) fn spread_up<'a>(
+    alloc: Global,
+    tables: &'a Tables<'a>,
+    links: &[u32],
+    master: u32,
+    clients: &mut Clients<'a>,
+    from: u32,
+    number: u32,
+    route: &[u32],
+) -> Result<Vec<Sending<'a>>, NoMemory>
+    requires rising { IsStrictlyIncreasing route.now }
+    requires known { number < length (known_publications 1 tables.now.clients) }
+    ensures spread { IfOk result (λ sent. IsSpreadUp tables.now master from (publication_at tables.now number).id.publisher
+        (publication_at tables.now number).id.ordinal (publication_at tables.now number).notice route.now links.now
+        clients.old.sessions clients.new.sessions sent.items) }
+    ensures net { clients.new.net ≡ clients.old.net }
+    ensures planned { StayPlanned clients.old.sessions clients.new.sessions }
+    ensures err { OnErr result (map bare clients.new.sessions ≡ map bare clients.old.sessions) }
+{
+    let sent = onward(alloc, tables, links, master, from, number, route)?;
+    spread(alloc, tables, &[], clients, from, number, route)?;
+    Ok(sent)
+}
+
+/// What a message does that came from an interface with this load. A publication goes to the master, and by its route. The
+/// answer is the messages that become due, by link.
+pub(crate) fn act<'a>(
+    alloc: Global,
+    ledger: &mut Ledger<'a>,
+    master: u32,
+    clients: &mut Clients<'a>,
+    from: u32,
+    load: &Load,
+    route: &[u32],
+) -> Result<Vec<Sending<'a>>, NoMemory>
+    requires from { Has from ledger.old.interfaces }
+    requires load { IsLoad ledger.old.net load.now }
+    requires routed { IsRouted (meaning ledger.old.net load.now) route.now }
+    ensures acted { IfOk result (λ sent. HasActedUp master from (meaning ledger.old.net load.now) route.now ledger.old ledger.new
+        clients.old.sessions clients.new.sessions sent.items) }
+    ensures interfaces { ledger.new.interfaces ≡ ledger.old.interfaces }
+    ensures net { clients.new.net ≡ clients.old.net }
+    ensures planned { StayPlanned clients.old.sessions clients.new.sessions }
+    ensures ledger { OnErr result (ledger.new ≡ ledger.old) }
+    ensures clients { OnErr result (map bare clients.new.sessions ≡ map bare clients.old.sessions) }
+{
+    match load {
+        Load::Filters(change) => {
+            let mut sent = ledger.set_filters(from, change.withdrawn(), change.added())?;
+            keep_up(&mut sent, master);
+            Ok(sent)
+        }
+        Load::Adverts(_) => Ok(Vec::new(alloc)),
+        Load::Publication(number) => {
+            let tables = ledger.tables();
+            spread_up(
+                alloc,
+                tables,
+                ledger.links(),
+                master,
+                clients,
+                from,
+                *number,
+                route,
+            )
+        }
+    }
+}
