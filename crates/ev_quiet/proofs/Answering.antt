@@ -1,49 +1,85 @@
 -- The answer to each thing that is wanted.
-use Rattle.std.proofs.Common.{◌⊎◌, inl, inr, ℕ, Bool, List, Result, Ok, Err, refl, ap}
+use Rattle.std.proofs.Common.{◌≡◌, ◌≤◌, ◌⊎◌, inl, inr, ℕ, Bool, true, List, ◌++◌, length, Result, Ok, Err, refl, ap, subst}
 use Rattle.std.specs.Result.{IfOk, IsOk, IsErrOf}
+use Rattle.ev_outside.specs.Whole.{Gave}
+use Rattle.ev_outside.specs.declared.whole.ReadAll.{ReadAll}
+use Rattle.ev_outside.specs.declared.whole.ReadAll.TheVariants as reads
 use Rattle.ev_input.specs.declared.fault.Fault.{Fault}
-use Rattle.ev_quiet.specs.declared.refusal.Refusal.{Refusal}
-use Rattle.ev_quiet.specs.declared.refusal.Refusal.TheVariants as refusals
+use Rattle.ev_input.specs.declared.fault.InputFault.{InputFault}
+use Rattle.ev_input.specs.declared.fault.InputFault.TheVariants as inputs
 use Rattle.ev_quiet.specs.declared.unanswered.Unanswered.{Unanswered}
 use Rattle.ev_quiet.specs.declared.unanswered.Unanswered.TheVariants as whys
 use Rattle.ev_quiet.specs.declared.words.Query.{Query}
 use Rattle.ev_quiet.specs.declared.words.Wanted.TheVariants.{Audit, Document, Patterns}
-use Rattle.ev_quiet.specs.Answers.{IsPrintedBy, HasFaultFor, GaveRefusedFor, CanAnswerFor}
-use Rattle.ev_quiet.specs.Answering.{IsAnswer, Says, widened}
+use Rattle.ev_quiet.specs.Faults.{IsAtFault, MustBeRefused, CanBeDone}
+use Rattle.ev_quiet.specs.Answers.{IsPrintedOf}
+use Rattle.ev_quiet.specs.Answering.{IsAnswer, Says, of_unread, widened}
 use Rattle.ev_quiet.specs.Auditing.{AuditsSource}
 use Rattle.ev_quiet.specs.Searching.{SearchesSource}
 use Rattle.ev_quiet.specs.Showing.{PrintedParts}
 use Rattle.ev_quiet.proofs.Confirmed.{audit-done, audit-refused, audit-wrong}
 use Rattle.ev_quiet.proofs.Searched.{search-bad, search-done, search-refused}
+use Rattle.ev_quiet.proofs.Sources.{same-given, long-fault, unread-refused, unread-done}
 
 -- Answers about documents.
 
-is-ok-wide : {T : Type 0} (r : Result T Refusal) → IsOk r → IsOk (widened r)
+is-ok-wide : {T : Type 0} (r : Result T InputFault) → IsOk r → IsOk (widened r)
 is-ok-wide (Ok p) e = refl
-is-ok-wide (Err refusal) e = absurd cc
+is-ok-wide (Err fault) e = absurd cc
 
-document-says : (query : Query) (a b : List ℕ) (ended : Bool) (r : Result PrintedParts Refusal) → IfOk r (λ p. IsPrintedBy (Document query) a b ended p.text p.journal)
-    → ((line : ℕ) (kind : Fault) → IsErrOf r (refusals.BadInput line kind) → HasFaultFor (Document query) a b ended line kind) → Says (Document query) a b ended (widened r)
-document-says query a b ended (Ok p) printed bad = printed
-document-says query a b ended (Err (refusals.BadInput line kind)) printed bad = bad line kind refl
-document-says query a b ended (Err refusals.ReadFault) printed bad = tt
-document-says query a b ended (Err refusals.NoMemory) printed bad = tt
+-- what is answered of a document's bytes is no fault of reading them
+pub never-unread : {T : Type 0} (r : Result T InputFault) → IsErrOf (widened r) whys.ReadFault → ⊥
+never-unread (Ok p) e = absurd cc
+never-unread (Err (inputs.Bad line kind)) e = absurd cc
+never-unread (Err inputs.NoMemory) e = absurd cc
 
-pub document-answer : (query : Query) (a b : List ℕ) (ended : Bool) (r : Result PrintedParts Refusal) → IfOk r (λ p. IsPrintedBy (Document query) a b ended p.text p.journal)
-    → ((line : ℕ) (kind : Fault) → IsErrOf r (refusals.BadInput line kind) → HasFaultFor (Document query) a b ended line kind)
-    → ((line : ℕ) (kind : Fault) → GaveRefusedFor (Document query) a b ended line kind → IsErrOf r (refusals.BadInput line kind) ⊎ IsErrOf r refusals.NoMemory)
-    → (CanAnswerFor (Document query) a b ended → IsOk r ⊎ IsErrOf r refusals.NoMemory) → IsAnswer (Document query) a b ended (widened r)
-document-answer query a b ended r printed bad refused done = record {
-  says = document-says query a b ended r printed bad;
-  refused = λ line kind t. elim (refused line kind t) [
+document-says : (query : Query) (a b input : List ℕ) (ended : Bool) (r : Result PrintedParts InputFault) → b ≡ a ++ input → ended ≡ true
+    → IfOk r (λ p. IsPrintedOf query input p.text p.journal)
+    → ((line : ℕ) (kind : Fault) → IsErrOf r (inputs.Bad line kind) → IsAtFault query input line kind) → Says (Document query) a b ended (widened r)
+document-says query a b input ended (Ok p) is e printed bad = (input, is, e, printed)
+document-says query a b input ended (Err (inputs.Bad line kind)) is e printed bad = (input, (is, inl e), bad line kind refl)
+document-says query a b input ended (Err inputs.NoMemory) is e printed bad = tt
+
+-- the answer about all bytes up to the end of a source
+pub document-answer : (query : Query) (a b input : List ℕ) (ended : Bool) (r : Result PrintedParts InputFault) → b ≡ a ++ input → ended ≡ true
+    → IfOk r (λ p. IsPrintedOf query input p.text p.journal)
+    → ((line : ℕ) (kind : Fault) → IsErrOf r (inputs.Bad line kind) → IsAtFault query input line kind)
+    → ((line : ℕ) (kind : Fault) → MustBeRefused query input line kind → IsErrOf r (inputs.Bad line kind) ⊎ IsErrOf r inputs.NoMemory)
+    → (CanBeDone query input → IsOk r ⊎ IsErrOf r inputs.NoMemory) → IsAnswer (Document query) a b ended (widened r)
+document-answer query a b input ended r is e printed bad refused done = record {
+  says = document-says query a b input ended r is e printed bad;
+  refused = λ line kind t. elim (refused line kind (subst (λ x. MustBeRefused query x line kind) (same-given a b t.0 input t.1.0 is) t.2)) [
     | inl e ↦ inl (ap widened e)
     | inr e ↦ inr (ap widened e)
   ];
   refused_pattern = λ line kind t. absurd t;
   wrong = λ line kind t. absurd t;
-  done = λ t. elim (done t) [
+  done = λ t. elim (done (subst (λ x. CanBeDone query x) (same-given a b t.0 input t.1.0 is) t.2)) [
     | inl e ↦ inl (is-ok-wide r e)
     | inr e ↦ inr (ap widened e)
+  ];
+}
+
+unread-says : (query : Query) (a b : List ℕ) (ended : Bool) (e : ReadAll) → (e ≡ reads.TooLong → Gave a b (λ given. length given ≡ 4194305))
+    → Says (Document query) a b ended (Err (of_unread e))
+unread-says query a b ended reads.TooLong long = long-fault query a b ended (long refl)
+unread-says query a b ended reads.Failed long = tt
+unread-says query a b ended reads.NoMemory long = tt
+
+-- the answer about a source that was not read to its end
+pub unread-document : (query : Query) (a b : List ℕ) (ended : Bool) (e : ReadAll) → (e ≡ reads.TooLong → Gave a b (λ given. length given ≡ 4194305))
+    → (e ≡ reads.Failed → Gave a b (λ given. length given ≤ 4194304)) → (ended ≡ true → ⊥) → IsAnswer (Document query) a b ended (Err (of_unread e))
+unread-document query a b ended e long within never = record {
+  says = unread-says query a b ended e long;
+  refused = λ line kind t. elim t.1.1 [
+    | inl x ↦ absurd (never x)
+    | inr big ↦ unread-refused query a b t.0 e line kind within t.1.0 big t.2
+  ];
+  refused_pattern = λ line kind t. absurd t;
+  wrong = λ line kind t. absurd t;
+  done = λ t. elim t.1.1 [
+    | inl x ↦ absurd (never x)
+    | inr big ↦ absurd (unread-done query t.0 big t.2)
   ];
 }
 

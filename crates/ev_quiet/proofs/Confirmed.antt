@@ -5,7 +5,6 @@ use Rattle.ev_outside.specs.Whole.{Gave}
 use Rattle.ev_model.specs.Parts.{NetParts, EntryParts}
 use Rattle.ev_model.specs.Sound.{IsSound}
 use Rattle.ev_input.specs.declared.fault.Fault.{Fault}
-use Rattle.ev_input.specs.declared.fault.Fault.TheVariants.{TooLong}
 use Rattle.ev_audit.specs.Claim.{IsBadDocument}
 use Rattle.ev_audit.proofs.Claiming.{one_bad}
 use Rattle.ev_audited.specs.Verdict.{IsAudited, IsRefuted}
@@ -15,8 +14,8 @@ use Rattle.ev_audited.specs.declared.fault.AuditKind.{AuditKind}
 use Rattle.ev_audited.proofs.Verdicts.{audited_or_bad, audited_or_must, can_or_bad, can_or_refuted, must_or_bad, refuted_once, refuted_or_bad}
 use Rattle.ev_quiet.specs.declared.unanswered.Unanswered.{Unanswered}
 use Rattle.ev_quiet.specs.declared.unanswered.Unanswered.TheVariants as whys
-use Rattle.ev_quiet.specs.declared.refusal.Refusal.{Refusal}
-use Rattle.ev_quiet.specs.declared.refusal.Refusal.TheVariants as refusals
+use Rattle.ev_outside.specs.declared.whole.ReadAll.{ReadAll}
+use Rattle.ev_outside.specs.declared.whole.ReadAll.TheVariants as reads
 use Rattle.ev_quiet.specs.declared.words.Wanted.TheVariants.{Audit}
 use Rattle.ev_quiet.specs.Printed.{run_text, trace_of}
 use Rattle.ev_quiet.specs.Promise.{ClientPromise, AreOfNotices}
@@ -24,7 +23,7 @@ use Rattle.ev_quiet.specs.Network.{lists_by, RunPromise, IsWholeRun}
 use Rattle.ev_quiet.specs.Audits.{IsAuditOf, IsAuditAtFault, IsAuditRefuted, MustRefute, CanConfirm, audit_text, traced}
 use Rattle.ev_quiet.specs.Answers.{GaveOutput, GaveRefusedFor, GaveWrongFor, CanAnswerFor}
 use Rattle.ev_quiet.specs.Showing.{PrintedParts}
-use Rattle.ev_quiet.specs.Answering.{of_audit_fault, of_refusal}
+use Rattle.ev_quiet.specs.Answering.{of_audit_fault, of_unread}
 use Rattle.ev_quiet.specs.Auditing.{AuditsInput, AuditsSource}
 use Rattle.ev_quiet.proofs.Sources.{same-given}
 
@@ -120,15 +119,14 @@ module _ (a b : List ℕ) (ended : Bool) where
   audit-answer input (Err whys.ReadFault) is e h = absurd h
   audit-answer input (Err whys.NoMemory) is e h = tt
 
-  pub unread-audit : (e : Refusal)
-      → ((l : ℕ) (k : Fault) → e ≡ refusals.BadInput l k → (l ≡ 0) × (k ≡ TooLong) × Gave a b (λ given. length given ≡ 268435457))
-      → (e ≡ refusals.ReadFault → Gave a b (λ given. length given ≤ 268435456)) → (ended ≡ true → ⊥) → AuditsSource a b ended (Err (of_refusal e))
-  unread-audit (refusals.BadInput l k) long within never =
-      let t = long l k refl in
-      let big : 268435456 < length t.2.0 = omega (arith, t.2.2) in
-      (t.2.0, (t.2.1, inr big), inl (big, t.0, t.1))
-  unread-audit refusals.ReadFault long within never = (never, within refl)
-  unread-audit refusals.NoMemory long within never = tt
+  pub unread-audit : (e : ReadAll) → (e ≡ reads.TooLong → Gave a b (λ given. length given ≡ 268435457)) → (e ≡ reads.Failed → Gave a b (λ given. length given ≤ 268435456)) → (ended ≡ true → ⊥)
+      → AuditsSource a b ended (Err (of_unread e))
+  unread-audit reads.TooLong long within never =
+      let t = long refl in
+      let big : 268435456 < length t.0 = omega (arith, t.2) in
+      (t.0, (t.1, inr big), inl (big, refl, refl))
+  unread-audit reads.Failed long within never = (never, within refl)
+  unread-audit reads.NoMemory long within never = tt
 
 -- what is not confirmed
 pub not-confirmed : (input : List ℕ) → length input ≤ 268435456 → (fault : AuditFault) → ((line : ℕ) (kind : Fault) → fault ≡ faults.Document line kind → IsBadDocument input line kind)

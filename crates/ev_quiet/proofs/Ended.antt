@@ -5,9 +5,9 @@ use Rattle.ev_model.specs.declared.turn.Turn.{Turn}
 use Rattle.ev_model.specs.Parts.{NetParts}
 use Rattle.ev_input.specs.declared.fault.Fault.{Fault}
 use Rattle.ev_input.specs.declared.fault.Fault.TheVariants.{BadTurn}
+use Rattle.ev_input.specs.declared.fault.InputFault.{InputFault}
+use Rattle.ev_input.specs.declared.fault.InputFault.TheVariants as inputs
 use Rattle.ev_input.specs.Net.{IsNetOf, IsBadAt}
-use Rattle.ev_quiet.specs.declared.refusal.Refusal.{Refusal}
-use Rattle.ev_quiet.specs.declared.refusal.Refusal.TheVariants as refusals
 use Rattle.ev_quiet.specs.declared.words.Schedule.{Schedule}
 use Rattle.ev_quiet.specs.declared.words.Shown.{Shown}
 use Rattle.ev_quiet.specs.declared.words.Query.{Query}
@@ -22,28 +22,28 @@ if-ok (Ok x) P Q f p = f x p
 if-ok (Err e) P Q f p = tt
 
 -- one refusal, or want of memory
-abbrev pub Refused : {T : Type 0} → Result T Refusal → ℕ → Fault → Type 0
-Refused r line kind = IsErrOf r (refusals.BadInput line kind) ⊎ IsErrOf r refusals.NoMemory
+abbrev pub Refused : {T : Type 0} → Result T InputFault → ℕ → Fault → Type 0
+Refused r line kind = IsErrOf r (inputs.Bad line kind) ⊎ IsErrOf r inputs.NoMemory
 
-abbrev pub Ended : {T : Type 0} → Result T Refusal → Type 0
-Ended r = IsOk r ⊎ IsErrOf r refusals.NoMemory
+abbrev pub Ended : {T : Type 0} → Result T InputFault → Type 0
+Ended r = IsOk r ⊎ IsErrOf r inputs.NoMemory
 
 -- the same of another answer with the same error
-same-refused : {A T : Type 0} (e : Refusal) (r : Result T Refusal) (line : ℕ) (kind : Fault) → r ≡ Err e → Refused {T = A} (Err e) line kind → Refused r line kind
+same-refused : {A T : Type 0} (e : InputFault) (r : Result T InputFault) (line : ℕ) (kind : Fault) → r ≡ Err e → Refused {T = A} (Err e) line kind → Refused r line kind
 same-refused e r line kind s (inl x) = inl (s ∙ ap Err (unerr x))
   where
-    unerr : {A : Type 0} {a b : Refusal} → ◌≡◌ {A = Result A Refusal} (Err a) (Err b) → a ≡ b
+    unerr : {A : Type 0} {a b : InputFault} → ◌≡◌ {A = Result A InputFault} (Err a) (Err b) → a ≡ b
     unerr h = cc
 same-refused e r line kind s (inr x) = inr (s ∙ ap Err (unerr x))
   where
-    unerr : {A : Type 0} {a b : Refusal} → ◌≡◌ {A = Result A Refusal} (Err a) (Err b) → a ≡ b
+    unerr : {A : Type 0} {a b : InputFault} → ◌≡◌ {A = Result A InputFault} (Err a) (Err b) → a ≡ b
     unerr h = cc
 
-same-ended : {A T : Type 0} (e : Refusal) (r : Result T Refusal) → r ≡ Err e → Ended {T = A} (Err e) → IsErrOf r refusals.NoMemory
+same-ended : {A T : Type 0} (e : InputFault) (r : Result T InputFault) → r ≡ Err e → Ended {T = A} (Err e) → IsErrOf r inputs.NoMemory
 same-ended e r s (inl x) = absurd cc
 same-ended e r s (inr x) = s ∙ ap Err (unerr x)
   where
-    unerr : {A : Type 0} {a b : Refusal} → ◌≡◌ {A = Result A Refusal} (Err a) (Err b) → a ≡ b
+    unerr : {A : Type 0} {a b : InputFault} → ◌≡◌ {A = Result A InputFault} (Err a) (Err b) → a ≡ b
     unerr h = cc
 
 -- an answer is no error
@@ -52,7 +52,7 @@ no-refusal x line kind (inl e) = absurd cc
 no-refusal x line kind (inr e) = absurd cc
 
 -- where there is no net, the refusal of the document stands
-pub without-net : {A T : Type 0} (input : List ℕ) (e : Refusal) (r : Result T Refusal) → r ≡ Err e
+pub without-net : {A T : Type 0} (input : List ℕ) (e : InputFault) (r : Result T InputFault) → r ≡ Err e
     → ((net : NetParts) → IsNetOf input net → Ended {T = A} (Err e))
     → ((line : ℕ) (kind : Fault) → IsBadAt input line kind → Refused {T = A} (Err e) line kind)
     → (query : Query) (line : ℕ) (kind : Fault) → MustBeRefused query input line kind → Refused r line kind
@@ -63,7 +63,7 @@ without-net {A = A} input e r s given refused Check line kind m = same-refused {
 without-net {A = A} input e r s given refused Format line kind m = same-refused {A = A} e r line kind s (refused line kind m)
 without-net {A = A} input e r s given refused (Traffic graph) line kind m = same-refused {A = A} e r line kind s (refused line kind m)
 
-pub done-without-net : {A T : Type 0} (input : List ℕ) (e : Refusal) (r : Result T Refusal) → r ≡ Err e
+pub done-without-net : {A T : Type 0} (input : List ℕ) (e : InputFault) (r : Result T InputFault) → r ≡ Err e
     → ((net : NetParts) → IsNetOf input net → Ended {T = A} (Err e))
     → (query : Query) → CanBeDone query input → Ended r
 done-without-net {A = A} input e r s given (Run schedule shown) d = inr (same-ended {A = A} e r s (given d.0.0 d.0.1))
@@ -73,41 +73,35 @@ done-without-net {A = A} input e r s given Format d = inr (same-ended {A = A} e 
 done-without-net {A = A} input e r s given (Traffic graph) d = inr (same-ended {A = A} e r s (given d.0 d.1))
 
 -- a schedule that stops is refused at its line
-stops-there : {T : Type 0} (r : Result T Refusal) (net : NetParts) (turns : List (ℕ × Turn)) (line : ℕ)
+stops-there : {T : Type 0} (r : Result T InputFault) (net : NetParts) (turns : List (ℕ × Turn)) (line : ℕ)
     → IfOk r (λ x. ArePermitted net turns)
-    → ((l : ℕ) (k : Fault) → IsErrOf r (refusals.BadInput l k) → (k ≡ BadTurn) × StopsAtLine net [] turns l)
-    → (IsErrOf r refusals.ReadFault → ⊥)
+    → ((l : ℕ) (k : Fault) → IsErrOf r (inputs.Bad l k) → (k ≡ BadTurn) × StopsAtLine net [] turns l)
     → StopsAtLine net [] turns line → Refused r line BadTurn
-stops-there (Ok x) net turns line permitted bad unread stops = absurd (never-stops net [] turns permitted.0 line permitted.1 stops)
-stops-there (Err (refusals.BadInput l k)) net turns line permitted bad unread stops =
+stops-there (Ok x) net turns line permitted bad stops = absurd (never-stops net [] turns permitted.0 line permitted.1 stops)
+stops-there (Err (inputs.Bad l k)) net turns line permitted bad stops =
     let b = bad l k refl in
-    inl (ap (λ z. Err (refusals.BadInput z k)) (one-line net [] turns l line b.1 stops) ∙ ap (λ z. Err (refusals.BadInput line z)) b.0)
-stops-there (Err refusals.ReadFault) net turns line permitted bad unread stops = absurd (unread refl)
-stops-there (Err refusals.NoMemory) net turns line permitted bad unread stops = inr refl
+    inl (ap (λ z. Err (inputs.Bad z k)) (one-line net [] turns l line b.1 stops) ∙ ap (λ z. Err (inputs.Bad line z)) b.0)
+stops-there (Err inputs.NoMemory) net turns line permitted bad stops = inr refl
 
 -- one whose turns are permitted is not
-never-refused : {T : Type 0} (r : Result T Refusal) (net : NetParts) (turns : List (ℕ × Turn))
-    → ((l : ℕ) (k : Fault) → IsErrOf r (refusals.BadInput l k) → (k ≡ BadTurn) × StopsAtLine net [] turns l)
-    → (IsErrOf r refusals.ReadFault → ⊥)
+never-refused : {T : Type 0} (r : Result T InputFault) (net : NetParts) (turns : List (ℕ × Turn))
+    → ((l : ℕ) (k : Fault) → IsErrOf r (inputs.Bad l k) → (k ≡ BadTurn) × StopsAtLine net [] turns l)
     → ArePermitted net turns → Ended r
-never-refused (Ok x) net turns bad unread permitted = inl refl
-never-refused (Err (refusals.BadInput l k)) net turns bad unread permitted = absurd (never-stops net [] turns permitted.0 l permitted.1 (bad l k refl).1)
-never-refused (Err refusals.ReadFault) net turns bad unread permitted = absurd (unread refl)
-never-refused (Err refusals.NoMemory) net turns bad unread permitted = inr refl
+never-refused (Ok x) net turns bad permitted = inl refl
+never-refused (Err (inputs.Bad l k)) net turns bad permitted = absurd (never-stops net [] turns permitted.0 l permitted.1 (bad l k refl).1)
+never-refused (Err inputs.NoMemory) net turns bad permitted = inr refl
 
 -- what is answered of the run of a document with a net
-pub run-refused : {T : Type 0} (r : Result T Refusal) (input : List ℕ) (net : NetParts) (schedule : Schedule) (shown : Shown) (line : ℕ) (kind : Fault) → IsNetOf input net
+pub run-refused : {T : Type 0} (r : Result T InputFault) (input : List ℕ) (net : NetParts) (schedule : Schedule) (shown : Shown) (line : ℕ) (kind : Fault) → IsNetOf input net
     → (IsBadAt input line kind → ⊥)
     → IfOk r (λ x. ArePermitted net (turns_first schedule net))
-    → ((l : ℕ) (k : Fault) → IsErrOf r (refusals.BadInput l k) → (k ≡ BadTurn) × StopsAtLine net [] (turns_first schedule net) l)
-    → (IsErrOf r refusals.ReadFault → ⊥)
+    → ((l : ℕ) (k : Fault) → IsErrOf r (inputs.Bad l k) → (k ≡ BadTurn) × StopsAtLine net [] (turns_first schedule net) l)
     → MustBeRefused (Run schedule shown) input line kind → Refused r line kind
-run-refused r input net schedule shown line kind of good permitted bad unread (inl b) = absurd (good b)
-run-refused r input net schedule shown line kind of good permitted bad unread (inr m) =
-    subst (λ z. Refused r line z) (sym m.0) (stops-there r net (turns_first schedule net) line permitted bad unread (m.1.1 net of))
+run-refused r input net schedule shown line kind of good permitted bad (inl b) = absurd (good b)
+run-refused r input net schedule shown line kind of good permitted bad (inr m) =
+    subst (λ z. Refused r line z) (sym m.0) (stops-there r net (turns_first schedule net) line permitted bad (m.1.1 net of))
 
-pub run-done : {T : Type 0} (r : Result T Refusal) (input : List ℕ) (net : NetParts) (schedule : Schedule) (shown : Shown) → IsNetOf input net
-    → ((l : ℕ) (k : Fault) → IsErrOf r (refusals.BadInput l k) → (k ≡ BadTurn) × StopsAtLine net [] (turns_first schedule net) l)
-    → (IsErrOf r refusals.ReadFault → ⊥)
+pub run-done : {T : Type 0} (r : Result T InputFault) (input : List ℕ) (net : NetParts) (schedule : Schedule) (shown : Shown) → IsNetOf input net
+    → ((l : ℕ) (k : Fault) → IsErrOf r (inputs.Bad l k) → (k ≡ BadTurn) × StopsAtLine net [] (turns_first schedule net) l)
     → CanBeDone (Run schedule shown) input → Ended r
-run-done r input net schedule shown of bad unread d = never-refused r net (turns_first schedule net) bad unread (d.1 net of)
+run-done r input net schedule shown of bad d = never-refused r net (turns_first schedule net) bad (d.1 net of)

@@ -17,8 +17,8 @@ use Rattle.ev_quiet.specs.Runs.{turns_first, GoesBy}
 use Rattle.ev_turns.specs.Stopping.{StopsAtLine}
 use Rattle.ev_turns.proofs.Stopping.{from-start}
 use Rattle.ev_quiet.specs.Ran.{IsRunThrough}
-use Rattle.ev_quiet.specs.Refusals.{refusal_of_turn}
-use Rattle.ev_quiet.specs.declared.refusal.Refusal.TheVariants as refusals
+use Rattle.ev_quiet.specs.Faults.{fault_of_turn}
+use Rattle.ev_input.specs.declared.fault.InputFault.TheVariants as inputs
 
 pub stops-at : (schedule : Schedule) (net : NetParts) (start new : NetworkParts) (turns : List (ℕ × Turn)) (line : ℕ) → start ≡ network_parts net [] → turns ≡ turns_first schedule net
     → StopsAt line turns start new → StopsAtLine net [] (turns_first schedule net) line
@@ -26,7 +26,7 @@ stops-at schedule net start new turns line e f s =
     subst (λ z. StopsAtLine net [] z line) f (from-start net turns line new (subst (λ z. StopsAt line turns z new) e s))
 
 -- what is told of it
-pub told-turn : (fault : ReplayFault) (line : ℕ) (kind : Fault) → refusal_of_turn fault ≡ refusals.BadInput line kind → (kind ≡ BadTurn) × (fault ≡ told.BadTurn line)
+pub told-turn : (fault : ReplayFault) (line : ℕ) (kind : Fault) → fault_of_turn fault ≡ inputs.Bad line kind → (kind ≡ BadTurn) × (fault ≡ told.BadTurn line)
 told-turn (told.BadTurn l) line kind e = (cc, cc)
 told-turn told.NoMemory line kind e = absurd cc
 

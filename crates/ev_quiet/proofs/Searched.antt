@@ -5,15 +5,14 @@ use Rattle.ev_outside.specs.Whole.{Gave}
 use Rattle.ev_model.specs.Parts.{NetParts, EntryParts}
 use Rattle.ev_model.specs.Sound.{IsSound}
 use Rattle.ev_input.specs.declared.fault.Fault.{Fault}
-use Rattle.ev_input.specs.declared.fault.Fault.TheVariants.{TooLong}
 use Rattle.ev_watch.specs.declared.fault.PatternKind.{PatternKind}
 use Rattle.ev_watch.specs.Parts.{PatternParts}
 use Rattle.ev_watch.specs.Watch.{IsWatchOf}
 use Rattle.ev_watch.proofs.Reading.{bad_refused, same_bad, same_refused, watch_bad, watch_refused}
 use Rattle.ev_quiet.specs.declared.unanswered.Unanswered.{Unanswered}
 use Rattle.ev_quiet.specs.declared.unanswered.Unanswered.TheVariants as whys
-use Rattle.ev_quiet.specs.declared.refusal.Refusal.{Refusal}
-use Rattle.ev_quiet.specs.declared.refusal.Refusal.TheVariants as refusals
+use Rattle.ev_outside.specs.declared.whole.ReadAll.{ReadAll}
+use Rattle.ev_outside.specs.declared.whole.ReadAll.TheVariants as reads
 use Rattle.ev_quiet.specs.declared.words.Schedule.TheVariants.{Walk}
 use Rattle.ev_quiet.specs.declared.words.Wanted.TheVariants.{Patterns}
 use Rattle.ev_quiet.specs.Words.{plain}
@@ -23,7 +22,7 @@ use Rattle.ev_quiet.specs.Network.{lists_by, NetworkPromise, IsWholeRun}
 use Rattle.ev_quiet.specs.Patterns.{IsPatternsOf, IsInputAtFault, IsPatternAtFault, HasPatterns}
 use Rattle.ev_quiet.specs.Answers.{GaveDocument, GaveRefusedFor, GaveBadPatternFor, CanAnswerFor}
 use Rattle.ev_quiet.specs.Showing.{PrintedParts}
-use Rattle.ev_quiet.specs.Answering.{of_refusal}
+use Rattle.ev_quiet.specs.Answering.{of_unread}
 use Rattle.ev_quiet.specs.Searching.{IsSearched, SearchesInput, SearchesSource}
 use Rattle.ev_turns.specs.Network.{IsLegal, IsDrainedBy}
 use Rattle.ev_found.specs.Found.{found_text}
@@ -140,12 +139,11 @@ module _ (a b : List ℕ) (ended : Bool) where
   source-answer input (Err whys.ReadFault) is e h = absurd h
   source-answer input (Err whys.NoMemory) is e h = tt
 
-  pub unread-answer : (e : Refusal)
-      → ((l : ℕ) (k : Fault) → e ≡ refusals.BadInput l k → (l ≡ 0) × (k ≡ TooLong) × Gave a b (λ given. length given ≡ 4194305))
-      → (e ≡ refusals.ReadFault → Gave a b (λ given. length given ≤ 4194304)) → (ended ≡ true → ⊥) → SearchesSource a b ended (Err (of_refusal e))
-  unread-answer (refusals.BadInput l k) long within never =
-      let t = long l k refl in
-      let big : 4194304 < length t.2.0 = omega (arith, t.2.2) in
-      (t.2.0, (t.2.1, inr big), inl (big, t.0, t.1))
-  unread-answer refusals.ReadFault long within never = (never, within refl)
-  unread-answer refusals.NoMemory long within never = tt
+  pub unread-answer : (e : ReadAll) → (e ≡ reads.TooLong → Gave a b (λ given. length given ≡ 4194305)) → (e ≡ reads.Failed → Gave a b (λ given. length given ≤ 4194304)) → (ended ≡ true → ⊥)
+      → SearchesSource a b ended (Err (of_unread e))
+  unread-answer reads.TooLong long within never =
+      let t = long refl in
+      let big : 4194304 < length t.0 = omega (arith, t.2) in
+      (t.0, (t.1, inr big), inl (big, refl, refl))
+  unread-answer reads.Failed long within never = (never, within refl)
+  unread-answer reads.NoMemory long within never = tt

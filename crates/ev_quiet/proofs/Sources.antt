@@ -1,7 +1,8 @@
 -- What is known of a document that a source gave.
-use Rattle.std.proofs.Common.{◌≡◌, inl, inr, ℕ, ◌<◌, ◌≤◌, nat_lt, Bool, true, false, List, ◌++◌, if◌then◌else◌, length, Result, Ok, Err, refl, sym, ap, ◌∙◌, subst, arith}
+use Rattle.std.proofs.Common.{◌≡◌, ◌⊎◌, inl, inr, ℕ, ◌<◌, ◌≤◌, nat_lt, Bool, true, false, List, ◌++◌, if◌then◌else◌, length, Result, Ok, Err, refl, sym, ap, ◌∙◌, subst, arith}
 use Rattle.std.proofs.lemmas.Bool.Decides.{nat_tests}
 use Rattle.std.proofs.lemmas.List.{append_cancel_left}
+use Rattle.std.specs.Result.{IsErrOf}
 use Rattle.ev_outside.specs.Whole.{Gave}
 use Rattle.ev_input.specs.declared.fault.Fault.{Fault}
 use Rattle.ev_input.specs.declared.fault.Fault.TheVariants.{TooLong}
@@ -9,14 +10,15 @@ use Rattle.ev_input.specs.declared.state.State.{State}
 use Rattle.ev_input.specs.Lines.{lines}
 use Rattle.ev_input.specs.Places.{document_of, read_from, start}
 use Rattle.ev_input.specs.Net.{IsBadAt}
-use Rattle.ev_quiet.specs.declared.refusal.Refusal.{Refusal}
-use Rattle.ev_quiet.specs.declared.refusal.Refusal.TheVariants as refusals
+use Rattle.ev_outside.specs.declared.whole.ReadAll.{ReadAll}
+use Rattle.ev_outside.specs.declared.whole.ReadAll.TheVariants as reads
+use Rattle.ev_quiet.specs.declared.unanswered.Unanswered.TheVariants as whys
+use Rattle.ev_quiet.specs.Answering.{of_unread}
 use Rattle.ev_quiet.specs.declared.words.Query.{Query}
 use Rattle.ev_quiet.specs.declared.words.Query.TheVariants.{Run, Flood, Check, Format, Traffic}
 use Rattle.ev_quiet.specs.declared.words.Wanted.TheVariants.{Document}
 use Rattle.ev_quiet.specs.Faults.{HasNet, IsAtFault, MustBeRefused, CanBeDone}
 use Rattle.ev_quiet.specs.Answers.{HasFaultFor}
-use Rattle.ev_quiet.proofs.Ended.{Refused}
 
 -- a document that is too long
 too-long : (input : List ℕ) → 4194304 < length input → IsBadAt input 0 TooLong
@@ -39,13 +41,11 @@ pub same-given : (a b x y : List ℕ) → b ≡ a ++ x → b ≡ a ++ y → x �
 same-given a b x y p q = append_cancel_left a x y (sym p ∙ q)
 
 -- where more was given than a document may have, that is its fault
-pub long-fault : (query : Query) (a b : List ℕ) (ended : Bool) (line : ℕ) (kind : Fault) → (line ≡ 0) × (kind ≡ TooLong) × Gave a b (λ given. length given ≡ 4194305)
-    → HasFaultFor (Document query) a b ended line kind
-long-fault query a b ended line kind t =
-    let input = t.2.0 in
-    let big : 4194304 < length input = omega (arith, t.2.2) in
-    let fault : IsAtFault query input 0 TooLong = by-bytes query input 0 TooLong (too-long input big) in
-    (input, (t.2.1, inr big), subst (λ l. IsAtFault query input l kind) (sym t.0) (subst (λ k. IsAtFault query input 0 k) (sym t.1) fault))
+pub long-fault : (query : Query) (a b : List ℕ) (ended : Bool) → Gave a b (λ given. length given ≡ 4194305) → HasFaultFor (Document query) a b ended 0 TooLong
+long-fault query a b ended t =
+    let input = t.0 in
+    let big : 4194304 < length input = omega (arith, t.2) in
+    (input, (t.1, inr big), by-bytes query input 0 TooLong (too-long input big))
 
 one-fault : (input : List ℕ) (line : ℕ) (kind : Fault) → IsBadAt input 0 TooLong → IsBadAt input line kind → (0 ≡ line) × (TooLong ≡ kind)
 one-fault input line kind a b = go (sym a ∙ b)
@@ -79,19 +79,17 @@ never-done Format input a d = no-net input a d
 never-done (Traffic graph) input a d = no-net input a d
 
 -- where too much was given, that is the answer
-pub unread-refused : {T : Type 0} (query : Query) (a b input : List ℕ) (e : Refusal) (r : Result T Refusal) (line : ℕ) (kind : Fault) → r ≡ Err e
-    → ((l : ℕ) (k : Fault) → e ≡ refusals.BadInput l k → (l ≡ 0) × (k ≡ TooLong) × Gave a b (λ given. length given ≡ 4194305))
-    → (e ≡ refusals.ReadFault → Gave a b (λ given. length given ≤ 4194304))
-    → b ≡ a ++ input → 4194304 < length input → MustBeRefused query input line kind → Refused r line kind
-unread-refused query a b input (refusals.BadInput l k) r line kind s long within is big m =
-    let t = long l k refl in
+pub unread-refused : {T : Type 0} (query : Query) (a b input : List ℕ) (e : ReadAll) (line : ℕ) (kind : Fault) → (e ≡ reads.Failed → Gave a b (λ given. length given ≤ 4194304))
+    → b ≡ a ++ input → 4194304 < length input → MustBeRefused query input line kind
+    → IsErrOf {T = T} (Err (of_unread e)) (whys.BadInput line kind) ⊎ IsErrOf {T = T} (Err (of_unread e)) whys.NoMemory
+unread-refused query a b input reads.TooLong line kind within is big m =
     let w = must-be-long query input line kind (too-long input big) m in
-    inl (s ∙ ap (λ z. Err (refusals.BadInput z k)) (t.0 ∙ w.0) ∙ ap (λ z. Err (refusals.BadInput line z)) (t.1 ∙ w.1))
-unread-refused query a b input refusals.ReadFault r line kind s long within is big m =
+    inl (ap (λ z. Err (whys.BadInput z TooLong)) w.0 ∙ ap (λ z. Err (whys.BadInput line z)) w.1)
+unread-refused query a b input reads.Failed line kind within is big m =
     let t = within refl in
     let same : input ≡ t.0 = same-given a b input t.0 is t.1 in
     absurd (omega (arith, big, subst (λ (z : List ℕ). length z ≤ 4194304) (sym same) t.2))
-unread-refused query a b input refusals.NoMemory r line kind s long within is big m = inr s
+unread-refused query a b input reads.NoMemory line kind within is big m = inr refl
 
 -- and nothing can be done of it
 pub unread-done : (query : Query) (input : List ℕ) → 4194304 < length input → CanBeDone query input → ⊥

@@ -1,15 +1,18 @@
 -- How the code answers, before anything is written; no promise to a caller speaks of it.
 use Rattle.std.specs.Prelude.{◌⊎◌, ℕ, Bool, List, Result, Ok, Err}
 use Rattle.std.specs.Result.{IsOk, IsErrOf}
+use Rattle.ev_outside.specs.declared.whole.ReadAll.{ReadAll}
+use Rattle.ev_outside.specs.declared.whole.ReadAll.TheVariants as reads
 use Rattle.ev_input.specs.declared.fault.Fault.{Fault}
+use Rattle.ev_input.specs.declared.fault.Fault.TheVariants.{TooLong}
+use Rattle.ev_input.specs.declared.fault.InputFault.{InputFault}
+use Rattle.ev_input.specs.declared.fault.InputFault.TheVariants as inputs
 use Rattle.ev_watch.specs.declared.fault.PatternKind.{PatternKind}
 use Rattle.ev_watch.specs.declared.fault.PatternFault.{PatternFault}
 use Rattle.ev_watch.specs.declared.fault.PatternFault.TheVariants as faults
 use Rattle.ev_audited.specs.declared.fault.AuditKind.{AuditKind}
 use Rattle.ev_audited.specs.declared.fault.AuditFault.{AuditFault}
 use Rattle.ev_audited.specs.declared.fault.AuditFault.TheVariants as audits
-use Rattle.ev_quiet.specs.declared.refusal.Refusal.{Refusal}
-use Rattle.ev_quiet.specs.declared.refusal.Refusal.TheVariants as refusals
 use Rattle.ev_quiet.specs.declared.unanswered.Unanswered.{Unanswered}
 use Rattle.ev_quiet.specs.declared.unanswered.Unanswered.TheVariants as whys
 use Rattle.ev_quiet.specs.declared.status.Status.{Status}
@@ -26,11 +29,16 @@ status_of (whys.Refuted line kind) = statuses.Refuted line kind
 status_of whys.ReadFault = statuses.ReadFault
 status_of whys.NoMemory = statuses.NoMemory
 
--- of a document that is refused, or could not be read
-abbrev pub of_refusal : Refusal → Unanswered
-of_refusal (refusals.BadInput line kind) = whys.BadInput line kind
-of_refusal refusals.ReadFault = whys.ReadFault
-of_refusal refusals.NoMemory = whys.NoMemory
+-- of a document that is refused
+abbrev pub of_input_fault : InputFault → Unanswered
+of_input_fault (inputs.Bad line kind) = whys.BadInput line kind
+of_input_fault inputs.NoMemory = whys.NoMemory
+
+-- of a source that could not be read to its end, or gave too much
+abbrev pub of_unread : ReadAll → Unanswered
+of_unread reads.TooLong = whys.BadInput 0 TooLong
+of_unread reads.Failed = whys.ReadFault
+of_unread reads.NoMemory = whys.NoMemory
 
 -- of patterns that are refused
 abbrev pub of_pattern_fault : PatternFault → Unanswered
@@ -45,9 +53,9 @@ of_audit_fault (audits.Refuted line kind) = whys.Refuted line kind
 of_audit_fault audits.NoMemory = whys.NoMemory
 
 -- the answer about a document, among all answers
-abbrev pub widened : {T : Type 0} → Result T Refusal → Result T Unanswered
+abbrev pub widened : {T : Type 0} → Result T InputFault → Result T Unanswered
 widened (Ok p) = Ok p
-widened (Err refusal) = Err (of_refusal refusal)
+widened (Err fault) = Err (of_input_fault fault)
 
 -- what an answer says of what the source gave
 abbrev pub Says : Wanted → List ℕ → List ℕ → Bool → Result PrintedParts Unanswered → Type 0

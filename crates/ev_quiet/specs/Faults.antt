@@ -6,7 +6,11 @@ use Rattle.ev_turns.specs.Turns.{AreMade}
 pub use Rattle.ev_turns.specs.Stopping.{StopsAtLine}
 use Rattle.ev_input.specs.declared.fault.Fault.{Fault}
 use Rattle.ev_input.specs.declared.fault.Fault.TheVariants.{BadTurn}
+use Rattle.ev_input.specs.declared.fault.InputFault.{InputFault}
+use Rattle.ev_input.specs.declared.fault.InputFault.TheVariants as inputs
 use Rattle.ev_input.specs.Net.{IsNetOf, IsBadAt}
+use Rattle.ev_turns.specs.declared.replaying.ReplayFault.{ReplayFault}
+use Rattle.ev_turns.specs.declared.replaying.ReplayFault.TheVariants as turns
 use Rattle.ev_quiet.specs.declared.words.Schedule.{Schedule}
 use Rattle.ev_quiet.specs.declared.words.Query.{Query}
 use Rattle.ev_quiet.specs.declared.words.Query.TheVariants.{Run, Flood, Check, Format, Traffic}
@@ -50,3 +54,8 @@ CanBeDone Flood input = HasNet input
 CanBeDone Check input = HasNet input
 CanBeDone Format input = HasNet input
 CanBeDone (Traffic graph) input = HasNet input
+
+-- a schedule that stops, as a fault of its document
+abbrev pub fault_of_turn : ReplayFault → InputFault
+fault_of_turn (turns.BadTurn line) = inputs.Bad line BadTurn
+fault_of_turn turns.NoMemory = inputs.NoMemory

@@ -13,7 +13,6 @@ pub mod Patterns
 pub mod Audits
 pub mod Answers
 pub mod Outcomes
-pub mod Refusals
 pub mod Showing
 pub mod Answering
 pub mod Searching

@@ -1,10 +1,10 @@
 //! What is answered over a source.
-ghost use Rattle.std.specs.Prelude.{◌≡◌, ◌≤◌, ◌⊎◌, ◌++◌, ℕ, Bool, List, true, false, length, IfOk, OnOk, IsOk, IsErrOf};
+ghost use Rattle.std.specs.Prelude.{◌≡◌, ◌≤◌, ◌++◌, ℕ, Bool, List, true, false, length, IfOk, OnOk, IsErrOf};
 ghost use Rattle.std.specs.Io.KnownBytes.{Consumes, IsAtEnd};
 ghost use Rattle.ev_outside.specs.Cause.{Rose};
 ghost use Rattle.ev_outside.specs.Whole.{Gave};
 ghost use Rattle.ev_quiet.specs.Words.{IsQuietQuery, IsQuietWish};
-ghost use Rattle.ev_quiet.specs.Answers.{IsPrintedBy, reads_document, most_for, HasFaultFor, GaveRefusedFor, CanAnswerFor};
+ghost use Rattle.ev_quiet.specs.Answers.{IsPrintedBy, reads_document, most_for};
 ghost use Rattle.ev_quiet.specs.Answering.{IsAnswer};
 
 use crate::audits::of_audit;
@@ -13,36 +13,13 @@ use crate::page::of_page;
 use crate::patterns::of_patterns;
 use crate::printed::{Printed, of_document};
 use crate::reading::document;
-use crate::refusal::Refusal;
 use crate::unanswered::{Unanswered, widened};
 use crate::words::{Query, Wanted};
-use ev_input::Fault;
 use ev_memory::NoMemory;
 use ev_outside::Source;
 use std::alloc::Global;
 
 // What is wanted of the document that the source gives.
-fn of_source<S: Source>(alloc: Global, query: Query, source: &mut S) -> Result<Printed, Refusal>
-    requires { IsQuietQuery query }
-    ensures printed { IfOk result (λ p. IsPrintedBy (Wanted.Document query) (S.given source.old) (S.given source.new) (S.ended source.new) p.text p.journal) }
-    ensures sure { OnOk result (S.faults source.new ≡ S.faults source.old) }
-    ensures bad { (line : ℕ) (kind : Fault) → IsErrOf result (Refusal.BadInput line kind)
-        → HasFaultFor (Wanted.Document query) (S.given source.old) (S.given source.new) (S.ended source.new) line kind }
-    ensures failed { IsErrOf result Refusal.ReadFault → Rose (S.faults source.old) (S.faults source.new) }
-    ensures refused { (line : ℕ) (kind : Fault)
-        → GaveRefusedFor (Wanted.Document query) (S.given source.old) (S.given source.new) (S.ended source.new) line kind
-        → IsErrOf result (Refusal.BadInput line kind) ⊎ IsErrOf result Refusal.NoMemory }
-    ensures done { CanAnswerFor (Wanted.Document query) (S.given source.old) (S.given source.new) (S.ended source.new)
-        → IsOk result ⊎ IsErrOf result Refusal.NoMemory }
-    ensures at_most { Gave (S.given source.old) (S.given source.new) (λ given. length given ≤ 4194305) }
-    ensures told { (given : List ℕ) → S.given source.new ≡ S.given source.old ++ given → Consumes (S.left source.old) (S.left source.new) given }
-    ensures end { S.ended source.new ≡ true → IsAtEnd (S.left source.new) }
-{
-    let bytes = document(alloc, source)?;
-    of_document(alloc, query, &bytes)
-}
-
-// The same among all answers.
 fn of_query<S: Source>(alloc: Global, query: Query, source: &mut S) -> Result<Printed, Unanswered>
     requires { IsQuietQuery query }
     ensures answers { IsAnswer (Wanted.Document query) (S.given source.old) (S.given source.new) (S.ended source.new) result }
@@ -52,7 +29,10 @@ fn of_query<S: Source>(alloc: Global, query: Query, source: &mut S) -> Result<Pr
     ensures told { (given : List ℕ) → S.given source.new ≡ S.given source.old ++ given → Consumes (S.left source.old) (S.left source.new) given }
     ensures end { S.ended source.new ≡ true → IsAtEnd (S.left source.new) }
 {
-    widened(of_source(alloc, query, source))
+    match document(alloc, source) {
+        Ok(bytes) => widened(of_document(alloc, query, &bytes)),
+        Err(fault) => Err(Unanswered::from(fault)),
+    }
 }
 
 // What needs no source.

@@ -16,14 +16,13 @@ use crate::body::Body;
 use crate::law::promise;
 use crate::notices::settle;
 use crate::printed::Printed;
-use crate::reading::all_bytes;
 use crate::unanswered::Unanswered;
 use ev_audited::{Audited, audit};
 use ev_decimal::push_number;
 use ev_input::law::net_is_sound;
 use ev_journal::Journal;
 use ev_memory::NoMemory;
-use ev_outside::Source;
+use ev_outside::{Source, read_all};
 use std::alloc::Global;
 
 const MOST_BYTES: usize = 268_435_456;
@@ -85,9 +84,9 @@ pub fn of_audit<S: Source>(alloc: Global, source: &mut S) -> Result<Printed, Una
     ensures told { (given : List ℕ) → S.given source.new ≡ S.given source.old ++ given → Consumes (S.left source.old) (S.left source.new) given }
     ensures end { S.ended source.new ≡ true → IsAtEnd (S.left source.new) }
 {
-    let bytes = match all_bytes(alloc, source, MOST_BYTES) {
+    let bytes = match read_all(alloc, source, MOST_BYTES) {
         Ok(bytes) => bytes,
-        Err(refusal) => return Err(Unanswered::from(refusal)),
+        Err(fault) => return Err(Unanswered::from(fault)),
     };
     of_input(alloc, &bytes)
 }

@@ -84,7 +84,7 @@ pub fn of_patterns<S: Source>(alloc: Global, source: &mut S) -> Result<Printed, 
 {
     let bytes = match document(alloc, source) {
         Ok(bytes) => bytes,
-        Err(refusal) => return Err(Unanswered::from(refusal)),
+        Err(fault) => return Err(Unanswered::from(fault)),
     };
     of_input(alloc, &bytes)
 }

@@ -14,13 +14,12 @@ use crate::body::Body;
 use crate::law::promise;
 use crate::ran::{Ran, make_run};
 use crate::reading::net;
-use crate::refusal::Refusal;
 use crate::text::printed_run;
 use crate::traffic::traffic;
 use crate::words::{Query, Schedule, Shown};
 use ev_flood::must_may;
 use ev_format::law::text_is_read;
-use ev_input::Fault;
+use ev_input::{Fault, InputFault};
 use ev_journal::Journal;
 use ev_memory::NoMemory;
 use ev_model::Net;
@@ -105,14 +104,13 @@ impl Printed {
 }
 
 // The run of a net, whose entries are kept where they are to be shown.
-fn made(alloc: Global, net: &Net, schedule: Schedule, kept: bool) -> Result<Ran, Refusal>
+fn made(alloc: Global, net: &Net, schedule: Schedule, kept: bool) -> Result<Ran, InputFault>
     requires sound { IsSound net.now }
     requires quiet { is_quiet schedule ≡ true }
     ensures ran { IfOk result (λ ran. IsRan schedule net.now ran) }
     ensures kept { kept ≡ true → IfOk result (λ ran. ran.journal.kept ≡ true) }
-    ensures bad { (line : ℕ) (kind : Fault) → IsErrOf result (Refusal.BadInput line kind)
+    ensures bad { (line : ℕ) (kind : Fault) → IsErrOf result (InputFault.Bad line kind)
         → (kind ≡ BadTurn) × StopsAtLine net.now [] (turns_first schedule net.now) line }
-    ensures unread { IsErrOf result Refusal.ReadFault → ⊥ }
 {
     if kept {
         make_run::<Kept>(alloc, net, schedule)
@@ -122,28 +120,31 @@ fn made(alloc: Global, net: &Net, schedule: Schedule, kept: bool) -> Result<Ran,
 }
 
 // The run of a net.
-fn shown(alloc: Global, net: Net, schedule: Schedule, shown: Shown) -> Result<Printed, Refusal>
+fn shown(alloc: Global, net: Net, schedule: Schedule, shown: Shown) -> Result<Printed, InputFault>
     requires sound { IsSound net }
     requires quiet { is_quiet schedule ≡ true }
     ensures shown { IfOk result (λ p. IsShown schedule shown net p.text p.journal) }
     ensures permitted { IfOk result (λ p. ArePermitted net (turns_first schedule net)) }
-    ensures bad { (line : ℕ) (kind : Fault) → IsErrOf result (Refusal.BadInput line kind)
+    ensures bad { (line : ℕ) (kind : Fault) → IsErrOf result (InputFault.Bad line kind)
         → (kind ≡ BadTurn) × StopsAtLine net [] (turns_first schedule net) line }
-    ensures unread { IsErrOf result Refusal.ReadFault → ⊥ }
 {
     let ran = made(alloc, &net, schedule, shown.trace)?;
     Ok(printed_run(alloc, net, ran, shown)?)
 }
 
 // The run of a document.
-fn run(alloc: Global, bytes: &[u8], schedule: Schedule, options: Shown) -> Result<Printed, Refusal>
+fn run(
+    alloc: Global,
+    bytes: &[u8],
+    schedule: Schedule,
+    options: Shown,
+) -> Result<Printed, InputFault>
     requires { is_quiet schedule ≡ true }
     ensures printed { IfOk result (λ p. IsPrintedOf (Query.Run schedule options) bytes.now p.text p.journal) }
-    ensures bad { (line : ℕ) (kind : Fault) → IsErrOf result (Refusal.BadInput line kind) → IsAtFault (Query.Run schedule options) bytes.now line kind }
+    ensures bad { (line : ℕ) (kind : Fault) → IsErrOf result (InputFault.Bad line kind) → IsAtFault (Query.Run schedule options) bytes.now line kind }
     ensures refused { (line : ℕ) (kind : Fault) → MustBeRefused (Query.Run schedule options) bytes.now line kind
-        → IsErrOf result (Refusal.BadInput line kind) ⊎ IsErrOf result Refusal.NoMemory }
-    ensures done { CanBeDone (Query.Run schedule options) bytes.now → IsOk result ⊎ IsErrOf result Refusal.NoMemory }
-    ensures unread { IsErrOf result Refusal.ReadFault → ⊥ }
+        → IsErrOf result (InputFault.Bad line kind) ⊎ IsErrOf result InputFault.NoMemory }
+    ensures done { CanBeDone (Query.Run schedule options) bytes.now → IsOk result ⊎ IsErrOf result InputFault.NoMemory }
 {
     promise();
     let net = net(alloc, bytes)?;
@@ -151,13 +152,12 @@ fn run(alloc: Global, bytes: &[u8], schedule: Schedule, options: Shown) -> Resul
 }
 
 // What flooding brings by a document.
-fn flood(alloc: Global, bytes: &[u8]) -> Result<Printed, Refusal>
+fn flood(alloc: Global, bytes: &[u8]) -> Result<Printed, InputFault>
     ensures printed { IfOk result (λ p. IsPrintedOf Query.Flood bytes.now p.text p.journal) }
-    ensures bad { (line : ℕ) (kind : Fault) → IsErrOf result (Refusal.BadInput line kind) → IsAtFault Query.Flood bytes.now line kind }
+    ensures bad { (line : ℕ) (kind : Fault) → IsErrOf result (InputFault.Bad line kind) → IsAtFault Query.Flood bytes.now line kind }
     ensures refused { (line : ℕ) (kind : Fault) → MustBeRefused Query.Flood bytes.now line kind
-        → IsErrOf result (Refusal.BadInput line kind) ⊎ IsErrOf result Refusal.NoMemory }
-    ensures done { CanBeDone Query.Flood bytes.now → IsOk result ⊎ IsErrOf result Refusal.NoMemory }
-    ensures unread { IsErrOf result Refusal.ReadFault → ⊥ }
+        → IsErrOf result (InputFault.Bad line kind) ⊎ IsErrOf result InputFault.NoMemory }
+    ensures done { CanBeDone Query.Flood bytes.now → IsOk result ⊎ IsErrOf result InputFault.NoMemory }
 {
     let net = net(alloc, bytes)?;
     let owed = must_may(alloc, &net)?;
@@ -171,13 +171,12 @@ fn flood(alloc: Global, bytes: &[u8]) -> Result<Printed, Refusal>
 }
 
 // How much a document has.
-fn check(alloc: Global, bytes: &[u8]) -> Result<Printed, Refusal>
+fn check(alloc: Global, bytes: &[u8]) -> Result<Printed, InputFault>
     ensures printed { IfOk result (λ p. IsPrintedOf Query.Check bytes.now p.text p.journal) }
-    ensures bad { (line : ℕ) (kind : Fault) → IsErrOf result (Refusal.BadInput line kind) → IsAtFault Query.Check bytes.now line kind }
+    ensures bad { (line : ℕ) (kind : Fault) → IsErrOf result (InputFault.Bad line kind) → IsAtFault Query.Check bytes.now line kind }
     ensures refused { (line : ℕ) (kind : Fault) → MustBeRefused Query.Check bytes.now line kind
-        → IsErrOf result (Refusal.BadInput line kind) ⊎ IsErrOf result Refusal.NoMemory }
-    ensures done { CanBeDone Query.Check bytes.now → IsOk result ⊎ IsErrOf result Refusal.NoMemory }
-    ensures unread { IsErrOf result Refusal.ReadFault → ⊥ }
+        → IsErrOf result (InputFault.Bad line kind) ⊎ IsErrOf result InputFault.NoMemory }
+    ensures done { CanBeDone Query.Check bytes.now → IsOk result ⊎ IsErrOf result InputFault.NoMemory }
 {
     let net = net(alloc, bytes)?;
     let text = check_text(alloc, &net)?;
@@ -185,13 +184,12 @@ fn check(alloc: Global, bytes: &[u8]) -> Result<Printed, Refusal>
 }
 
 // The canonical text of a document.
-fn format(alloc: Global, bytes: &[u8]) -> Result<Printed, Refusal>
+fn format(alloc: Global, bytes: &[u8]) -> Result<Printed, InputFault>
     ensures printed { IfOk result (λ p. IsPrintedOf Query.Format bytes.now p.text p.journal) }
-    ensures bad { (line : ℕ) (kind : Fault) → IsErrOf result (Refusal.BadInput line kind) → IsAtFault Query.Format bytes.now line kind }
+    ensures bad { (line : ℕ) (kind : Fault) → IsErrOf result (InputFault.Bad line kind) → IsAtFault Query.Format bytes.now line kind }
     ensures refused { (line : ℕ) (kind : Fault) → MustBeRefused Query.Format bytes.now line kind
-        → IsErrOf result (Refusal.BadInput line kind) ⊎ IsErrOf result Refusal.NoMemory }
-    ensures done { CanBeDone Query.Format bytes.now → IsOk result ⊎ IsErrOf result Refusal.NoMemory }
-    ensures unread { IsErrOf result Refusal.ReadFault → ⊥ }
+        → IsErrOf result (InputFault.Bad line kind) ⊎ IsErrOf result InputFault.NoMemory }
+    ensures done { CanBeDone Query.Format bytes.now → IsOk result ⊎ IsErrOf result InputFault.NoMemory }
 {
     text_is_read();
     let net = net(alloc, bytes)?;
@@ -204,14 +202,13 @@ fn format(alloc: Global, bytes: &[u8]) -> Result<Printed, Refusal>
 }
 
 /// What is wanted of a document, or its fault.
-pub fn of_document(alloc: Global, query: Query, bytes: &[u8]) -> Result<Printed, Refusal>
+pub fn of_document(alloc: Global, query: Query, bytes: &[u8]) -> Result<Printed, InputFault>
     requires { IsQuietQuery query }
     ensures printed { IfOk result (λ p. IsPrintedOf query bytes.now p.text p.journal) }
-    ensures bad { (line : ℕ) (kind : Fault) → IsErrOf result (Refusal.BadInput line kind) → IsAtFault query bytes.now line kind }
+    ensures bad { (line : ℕ) (kind : Fault) → IsErrOf result (InputFault.Bad line kind) → IsAtFault query bytes.now line kind }
     ensures refused { (line : ℕ) (kind : Fault) → MustBeRefused query bytes.now line kind
-        → IsErrOf result (Refusal.BadInput line kind) ⊎ IsErrOf result Refusal.NoMemory }
-    ensures done { CanBeDone query bytes.now → IsOk result ⊎ IsErrOf result Refusal.NoMemory }
-    ensures unread { IsErrOf result Refusal.ReadFault → ⊥ }
+        → IsErrOf result (InputFault.Bad line kind) ⊎ IsErrOf result InputFault.NoMemory }
+    ensures done { CanBeDone query bytes.now → IsOk result ⊎ IsErrOf result InputFault.NoMemory }
 {
     match query {
         Query::Run(schedule, shown) => run(alloc, bytes, schedule, shown),

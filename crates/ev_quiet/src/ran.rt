@@ -5,17 +5,17 @@ ghost use Rattle.ev_turns.specs.Network.{IsLegal, refused_by};
 ghost use Rattle.ev_quiet.specs.Runs.{turns_first};
 ghost use Rattle.ev_quiet.specs.Ran.{IsRan, IsRunThrough};
 ghost use Rattle.ev_quiet.specs.Words.{is_quiet};
-ghost use Rattle.ev_quiet.specs.Faults.{StopsAtLine};
+ghost use Rattle.ev_quiet.specs.Faults.{StopsAtLine, fault_of_turn};
 ghost use Rattle.ev_model.specs.Nets.{of_clients};
 
-use crate::refusal::Refusal;
 use crate::words::Schedule;
-use ev_input::Fault;
+use ev_input::{Fault, InputFault};
 use ev_journal::Journal;
 use ev_memory::NoMemory;
 use ev_model::{Delivery, Net, Turn};
 use ev_numnet::{Keeping, Network};
 use ev_tables::Tables;
+use ev_turns::ReplayFault;
 use ev_wire::Lists;
 use std::alloc::Global;
 
@@ -41,21 +41,36 @@ fn turns_first(net: &Net, schedule: Schedule) -> &[(u32, Turn)]
     }
 }
 
+// A schedule that stops, as a fault of its document.
+fn told(fault: ReplayFault) -> InputFault
+    ensures { result ≡ fault_of_turn fault }
+{
+    match fault {
+        ReplayFault::BadTurn(line) => InputFault::Bad {
+            line,
+            kind: Fault::BadTurn,
+        },
+        ReplayFault::NoMemory => InputFault::NoMemory,
+    }
+}
+
 // The network after the turns of a schedule and the walk.
 fn through<'a, K: Keeping>(
     alloc: Global,
     tables: &'a Tables<'a>,
     schedule: Schedule,
-) -> Result<Network<'a, K>, Refusal>
+) -> Result<Network<'a, K>, InputFault>
     requires sound { IsSound tables.now }
     requires quiet { is_quiet schedule ≡ true }
     ensures through { IfOk result (λ network. IsRunThrough schedule tables.now network) }
-    ensures bad { (line : ℕ) (kind : Fault) → IsErrOf result (Refusal.BadInput line kind)
+    ensures bad { (line : ℕ) (kind : Fault) → IsErrOf result (InputFault.Bad line kind)
         → (kind ≡ Fault.BadTurn) × StopsAtLine tables.now [] (turns_first schedule tables.now) line }
-    ensures unread { IsErrOf result Refusal.ReadFault → ⊥ }
 {
     let mut network = Network::start(alloc, tables)?;
-    network.replay(turns_first(tables.net(), schedule))?;
+    match network.replay(turns_first(tables.net(), schedule)) {
+        Ok(()) => {}
+        Err(fault) => return Err(told(fault)),
+    }
     network.walk()?;
     Ok(network)
 }
@@ -102,14 +117,13 @@ fn run_over<K: Keeping>(
     alloc: Global,
     tables: &Tables<'_>,
     schedule: Schedule,
-) -> Result<Ran, Refusal>
+) -> Result<Ran, InputFault>
     requires sound { IsSound tables.now }
     requires quiet { is_quiet schedule ≡ true }
     ensures ran { IfOk result (λ ran. IsRan schedule tables.now ran) }
     ensures kept { IfOk result (λ ran. ran.journal.kept ≡ K.keeps) }
-    ensures bad { (line : ℕ) (kind : Fault) → IsErrOf result (Refusal.BadInput line kind)
+    ensures bad { (line : ℕ) (kind : Fault) → IsErrOf result (InputFault.Bad line kind)
         → (kind ≡ Fault.BadTurn) × StopsAtLine tables.now [] (turns_first schedule tables.now) line }
-    ensures unread { IsErrOf result Refusal.ReadFault → ⊥ }
 {
     let network = through::<K>(alloc, tables, schedule)?;
     let refused = refused(alloc, &network, clients(tables.net()))?;
@@ -122,14 +136,13 @@ fn run_over<K: Keeping>(
 }
 
 /// The run of a net on one thread, by the turns of a schedule and the walk, whose entries are kept or pass.
-pub fn make_run<K: Keeping>(alloc: Global, net: &Net, schedule: Schedule) -> Result<Ran, Refusal>
+pub fn make_run<K: Keeping>(alloc: Global, net: &Net, schedule: Schedule) -> Result<Ran, InputFault>
     requires sound { IsSound net.now }
     requires quiet { is_quiet schedule ≡ true }
     ensures ran { IfOk result (λ ran. IsRan schedule net.now ran) }
     ensures kept { IfOk result (λ ran. ran.journal.kept ≡ K.keeps) }
-    ensures bad { (line : ℕ) (kind : Fault) → IsErrOf result (Refusal.BadInput line kind)
+    ensures bad { (line : ℕ) (kind : Fault) → IsErrOf result (InputFault.Bad line kind)
         → (kind ≡ Fault.BadTurn) × StopsAtLine net.now [] (turns_first schedule net.now) line }
-    ensures unread { IsErrOf result Refusal.ReadFault → ⊥ }
 {
     let tables = Tables::of(alloc, net)?;
     run_over::<K>(alloc, &tables, schedule)

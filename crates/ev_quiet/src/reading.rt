@@ -9,70 +9,38 @@ ghost use Rattle.ev_input.specs.Net.{IsNetOf, IsBadAt};
 ghost use Rattle.ev_quiet.specs.Promise.{AreOfNotices};
 
 use crate::notices::settle;
-use crate::refusal::Refusal;
 use ev_input::law::net_is_sound;
-use ev_input::{Fault, read_net};
+use ev_input::{Fault, InputFault, read_net};
 use ev_model::Net;
 use ev_outside::{ReadAll, Source, read_all};
 use std::alloc::Global;
 
 const MOST_BYTES: usize = 4_194_304;
 
-/// All bytes of a source, of which there are at most so many.
-pub(crate) fn all_bytes<S: Source>(
-    alloc: Global,
-    source: &mut S,
-    most: usize,
-) -> Result<Vec<u8>, Refusal>
-    ensures all { IfOk result (λ bytes. S.given source.new ≡ S.given source.old ++ bytes.items) }
-    ensures ended { IsOk result ↔ (S.ended source.new ≡ true) }
-    ensures within { IfOk result (λ bytes. length bytes.items ≤ most) }
-    ensures sure { OnOk result (S.faults source.new ≡ S.faults source.old) }
-    ensures long { (line : ℕ) (kind : Fault) → IsErrOf result (Refusal.BadInput line kind)
-        → (line ≡ 0) × (kind ≡ Fault.TooLong) × Gave (S.given source.old) (S.given source.new) (λ given. length given ≡ most + 1) }
-    ensures failed { IsErrOf result Refusal.ReadFault → Rose (S.faults source.old) (S.faults source.new) }
-    ensures failed_within { IsErrOf result Refusal.ReadFault → Gave (S.given source.old) (S.given source.new) (λ given. length given ≤ most) }
-    ensures at_most { Gave (S.given source.old) (S.given source.new) (λ given. length given ≤ most + 1) }
-    ensures told { (given : List ℕ) → S.given source.new ≡ S.given source.old ++ given → Consumes (S.left source.old) (S.left source.new) given }
-    ensures end { S.ended source.new ≡ true → IsAtEnd (S.left source.new) }
-{
-    match read_all(alloc, source, most) {
-        Ok(bytes) => Ok(bytes),
-        Err(ReadAll::TooLong) => Err(Refusal::BadInput {
-            line: 0,
-            kind: Fault::TooLong,
-        }),
-        Err(ReadAll::Failed) => Err(Refusal::ReadFault),
-        Err(ReadAll::NoMemory) => Err(Refusal::NoMemory),
-    }
-}
-
 /// All bytes of a source, of which there are at most 4,194,304.
-pub fn document<S: Source>(alloc: Global, source: &mut S) -> Result<Vec<u8>, Refusal>
+pub fn document<S: Source>(alloc: Global, source: &mut S) -> Result<Vec<u8>, ReadAll>
     ensures all { IfOk result (λ bytes. S.given source.new ≡ S.given source.old ++ bytes.items) }
     ensures ended { IsOk result ↔ (S.ended source.new ≡ true) }
     ensures sure { OnOk result (S.faults source.new ≡ S.faults source.old) }
-    ensures long { (line : ℕ) (kind : Fault) → IsErrOf result (Refusal.BadInput line kind)
-        → (line ≡ 0) × (kind ≡ Fault.TooLong) × Gave (S.given source.old) (S.given source.new) (λ given. length given ≡ 4194305) }
-    ensures failed { IsErrOf result Refusal.ReadFault → Rose (S.faults source.old) (S.faults source.new) }
-    ensures failed_within { IsErrOf result Refusal.ReadFault → Gave (S.given source.old) (S.given source.new) (λ given. length given ≤ 4194304) }
+    ensures long { IsErrOf result ReadAll.TooLong → Gave (S.given source.old) (S.given source.new) (λ given. length given ≡ 4194305) }
+    ensures failed { IsErrOf result ReadAll.Failed → Rose (S.faults source.old) (S.faults source.new) }
+    ensures failed_within { IsErrOf result ReadAll.Failed → Gave (S.given source.old) (S.given source.new) (λ given. length given ≤ 4194304) }
     ensures at_most { Gave (S.given source.old) (S.given source.new) (λ given. length given ≤ 4194305) }
     ensures told { (given : List ℕ) → S.given source.new ≡ S.given source.old ++ given → Consumes (S.left source.old) (S.left source.new) given }
     ensures end { S.ended source.new ≡ true → IsAtEnd (S.left source.new) }
 {
-    all_bytes(alloc, source, MOST_BYTES)
+    read_all(alloc, source, MOST_BYTES)
 }
 
 /// The net of a document.
-pub fn net(alloc: Global, bytes: &[u8]) -> Result<Net, Refusal>
+pub fn net(alloc: Global, bytes: &[u8]) -> Result<Net, InputFault>
     ensures net { IfOk result (λ net. IsNetOf bytes.now net) }
     ensures sound { IfOk result IsSound }
     ensures notices { IfOk result (λ net. AreOfNotices net.clients) }
-    ensures given { (net : NetParts) → IsNetOf bytes.now net → IsOk result ⊎ IsErrOf result Refusal.NoMemory }
-    ensures bad { (line : ℕ) (kind : Fault) → IsErrOf result (Refusal.BadInput line kind) → IsBadAt bytes.now line kind }
+    ensures given { (net : NetParts) → IsNetOf bytes.now net → IsOk result ⊎ IsErrOf result InputFault.NoMemory }
+    ensures bad { (line : ℕ) (kind : Fault) → IsErrOf result (InputFault.Bad line kind) → IsBadAt bytes.now line kind }
     ensures refused { (line : ℕ) (kind : Fault) → IsBadAt bytes.now line kind
-        → IsErrOf result (Refusal.BadInput line kind) ⊎ IsErrOf result Refusal.NoMemory }
-    ensures unread { IsErrOf result Refusal.ReadFault → ⊥ }
+        → IsErrOf result (InputFault.Bad line kind) ⊎ IsErrOf result InputFault.NoMemory }
 {
     net_is_sound();
     match read_net(alloc, bytes) {
@@ -80,6 +48,6 @@ pub fn net(alloc: Global, bytes: &[u8]) -> Result<Net, Refusal>
             settle(&net);
             Ok(net)
         }
-        Err(fault) => Err(Refusal::from(fault)),
+        Err(fault) => Err(fault),
     }
 }

@@ -13,9 +13,8 @@ use crate::body::Body;
 use crate::printed::Printed;
 use crate::ran::{Ran, walked};
 use crate::reading::net;
-use crate::refusal::Refusal;
 use crate::words::Query;
-use ev_input::Fault;
+use ev_input::{Fault, InputFault};
 use ev_memory::NoMemory;
 use ev_model::{Entry, Net};
 use ev_numnet::{Kept, Network, Passed, turn_of};
@@ -68,13 +67,12 @@ fn of_net(alloc: Global, net: Net, graph: bool) -> Result<Printed, NoMemory>
 }
 
 /// What each link of a document carries in its walk, beside what plain flooding would have put there.
-pub fn traffic(alloc: Global, bytes: &[u8], graph: bool) -> Result<Printed, Refusal>
+pub fn traffic(alloc: Global, bytes: &[u8], graph: bool) -> Result<Printed, InputFault>
     ensures printed { IfOk result (λ p. IsPrintedOf (Query.Traffic graph) bytes.now p.text p.journal) }
-    ensures bad { (line : ℕ) (kind : Fault) → IsErrOf result (Refusal.BadInput line kind) → IsAtFault (Query.Traffic graph) bytes.now line kind }
+    ensures bad { (line : ℕ) (kind : Fault) → IsErrOf result (InputFault.Bad line kind) → IsAtFault (Query.Traffic graph) bytes.now line kind }
     ensures refused { (line : ℕ) (kind : Fault) → MustBeRefused (Query.Traffic graph) bytes.now line kind
-        → IsErrOf result (Refusal.BadInput line kind) ⊎ IsErrOf result Refusal.NoMemory }
-    ensures done { CanBeDone (Query.Traffic graph) bytes.now → IsOk result ⊎ IsErrOf result Refusal.NoMemory }
-    ensures unread { IsErrOf result Refusal.ReadFault → ⊥ }
+        → IsErrOf result (InputFault.Bad line kind) ⊎ IsErrOf result InputFault.NoMemory }
+    ensures done { CanBeDone (Query.Traffic graph) bytes.now → IsOk result ⊎ IsErrOf result InputFault.NoMemory }
 {
     let net = net(alloc, bytes)?;
     Ok(of_net(alloc, net, graph)?)

@@ -1,12 +1,12 @@
 //! Why nothing is written, whatever is wanted.
 ghost use Rattle.std.specs.Prelude.{◌≡◌};
-ghost use Rattle.ev_quiet.specs.Answering.{of_audit_fault, of_pattern_fault, of_refusal, status_of, widened};
+ghost use Rattle.ev_quiet.specs.Answering.{of_audit_fault, of_input_fault, of_pattern_fault, of_unread, status_of, widened};
 
 use crate::printed::Printed;
-use crate::refusal::Refusal;
 use crate::status::Status;
 use ev_audited::{AuditFault, AuditKind};
-use ev_input::Fault;
+use ev_input::{Fault, InputFault};
+use ev_outside::ReadAll;
 use ev_watch::{PatternFault, PatternKind};
 
 /// Why nothing is written.
@@ -54,14 +54,28 @@ impl Unanswered {
     }
 }
 
-impl From<Refusal> for Unanswered {
-    ghost from_gives = { λ refusal e. e ≡ of_refusal refusal };
+impl From<InputFault> for Unanswered {
+    ghost from_gives = { λ fault e. e ≡ of_input_fault fault };
 
-    fn from(refusal: Refusal) -> Self {
-        match refusal {
-            Refusal::BadInput { line, kind } => Unanswered::BadInput { line, kind },
-            Refusal::ReadFault => Unanswered::ReadFault,
-            Refusal::NoMemory => Unanswered::NoMemory,
+    fn from(fault: InputFault) -> Self {
+        match fault {
+            InputFault::Bad { line, kind } => Unanswered::BadInput { line, kind },
+            InputFault::NoMemory => Unanswered::NoMemory,
+        }
+    }
+}
+
+impl From<ReadAll> for Unanswered {
+    ghost from_gives = { λ fault e. e ≡ of_unread fault };
+
+    fn from(fault: ReadAll) -> Self {
+        match fault {
+            ReadAll::TooLong => Unanswered::BadInput {
+                line: 0,
+                kind: Fault::TooLong,
+            },
+            ReadAll::Failed => Unanswered::ReadFault,
+            ReadAll::NoMemory => Unanswered::NoMemory,
         }
     }
 }
@@ -91,11 +105,11 @@ impl From<AuditFault> for Unanswered {
 }
 
 /// An answer about a document, among all answers.
-pub fn widened(answer: Result<Printed, Refusal>) -> Result<Printed, Unanswered>
+pub fn widened(answer: Result<Printed, InputFault>) -> Result<Printed, Unanswered>
     ensures { result ≡ widened answer }
 {
     match answer {
         Ok(printed) => Ok(printed),
-        Err(refusal) => Err(Unanswered::from(refusal)),
+        Err(fault) => Err(Unanswered::from(fault)),
     }
 }

@@ -9,11 +9,11 @@ ghost use Rattle.ev_quiet.specs.Answering.{IsAnswer};
 ghost use Rattle.ev_quiet.specs.Outcomes.{IsOutcome};
 ghost use Rattle.ev_siena.specs.Wishes.{with_threads};
 
-use crate::threaded::of_source;
+use crate::threaded::of_document;
 use ev_outside::{Gate, Sink, Source, Word};
 use ev_quiet::{
-    Outcome, Printed, Query, Schedule, Shown, Status, Unanswered, Wanted, quiet, read_words,
-    widened,
+    Outcome, Printed, Query, Schedule, Shown, Status, Unanswered, Wanted, document, quiet,
+    read_words, widened,
 };
 use std::alloc::Global;
 use std::sync::Wait;
@@ -46,7 +46,10 @@ fn run<R: Threads + Wait + Sync, S: Source, G: Gate + Sync>(
         → Consumes (S.left source.old) (S.left source.new) given }
     ensures end { S.ended source.new ≡ true → IsAtEnd (S.left source.new) }
 {
-    widened(of_source(alloc, rt, shown, source, gate))
+    match document(alloc, source) {
+        Ok(bytes) => widened(of_document(alloc, rt, &bytes, shown, gate)),
+        Err(fault) => Err(Unanswered::from(fault)),
+    }
 }
 
 /// Does what the words say. The words are read first, then the source, whose document is refused at its first fault; then the

@@ -10,7 +10,7 @@ pub returns-in-Err-clause-answers : goal.returns-in-Err-clause-answers
 returns-in-Err-clause-answers g c =
     subst (λ z. IsAnswer Patterns (g.S.Source.given c.args.source.now) (g.S.Source.given c.document.new.source) (g.S.Source.ended c.document.new.source) (Err z)) (sym c.from.ensures)
     (pattern-answer _ _ _ _
-    (unread-answer _ _ _ c.in-Err.refusal (λ l k e. c.in-Err.ensures.long l k (ap Err e)) (λ e. c.in-Err.ensures.failed_within (ap Err e)) (λ e. (let h = c.in-Err.ensures.ended.1 e in absurd cc))))
+    (unread-answer _ _ _ c.in-Err.fault (λ e. c.in-Err.ensures.long (ap Err e)) (λ e. c.in-Err.ensures.failed_within (ap Err e)) (λ e. (let h = c.in-Err.ensures.ended.1 e in absurd cc))))
 
 pub returns-clause-answers : goal.returns-clause-answers
 returns-clause-answers g c =

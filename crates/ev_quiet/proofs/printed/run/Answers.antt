@@ -37,8 +37,8 @@ returns-clause-bad c = λ line kind e. (let b = c.shown.ensures.bad line kind e 
 pub returns-clause-refused : goal.returns-clause-refused
 returns-clause-refused c = λ line kind m.
     run-refused c.shown.result c.args.bytes.now c.in_ok-net.net c.args.schedule c.args.options line kind c.in_ok-net.ensures.net
-    (λ b. no-refusal c.in_ok-net.net line kind (c.in_ok-net.ensures.refused line kind b)) c.shown.ensures.permitted c.shown.ensures.bad c.shown.ensures.unread m
+    (λ b. no-refusal c.in_ok-net.net line kind (c.in_ok-net.ensures.refused line kind b)) c.shown.ensures.permitted c.shown.ensures.bad m
 
 pub returns-clause-done : goal.returns-clause-done
 returns-clause-done c = λ d.
-    run-done c.shown.result c.args.bytes.now c.in_ok-net.net c.args.schedule c.args.options c.in_ok-net.ensures.net c.shown.ensures.bad c.shown.ensures.unread d
+    run-done c.shown.result c.args.bytes.now c.in_ok-net.net c.args.schedule c.args.options c.in_ok-net.ensures.net c.shown.ensures.bad d
