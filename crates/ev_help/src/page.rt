@@ -25,6 +25,9 @@ run [--sorted] [--trace]
 replay [--sorted] [--trace]
     the same where the turns of the document's schedule come first
         siena replay --sorted < examples/monitoring.siena
+hier [--sorted] [--trace]
+    the same where server 1 is the top of a hierarchy: notifications always go up to it, and down by filters
+        siena hier --trace < examples/alarm.siena
 flood
     what plain flooding owes each client, and what it allows besides, by the scripts alone
         siena flood < examples/market.siena

@@ -11,7 +11,7 @@ use Rattle.ev_input.specs.Net.{IsNetOf, IsBadAt}
 use Rattle.ev_quiet.specs.declared.words.Schedule.{Schedule}
 use Rattle.ev_quiet.specs.declared.words.Shown.{Shown}
 use Rattle.ev_quiet.specs.declared.words.Query.{Query}
-use Rattle.ev_quiet.specs.declared.words.Query.TheVariants.{Run, Flood, Check, Format, Traffic}
+use Rattle.ev_quiet.specs.declared.words.Query.TheVariants.{Run, Hierarchy, Flood, Check, Format, Traffic}
 use Rattle.ev_quiet.specs.Runs.{turns_first}
 use Rattle.ev_quiet.specs.Faults.{ArePermitted, StopsAtLine, MustBeRefused, CanBeDone}
 use Rattle.ev_turns.proofs.Stopping.{never-stops, one-line}
@@ -58,6 +58,7 @@ pub without-net : {A T : Type 0} (input : List ℕ) (e : InputFault) (r : Result
     → (query : Query) (line : ℕ) (kind : Fault) → MustBeRefused query input line kind → Refused r line kind
 without-net {A = A} input e r s given refused (Run schedule shown) line kind (inl b) = same-refused {A = A} e r line kind s (refused line kind b)
 without-net {A = A} input e r s given refused (Run schedule shown) line kind (inr m) = inr (same-ended {A = A} e r s (given m.1.0.0 m.1.0.1))
+without-net {A = A} input e r s given refused (Hierarchy shown) line kind m = same-refused {A = A} e r line kind s (refused line kind m)
 without-net {A = A} input e r s given refused Flood line kind m = same-refused {A = A} e r line kind s (refused line kind m)
 without-net {A = A} input e r s given refused Check line kind m = same-refused {A = A} e r line kind s (refused line kind m)
 without-net {A = A} input e r s given refused Format line kind m = same-refused {A = A} e r line kind s (refused line kind m)
@@ -67,6 +68,7 @@ pub done-without-net : {A T : Type 0} (input : List ℕ) (e : InputFault) (r : R
     → ((net : NetParts) → IsNetOf input net → Ended {T = A} (Err e))
     → (query : Query) → CanBeDone query input → Ended r
 done-without-net {A = A} input e r s given (Run schedule shown) d = inr (same-ended {A = A} e r s (given d.0.0 d.0.1))
+done-without-net {A = A} input e r s given (Hierarchy shown) d = inr (same-ended {A = A} e r s (given d.0 d.1))
 done-without-net {A = A} input e r s given Flood d = inr (same-ended {A = A} e r s (given d.0 d.1))
 done-without-net {A = A} input e r s given Check d = inr (same-ended {A = A} e r s (given d.0 d.1))
 done-without-net {A = A} input e r s given Format d = inr (same-ended {A = A} e r s (given d.0 d.1))

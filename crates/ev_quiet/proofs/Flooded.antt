@@ -2,10 +2,8 @@
 use Rattle.std.proofs.Common.{◌≡◌, ℕ, zero, suc, ◌+◌, ◌≤◌, true, List, [], ◌∷◌, map, length, slice_get, Some, Result, Ok, refl, sym, ap, ◌∙◌, subst, arith}
 use Rattle.std.specs.List.{range_with_len}
 use Rattle.ev_wire.specs.declared.delivery.Delivery.{Delivery}
-use Rattle.ev_model.specs.Parts.{ClientParts, NetParts, EntryParts}
-use Rattle.ev_model.specs.Nets.{home_of}
-use Rattle.ev_model.specs.Lists.{refused_ordinals}
-use Rattle.ev_turns.specs.Network.{IsDrainedBy, refused_by, received_by}
+use Rattle.ev_model.specs.Parts.{ClientParts, NetParts}
+use Rattle.ev_model.specs.Nets.{of_clients}
 use Rattle.ev_input.specs.declared.fault.Fault.{Fault}
 use Rattle.ev_input.specs.declared.state.State.{State}
 use Rattle.ev_input.specs.Net.{IsNetOf, client_of}
@@ -15,11 +13,9 @@ use Rattle.ev_report.specs.Deliveries.{deliveries_text}
 use Rattle.ev_report.specs.Drained.{inboxes}
 use Rattle.ev_report.specs.Flood.{flood_sections, flood_text}
 use Rattle.ev_report.specs.Published.{texts_in}
-use Rattle.ev_quiet.specs.Runs.{refused_in, received_in}
 use Rattle.ev_quiet.specs.Printed.{IsFloodOf}
-use Rattle.ev_quiet.specs.Promise.{lists_text}
-use Rattle.ev_quiet.specs.Network.{lists_by, IsWholeRun}
-use Rattle.ev_quiet.proofs.Inboxes.{client-lives, listed}
+use Rattle.ev_quiet.specs.Promise.{ClientLists, RefusesByScripts, lists_text}
+use Rattle.ev_quiet.proofs.Inboxes.{listed}
 use Rattle.ev_quiet.proofs.SameNets.{same-flooding}
 
 same-state : (s t : State) → ◌≡◌ {A = Result State (ℕ × Fault)} (Ok s) (Ok t) → s ≡ t
@@ -50,32 +46,30 @@ place-below (y ∷ xs) (suc i) x e = omega (arith, place-below xs i x e)
 one-more : (i : ℕ) → suc i ≡ 1 + i
 one-more i = omega arith
 
--- the refused ordinals of a run that took all commands are all of them
-all-refused : (net : NetParts) (journal : List EntryParts) (rows : List (List OwedRow)) (refused : List (List ℕ)) → IsDrainedBy net journal → IsFlooding net rows refused
-    → refused ≡ refused_in net journal
-all-refused net journal rows refused drained flooding =
-    listed (refused_by net journal) 1 refused at ∙ ap (λ n. map (refused_by net journal) (range_with_len 1 n)) flooding.all_ordinals
+-- where a client's refused ordinals are all of its refused publishes, they are those of flooding
+all-refused : (net : NetParts) (lists : ClientLists) (rows : List (List OwedRow)) (refused : List (List ℕ)) → RefusesByScripts net lists
+    → IsFlooding net rows refused → refused ≡ of_clients net lists.refused
+all-refused net lists rows refused all flooding =
+    listed lists.refused 1 refused at ∙ ap (λ n. map lists.refused (range_with_len 1 n)) flooding.all_ordinals
   where
-    at : (i : ℕ) (x : List ℕ) → slice_get refused i ≡ Some x → x ≡ refused_by net journal (1 + i)
+    at : (i : ℕ) (x : List ℕ) → slice_get refused i ≡ Some x → x ≡ lists.refused (1 + i)
     at i x e =
         let below : suc i ≤ length net.clients = subst (λ n. suc i ≤ n) flooding.all_ordinals (place-below refused i x e) in
-        flooding.ordinals i x e
-        ∙ ap (refused_ordinals net (suc i)) (sym (drained.taken (home_of net (suc i)) (suc i) (client-lives net (suc i) (omega arith, below))))
-        ∙ ap (refused_by net journal) (one-more i)
+        flooding.ordinals i x e ∙ sym (all (suc i) (omega arith, below)) ∙ ap lists.refused (one-more i)
 
 -- what flooding owes by a document it owes in each of its nets
 pub flooding-in : (input : List ℕ) (net : NetParts) (text : List ℕ) → IsNetOf input net → (flood : IsFloodOf input text) → IsFlooding net flood.rows flood.refused
 flooding-in input net text of flood =
     same-flooding flood.net net flood.rows flood.refused (same-semantics input flood.net net flood.well_formed of) (same-clients input flood.net net flood.well_formed of) flood.flooding
 
-pub flood-printed : (input : List ℕ) (net : NetParts) (journal : List EntryParts) (text : List ℕ) → IsNetOf input net → IsWholeRun net journal → (flood : IsFloodOf input text)
-    → (IsFlooding net flood.rows flood.refused
-    → flood_text net flood.refused flood.rows ≡ deliveries_text net flood.refused (inboxes (received_by net journal) 1 net.clients) true)
-    → lists_text net (lists_by net journal) true ≡ text
-flood-printed input net journal text of whole flood printed =
+pub flood-printed : (input : List ℕ) (net : NetParts) (lists : ClientLists) (text : List ℕ) → IsNetOf input net → RefusesByScripts net lists
+    → (flood : IsFloodOf input text) → (IsFlooding net flood.rows flood.refused
+    → flood_text net flood.refused flood.rows ≡ deliveries_text net flood.refused (inboxes lists.received 1 net.clients) true)
+    → lists_text net lists true ≡ text
+flood-printed input net lists text of all flood printed =
     let flooding = flooding-in input net text of flood in
-    ap (λ l. deliveries_text net l (received_in net journal) true) (sym (all-refused net journal flood.rows flood.refused whole.drained flooding))
-    ∙ ap (λ l. deliveries_text net flood.refused l true) (sym (numbered-inboxes (received_by net journal) 1 net.clients))
+    ap (λ l. deliveries_text net l (of_clients net lists.received) true) (sym (all-refused net lists flood.rows flood.refused all flooding))
+    ∙ ap (λ l. deliveries_text net flood.refused l true) (sym (numbered-inboxes lists.received 1 net.clients))
     ∙ sym (printed flooding)
     ∙ sym (ap (λ l. sections l flood.refused flood.rows) (same-clients input flood.net net flood.well_formed of))
     ∙ sym flood.printed

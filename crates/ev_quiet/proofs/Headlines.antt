@@ -1,8 +1,11 @@
 -- The headline of a run that is shown.
-use Rattle.std.proofs.Common.{ℕ, List, sym, subst}
+use Rattle.std.proofs.Common.{◌≡◌, ℕ, List, [], sym, subst}
 use Rattle.ev_model.specs.Parts.{NetParts, EntryParts}
 use Rattle.ev_model.specs.Sound.{IsSound}
 use Rattle.ev_input.specs.Net.{IsNetOf}
+use Rattle.ev_hierturns.specs.Network.{journal_in}
+use Rattle.ev_hierturns.specs.Promise.{IsWholeRun as IsWholeHierarchy}
+use Rattle.ev_hierturns.specs.Walked.{walk_after}
 use Rattle.ev_quiet.specs.declared.words.Schedule.{Schedule}
 use Rattle.ev_quiet.specs.declared.words.Shown.{Shown}
 use Rattle.ev_quiet.specs.Printed.{run_text, trace_of}
@@ -10,6 +13,8 @@ use Rattle.ev_quiet.specs.Promise.{ClientPromise, AreOfNotices}
 use Rattle.ev_quiet.specs.Network.{lists_by, NetworkPromise, IsWholeRun}
 use Rattle.ev_quiet.specs.Ran.{IsShown}
 use Rattle.ev_quiet.specs.Headline.{Headline}
+use Rattle.ev_quiet.specs.Hierarchy.{hierarchy_lists, hierarchy_text, hierarchy_trace, HierarchyWalkPromise, IsHierarchyOf}
+use Rattle.ev_quiet.specs.HierarchyRan.{IsHierarchyShown}
 
 pub headline : (schedule : Schedule) (shown : Shown) (input text : List ℕ) (net : NetParts) (journal : List EntryParts)
     → IsNetOf input net → IsSound net → AreOfNotices net.clients → IsShown schedule shown net text journal
@@ -24,4 +29,23 @@ headline schedule shown input text net journal of sound notices s clients networ
       trace = trace_of shown.trace net journal;
       clients = subst (λ t. ClientPromise shown input t net (lists_by net journal) (trace_of shown.trace net journal)) (sym s.printed) (clients whole);
       network = network whole;
+    }
+
+pub hierarchy-headline : (shown : Shown) (input text : List ℕ) (net : NetParts) (journal : List EntryParts)
+    → IsNetOf input net → IsSound net → AreOfNotices net.clients → IsHierarchyShown shown net text journal
+    → (IsWholeHierarchy net journal → AreOfNotices net.clients
+    → ClientPromise shown input (hierarchy_text shown net journal) net (hierarchy_lists net journal) (hierarchy_trace shown.trace net journal))
+    → (IsWholeHierarchy net journal → journal_in net journal ≡ walk_after net []
+    → HierarchyWalkPromise shown net journal (hierarchy_lists net journal) (hierarchy_trace shown.trace net journal))
+    → IsHierarchyOf shown input text journal
+hierarchy-headline shown input text net journal of sound notices s clients network =
+    let whole : IsWholeHierarchy net journal = record { sound = sound; legal = s.walked.legal; drained = s.walked.drained } in record {
+      net = net;
+      well_formed = of;
+      lists = hierarchy_lists net journal;
+      trace = hierarchy_trace shown.trace net journal;
+      clients =
+          subst (λ t. ClientPromise shown input t net (hierarchy_lists net journal) (hierarchy_trace shown.trace net journal)) (sym s.printed)
+          (clients whole notices);
+      network = network whole s.walked.walk;
     }

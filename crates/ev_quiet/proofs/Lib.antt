@@ -3,6 +3,9 @@ pub mod SameNets
 pub mod Flooded
 pub mod Settled
 pub mod Headlines
+pub mod Hierarchies
+pub mod HierarchyClients
+pub mod HierarchyRuns
 pub mod Schedules
 pub mod Told
 pub mod Ended

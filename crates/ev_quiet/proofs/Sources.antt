@@ -15,7 +15,7 @@ use Rattle.ev_outside.specs.declared.whole.ReadAll.TheVariants as reads
 use Rattle.ev_quiet.specs.declared.unanswered.Unanswered.TheVariants as whys
 use Rattle.ev_quiet.specs.Answering.{of_unread}
 use Rattle.ev_quiet.specs.declared.words.Query.{Query}
-use Rattle.ev_quiet.specs.declared.words.Query.TheVariants.{Run, Flood, Check, Format, Traffic}
+use Rattle.ev_quiet.specs.declared.words.Query.TheVariants.{Run, Hierarchy, Flood, Check, Format, Traffic}
 use Rattle.ev_quiet.specs.declared.words.Wanted.TheVariants.{Document}
 use Rattle.ev_quiet.specs.Faults.{HasNet, IsAtFault, MustBeRefused, CanBeDone}
 use Rattle.ev_quiet.specs.Answers.{HasFaultFor}
@@ -31,6 +31,7 @@ too-long input h = go (nat_lt 4194304 (length input)) (grind (arith, nat_tests, 
 
 by-bytes : (query : Query) (input : List ℕ) (line : ℕ) (kind : Fault) → IsBadAt input line kind → IsAtFault query input line kind
 by-bytes (Run schedule shown) input line kind b = inl b
+by-bytes (Hierarchy shown) input line kind b = b
 by-bytes Flood input line kind b = b
 by-bytes Check input line kind b = b
 by-bytes Format input line kind b = b
@@ -66,6 +67,7 @@ no-net input a b = go (sym a ∙ b.1.read)
 must-be-long : (query : Query) (input : List ℕ) (line : ℕ) (kind : Fault) → IsBadAt input 0 TooLong → MustBeRefused query input line kind → (0 ≡ line) × (TooLong ≡ kind)
 must-be-long (Run schedule shown) input line kind a (inl b) = one-fault input line kind a b
 must-be-long (Run schedule shown) input line kind a (inr m) = absurd (no-net input a m.1.0)
+must-be-long (Hierarchy shown) input line kind a b = one-fault input line kind a b
 must-be-long Flood input line kind a b = one-fault input line kind a b
 must-be-long Check input line kind a b = one-fault input line kind a b
 must-be-long Format input line kind a b = one-fault input line kind a b
@@ -73,6 +75,7 @@ must-be-long (Traffic graph) input line kind a b = one-fault input line kind a b
 
 never-done : (query : Query) (input : List ℕ) → IsBadAt input 0 TooLong → CanBeDone query input → ⊥
 never-done (Run schedule shown) input a d = no-net input a d.0
+never-done (Hierarchy shown) input a d = no-net input a d
 never-done Flood input a d = no-net input a d
 never-done Check input a d = no-net input a d
 never-done Format input a d = no-net input a d

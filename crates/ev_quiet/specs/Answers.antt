@@ -6,11 +6,12 @@ use Rattle.ev_input.specs.declared.fault.Fault.{Fault}
 use Rattle.ev_generate.specs.Document.{generated}
 use Rattle.ev_help.specs.Pages.{page_text}
 use Rattle.ev_quiet.specs.declared.words.Query.{Query}
-use Rattle.ev_quiet.specs.declared.words.Query.TheVariants.{Run, Flood, Check, Format, Traffic}
+use Rattle.ev_quiet.specs.declared.words.Query.TheVariants.{Run, Hierarchy, Flood, Check, Format, Traffic}
 use Rattle.ev_quiet.specs.declared.words.Wanted.{Wanted}
 use Rattle.ev_quiet.specs.declared.words.Wanted.TheVariants.{About, Audit, Document, Generate, Patterns}
 use Rattle.ev_quiet.specs.Printed.{IsFloodOf, IsCheckOf, IsFormatOf, IsSummaryOf}
 use Rattle.ev_quiet.specs.Headline.{Headline}
+use Rattle.ev_quiet.specs.Hierarchy.{IsHierarchyOf}
 use Rattle.ev_quiet.specs.Traffic.{IsTrafficOf}
 use Rattle.ev_watch.specs.declared.fault.PatternKind.{PatternKind}
 use Rattle.ev_quiet.specs.Faults.{IsAtFault, MustBeRefused, CanBeDone}
@@ -21,6 +22,7 @@ use Rattle.ev_quiet.specs.Patterns.{IsPatternsOf, IsInputAtFault, IsPatternAtFau
 -- the text and the journal that a document gives
 abbrev pub IsPrintedOf : Query → List ℕ → List ℕ → List EntryParts → Type 0
 IsPrintedOf (Run schedule shown) input text journal = Headline schedule shown input text journal
+IsPrintedOf (Hierarchy shown) input text journal = IsHierarchyOf shown input text journal
 IsPrintedOf Flood input text journal = IsFloodOf input text × (journal ≡ [])
 IsPrintedOf Check input text journal = IsCheckOf input text × (journal ≡ [])
 IsPrintedOf Format input text journal = IsFormatOf input text × (journal ≡ [])

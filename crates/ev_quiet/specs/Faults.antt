@@ -13,7 +13,7 @@ use Rattle.ev_turns.specs.declared.replaying.ReplayFault.{ReplayFault}
 use Rattle.ev_turns.specs.declared.replaying.ReplayFault.TheVariants as turns
 use Rattle.ev_quiet.specs.declared.words.Schedule.{Schedule}
 use Rattle.ev_quiet.specs.declared.words.Query.{Query}
-use Rattle.ev_quiet.specs.declared.words.Query.TheVariants.{Run, Flood, Check, Format, Traffic}
+use Rattle.ev_quiet.specs.declared.words.Query.TheVariants.{Run, Hierarchy, Flood, Check, Format, Traffic}
 use Rattle.ev_quiet.specs.Runs.{turns_first}
 
 -- each of these turns is permitted when it comes
@@ -31,6 +31,7 @@ IsStopped schedule input line = (net : NetParts) × IsNetOf input net × StopsAt
 -- A DOCUMENT IS AT FAULT for what is wanted of it: its first line at fault, or the first turn that is not permitted
 abbrev pub IsAtFault : Query → List ℕ → ℕ → Fault → Type 0
 IsAtFault (Run schedule shown) input line kind = IsBadAt input line kind ⊎ ((kind ≡ BadTurn) × IsStopped schedule input line)
+IsAtFault (Hierarchy shown) input line kind = IsBadAt input line kind
 IsAtFault Flood input line kind = IsBadAt input line kind
 IsAtFault Check input line kind = IsBadAt input line kind
 IsAtFault Format input line kind = IsBadAt input line kind
@@ -42,6 +43,7 @@ MustStop schedule input line = HasNet input × ((net : NetParts) → IsNetOf inp
 
 abbrev pub MustBeRefused : Query → List ℕ → ℕ → Fault → Type 0
 MustBeRefused (Run schedule shown) input line kind = IsBadAt input line kind ⊎ ((kind ≡ BadTurn) × MustStop schedule input line)
+MustBeRefused (Hierarchy shown) input line kind = IsBadAt input line kind
 MustBeRefused Flood input line kind = IsBadAt input line kind
 MustBeRefused Check input line kind = IsBadAt input line kind
 MustBeRefused Format input line kind = IsBadAt input line kind
@@ -50,6 +52,7 @@ MustBeRefused (Traffic graph) input line kind = IsBadAt input line kind
 -- ALL THAT IS WANTED CAN BE DONE: there is a net, and by each the turns of a schedule are permitted
 abbrev pub CanBeDone : Query → List ℕ → Type 0
 CanBeDone (Run schedule shown) input = HasNet input × ((net : NetParts) → IsNetOf input net → ArePermitted net (turns_first schedule net))
+CanBeDone (Hierarchy shown) input = HasNet input
 CanBeDone Flood input = HasNet input
 CanBeDone Check input = HasNet input
 CanBeDone Format input = HasNet input

@@ -7,8 +7,10 @@ pub mod Promise
 pub mod Network
 pub mod Headline
 pub mod Traffic
+pub mod Hierarchy
 pub mod Faults
 pub mod Ran
+pub mod HierarchyRan
 pub mod Patterns
 pub mod Audits
 pub mod Answers

@@ -9,7 +9,7 @@ use Rattle.ev_quiet.specs.declared.words.Schedule.{Schedule}
 use Rattle.ev_quiet.specs.declared.words.Schedule.TheVariants.{Walk, Replay, Threads}
 use Rattle.ev_quiet.specs.declared.words.Shown.{Shown}
 use Rattle.ev_quiet.specs.declared.words.Query.{Query}
-use Rattle.ev_quiet.specs.declared.words.Query.TheVariants.{Run, Flood, Check, Format, Traffic}
+use Rattle.ev_quiet.specs.declared.words.Query.TheVariants.{Run, Hierarchy, Flood, Check, Format, Traffic}
 use Rattle.ev_quiet.specs.declared.words.Wanted.{Wanted}
 use Rattle.ev_quiet.specs.declared.words.Wanted.TheVariants.{About, Audit, Document, Generate, Patterns}
 
@@ -32,6 +32,10 @@ options shown (word ∷ words) = option_and_then (λ more. options more words) (
 -- a run by a schedule, with the options behind its word
 abbrev pub run_by : Schedule → List (List ℕ) → Option Wanted
 run_by schedule words = option_map (λ shown. Document (Run schedule shown)) (options plain words)
+
+-- the walk of a hierarchy, with the options behind its word
+abbrev pub hierarchy_by : List (List ℕ) → Option Wanted
+hierarchy_by words = option_map (λ shown. Document (Hierarchy shown)) (options plain words)
 
 -- what takes no further words
 abbrev pub alone : Wanted → List (List ℕ) → Option Wanted
@@ -88,6 +92,7 @@ wanted_by (word ∷ words) =
     if bytes_eq word (codes "walk") then run_by Walk words
     else if bytes_eq word (codes "replay") then run_by Replay words
     else if bytes_eq word (codes "run") then run_by Threads words
+    else if bytes_eq word (codes "hier") then hierarchy_by words
     else if bytes_eq word (codes "flood") then alone (Document Flood) words
     else if bytes_eq word (codes "check") then alone (Document Check) words
     else if bytes_eq word (codes "format") then alone (Document Format) words
@@ -108,6 +113,7 @@ is_quiet Threads = false
 -- WORDS ARE NONE OF `run`: no run with threads is asked for
 abbrev pub IsQuietQuery : Query → Type 0
 IsQuietQuery (Run schedule shown) = is_quiet schedule ≡ true
+IsQuietQuery (Hierarchy shown) = Unit {0}
 IsQuietQuery Flood = Unit {0}
 IsQuietQuery Check = Unit {0}
 IsQuietQuery Format = Unit {0}

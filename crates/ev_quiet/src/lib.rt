@@ -6,6 +6,8 @@ mod audits;
 mod body;
 mod generated;
 mod given;
+mod hierarchy;
+mod hierarchy_law;
 mod law;
 mod notices;
 mod page;

@@ -11,6 +11,7 @@ ghost use Rattle.ev_quiet.specs.Faults.{ArePermitted, StopsAtLine, IsAtFault, Mu
 ghost use Rattle.ev_quiet.specs.Answers.{IsPrintedOf};
 
 use crate::body::Body;
+use crate::hierarchy::hierarchy;
 use crate::law::promise;
 use crate::ran::{Ran, make_run};
 use crate::reading::net;
@@ -212,6 +213,7 @@ pub fn of_document(alloc: Global, query: Query, bytes: &[u8]) -> Result<Printed,
 {
     match query {
         Query::Run(schedule, shown) => run(alloc, bytes, schedule, shown),
+        Query::Hierarchy(shown) => hierarchy(alloc, bytes, shown),
         Query::Flood => flood(alloc, bytes),
         Query::Check => check(alloc, bytes),
         Query::Format => format(alloc, bytes),

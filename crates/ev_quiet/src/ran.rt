@@ -92,8 +92,8 @@ fn refused<K: Keeping>(
     Ok(lists)
 }
 
-// How many clients a net has.
-fn clients(net: &Net) -> u32
+/// How many clients a net has.
+pub fn clients(net: &Net) -> u32
     requires { IsSound net.now }
     ensures { result ≡ length net.now.clients }
 {

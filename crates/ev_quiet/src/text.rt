@@ -1,8 +1,9 @@
 //! Texts of runs.
-ghost use Rattle.std.specs.Prelude.{◌≡◌, true, IfOk};
+ghost use Rattle.std.specs.Prelude.{◌≡◌, ◌++◌, true, length, IfOk};
 ghost use Rattle.ev_model.specs.Sound.{IsSound};
 ghost use Rattle.ev_turns.specs.Network.{IsLegal};
 ghost use Rattle.ev_turns.specs.Told.{told_by};
+ghost use Rattle.ev_report.specs.Deliveries.{deliveries_text};
 ghost use Rattle.ev_report.specs.Trace.{trace_text};
 ghost use Rattle.ev_quiet.specs.Printed.{trace_of, run_text};
 ghost use Rattle.ev_quiet.specs.Ran.{IsCollected};
@@ -60,6 +61,28 @@ fn trace_where(
     }
 }
 
+/// What is printed of what clients received, and a trace behind it.
+pub fn printed_lists(
+    alloc: Global,
+    net: Net,
+    ran: Ran,
+    sorted: bool,
+    trace: Vec<u8>,
+) -> Result<Printed, NoMemory>
+    requires refused { length ran.refused.items ≡ length net.clients }
+    requires received { length ran.received.items ≡ length net.clients }
+    ensures text { IfOk result (λ p. p.text ≡ deliveries_text net ran.refused.items ran.received.items sorted ++ trace.items) }
+    ensures journal { IfOk result (λ p. p.journal ≡ ran.journal.entries) }
+{
+    let Ran {
+        journal,
+        refused,
+        received,
+    } = ran;
+    let given = Given::make(alloc, net, refused, received, sorted)?;
+    Printed::make(alloc, Body::Received(given), trace, journal)
+}
+
 /// What is printed of a run, whose entries are kept where its trace is shown.
 pub fn printed_run(alloc: Global, net: Net, ran: Ran, shown: Shown) -> Result<Printed, NoMemory>
     requires sound { IsSound net }
@@ -69,11 +92,5 @@ pub fn printed_run(alloc: Global, net: Net, ran: Ran, shown: Shown) -> Result<Pr
     ensures journal { IfOk result (λ p. p.journal ≡ ran.journal.entries) }
 {
     let trace = trace_where(alloc, shown.trace, &net, &ran.journal)?;
-    let Ran {
-        journal,
-        refused,
-        received,
-    } = ran;
-    let given = Given::make(alloc, net, refused, received, shown.sorted)?;
-    Printed::make(alloc, Body::Received(given), trace, journal)
+    printed_lists(alloc, net, ran, shown.sorted, trace)
 }

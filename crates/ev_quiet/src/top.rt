@@ -16,8 +16,8 @@ use ev_journal::Journal;
 use ev_outside::{Sink, Source, Word};
 use std::alloc::Global;
 
-/// How a run ended, and its journal in the order of the turns: that of the run for `walk`, `replay`, `traffic`, `patterns`,
-/// `audit` and a summary, and empty for all else and where it is not done.
+/// How a run ended, and its journal in the order of the turns: that of the run for `walk`, `hier`, `replay`, `traffic`,
+/// `patterns`, `audit` and a summary, and empty for all else and where it is not done.
 #[derive(Drop)]
 pub struct Outcome {
     /// How it ended.
@@ -90,7 +90,8 @@ impl Outcome {
 /// document is refused at its first fault; then the run is made, and then the text is written. All memory is taken before
 /// the first write.
 ///
-/// `walk` and `replay` print what each client receives in a run of the network, `flood` what flooding owes and allows it,
+/// `walk` and `replay` print what each client receives in a run of the network, `hier` what it receives where server 1 is the
+/// top of a hierarchy, `flood` what flooding owes and allows it,
 /// `traffic` what each link carries in the walk beside plain flooding, `check` how much the document has, `format` its
 /// canonical text, and `gen` the document of a seed, or the summary of its walk. `patterns` prints where the patterns behind a
 /// document occur in what the clients receive in its walk. `audit` prints how much a run has whose output stands behind a

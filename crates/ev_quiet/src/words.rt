@@ -1,7 +1,7 @@
 //! What the words of the command line ask for.
 ghost use Rattle.std.specs.Prelude.{◌≡◌, ◌↔◌, IsTrue};
 ghost use Rattle.std.specs.Str.{bytes_eq};
-ghost use Rattle.ev_quiet.specs.Words.{AreNoneOfRun, alone, asked, generate_by, is_summary, joined_seed, options, parted_seed};
+ghost use Rattle.ev_quiet.specs.Words.{AreNoneOfRun, alone, asked, generate_by, hierarchy_by, is_summary, joined_seed, options, parted_seed};
 ghost use Rattle.ev_quiet.specs.Words.{plain, run_by, traffic_by, wanted_by, with_option};
 
 use crate::seed::seed;
@@ -33,6 +33,8 @@ pub struct Shown {
 pub enum Query {
     /// What clients receive in a run of the network.
     Run(Schedule, Shown),
+    /// What clients receive in the walk of its hierarchy, with server 1 at the top.
+    Hierarchy(Shown),
     /// What flooding owes and allows them.
     Flood,
     /// How much it has.
@@ -115,6 +117,16 @@ fn run(schedule: Schedule, words: &[Word]) -> Option<Wanted>
 {
     match options(words) {
         Some(shown) => Some(Wanted::Document(Query::Run(schedule, shown))),
+        None => None,
+    }
+}
+
+// The walk of a hierarchy, with the options behind its word.
+fn hierarchy(words: &[Word]) -> Option<Wanted>
+    ensures { result ≡ hierarchy_by words.now }
+{
+    match options(words) {
+        Some(shown) => Some(Wanted::Document(Query::Hierarchy(shown))),
         None => None,
     }
 }
@@ -203,6 +215,8 @@ pub fn read_words(words: &[Word]) -> Option<Wanted>
         run(Schedule::Replay, rest)
     } else if is_word(word, b"run") {
         run(Schedule::Threads, rest)
+    } else if is_word(word, b"hier") {
+        hierarchy(rest)
     } else if is_word(word, b"flood") {
         alone(Wanted::Document(Query::Flood), rest)
     } else if is_word(word, b"check") {

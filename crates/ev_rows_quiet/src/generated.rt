@@ -14,8 +14,8 @@ fn lines_with(text: &[u8], first: &[u8]) -> u32 {
     count
 }
 
-/// Prints whether a document of 2,466 lines is generated, and what `check`, `walk`, `replay`, `flood` and the summary make
-/// of it.
+/// Prints whether a document of 2,466 lines is generated, and what `check`, `walk`, `replay`, `hier`, `flood` and the
+/// summary make of it.
 pub fn print_generated(rt: &impl Print, alloc: Global) -> Result<(), Failure> {
     let document = outcome(alloc, "gen --seed 1", b"")?.text;
     println!(rt;
@@ -35,6 +35,8 @@ pub fn print_generated(rt: &impl Print, alloc: Global) -> Result<(), Failure> {
     print_verdict(rt, "its sorted walk is its flood", &came, b"", &flooded)?;
     let came = outcome(alloc, "replay --sorted", &document)?;
     print_verdict(rt, "and so is its replay", &came, b"", &flooded)?;
+    let came = outcome(alloc, "hier --sorted", &document)?;
+    print_verdict(rt, "and so is its hierarchy's walk", &came, b"", &flooded)?;
     println!(rt; "deliveries: {}", lines_with(&flooded, b"deliver "))?;
     let came = outcome(alloc, "gen --summary --seed=1", b"")?;
     print!(rt; "{}", shown(&came.text))?;

@@ -7,6 +7,7 @@ mod devices;
 mod faults;
 mod formats;
 mod generated;
+mod hierarchies;
 mod large;
 mod pages;
 mod patterns;
@@ -24,6 +25,7 @@ fn main(rt: HostRuntime) -> Result<(), Failure> {
     tried::print_rows(&rt, alloc, &runs::RUNS)?;
     tried::print_rows(&rt, alloc, &replays::REPLAYS)?;
     tried::print_rows(&rt, alloc, &replays::FLOODS)?;
+    tried::print_rows(&rt, alloc, &hierarchies::HIERARCHIES)?;
     tried::print_rows(&rt, alloc, &faults::FAULTS)?;
     tried::print_rows(&rt, alloc, &patterns::PATTERNS)?;
     tried::print_rows(&rt, alloc, &audits::AUDITS)?;

@@ -4,10 +4,11 @@ use ev_rows::Failure;
 use std::alloc::Global;
 
 /// What help must name.
-const WORDS: [&str; 14] = [
+const WORDS: [&str; 15] = [
     "walk",
     "run",
     "replay",
+    "hier",
     "flood",
     "traffic",
     "patterns",

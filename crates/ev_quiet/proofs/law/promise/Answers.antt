@@ -6,8 +6,8 @@ use Rattle.ev_theory.specs.Real.{real}
 use Rattle.ev_model.specs.Meaning.{delivery_of}
 use Rattle.ev_model.specs.Nets.{home_of}
 use Rattle.ev_model.specs.Lists.{refused_ordinals}
-use Rattle.ev_quiet.specs.Promise.{id_of}
-use Rattle.ev_quiet.specs.Network.{run_of}
+use Rattle.ev_quiet.specs.Promise.{RefusesByScripts, id_of}
+use Rattle.ev_quiet.specs.Network.{lists_by, run_of}
 use Rattle.ev_quiet.proofs.Inboxes.{times-delivered, ordinals-delivered, client-lives, published-notice}
 use Rattle.ev_quiet.proofs.Flooded.{flooding-in, flood-printed}
 use Rattle.ev_quiet.proofs.Settled.{settled-to}
@@ -15,10 +15,12 @@ use Rattle.ev_quiet.proofs.law.promise.Goals as goal
 
 pub returns-clause-clients : goal.returns-clause-clients
 returns-clause-clients c = λ shown input net journal of whole.
-    let run = run_of net (c.sound_net.ensures.laws net whole.sound) journal whole.legal in record {
+    let run = run_of net (c.sound_net.ensures.laws net whole.sound) journal whole.legal in
+    let all : RefusesByScripts net (lists_by net journal) = λ client is. ap (refused_ordinals net client) (whole.drained.taken (home_of net client) client (client-lives net client is)) in
+    record {
       printed = refl;
       notices = whole.notices;
-      refusals = λ client is. ap (refused_ordinals net client) (whole.drained.taken (home_of net client) client (client-lives net client is));
+      refusals = all;
       owed_once = λ client publication owed.
           times-delivered (net_then real run (length run.journal)) (id_of publication) (inbox_of real run client)
           ∙ (c.owed_once.ensures run whole.drained publication client owed).1;
@@ -42,7 +44,7 @@ returns-clause-clients c = λ shown input net journal of whole.
       stable = λ text flood place rows at owed.
           c.flood_as_delivered.ensures.client net whole.sound flood.rows flood.refused (flooding-in input net text of flood) run refl whole.drained place rows at owed;
       all_stable = λ text flood owed.
-          flood-printed input net journal text of whole flood
+          flood-printed input net (lists_by net journal) text of all flood
           (λ flooding. c.flood_as_delivered.ensures.whole net whole.sound flood.rows flood.refused flooding owed run refl whole.drained);
     }
 

@@ -3,12 +3,12 @@ use Rattle.std.proofs.lemmas.List.FromFn.{length-map-range_with_len}
 use Rattle.ev_turns.specs.Network.{refused_by, received_by}
 use Rattle.ev_quiet.proofs.text.printed_run.Goals as goal
 
-pub make-requires-clause-refused : goal.make-requires-clause-refused
-make-requires-clause-refused c =
+pub printed_lists-requires-clause-refused : goal.printed_lists-requires-clause-refused
+printed_lists-requires-clause-refused c =
     ap length c.requires.collected.refused
     ∙ length-map-range_with_len (refused_by c.args.net c.args.ran.journal.entries) 1 (length c.args.net.clients)
 
-pub make-requires-clause-received : goal.make-requires-clause-received
-make-requires-clause-received c =
+pub printed_lists-requires-clause-received : goal.printed_lists-requires-clause-received
+printed_lists-requires-clause-received c =
     ap length c.requires.collected.received
     ∙ length-map-range_with_len (received_by c.args.net c.args.ran.journal.entries) 1 (length c.args.net.clients)
