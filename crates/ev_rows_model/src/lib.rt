@@ -1,9 +1,15 @@
-//! Tests of nets and entries, and the laws of whole runs called at the real theory.
+//! Tests of what runs are said with: trees of servers, nets, entries and their merge; and the laws of whole runs called at the real theory.
 #![tactic(auto)]
 
 #[cfg(test)]
 mod copies;
 #[cfg(test)]
+mod edges;
+#[cfg(test)]
 mod laws;
 #[cfg(test)]
+mod merging;
+#[cfg(test)]
 mod nets;
+#[cfg(test)]
+mod trees;

@@ -34,18 +34,22 @@ fn told(alloc: Global, text: String) -> Result<Vec<u8>, RowFault> {
     Ok(Vec::from_slice(alloc, text.as_bytes())?)
 }
 
-/// The normal form of a constraint, if it is a set of numbers or of times.
-pub fn normal(alloc: Global, rest: &str) -> Result<Vec<u8>, RowFault> {
-    let constraint = first_constraint(alloc, rest)?;
-    let text = match constraint.normal() {
-        Normal::Empty => return Ok(Vec::from_slice(alloc, b"nothing")?),
-        Normal::All => return Ok(Vec::from_slice(alloc, b"all")?),
+/// A normal form as a text: a set of numbers or of times, a truth, or the operator of texts.
+fn form(alloc: Global, normal: &Normal<'_>) -> Result<String, RowFault> {
+    Ok(match normal {
+        Normal::Empty => format!(in alloc; "nothing")?,
+        Normal::All => format!(in alloc; "all")?,
         Normal::Int(set) => format!(in alloc; "{set:?}")?,
         Normal::Time(set) => format!(in alloc; "{set:?}")?,
         Normal::Bool(one) => format!(in alloc; "{one}")?,
         Normal::Str(op, _) => format!(in alloc; "{op:?}")?,
-    };
-    told(alloc, text)
+    })
+}
+
+/// The normal form of a constraint.
+pub fn normal(alloc: Global, rest: &str) -> Result<Vec<u8>, RowFault> {
+    let constraint = first_constraint(alloc, rest)?;
+    told(alloc, form(alloc, &constraint.normal())?)
 }
 
 /// The attributes of a list, in its order, which need not be that of a notice.

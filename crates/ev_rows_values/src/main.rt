@@ -1,11 +1,16 @@
 //! Worked rows of names, texts, values, constraints, notices, filters and advertisements, of covering
-//! and of overlap. Standard input has the rows, each a question and the answer that is wanted.
+//! and of overlap; of wire texts that are written, read again or refused, and of command lines with
+//! their commands and faults. Standard input has the rows, each a question and the answer that is wanted.
 #![tactic(auto)]
 
 mod compared;
+mod lines;
+mod long;
 mod made;
 mod spelled;
+mod texts;
 mod values;
+mod wire;
 
 use ev_rows::{RowFault, try_rows};
 use values::Values;

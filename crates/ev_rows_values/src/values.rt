@@ -1,9 +1,9 @@
 //! The questions of rows, and what answers them.
-use crate::{compared, made, spelled};
+use crate::{compared, made, spelled, texts};
 use ev_rows::{Answers, RowFault, first_word};
 use std::alloc::Global;
 
-/// Answers questions of values and of what is made of them.
+/// Answers questions of values, of what is made of them, and of their texts.
 #[derive(Drop)]
 pub struct Values;
 
@@ -22,7 +22,7 @@ fn compared(alloc: Global, verb: &str, rest: &str) -> Result<Vec<u8>, RowFault> 
         "overlap" => compared::overlap(alloc, rest),
         "shared" => compared::shared(alloc, rest),
         "matched" => compared::matched(alloc, rest),
-        _ => Err(RowFault::Form),
+        _ => texts::answer(alloc, verb, rest),
     }
 }
 

@@ -1,6 +1,6 @@
 use Rattle.std.proofs.Common.{◌≡◌, ◌+◌, arith}
-use Rattle.ev_rows_merge.proofs.Pushing.{next-entry}
-use Rattle.ev_rows_merge.proofs.merging.journal.Goals as goal
+use Rattle.ev_rows_model.proofs.Pushing.{next-entry}
+use Rattle.ev_rows_model.proofs.merging.journal.Goals as goal
 
 pub loop-more-preserved : goal.loop-more-preserved
 loop-more-preserved c =

@@ -1,7 +1,7 @@
 use Rattle.std.proofs.Common.{◌+◌}
 use Rattle.ev_merge.specs.Merging.{IsJournalOf}
-use Rattle.ev_rows_merge.proofs.Pushing.{AllBelow}
-use Rattle.ev_rows_merge.proofs.merging.journal.Given as goal
+use Rattle.ev_rows_model.proofs.Pushing.{AllBelow}
+use Rattle.ev_rows_model.proofs.merging.journal.Given as goal
 
 -- a journal so far, and the next stamp is above all
 abbrev pub invariant-loop-more : goal.invariant-loop-more

@@ -1,5 +1,5 @@
-use Rattle.ev_rows_merge.proofs.Pushing.{next-journal}
-use Rattle.ev_rows_merge.proofs.merging.journals.Goals as goal
+use Rattle.ev_rows_model.proofs.Pushing.{next-journal}
+use Rattle.ev_rows_model.proofs.merging.journals.Goals as goal
 
 pub loop-place-preserved : goal.loop-place-preserved
 loop-place-preserved c =

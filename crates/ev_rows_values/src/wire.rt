@@ -1,5 +1,6 @@
 //! Wire texts that are written, read again, and refused.
 use crate::long::{marks, members};
+use ev_notice::Notice;
 use ev_rows::{RowFault, first_word, number, spelled, truth};
 use ev_wire::{
     Command, Delivery, Id, Sent, SentText, SharedText, WireFault, read_advert, read_filter,
@@ -92,31 +93,51 @@ pub fn many(alloc: Global, rest: &str) -> Result<Vec<u8>, RowFault> {
     }
 }
 
-/// A delivery, what is sent of it, and a command of it, each by its copy.
-fn carried(alloc: Global, bytes: Vec<u8>) -> Result<Vec<u8>, RowFault> {
+/// A copy of a delivery of these bytes.
+fn delivered(alloc: Global, bytes: Vec<u8>) -> Result<Delivery, RowFault> {
     let id = Id {
         publisher: 7,
         ordinal: 12,
     };
     let bytes = SharedText::of(alloc, bytes)?;
-    let delivery = Delivery { id, bytes }.copy(alloc)?;
-    let sent = Sent {
+    Ok(Delivery { id, bytes }.copy(alloc)?)
+}
+
+/// What is sent of a delivery.
+fn sent_of(alloc: Global, delivery: &Delivery) -> Result<Sent, RowFault> {
+    let bytes = delivery.bytes.as_slice().to_vec(alloc)?;
+    Ok(Sent {
         to: delivery.id.publisher,
-        bytes: SentText::written(delivery.bytes.as_slice().to_vec(alloc)?),
-    };
+        bytes: SentText::written(bytes),
+    })
+}
+
+/// The bytes of a copy of what is sent.
+fn pushed(alloc: Global, sent: &Sent) -> Result<Vec<u8>, RowFault> {
     let mut bytes = Vec::new(alloc);
     sent.copy(alloc)?.bytes.push(&mut bytes)?;
     Ok(bytes)
+}
+
+/// The bytes of a copy of a delivery, as a copy of what is sent of it.
+fn carried(alloc: Global, bytes: Vec<u8>) -> Result<Vec<u8>, RowFault> {
+    let delivery = delivered(alloc, bytes)?;
+    pushed(alloc, &sent_of(alloc, &delivery)?)
+}
+
+/// The text of a copy of a command that publishes a notice.
+fn published(alloc: Global, notice: Notice) -> Result<Vec<u8>, RowFault> {
+    match Command::Publish(notice).copy(alloc)? {
+        Command::Publish(notice) => Ok(write_notice(alloc, &notice)?),
+        _ => Err(RowFault::Form),
+    }
 }
 
 /// The text of a notice that was copied as a delivery, as what is sent, and as a command.
 pub fn copied(alloc: Global, rest: &str) -> Result<Vec<u8>, RowFault> {
     let bytes = carried(alloc, Vec::from_slice(alloc, rest.as_bytes())?)?;
     match read_notice(alloc, bytes.as_slice()) {
-        Ok(notice) => match Command::Publish(notice).copy(alloc)? {
-            Command::Publish(notice) => Ok(write_notice(alloc, &notice)?),
-            _ => Err(RowFault::Form),
-        },
+        Ok(notice) => published(alloc, notice),
         Err(fault) => refused(alloc, fault),
     }
 }

@@ -1,5 +1,0 @@
-//! Tests of the merge of journals.
-#![tactic(auto)]
-
-#[cfg(test)]
-mod merging;
