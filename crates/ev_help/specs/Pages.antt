@@ -14,7 +14,7 @@ help_text =
     ++ codes "    the order received; with a trace of what the servers did\n"
     ++ codes "        siena walk < examples/alarm.siena\n"
     ++ codes "run [--sorted] [--trace]\n"
-    ++ codes "    the same where each server has two threads, whose turns come as they may\n"
+    ++ codes "    the same where each server has two workers, whose turns come as they may\n"
     ++ codes "        siena run --sorted < examples/market.siena\n"
     ++ codes "replay [--sorted] [--trace]\n"
     ++ codes "    the same where the turns of the document's schedule come first\n"

@@ -20,7 +20,7 @@ walk [--sorted] [--trace]
     the order received; with a trace of what the servers did
         siena walk < examples/alarm.siena
 run [--sorted] [--trace]
-    the same where each server has two threads, whose turns come as they may
+    the same where each server has two workers, whose turns come as they may
         siena run --sorted < examples/market.siena
 replay [--sorted] [--trace]
     the same where the turns of the document's schedule come first

@@ -7,6 +7,7 @@ mod meeting;
 mod moving;
 mod orders;
 mod overtaken;
+mod phases;
 mod relayed;
 mod row;
 mod runs;
@@ -25,5 +26,6 @@ fn main(rt: HostRuntime) -> Result<(), Failure> {
     orders::print_orders(&rt, alloc)?;
     moving::print_moving(&rt, alloc)?;
     starts::print_starts(&rt, alloc)?;
+    phases::print_phases(&rt, alloc)?;
     generated::print_generated(&rt, alloc)
 }

@@ -7,7 +7,7 @@ use std::sync::Wait;
 use std::thread::Threads;
 
 /// How often each document is run.
-const RUNS: u32 = 20;
+const RUNS: u32 = 40;
 
 /// How many runs of a document were done, and of how many of them the audit went well.
 fn try_document<R: Threads + Wait + Sync>(

@@ -1,23 +1,20 @@
 -- Cells that are back from their workers: what their journals have.
-use Rattle.std.proofs.Common.{◌≡◌, ℕ, zero, suc, ◌+◌, ◌≤◌, List, [], ◌∷◌, ◌++◌, All, drop, length, map, Option, Some, None, inl, inr, refl, sym, ap, subst, ◌∙◌, arith}
+use Rattle.std.proofs.Common.{◌≡◌, ℕ, zero, suc, ◌≤◌, List, [], ◌∷◌, ◌++◌, All, drop, length, map, Option, Some, None, inl, inr, refl, ap, subst, ◌∙◌, arith}
 use Rattle.std.proofs.lemmas.List.{map-append}
 use mathlib.Core.List.{IsPrefix}
-use Rattle.ev_sets.specs.Numbers.{sum_over, count}
-use Rattle.ev_sets.specs.Sets.{Has}
 use Rattle.ev_turnlock.specs.declared.lock.Pass.{Pass}
 use Rattle.ev_turnlock.specs.Passes.{first_value, seen_by}
 use Rattle.ev_wire.specs.MessageText.{Each}
 use Rattle.ev_outside.specs.declared.gate.Worker.TheVariants.{Commands}
 use Rattle.ev_numserver.specs.declared.stepped.StepFault.{StepFault}
 use Rattle.ev_numserver.specs.declared.stepped.StepFault.TheVariants.{NoMemory, StampsExhausted}
-use Rattle.ev_numserver.specs.Step.{last_stamp}
 use Rattle.ev_model.specs.Parts.{EntryParts}
 use Rattle.ev_numnode.specs.declared.held.Root.{Root}
 use Rattle.ev_numnode.specs.Cell.{CellParts}
 use Rattle.ev_numnode.specs.Together.{HasGrown, HaveGrown}
 use Rattle.ev_workers.specs.Crews.{HasSeenFirst}
 use Rattle.ev_workers.specs.Hands.{CellLock}
-use Rattle.ev_workers.specs.Journals.{is_command_of, commands_of, entries_since, HasCommands, IsWornBy, HasTaken}
+use Rattle.ev_workers.specs.Journals.{commands_of, entries_since, HasCommands, IsWornBy, HasTaken}
 use Rattle.ev_workers.specs.Work.{EndsWith}
 
 commands-more : (client : ℕ) (es fs : List EntryParts) → commands_of client es ≤ commands_of client (es ++ fs)

@@ -74,3 +74,13 @@ turned-later old new taken journal after a b p q e v = record {
 pub none-gives : {A P : Type 0} (o : Option A) → o ≡ None → IfNone o P → P
 none-gives None e p = p
 none-gives (Some x) e p = absurd cc
+
+-- what hands keep that come after others, the others keep
+pub keeps-later : (worker : Worker) (first then : Hands) (back : Ended) → AreLater first then → Keeps worker then.pass then.viewer back → Keeps worker first.pass first.viewer back
+keeps-later worker first then back later k = record {
+  same = same-pass first.pass then.pass back.pass later.same k.same;
+  free = k.free;
+  seen = prefix-along (seen_by first.pass) (seen_by then.pass) (seen_by back.pass) later.seen k.seen;
+  viewer_is = same-viewer first.viewer then.viewer back.viewer later.viewer k.viewer_is;
+  ends = λ root e. k.ends root (later.same.1 ∙ e);
+}

@@ -6,5 +6,7 @@ pub mod Later
 pub mod Pairs
 pub mod Passes
 pub mod Rows
+pub mod Rosters
 pub mod Sends
 pub mod Back
+pub mod Finished

@@ -20,7 +20,7 @@ module _ {X : Type 0} where
         subst P (read-last xs y y) (b (length xs) y (omega (arith, length-append xs (y ∷ [])))),
       )
 
-  shorter : (all xs : List X) (y : X) → all ≡ xs ++ y ∷ [] → length all ≡ length xs + 1
+  pub shorter : (all xs : List X) (y : X) → all ≡ xs ++ y ∷ [] → length all ≡ length xs + 1
   shorter all xs y e = let a = ap length e in omega (arith, a, length-append xs (y ∷ []))
 
   -- one more at the end

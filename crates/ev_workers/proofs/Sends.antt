@@ -33,7 +33,6 @@ use Rattle.ev_bits.specs.contracts.row.Row as Row
 use Rattle.ev_textlists.specs.contracts.key.TextKey as TextKey
 use Rattle.ev_textlists.specs.contracts.order.Order as TextOrder
 use Rattle.ev_textlists.specs.contracts.orders.Orders as TextOrders
-use Rattle.ev_textlists.specs.contracts.group.Group as Group
 use Rattle.ev_textlists.specs.contracts.marked.Marked as Marked
 use Rattle.ev_textlists.specs.contracts.patterns.Patterns as Patterns
 use Rattle.ev_textlists.specs.contracts.texts.Texts as Texts
@@ -42,7 +41,6 @@ use Rattle.ev_matcher.specs.contracts.index.Index as Index
 use Rattle.ev_matcher.specs.contracts.matcher.Matcher as Matcher
 use Rattle.ev_wire.specs.contracts.command.Command as Command
 use Rattle.ev_wire.specs.contracts.delivery.Delivery as Delivery
-use Rattle.ev_wire.specs.contracts.id.Id as Id
 use Rattle.ev_wire.specs.contracts.lists.Lists as Lists
 use Rattle.ev_wire.specs.contracts.shared_text.SharedText as SharedText
 use Rattle.ev_catalogue.specs.contracts.numbered.NumberedCommand as NumberedCommand
@@ -87,10 +85,13 @@ use Rattle.ev_numnode.specs.contracts.held.ServerInHand as Held
 use Rattle.ev_numnode.specs.contracts.held.Root as Root
 use Rattle.ev_numnode.specs.contracts.cell.Cell as Cell
 use Rattle.ev_numnode.specs.contracts.cell.CellStanding.TheImpl as standing
-use Rattle.ev_workers.specs.contracts.crew.Seat as OwnSeat
 use Rattle.ev_workers.specs.contracts.ended.Ended as OwnEnded
+use Rattle.ev_workers.specs.contracts.hands.Hands as OwnHands
 use Rattle.ev_workers.specs.contracts.desk.Desk as OwnDesk
-use Rattle.ev_workers.specs.contracts.hire.Hire as Hire
+use Rattle.ev_workers.specs.contracts.post.Post as Post
+use Rattle.ev_workers.specs.contracts.roster.Roster as Roster
+use Rattle.ev_workers.specs.contracts.site.Site as Site
+use Rattle.ev_workers.specs.contracts.roster.Back as Back
 use Rattle.ev_workers.specs.contracts.pace.Pace as Pace
 
 ruleset ours = (sendable, crosses, end.the_send, seat.the_send, shared.the_send, shared.the_sync, lease.the_send, lease.the_sync, heap.the_field_send, seen.the_send, seen.the_sync, word.the_send, part.the_send, part.the_sync, deed.the_send)
@@ -397,11 +398,8 @@ lock_sync κ g = let a = cell_row_send κ in struct_sync (shape (TurnLock.the_ty
 pub pass_send : (I R : RattleType) → IsSend (Pass.the_field I R).row
 pass_send I R = struct_send (shape (Pass.the_type I R)) (search (sendable, badge.the_send) depth 20, tt)
 
-pub seat_send : (κ : NamedLft) → IsSend (OwnSeat.the_field κ).row
-seat_send κ = let a = viewer_send in search (sendable, pass_send) depth 20
-
-pub ended_send : (κ : NamedLft) → IsSend (OwnEnded.the_field κ).row
-ended_send κ = let a = viewer_send in search (sendable, crosses, pass_send) depth 20
+pub hands_send : (κ : NamedLft) → IsSend (OwnHands.the_field κ).row
+hands_send κ = let a = viewer_send in search (sendable, pass_send) depth 20
 
 pub pace_sync : IsSync Pace.the_field.row
 pace_sync = search (sendable, crosses) depth 20
@@ -411,5 +409,20 @@ desk_is_send κ ν R G r h = let a = lock_sync ν standing.ghosts in let b = tab
     struct_send (shape (OwnDesk.the_type κ ν R G))
     (search sendable depth 20, (search ours depth 20, (search sendable depth 20, (search sendable depth 20, (search sendable depth 20, (search sendable depth 20, (search sendable depth 20, (search sendable depth 20, (search sendable depth 20, tt)))))))))
 
-pub hire_send : (κ ν : NamedLft) (R G : RattleType) → IsSync R → IsSync G → IsSend (Hire.the_field κ ν R G).row
-hire_send κ ν R G r h = let a = desk_is_send κ ν R G r h in let b = seat_send ν in struct_send (shape (Hire.the_type κ ν R G)) (search sendable depth 20, (search sendable depth 20, tt))
+pub post_send : (κ ν : NamedLft) (R G : RattleType) → IsSync R → IsSync G → IsSend (Post.the_field κ ν R G).row
+post_send κ ν R G r h = let a = desk_is_send κ ν R G r h in let b = hands_send ν in
+    struct_send (shape (Post.the_type κ ν R G)) (search sendable depth 20, (search sendable depth 20, (search sendable depth 20, (search sendable depth 20, (search (sendable, crosses) depth 20, tt)))))
+
+pub ended_send : (κ : NamedLft) → IsSend (OwnEnded.the_field κ).row
+ended_send κ = let a = viewer_send in search (sendable, crosses, pass_send) depth 20
+
+pub site_send : (κ ν : NamedLft) (R G : RattleType) → IsSync R → IsSync G → IsSend (Site.the_field κ ν R G).row
+site_send κ ν R G r h = let b = tables_row_sync ν in let e = pace_sync in
+    struct_send (shape (Site.the_type κ ν R G)) (search sendable depth 20, (search ours depth 20, (search sendable depth 20, (search sendable depth 20, (search sendable depth 20, (search sendable depth 20, tt))))))
+
+pub roster_send : (κ ν : NamedLft) (R G : RattleType) → IsSync R → IsSync G → IsSend (Roster.the_field κ ν R G).row
+roster_send κ ν R G r h = let a = post_send κ ν R G r h in let b = ended_send ν in let c = site_send κ ν R G r h in
+    struct_send (shape (Roster.the_type κ ν R G)) (search sendable depth 20, (search sendable depth 20, (search sendable depth 20, (search ours depth 20, (search ours depth 20, tt)))))
+
+pub back_send : (κ : NamedLft) → IsSend (Back.the_field κ).row
+back_send κ = let a = ended_send κ in search ours depth 20

@@ -1,6 +1,8 @@
 -- The workers of a phase: a crew for each lock.
-use Rattle.std.specs.Prelude.{◌≡◌, ◌≤◌, ℕ, suc, false, List, [], ◌∷◌, All, length, Some, slice_get, vec_capacity}
-use Rattle.ev_outside.specs.declared.gate.Worker.TheVariants.{Commands}
+use Rattle.std.specs.Prelude.{◌≡◌, ◌≤◌, ◌+◌, ◌/◌, ◌%◌, ◌++◌, ℕ, zero, suc, false, List, [], ◌∷◌, All, length, Some, slice_get, vec_capacity}
+use Rattle.ev_wire.specs.MessageText.{Each}
+use Rattle.ev_outside.specs.declared.gate.Worker.{Worker}
+use Rattle.ev_outside.specs.declared.gate.Worker.TheVariants.{Commands, Links}
 use Rattle.ev_turnlock.specs.declared.lock.Pass.{Pass}
 use Rattle.ev_turnlock.specs.Passes.{IsPassOf, first_value, has_in_hand, pass_count, seen_by}
 use Rattle.ev_model.specs.Parts.{NetParts, EntryParts}
@@ -11,7 +13,8 @@ use Rattle.ev_workers.specs.declared.crew.Crew.{Crew}
 use Rattle.ev_workers.specs.declared.crew.Spare.{Spare}
 use Rattle.ev_workers.specs.declared.crew.Eyes.{Eyes}
 use Rattle.ev_workers.specs.declared.ended.Ended.{Ended}
-use Rattle.ev_workers.specs.declared.jobs.Both.{Both}
+use Rattle.ev_workers.specs.declared.crew.Both.{Both}
+use Rattle.ev_workers.specs.declared.roster.Back.{Back}
 use Rattle.ev_workers.specs.Hands.{CellLock, AreFreeHands, IsLockFor, lock_root}
 use Rattle.ev_workers.specs.Work.{EndsWith}
 
@@ -53,9 +56,42 @@ abbrev pub AreBackAt : CellLock → Both Ended → Type 0
 AreBackAt lock done = AreFreeHands lock done.commands.pass done.commands.viewer × AreFreeHands lock done.links.pass done.links.viewer
     × EndsWith Commands (lock_root lock) (seen_by done.commands.pass) done.commands.fault
 
--- both workers of a server keep what their jobs do
-abbrev pub BothKeep : {Job Back : Type 0} → (Job → Back → Type 0) → Both Job → Both Back → Type 0
-BothKeep keeps jobs done = keeps jobs.commands done.commands × keeps jobs.links done.links
+-- a worker of a lock
+abbrev pub at_lock : CellLock → Worker → CellLock × Worker
+at_lock lock worker = (lock, worker)
+
+-- what a worker of a lock gave back: its hands are free, and it ended as it may
+abbrev pub IsBack : CellLock × Worker → Ended → Type 0
+IsBack at ended = AreFreeHands at.0 ended.pass ended.viewer × EndsWith at.1 (lock_root at.0) (seen_by ended.pass) ended.fault
+
+-- what the workers of each thread gave back
+abbrev pub AreBack : List (List (CellLock × Worker)) → List Back → Type 0
+AreBack rows all = Pairwise (λ row back. Pairwise IsBack row back.ended.items) rows all
+
+-- each row has room for so many more: how many it has, and how many it can have
+abbrev pub HaveRoom : ℕ → List (ℕ × ℕ) → Type 0
+HaveRoom left rows = Each (λ row. row.0 + left ≤ row.1) rows
+
+-- rows with one more item at the end of the row at a place
+abbrev pub with_one : {X : Type 0} → ℕ → X → List (List X) → List (List X)
+with_one place x [] = []
+with_one zero x (row ∷ rows) = (row ++ x ∷ []) ∷ rows
+with_one (suc place) x (row ∷ rows) = row ∷ with_one place x rows
+
+-- the thread of a worker, of so many: the workers of a server stand half of all threads apart
+abbrev pub thread_at : ℕ → ℕ → Worker → ℕ
+thread_at threads server Commands = server % threads
+thread_at threads server Links = (server + threads / 2) % threads
+
+-- the threads with both workers of one lock more
+abbrev pub with_both : ℕ → ℕ → CellLock → List (List (CellLock × Worker)) → List (List (CellLock × Worker))
+with_both threads server lock rows =
+    with_one (thread_at threads server Links) (at_lock lock Links) (with_one (thread_at threads server Commands) (at_lock lock Commands) rows)
+
+-- the threads with the workers of all these locks more, those of the last one first
+abbrev pub with_all : ℕ → ℕ → List CellLock → List (List (CellLock × Worker)) → List (List (CellLock × Worker))
+with_all threads server [] rows = rows
+with_all threads server (lock ∷ locks) rows = with_both threads server lock (with_all threads (suc server) locks rows)
 
 -- two viewers of the publisher that a root names
 abbrev pub AreEyesOf : Root → Eyes → Type 0

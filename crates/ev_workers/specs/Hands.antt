@@ -1,14 +1,17 @@
 -- What a worker has in its hands.
-use Rattle.std.specs.Prelude.{◌≡◌, ◌<◌, ℕ, false, List, length}
+use Rattle.std.specs.Prelude.{◌≡◌, ◌<◌, ℕ, false, List, None, length}
 use mathlib.Core.List.{IsPrefix}
+use Rattle.ev_outside.specs.declared.gate.Worker.{Worker}
+use Rattle.ev_outside.specs.declared.gate.Worker.TheVariants.{Commands, Links}
 use Rattle.ev_turnlock.specs.declared.lock.Pass.{Pass}
 use Rattle.ev_turnlock.specs.declared.lock.TurnLock.{TurnLock}
 use Rattle.ev_turnlock.specs.Passes.{IsPassOf, IsSamePass, first_value, has_in_hand, seen_by}
 use Rattle.ev_model.specs.Parts.{NetParts, EntryParts}
 use Rattle.ev_numversions.specs.declared.viewer.Viewer.{Viewer}
 use Rattle.ev_catalogue.specs.Known.{known_filters, known_publications}
-use Rattle.ev_numversions.specs.Ends.{IsSameViewer, width_of}
+use Rattle.ev_numversions.specs.Ends.{IsAheadBy, IsSameViewer, width_of}
 use Rattle.ev_numnode.specs.declared.held.Root.{Root}
+use Rattle.ev_numnode.specs.declared.what.What.{What}
 use Rattle.ev_numnode.specs.declared.what.What.TheVariants.{Command, Take}
 use Rattle.ev_numnode.specs.Asked.{Suits}
 use Rattle.ev_numnode.specs.Cell.{CellParts}
@@ -17,7 +20,12 @@ use Rattle.ev_workers.specs.declared.tried.Picked.{Picked}
 use Rattle.ev_workers.specs.declared.tried.Picked.TheVariants.{Done, Taken, Ahead}
 use Rattle.ev_workers.specs.declared.tried.Looked.{Looked}
 use Rattle.ev_workers.specs.declared.tried.Looked.TheVariants as looks
+use Rattle.ev_workers.specs.declared.tried.Tried.{Tried}
+use Rattle.ev_workers.specs.declared.tried.Tried.TheVariants as tries
+use Rattle.ev_workers.specs.declared.stand.Stand.{Stand}
+use Rattle.ev_workers.specs.declared.stand.Stand.TheVariants.{Free, Matched, Ended}
 use Rattle.ev_workers.specs.Journals.{HasCommands}
+use Rattle.ev_workers.specs.Work.{EndsWith}
 
 abbrev pub CellLock : Type 0
 CellLock = TurnLock CellParts Root EntryParts
@@ -53,6 +61,11 @@ abbrev pub CanMatch : Root → ℕ → Type 0
 CanMatch root number = (number < length (known_publications 1 root.net.value.clients))
     × (width_of root.viewer.value ≡ length (known_filters root.net.value.clients))
 
+-- a turn of the worker for commands is a command
+abbrev pub IsOfWorker : Worker → What → Type 0
+IsOfWorker Commands what = (client : ℕ) × (what ≡ Command client)
+IsOfWorker Links what = Unit {0}
+
 -- what was picked: who has the next command lives there, and nothing was picked only where the journal has every command
 abbrev pub IsPicked : Picked → Root → List EntryParts → Type 0
 IsPicked Done root journal = HasCommands root.phase root journal
@@ -64,3 +77,15 @@ abbrev pub SuitsLooked : Looked → Root → Type 0
 SuitsLooked (looks.Taken from turned) root = Unit {0}
 SuitsLooked (looks.Ahead from number) root = Suits (Take from) root × CanMatch root number
 SuitsLooked (looks.Version turned) root = Unit {0}
+
+-- what a worker tried: where it has no turn left to make it may end; a turn to be matched ahead is one of its own
+abbrev pub IsTried : Worker → Tried → Root → List EntryParts → Type 0
+IsTried worker tries.Done root journal = EndsWith worker root journal None
+IsTried worker (tries.Ahead what number) root journal = Suits what root × CanMatch root number × IsOfWorker worker what
+IsTried worker (tries.Turned turned) root journal = Unit {0}
+
+-- how a worker stands between two takings: a publication that it matched is of a turn of its own, and it has ended as it may
+abbrev pub IsStand : Worker → Root → List EntryParts → Stand → Type 0
+IsStand worker root seen Free = Unit {0}
+IsStand worker root seen (Matched what ahead) = Suits what root × IsAheadBy root.viewer.value ahead × IsOfWorker worker what
+IsStand worker root seen (Ended fault) = EndsWith worker root seen fault

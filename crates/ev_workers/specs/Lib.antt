@@ -1,4 +1,4 @@
 pub mod Journals
-pub mod Hands
 pub mod Work
+pub mod Hands
 pub mod Crews

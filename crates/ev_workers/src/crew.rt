@@ -34,3 +34,10 @@ pub(crate) struct Crew<'a> {
     pub(crate) commands: Seat<'a>,
     pub(crate) links: Seat<'a>,
 }
+
+/// One for each worker of a server.
+#[derive(Drop)]
+pub(crate) struct Both<T> {
+    pub(crate) commands: T,
+    pub(crate) links: T,
+}

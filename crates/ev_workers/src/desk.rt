@@ -1,14 +1,15 @@
 //! What a worker is given, and how it takes the cell.
 ghost use Rattle.ev_workers.specs.Hands.{IsLockFor};
 
-use crate::ended::Ended;
-use crate::hand::{look_at, make_turn_ahead, pick_command};
+use crate::hand::{make_ahead, make_turns};
 use crate::hands::Hands;
+use crate::made::Made;
 use crate::pace::Pace;
-use crate::tried::{Looked, Picked};
+use crate::stand::{Did, Stand, end_of};
+use crate::tried::Tried;
 use ev_memory::NoMemory;
 use ev_model::Entry;
-use ev_numnode::{Cell, Root, Turned, What};
+use ev_numnode::{Cell, Root, What};
 use ev_numserver::StepFault;
 use ev_numversions::{Ahead, Viewer, match_ahead};
 use ev_outside::{Gate, Place, Spot, Worker};
@@ -17,7 +18,10 @@ use ev_turnlock::{Pass, TurnLock};
 use std::alloc::Global;
 use std::sync::Wait;
 
-/// What a worker is given that stays: the tables of its net, its server, the phase and how far it is, which worker it is, its lock and the gate.
+// So often in a row a worker takes its cell before the next worker of its thread has its turn.
+const TAKINGS: u32 = 16;
+
+/// What a worker is given that stays: the tables of its net, its server, the phase, which worker it is, its lock and the gate.
 #[derive(Drop)]
 pub(crate) struct Desk<'l, 'a, R: Wait, G: Gate> {
     pub(crate) rt: &'l R,
@@ -38,25 +42,8 @@ impl<'l, 'a, R: Wait, G: Gate> Desk<'l, 'a, R, G> {
     ghost use Rattle.ev_turnlock.specs.Passes.{IsPassOf, IsSamePass, has_in_hand, seen_by};
     ghost use Rattle.ev_numversions.specs.Ends.{IsAheadBy};
     ghost use Rattle.ev_numnode.specs.Asked.{Suits};
-    ghost use Rattle.ev_workers.specs.Hands.{AreFreeHands, AreHands, AreLater, CanMatch, SuitsLooked, IsPicked, lock_root};
+    ghost use Rattle.ev_workers.specs.Hands.{AreHands, AreLater, CanMatch, IsOfWorker, IsStand, IsTried, lock_root};
     ghost use Rattle.ev_workers.specs.Journals.{IsWornBy};
-    ghost use Rattle.ev_workers.specs.Work.{Keeps};
-
-    /// Works, and gives back the pass and the viewer.
-    pub(crate) fn run(&self, pass: Pass<Entry, Root<'a>>, viewer: Viewer) -> Ended<'a>
-        requires { AreFreeHands self.now.lock.now pass viewer }
-        ensures { Keeps self.now.worker pass.entry viewer result }
-    {
-        let hands = Hands { pass, viewer };
-        match self.worker {
-            Worker::Commands => {
-                let ended = self.take_commands(hands);
-                self.pace.note_end();
-                ended
-            }
-            Worker::Links => self.take_links(hands),
-        }
-    }
 
     /// Passes the gate at a spot.
     fn pass_gate(&self, spot: Spot) {
@@ -68,15 +55,13 @@ impl<'l, 'a, R: Wait, G: Gate> Desk<'l, 'a, R, G> {
         });
     }
 
-    /// Passes the gate after a turn, where one was made.
-    fn pass_after(&self, turned: Turned) {
-        match turned {
-            Turned::Made => self.pass_gate(Spot::Made),
-            Turned::Stale => {
-                self.pass_gate(Spot::Stale);
-                self.pass_gate(Spot::Made);
-            }
-            Turned::Idle => {}
+    /// Passes the gate after the turns of one taking, once for each.
+    fn pass_made(&self, made: &Made) {
+        if made.stale {
+            self.pass_gate(Spot::Stale);
+        }
+        for _ in 0..made.turns {
+            self.pass_gate(Spot::Made);
         }
     }
 
@@ -91,56 +76,6 @@ impl<'l, 'a, R: Wait, G: Gate> Desk<'l, 'a, R, G> {
     {
         self.pass_gate(Spot::Before);
         self.lock.try_take(pass)
-    }
-
-    /// The next command of the next client in turn, where the cell can be had; a publish is to be matched ahead.
-    pub(crate) fn pick(&self, hands: &mut Hands<'a>, last: u32) -> Result<Option<Picked>, StepFault>
-        requires { AreHands self.now.lock.now hands.old }
-        ensures hands { AreHands self.now.lock.now hands.new }
-        ensures later { AreLater hands.old hands.new }
-        ensures picked { IfOk result (λ picked. IfSome picked (λ p. IsPicked p (lock_root self.now.lock.now) (seen_by hands.new.pass))) }
-        ensures worn { (s : ℕ) → IsErrOf result (StepFault.StampsExhausted s) → IsWornBy s (lock_root self.now.lock.now) (seen_by hands.new.pass) }
-    {
-        let Some(mut cell) = self.take(&mut hands.pass) else {
-            return Ok(None);
-        };
-        let picked = pick_command(self.rt, &mut cell, self.tables, last);
-        self.lock.put(&mut hands.pass, cell);
-        match picked {
-            Ok(picked) => {
-                if let Picked::Taken(_, turned) = &picked {
-                    self.pass_after(*turned);
-                }
-                Ok(Some(picked))
-            }
-            Err(fault) => Err(fault),
-        }
-    }
-
-    /// A taking from the neighbour at a place, or behind the last one a version, where the cell can be had; a publication is
-    /// to be matched ahead.
-    pub(crate) fn look(
-        &self,
-        hands: &mut Hands<'a>,
-        place: usize,
-    ) -> Result<Option<Looked>, StepFault>
-        requires { AreHands self.now.lock.now hands.old }
-        ensures hands { AreHands self.now.lock.now hands.new }
-        ensures later { AreLater hands.old hands.new }
-        ensures looked { IfOk result (λ looked. IfSome looked (λ l. SuitsLooked l (lock_root self.now.lock.now))) }
-    {
-        let Some(mut cell) = self.take(&mut hands.pass) else {
-            return Ok(None);
-        };
-        let looked = look_at(self.rt, &mut cell, self.tables, self.server, place);
-        self.lock.put(&mut hands.pass, cell);
-        let looked = looked?;
-        match &looked {
-            Looked::Taken(_, turned) => self.pass_after(*turned),
-            Looked::Version(turned) => self.pass_after(*turned),
-            Looked::Ahead(_, _) => {}
-        }
-        Ok(Some(looked))
     }
 
     /// Matches a publication ahead, with nothing in hand, and passes the gate.
@@ -162,32 +97,126 @@ impl<'l, 'a, R: Wait, G: Gate> Desk<'l, 'a, R, G> {
         Ok(ahead)
     }
 
-    /// A turn whose publication was matched ahead, where the cell can be had.
-    pub(crate) fn turn_ahead(
+    /// What comes after a taking: the next publication is matched ahead, or the worker has ended.
+    fn follow(
         &self,
         hands: &mut Hands<'a>,
-        what: What,
-        ahead: &Ahead,
-    ) -> Result<Option<Turned>, StepFault>
+        came: Result<Tried, StepFault>,
+        made: &Made,
+    ) -> (Stand, Did)
         requires hands { AreHands self.now.lock.now hands.old }
-        requires suits { Suits what (lock_root self.now.lock.now) }
-        requires ahead { IsAheadBy (lock_root self.now.lock.now).viewer.value ahead.now }
+        requires tried { IfOk came (λ tried. IsTried self.now.worker tried (lock_root self.now.lock.now) (seen_by hands.old.pass)) }
+        requires worn { (s : ℕ) → self.now.worker ≡ Worker.Commands → IsErrOf came (StepFault.StampsExhausted s)
+            → IsWornBy s (lock_root self.now.lock.now) (seen_by hands.old.pass) }
         ensures hands { AreHands self.now.lock.now hands.new }
         ensures later { AreLater hands.old hands.new }
-        ensures worn { (client s : ℕ) → what ≡ What.Command client → IsErrOf result (StepFault.StampsExhausted s)
-            → IsWornBy s (lock_root self.now.lock.now) (seen_by hands.new.pass) }
+        ensures stand { IsStand self.now.worker (lock_root self.now.lock.now) (seen_by hands.new.pass) result.0 }
+    {
+        self.pass_made(made);
+        match came {
+            Ok(Tried::Done) => (Stand::Ended(None), Did::Something),
+            Ok(Tried::Ahead(what, number)) => match self.match_publication(hands, number) {
+                Ok(ahead) => (Stand::Matched(what, ahead), Did::Something),
+                Err(_) => (Stand::Ended(Some(StepFault::NoMemory)), Did::Something),
+            },
+            Ok(Tried::Turned(_)) => (Stand::Free, Did::by(made)),
+            Err(fault) => (Stand::Ended(end_of(self.worker, fault)), Did::Something),
+        }
+    }
+
+    /// Turns of a worker that has nothing matched, where the cell can be had.
+    fn turn_free(&self, hands: &mut Hands<'a>, at: &mut u32) -> (Stand, Did)
+        requires { AreHands self.now.lock.now hands.old }
+        ensures hands { AreHands self.now.lock.now hands.new }
+        ensures later { AreLater hands.old hands.new }
+        ensures stand { IsStand self.now.worker (lock_root self.now.lock.now) (seen_by hands.new.pass) result.0 }
     {
         let Some(mut cell) = self.take(&mut hands.pass) else {
-            return Ok(None);
+            return (Stand::Free, Did::Missed);
         };
-        let turned = make_turn_ahead(self.rt, &mut cell, what, &mut hands.viewer, ahead);
+        let mut made = Made::none();
+        let came = make_turns(
+            self.rt,
+            &mut cell,
+            self.tables,
+            self.server,
+            self.worker,
+            at,
+            &mut made,
+        );
         self.lock.put(&mut hands.pass, cell);
-        match turned {
-            Ok(turned) => {
-                self.pass_after(turned);
-                Ok(Some(turned))
-            }
-            Err(fault) => Err(fault),
+        self.follow(hands, came, &made)
+    }
+
+    /// Turns of a worker that has a publication matched, which come with that one, where the cell can be had.
+    fn turn_matched(
+        &self,
+        hands: &mut Hands<'a>,
+        at: &mut u32,
+        what: What,
+        ahead: Ahead,
+    ) -> (Stand, Did)
+        requires hands { AreHands self.now.lock.now hands.old }
+        requires suits { Suits what (lock_root self.now.lock.now) }
+        requires ahead { IsAheadBy (lock_root self.now.lock.now).viewer.value ahead }
+        requires own { IsOfWorker self.now.worker what }
+        ensures hands { AreHands self.now.lock.now hands.new }
+        ensures later { AreLater hands.old hands.new }
+        ensures stand { IsStand self.now.worker (lock_root self.now.lock.now) (seen_by hands.new.pass) result.0 }
+    {
+        let Some(mut cell) = self.take(&mut hands.pass) else {
+            return (Stand::Matched(what, ahead), Did::Missed);
+        };
+        let mut made = Made::none();
+        let came = make_ahead(
+            self.rt,
+            &mut cell,
+            self.tables,
+            self.server,
+            self.worker,
+            &mut hands.viewer,
+            what,
+            &ahead,
+            at,
+            &mut made,
+        );
+        self.lock.put(&mut hands.pass, cell);
+        self.follow(hands, came, &made)
+    }
+
+    /// One taking of the cell, where it can be had and the worker hasn't ended.
+    fn step(&self, hands: &mut Hands<'a>, at: &mut u32, stand: Stand) -> (Stand, Did)
+        requires hands { AreHands self.now.lock.now hands.old }
+        requires stand { IsStand self.now.worker (lock_root self.now.lock.now) (seen_by hands.old.pass) stand }
+        ensures hands { AreHands self.now.lock.now hands.new }
+        ensures later { AreLater hands.old hands.new }
+        ensures stand { IsStand self.now.worker (lock_root self.now.lock.now) (seen_by hands.new.pass) result.0 }
+    {
+        match stand {
+            Stand::Free => self.turn_free(hands, at),
+            Stand::Matched(what, ahead) => self.turn_matched(hands, at, what, ahead),
+            Stand::Ended(fault) => (Stand::Ended(fault), Did::Nothing),
         }
+    }
+
+    /// The turns that it can make now, without waiting for the cell: so many takings in a row, with a match ahead between two of
+    /// them where a publication comes next.
+    pub(crate) fn go(&self, hands: &mut Hands<'a>, at: &mut u32) -> (Stand, Did)
+        requires { AreHands self.now.lock.now hands.old }
+        ensures hands { AreHands self.now.lock.now hands.new }
+        ensures later { AreLater hands.old hands.new }
+        ensures stand { IsStand self.now.worker (lock_root self.now.lock.now) (seen_by hands.new.pass) result.0 }
+    {
+        let mut stand = Stand::Free;
+        let mut did = Did::Nothing;
+        for _ in 0..TAKINGS {
+            let (next, now) = self.step(hands, at, stand);
+            stand = next;
+            did = did.and(now);
+            if now != Did::Something {
+                return (stand, did);
+            }
+        }
+        (stand, did)
     }
 }

@@ -5,16 +5,21 @@ ghost use Rattle.ev_model.specs.Sound.{IsSound};
 ghost use Rattle.ev_numversions.specs.Ends.{IsAheadBy, IsSameViewer};
 ghost use Rattle.ev_numnode.specs.Asked.{Suits};
 ghost use Rattle.ev_numnode.specs.Cell.{IsPast};
-ghost use Rattle.ev_workers.specs.Hands.{CanMatch, IsPicked, SuitsLooked};
+ghost use Rattle.ev_workers.specs.Hands.{CanMatch, IsPicked, IsTried, SuitsLooked, IsOfWorker};
 ghost use Rattle.ev_workers.specs.Journals.{HasCommands, IsWornBy};
 
-use crate::tried::{Looked, Picked};
+use crate::made::Made;
+use crate::tried::{Looked, Picked, Tried};
 use ev_model::Net;
 use ev_numnode::{Cell, Turned, What};
 use ev_numserver::StepFault;
 use ev_numversions::{Ahead, Viewer};
+use ev_outside::Worker;
 use ev_tables::Tables;
 use std::sync::Wait;
+
+// So many turns at most are made under one taking.
+const TURNS: u32 = 64;
 
 /// Whether a client lives at the cell's server and has a command of its phase, or of one below it, left.
 fn is_waiting(cell: &Cell<'_>, client: u32) -> bool
@@ -92,11 +97,7 @@ fn neighbour_at(cell: &Cell<'_>, tables: &Tables<'_>, server: u32, place: usize)
 }
 
 /// One turn.
-pub(crate) fn make_turn<R: Wait>(
-    rt: &R,
-    cell: &mut Cell<'_>,
-    what: What,
-) -> Result<Turned, StepFault>
+fn make_turn<R: Wait>(rt: &R, cell: &mut Cell<'_>, what: What) -> Result<Turned, StepFault>
     requires { Suits what cell.old.root }
     ensures root { cell.new.root ≡ cell.old.root }
     ensures grows { IsPrefix cell.old.journal cell.new.journal }
@@ -107,7 +108,7 @@ pub(crate) fn make_turn<R: Wait>(
 }
 
 /// One turn with a route that was matched ahead.
-pub(crate) fn make_turn_ahead<R: Wait>(
+fn make_turn_ahead<R: Wait>(
     rt: &R,
     cell: &mut Cell<'_>,
     what: What,
@@ -127,7 +128,7 @@ pub(crate) fn make_turn_ahead<R: Wait>(
 }
 
 /// The next command of the next client in turn; a publish is to be matched ahead.
-pub(crate) fn pick_command<R: Wait>(
+fn pick_command<R: Wait>(
     rt: &R,
     cell: &mut Cell<'_>,
     tables: &Tables<'_>,
@@ -167,7 +168,7 @@ fn look_from<R: Wait>(rt: &R, cell: &mut Cell<'_>, from: u32) -> Result<Looked, 
 }
 
 /// A taking from the neighbour at a place, or behind the last one a version.
-pub(crate) fn look_at<R: Wait>(
+fn look_at<R: Wait>(
     rt: &R,
     cell: &mut Cell<'_>,
     tables: &Tables<'_>,
@@ -186,5 +187,155 @@ pub(crate) fn look_at<R: Wait>(
             let turned = make_turn(rt, cell, What::Version)?;
             Ok(Looked::Version(turned))
         }
+    }
+}
+
+/// One try of the worker for commands, who took one of this client last.
+fn try_command<R: Wait>(
+    rt: &R,
+    cell: &mut Cell<'_>,
+    tables: &Tables<'_>,
+    at: &mut u32,
+) -> Result<Tried, StepFault>
+    requires { cell.old.root.net.value ≡ tables.now }
+    ensures root { cell.new.root ≡ cell.old.root }
+    ensures grows { IsPrefix cell.old.journal cell.new.journal }
+    ensures tried { IfOk result (λ tried. IsTried Worker.Commands tried cell.new.root cell.new.journal) }
+    ensures worn { (s : ℕ) → IsErrOf result (StepFault.StampsExhausted s) → IsWornBy s cell.new.root cell.new.journal }
+{
+    match pick_command(rt, cell, tables, *at) {
+        Ok(Picked::Done) => Ok(Tried::Done),
+        Ok(Picked::Taken(client, turned)) => {
+            *at = client;
+            Ok(Tried::Turned(turned))
+        }
+        Ok(Picked::Ahead(client, number)) => {
+            *at = client;
+            Ok(Tried::Ahead(What::Command(client), number))
+        }
+        Err(fault) => Err(fault),
+    }
+}
+
+/// One try of the worker for links, at the neighbour at this place or behind the last one for a version.
+fn try_link<R: Wait>(
+    rt: &R,
+    cell: &mut Cell<'_>,
+    tables: &Tables<'_>,
+    server: u32,
+    at: &mut u32,
+) -> Result<Tried, StepFault>
+    requires net { cell.old.root.net.value ≡ tables.now }
+    requires server { cell.old.root.server ≡ server }
+    ensures root { cell.new.root ≡ cell.old.root }
+    ensures grows { IsPrefix cell.old.journal cell.new.journal }
+    ensures tried { IfOk result (λ tried. IsTried Worker.Links tried cell.new.root cell.new.journal) }
+{
+    match look_at(rt, cell, tables, server, *at as usize)? {
+        Looked::Taken(_, turned) => {
+            *at = at.wrapping_add(1);
+            Ok(Tried::Turned(turned))
+        }
+        Looked::Ahead(from, number) => {
+            *at = at.wrapping_add(1);
+            Ok(Tried::Ahead(What::Take(from), number))
+        }
+        Looked::Version(turned) => {
+            *at = 0;
+            Ok(Tried::Turned(turned))
+        }
+    }
+}
+
+/// One try of a worker.
+fn try_next<R: Wait>(
+    rt: &R,
+    cell: &mut Cell<'_>,
+    tables: &Tables<'_>,
+    server: u32,
+    worker: Worker,
+    at: &mut u32,
+) -> Result<Tried, StepFault>
+    requires net { cell.old.root.net.value ≡ tables.now }
+    requires server { cell.old.root.server ≡ server }
+    ensures root { cell.new.root ≡ cell.old.root }
+    ensures grows { IsPrefix cell.old.journal cell.new.journal }
+    ensures tried { IfOk result (λ tried. IsTried worker tried cell.new.root cell.new.journal) }
+    ensures worn { (s : ℕ) → worker ≡ Worker.Commands → IsErrOf result (StepFault.StampsExhausted s) → IsWornBy s cell.new.root cell.new.journal }
+{
+    match worker {
+        Worker::Commands => try_command(rt, cell, tables, at),
+        Worker::Links => try_link(rt, cell, tables, server, at),
+    }
+}
+
+/// Turns of a worker one after the other, so many at most, until a publication is to be matched ahead or none is left; for
+/// links, until from each neighbour in turn nothing came and nothing was published.
+pub(crate) fn make_turns<R: Wait>(
+    rt: &R,
+    cell: &mut Cell<'_>,
+    tables: &Tables<'_>,
+    server: u32,
+    worker: Worker,
+    at: &mut u32,
+    made: &mut Made,
+) -> Result<Tried, StepFault>
+    requires net { cell.old.root.net.value ≡ tables.now }
+    requires server { cell.old.root.server ≡ server }
+    ensures root { cell.new.root ≡ cell.old.root }
+    ensures grows { IsPrefix cell.old.journal cell.new.journal }
+    ensures tried { IfOk result (λ tried. IsTried worker tried cell.new.root cell.new.journal) }
+    ensures worn { (s : ℕ) → worker ≡ Worker.Commands → IsErrOf result (StepFault.StampsExhausted s) → IsWornBy s cell.new.root cell.new.journal }
+{
+    let mut still = *at == 0;
+    for _ in 0..TURNS {
+        match try_next(rt, cell, tables, server, worker, at) {
+            Ok(Tried::Turned(turned)) => {
+                made.count(turned);
+                still = still && turned == Turned::Idle;
+                if *at == 0 {
+                    if still {
+                        return Ok(Tried::Turned(Turned::Idle));
+                    }
+                    still = true;
+                }
+            }
+            other => return other,
+        }
+    }
+    Ok(Tried::Turned(Turned::Made))
+}
+
+/// The turn whose publication was matched ahead, and turns after it.
+pub(crate) fn make_ahead<R: Wait>(
+    rt: &R,
+    cell: &mut Cell<'_>,
+    tables: &Tables<'_>,
+    server: u32,
+    worker: Worker,
+    viewer: &mut Viewer,
+    what: What,
+    ahead: &Ahead,
+    at: &mut u32,
+    made: &mut Made,
+) -> Result<Tried, StepFault>
+    requires net { cell.old.root.net.value ≡ tables.now }
+    requires server { cell.old.root.server ≡ server }
+    requires suits { Suits what cell.old.root }
+    requires own { IsOfWorker worker what }
+    requires viewer { IsSameViewer cell.old.root.viewer.value viewer.old }
+    requires ahead { IsAheadBy cell.old.root.viewer.value ahead.now }
+    ensures root { cell.new.root ≡ cell.old.root }
+    ensures grows { IsPrefix cell.old.journal cell.new.journal }
+    ensures tried { IfOk result (λ tried. IsTried worker tried cell.new.root cell.new.journal) }
+    ensures worn { (s : ℕ) → worker ≡ Worker.Commands → IsErrOf result (StepFault.StampsExhausted s) → IsWornBy s cell.new.root cell.new.journal }
+    ensures viewer { IsSameViewer viewer.old viewer.new }
+{
+    match make_turn_ahead(rt, cell, what, viewer, ahead) {
+        Ok(turned) => {
+            made.count(turned);
+            make_turns(rt, cell, tables, server, worker, at, made)
+        }
+        Err(fault) => Err(fault),
     }
 }

@@ -1,7 +1,8 @@
-//! Jobs in threads of a scope, two by two.
+//! Jobs in threads of a scope.
 ghost use Rattle.std.specs.Prelude.{◌≡◌, ◌≤◌, [], IfErr, IfOk, length, vec_capacity};
-ghost use Rattle.ev_workers.specs.Crews.{BothKeep, Pairwise};
+ghost use Rattle.ev_workers.specs.Crews.{Pairwise};
 
+use crate::pace::Pace;
 use std::snapshot::Snapshot;
 use std::sync::Wait;
 use std::thread::{Promise, PromisedHandle, Scope, Threads, scope, scope_env};
@@ -14,13 +15,6 @@ pub(crate) trait Job<B>: Drop {
     /// Works.
     fn run(self) -> B
         ensures { keeps self result };
-}
-
-/// One for each worker of a server.
-#[derive(Drop)]
-pub(crate) struct Both<T> {
-    pub(crate) commands: T,
-    pub(crate) links: T,
 }
 
 /// What a thread promises: what its job keeps.
@@ -36,9 +30,11 @@ impl<B, J: Job<B>> Promise<B> for Gives<J> {
 /// A job in a thread, or what it gave back where no thread could be had and it was run here.
 type Started<B, J> = Result<PromisedHandle<B, Gives<J>>, B>;
 
-/// Starts a job in a thread of the scope, or runs it here.
+/// Starts the job with a number in a thread of the scope, or runs it here.
 fn start<'s, B: Drop + Send + 's, J: Job<B> + Send + 's, E>(
     scope: &'s Scope<'s, E>,
+    pace: &Pace,
+    number: usize,
     job: J,
 ) -> Started<B, J>
     ensures there { IfOk result (λ h. h.promise.job.value ≡ job) }
@@ -54,7 +50,10 @@ fn start<'s, B: Drop + Send + 's, J: Job<B> + Send + 's, E>(
         { job.run() },
     ) {
         Ok(handle) => Ok(handle),
-        Err(refused) => Err((refused.value)()),
+        Err(refused) => {
+            pace.refuse(number);
+            Err((refused.value)())
+        }
     }
 }
 
@@ -73,45 +72,43 @@ fn finish<B: Drop + Send, J: Job<B>, R: Threads + Wait>(rt: &R, started: Started
 fn start_all<'s, B: Drop + Send + 's, J: Job<B> + Send + 's, E, R: Threads + Wait>(
     rt: &R,
     scope: &'s Scope<'s, E>,
-    mut jobs: Vec<Both<J>>,
-    done: Vec<Both<B>>,
-) -> Vec<Both<B>>
+    pace: &Pace,
+    mut jobs: Vec<J>,
+    done: Vec<B>,
+) -> Vec<B>
     requires empty { done.items ≡ [] }
     requires room { length jobs.items ≤ vec_capacity done }
-    ensures kept { Pairwise (BothKeep J.keeps) jobs.items result.items }
+    ensures kept { Pairwise J.keeps jobs.items result.items }
     ensures capacity { vec_capacity result ≡ vec_capacity done }
 {
-    let Some(both) = jobs.pop() else {
+    let Some(job) = jobs.pop() else {
         return done;
     };
-    let Both { commands, links } = both;
-    let commands = start(scope, commands);
-    let links = start(scope, links);
-    let mut done = start_all(rt, scope, jobs, done);
-    let commands = finish(rt, commands);
-    let links = finish(rt, links);
-    done.push_reserved(Both { commands, links });
+    let started = start(scope, pace, jobs.len(), job);
+    let mut done = start_all(rt, scope, pace, jobs, done);
+    done.push_reserved(finish(rt, started));
     done
 }
 
 /// Runs all jobs, each in a thread where one can be had, and gives what each gave back, in their order.
 pub(crate) fn run_all<B: Drop + Send, J: Job<B> + Send, R: Threads + Wait>(
     rt: &R,
-    jobs: Vec<Both<J>>,
-    done: Vec<Both<B>>,
-) -> Vec<Both<B>>
+    pace: &Pace,
+    jobs: Vec<J>,
+    done: Vec<B>,
+) -> Vec<B>
     requires empty { done.items ≡ [] }
     requires room { length jobs.items ≤ vec_capacity done }
-    ensures kept { Pairwise (BothKeep J.keeps) jobs.items result.items }
+    ensures kept { Pairwise J.keeps jobs.items result.items }
     ensures capacity { vec_capacity result ≡ vec_capacity done }
 {
     scope(
         scope_env(),
         rt,
-        |scope| -> Vec<Both<B>>
+        |scope| -> Vec<B>
             requires { (done.items ≡ []) × (length jobs.items ≤ vec_capacity done) }
-            ensures kept { Pairwise (BothKeep J.keeps) jobs.items result.items }
+            ensures kept { Pairwise J.keeps jobs.items result.items }
             ensures capacity { vec_capacity result ≡ vec_capacity done }
-        { start_all(rt, scope, jobs, done) },
+        { start_all(rt, scope, pace, jobs, done) },
     )
 }

@@ -1,7 +1,6 @@
 //! The two workers of a server, which take turns at its cell.
 #![tactic(auto)]
 
-mod commands;
 mod crew;
 mod desk;
 mod ended;
@@ -9,10 +8,14 @@ mod hand;
 mod hands;
 mod hire;
 mod jobs;
-mod links;
 mod locking;
+mod made;
 mod pace;
 mod phase;
+mod post;
+mod roster;
+mod site;
+mod stand;
 mod tried;
 mod working;
 

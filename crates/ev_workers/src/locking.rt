@@ -8,9 +8,8 @@ ghost use Rattle.ev_workers.specs.Crews.{AreBackAt, AreCrews, AreEyesOf, AreInPl
 ghost use Rattle.ev_workers.specs.Hands.{IsLockFor, lock_root};
 ghost use Rattle.ev_workers.specs.Journals.{HasTaken};
 
-use crate::crew::{Crew, Eyes, Seat, Spare};
+use crate::crew::{Both, Crew, Eyes, Seat, Spare};
 use crate::ended::Ended;
-use crate::jobs::Both;
 use ev_model::Entry;
 use ev_numnode::{Cell, Root};
 use ev_numserver::StepFault;

@@ -1,30 +1,108 @@
-//! How far the workers of a phase are.
+//! How far the threads of a phase are.
+use std::sync::Wait;
 use std::sync::atomic::{AtomicU64, Ordering};
 
-/// How many workers for commands there are in a phase, and how many have ended. By it a worker for links chooses how long it
-/// rests between looks; no promise speaks of it.
+// So many threads at most can be counted.
+const COUNTED: u64 = 1 << 8;
+
+// One event more.
+const EVENT: u64 = COUNTED * COUNTED;
+
+/// How many threads there are in a phase, how many of them found nothing to do, and how often one did something: by it a
+/// thread that finds nothing parks until another one did something, and the last one awake ends the phase. No promise speaks
+/// of it.
+///
+/// One word has all three: the idle threads in its lowest eight bits, all threads in the next ones, and above these the events,
+/// each of which leaves no thread idle. So a thread that found nothing since an event counts as idle only where no other event
+/// came.
 #[derive(Drop)]
 pub struct Pace {
-    servers: u64,
-    ended: AtomicU64,
+    word: AtomicU64,
+    refused: AtomicU64,
 }
 
 impl Pace {
-    /// Of a phase with so many servers, of whose workers none has ended.
-    pub(crate) fn new(servers: u64) -> Pace {
+    /// Of a phase with so many threads.
+    pub(crate) fn new(threads: usize) -> Pace {
+        let threads = (threads as u64).min(COUNTED - 1);
         Pace {
-            servers,
-            ended: AtomicU64::new(0),
+            word: AtomicU64::new(threads * COUNTED),
+            refused: AtomicU64::new(0),
         }
     }
 
-    /// One more worker for commands has ended.
-    pub(crate) fn note_end(&self) {
-        self.ended.fetch_add(1, Ordering::Relaxed);
+    /// The thread with a number can't be had.
+    pub(crate) fn refuse(&self, number: usize) {
+        self.refused.fetch_or(1 << (number % 64), Ordering::SeqCst);
     }
 
-    /// Whether all of them have ended, so that nothing new comes but by links.
-    pub(crate) fn is_late(&self) -> bool {
-        self.ended.load(Ordering::Relaxed) >= self.servers
+    /// Whether the thread with a number couldn't be had.
+    pub(crate) fn is_refused(&self, number: usize) -> bool {
+        self.refused.load(Ordering::SeqCst) >> (number % 64) % 2 == 1
+    }
+
+    /// What a thread has seen of the others' events.
+    pub(crate) fn seen(&self) -> u64 {
+        self.word.load(Ordering::SeqCst) / EVENT
+    }
+
+    /// Puts a word in the place of another one, if it still stands there.
+    fn change(&self, old: u64, new: u64) -> bool {
+        let order = Ordering::SeqCst;
+        self.word.compare_exchange(old, new, order, order).is_ok()
+    }
+
+    /// A thread did something: the idle ones are to look again.
+    pub(crate) fn note<R: Wait>(&self, rt: &R) {
+        for _ in rt.forever() {
+            let old = self.word.load(Ordering::SeqCst);
+            let new = (old - old % COUNTED).wrapping_add(EVENT);
+            if self.change(old, new) {
+                if old % COUNTED > 0 {
+                    self.word.wake_all();
+                }
+                return;
+            }
+        }
+    }
+
+    /// A thread ends before the phase does: the others go on without it.
+    pub(crate) fn leave<R: Wait>(&self, rt: &R) {
+        for _ in rt.forever() {
+            let old = self.word.load(Ordering::SeqCst);
+            let new = old.saturating_sub(COUNTED);
+            if self.change(old, new) {
+                self.word.wake_all();
+                return;
+            }
+        }
+    }
+
+    /// A thread that has seen these events is idle, unless there was another one since.
+    fn join_idle<R: Wait>(&self, rt: &R, seen: u64) {
+        for _ in rt.forever() {
+            let old = self.word.load(Ordering::SeqCst);
+            if old / EVENT != seen || self.change(old, old.wrapping_add(1)) {
+                return;
+            }
+        }
+    }
+
+    /// A thread found nothing to do since these events: waits for the next one. Whether one came; where none can come any more,
+    /// since all threads found nothing, the phase is over.
+    pub(crate) fn rest<R: Wait>(&self, rt: &R, seen: u64) -> bool {
+        self.join_idle(rt, seen);
+        for _ in rt.forever() {
+            let word = self.word.load(Ordering::SeqCst);
+            if word / EVENT != seen {
+                return true;
+            }
+            if word % COUNTED >= word / COUNTED % COUNTED {
+                self.word.wake_all();
+                return false;
+            }
+            self.word.park(rt, (word % (1 << 32)) as u32);
+        }
+        true
     }
 }

@@ -1,15 +1,17 @@
 //! The workers of all servers in one phase.
-ghost use Rattle.std.specs.Prelude.{◌≡◌, ◌<◌, ◌^◌, length, OnOk};
+ghost use Rattle.std.specs.Prelude.{◌≡◌, ◌≤◌, ◌<◌, ◌^◌, length, OnOk};
 ghost use Rattle.ev_wire.specs.MessageText.{Each};
 ghost use Rattle.ev_numnode.specs.Together.{cell_roots, HaveGrown};
 ghost use Rattle.ev_workers.specs.Crews.{AreEyesOf, AreInPlace, Pairwise};
 ghost use Rattle.ev_workers.specs.Journals.{HasTaken};
 
 use crate::crew::Eyes;
-use crate::hire::{Site, hire_all};
+use crate::hire::{hire_all, take_all};
 use crate::jobs::run_all;
 use crate::locking::{lock_all, unlock_all};
 use crate::pace::Pace;
+use crate::roster::empty;
+use crate::site::Site;
 use ev_memory::NoMemory;
 use ev_numnode::Cell;
 use ev_outside::Gate;
@@ -17,6 +19,16 @@ use ev_tables::Tables;
 use std::alloc::Global;
 use std::sync::Wait;
 use std::thread::Threads;
+
+// So many threads there are at most.
+const MOST: usize = 4;
+
+/// The threads for so many servers: one a worker, up to a bound.
+fn threads_for(servers: usize) -> usize
+    ensures { (0 < result) × (result ≤ 4) }
+{
+    servers.saturating_mul(2).clamp(1, MOST)
+}
 
 /// The workers of all servers in the phase that the cells are in: two at each cell, in threads of a scope. Where no thread can
 /// be had a worker is run here. After the joins all cells are back, with their roots as before and journals that went on, whatever
@@ -39,19 +51,13 @@ pub fn run_phase<'a, R: Threads + Wait + Sync, G: Gate + Sync>(
     ensures eyes { Pairwise AreEyesOf (cell_roots cells.new.items) eyes.new.items }
 {
     let count = cells.len();
-    let pace = Pace::new(count as u64);
+    let threads = threads_for(count);
+    let pace = Pace::new(threads);
     let mut spares = Vec::with_capacity(alloc, count)?;
-    let done = Vec::with_capacity(alloc, count)?;
+    let mut done = Vec::with_capacity(alloc, count)?;
+    let rows = Vec::with_capacity(alloc, threads)?;
     let mut crews = Vec::with_capacity(alloc, count)?;
     let mut locks = Vec::with_capacity(alloc, count)?;
-    let Ok(mut jobs) = Vec::with_capacity(alloc, count) else {
-        locks.destroy_empty();
-        return Err(NoMemory);
-    };
-    if !lock_all(alloc, tables, phase, cells, eyes, &mut locks, &mut crews) {
-        locks.destroy_empty();
-        return Err(NoMemory);
-    }
     let site = Site {
         rt,
         alloc,
@@ -60,8 +66,17 @@ pub fn run_phase<'a, R: Threads + Wait + Sync, G: Gate + Sync>(
         gate,
         pace: &pace,
     };
-    hire_all(&site, &locks, crews, &mut jobs, &mut spares);
-    let done = run_all(rt, jobs, done);
+    let Ok(mut rosters) = empty(&site, threads, 2 * count) else {
+        locks.destroy_empty();
+        return Err(NoMemory);
+    };
+    if !lock_all(alloc, tables, phase, cells, eyes, &mut locks, &mut crews) {
+        locks.destroy_empty();
+        return Err(NoMemory);
+    }
+    hire_all(&site, &locks, crews, &mut rosters, &mut spares);
+    let mut rows = run_all(rt, &pace, rosters, rows);
+    take_all(&locks, &mut rows, &mut done);
     let enough = unlock_all(&mut locks, spares, done, cells, eyes);
     locks.destroy_empty();
     if enough { Ok(()) } else { Err(NoMemory) }

@@ -1,5 +1,5 @@
 //! What came of one try with the cell in hand.
-use ev_numnode::Turned;
+use ev_numnode::{Turned, What};
 
 /// What the worker for commands did with the cell in hand.
 #[derive(Drop)]
@@ -21,4 +21,15 @@ pub(crate) enum Looked {
     Ahead(u32, u32),
     /// It tried a version.
     Version(Turned),
+}
+
+/// What a worker did with the cell in hand.
+#[derive(Drop)]
+pub(crate) enum Tried {
+    /// Nothing: it has no turn left to make.
+    Done,
+    /// Nothing yet: this turn comes next, and its publication, which has this number, is to be matched ahead.
+    Ahead(What, u32),
+    /// It tried a turn.
+    Turned(Turned),
 }

@@ -1,15 +1,36 @@
-use Rattle.std.proofs.Common.{◌<◌, length, sym, subst, arith}
-use Rattle.ev_workers.specs.declared.crew.Seat.{Seat}
+use Rattle.std.proofs.Common.{◌<◌, ◌*◌, ◌+◌, suc, ◌≡◌, length, arith}
 use Rattle.ev_workers.specs.Crews.{IsCrewOf, IsSpareOf}
-use Rattle.ev_workers.specs.Hands.{AreFreeHands}
 use Rattle.ev_workers.proofs.Pairs.{pairs-long}
 use Rattle.ev_workers.proofs.Rows.{beside-last, beside-back}
+use Rattle.ev_workers.proofs.Rosters.{hired-last, room-less}
 use Rattle.ev_workers.proofs.hire.+hire_all.Goals as goal
 
 pub unreachable-requires : goal.unreachable-requires
 unreachable-requires g t c =
     let s = pairs-long (IsCrewOf c.args.site.now.tables.now c.args.site.now.phase) c.args.locks.now c.args.crews.items c.requires.crews in
     omega (arith, s, c.in-Some.ensures.cases.1, c.in_default-pop.ensures.cases.0, c.args.crews.ok.0)
+
+pub post_one-commands-requires-clause-lock : goal.post_one-commands-requires-clause-lock
+post_one-commands-requires-clause-lock g t c = (beside-last (IsCrewOf c.args.site.now.tables.now c.args.site.now.phase) c.args.locks.now c.in-Some.others.now c.in-Some.lock.now c.args.crews.items c.pop.new.self.items c.in-Some-pop.crew c.in-Some.ensures.cases.0 c.in-Some-pop.ensures.items c.requires.crews).1.lock_for
+
+pub post_one-commands-requires-clause-free : goal.post_one-commands-requires-clause-free
+post_one-commands-requires-clause-free g t c = (beside-last (IsCrewOf c.args.site.now.tables.now c.args.site.now.phase) c.args.locks.now c.in-Some.others.now c.in-Some.lock.now c.args.crews.items c.pop.new.self.items c.in-Some-pop.crew c.in-Some.ensures.cases.0 c.in-Some-pop.ensures.items c.requires.crews).1.commands
+
+pub post_one-links-requires-clause-lock : goal.post_one-links-requires-clause-lock
+post_one-links-requires-clause-lock g t c = (beside-last (IsCrewOf c.args.site.now.tables.now c.args.site.now.phase) c.args.locks.now c.in-Some.others.now c.in-Some.lock.now c.args.crews.items c.pop.new.self.items c.in-Some-pop.crew c.in-Some.ensures.cases.0 c.in-Some-pop.ensures.items c.requires.crews).1.lock_for
+
+pub post_one-links-requires-clause-free : goal.post_one-links-requires-clause-free
+post_one-links-requires-clause-free g t c = (beside-last (IsCrewOf c.args.site.now.tables.now c.args.site.now.phase) c.args.locks.now c.in-Some.others.now c.in-Some.lock.now c.args.crews.items c.pop.new.self.items c.in-Some-pop.crew c.in-Some.ensures.cases.0 c.in-Some-pop.ensures.items c.requires.crews).1.links
+
+pub add-requires-clause-room : goal.add-requires-clause-room
+add-requires-clause-room g t c = (2 * length c.in-Some.others.now + 1, room-less (λ r. (length r.posts.items, r.room)) c.args.rosters.now.items (2 * length c.args.locks.now) (suc (2 * length c.in-Some.others.now + 1)) (omega (arith, c.in-Some.ensures.cases.1)) c.requires.rosters)
+
+pub add-requires-2-clause-room : goal.add-requires-2-clause-room
+add-requires-2-clause-room g t c = (
+  2 * length c.in-Some.others.now,
+  room-less (λ r. (length r.posts.items, r.room)) c.add.new.rosters.items (2 * length c.in-Some.others.now + 1) (suc (2 * length c.in-Some.others.now)) (omega arith)
+      (c.add.ensures.room (2 * length c.in-Some.others.now + 1) (room-less (λ r. (length r.posts.items, r.room)) c.args.rosters.now.items (2 * length c.args.locks.now) (suc (2 * length c.in-Some.others.now + 1)) (omega (arith, c.in-Some.ensures.cases.1)) c.requires.rosters)),
+)
 
 pub hire_all-requires : goal.hire_all-requires
 hire_all-requires g t c κs within = (
@@ -20,44 +41,39 @@ hire_all-requires g t c κs within = (
       within.1,
       (
         (beside-last (IsCrewOf c.args.site.now.tables.now c.args.site.now.phase) c.args.locks.now c.in-Some.others.now c.in-Some.lock.now c.args.crews.items c.pop.new.self.items c.in-Some-pop.crew c.in-Some.ensures.cases.0 c.in-Some-pop.ensures.items c.requires.crews).0,
-        (c.requires.empty, (omega (arith, c.in-Some.ensures.cases.1, c.requires.room.0), omega (arith, c.in-Some.ensures.cases.1, c.requires.room.1))),
+        (
+          (omega (arith, c.in-Some.ensures.cases.1, c.requires.few)),
+          (
+            (omega (arith, c.add.ensures.count, c.add-2.ensures.count, c.requires.threads.0), omega (arith, c.add.ensures.count, c.add-2.ensures.count, c.requires.threads.1)),
+            (
+              c.requires.empty,
+              (
+                omega (arith, c.in-Some.ensures.cases.1, c.requires.room),
+                c.add-2.ensures.room (2 * length c.in-Some.others.now) (room-less (λ r. (length r.posts.items, r.room)) c.add.new.rosters.items (2 * length c.in-Some.others.now + 1) (suc (2 * length c.in-Some.others.now)) (omega arith)
+                    (c.add.ensures.room (2 * length c.in-Some.others.now + 1) (room-less (λ r. (length r.posts.items, r.room)) c.args.rosters.now.items (2 * length c.args.locks.now) (suc (2 * length c.in-Some.others.now + 1)) (omega (arith, c.in-Some.ensures.cases.1)) c.requires.rosters))),
+              ),
+            ),
+          ),
+        ),
       ),
     ),
   ),
 )
 
-pub hire_one-commands-requires-clause-lock : goal.hire_one-commands-requires-clause-lock
-hire_one-commands-requires-clause-lock g t c = (beside-last (IsCrewOf c.args.site.now.tables.now c.args.site.now.phase) c.args.locks.now c.in-Some.others.now c.in-Some.lock.now c.args.crews.items c.pop.new.self.items c.in-Some-pop.crew c.in-Some.ensures.cases.0 c.in-Some-pop.ensures.items c.requires.crews).1.lock_for
-
-pub hire_one-commands-requires-clause-free : goal.hire_one-commands-requires-clause-free
-hire_one-commands-requires-clause-free g t c = (beside-last (IsCrewOf c.args.site.now.tables.now c.args.site.now.phase) c.args.locks.now c.in-Some.others.now c.in-Some.lock.now c.args.crews.items c.pop.new.self.items c.in-Some-pop.crew c.in-Some.ensures.cases.0 c.in-Some-pop.ensures.items c.requires.crews).1.commands
-
-pub hire_one-links-requires-clause-lock : goal.hire_one-links-requires-clause-lock
-hire_one-links-requires-clause-lock g t c = (beside-last (IsCrewOf c.args.site.now.tables.now c.args.site.now.phase) c.args.locks.now c.in-Some.others.now c.in-Some.lock.now c.args.crews.items c.pop.new.self.items c.in-Some-pop.crew c.in-Some.ensures.cases.0 c.in-Some-pop.ensures.items c.requires.crews).1.lock_for
-
-pub hire_one-links-requires-clause-free : goal.hire_one-links-requires-clause-free
-hire_one-links-requires-clause-free g t c = (beside-last (IsCrewOf c.args.site.now.tables.now c.args.site.now.phase) c.args.locks.now c.in-Some.others.now c.in-Some.lock.now c.args.crews.items c.pop.new.self.items c.in-Some-pop.crew c.in-Some.ensures.cases.0 c.in-Some-pop.ensures.items c.requires.crews).1.links
-
 pub push_reserved-requires : goal.push_reserved-requires
 push_reserved-requires g t c =
-    let s = pairs-long _ c.in-Some.others.now c.hire_all.new.jobs.items c.hire_all.ensures.hired in
-    omega (arith, s, c.in-Some.ensures.cases.1, c.hire_all.new.jobs.ok.0, c.hire_all.ensures.capacity.0, c.requires.room.0)
-
-pub push_reserved-requires-2 : goal.push_reserved-requires-2
-push_reserved-requires-2 g t c =
     let s = pairs-long IsSpareOf c.in-Some.others.now c.hire_all.new.spares.items c.hire_all.ensures.spares in
-    omega (arith, s, c.in-Some.ensures.cases.1, c.hire_all.new.spares.ok.0, c.hire_all.ensures.capacity.1, c.requires.room.1)
+    omega (arith, s, c.in-Some.ensures.cases.1, c.hire_all.new.spares.ok.0, c.hire_all.ensures.capacity, c.requires.room)
 
 pub returns-clause-spares : goal.returns-clause-spares
 returns-clause-spares g t c =
-    beside-back IsSpareOf c.args.locks.now c.in-Some.others.now c.in-Some.lock.now c.hire_all.new.spares.items _ c.in-Some-pop.crew.spare c.in-Some.ensures.cases.0 c.push_reserved-2.ensures.items c.hire_all.ensures.spares
+    beside-back IsSpareOf c.args.locks.now c.in-Some.others.now c.in-Some.lock.now c.hire_all.new.spares.items _ c.in-Some-pop.crew.spare c.in-Some.ensures.cases.0 c.push_reserved.ensures.items c.hire_all.ensures.spares
     (beside-last (IsCrewOf c.args.site.now.tables.now c.args.site.now.phase) c.args.locks.now c.in-Some.others.now c.in-Some.lock.now c.args.crews.items c.pop.new.self.items c.in-Some-pop.crew c.in-Some.ensures.cases.0 c.in-Some-pop.ensures.items c.requires.crews).1.spare_of
 
 pub returns-clause-hired : goal.returns-clause-hired
 returns-clause-hired g t c =
-    let q = beside-last (IsCrewOf c.args.site.now.tables.now c.args.site.now.phase) c.args.locks.now c.in-Some.others.now c.in-Some.lock.now c.args.crews.items c.pop.new.self.items c.in-Some-pop.crew c.in-Some.ensures.cases.0 c.in-Some-pop.ensures.items c.requires.crews in
-    beside-back _ c.args.locks.now c.in-Some.others.now c.in-Some.lock.now c.hire_all.new.jobs.items _ (record { commands = c.hire_one-commands.result; links = c.hire_one-links.result }) c.in-Some.ensures.cases.0 c.push_reserved.ensures.items c.hire_all.ensures.hired (
-      subst (λ (z : Seat). AreFreeHands c.in-Some.lock.now z.pass z.viewer) (sym c.hire_one-commands.ensures.seat) q.1.commands,
-      subst (λ (z : Seat). AreFreeHands c.in-Some.lock.now z.pass z.viewer) (sym c.hire_one-links.ensures.seat) q.1.links,
-      c.hire_one-commands.ensures.worker,
-    )
+    let e : c.len-threads.result ≡ length c.args.rosters.now.items = omega (arith, c.len-threads.ensures, c.args.rosters.now.ok.0) in
+    let n : length c.add-2.new.rosters.items ≡ length c.args.rosters.now.items = omega (arith, c.add.ensures.count, c.add-2.ensures.count) in
+    hired-last c.args.locks.now c.in-Some.others.now c.in-Some.lock.now (length c.args.rosters.now.items) c.thread_of-first.result c.thread_of-second.result _ _ _ _ _ _ _ _ _ _ c.in-Some.ensures.cases.0 n e
+    c.thread_of-first.ensures.place c.thread_of-second.ensures.place c.post_one-commands.ensures.lock c.post_one-commands.ensures.worker c.post_one-links.ensures.lock c.post_one-links.ensures.worker
+    c.add.ensures.added c.add-2.ensures.added c.hire_all.ensures.hired

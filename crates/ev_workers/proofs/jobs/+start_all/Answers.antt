@@ -1,7 +1,6 @@
 use Rattle.std.proofs.Common.{◌≡◌, List, ◌∷◌, [], ◌++◌, sym, subst, arith}
 use Rattle.std.specs.Prelude.{Result, Ok, Err, IfOk, IfErr}
-use Rattle.ev_workers.specs.declared.jobs.Both.{Both}
-use Rattle.ev_workers.specs.Crews.{BothKeep, Pairwise}
+use Rattle.ev_workers.specs.Crews.{Pairwise}
 use Rattle.ev_workers.proofs.Pairs.{pairs-more, pairs-long}
 use Rattle.ev_workers.proofs.jobs.+start_all.Goals as goal
 
@@ -9,19 +8,15 @@ kept : {H J B : Type 0} (of : H → J) (K : J → B → Type 0) (s : Result H B)
 kept of K (Ok h) job back e here there same = subst (λ j. K j back) e there
 kept of K (Err x) job back e here there same = subst (K job) (sym same) here
 
-pairs-back : {J B : Type 0} (K : J → B → Type 0) (jobs rest : List (Both J)) (job : Both J) (all done : List (Both B)) (back : Both B) → jobs ≡ rest ++ job ∷ [] → all ≡ done ++ back ∷ [] → Pairwise (BothKeep K) rest done → BothKeep K job back
-    → Pairwise (BothKeep K) jobs all
-pairs-back K jobs rest job all done back e f p k =
-    subst (λ js. Pairwise (BothKeep K) js all) (sym e) (subst (Pairwise (BothKeep K) (rest ++ job ∷ [])) (sym f) (pairs-more (BothKeep K) rest done job back p k))
+pairs-back : {J B : Type 0} (K : J → B → Type 0) (jobs rest : List J) (job : J) (all done : List B) (back : B) → jobs ≡ rest ++ job ∷ [] → all ≡ done ++ back ∷ [] → Pairwise K rest done → K job back → Pairwise K jobs all
+pairs-back K jobs rest job all done back e f p k = subst (λ js. Pairwise K js all) (sym e) (subst (Pairwise K (rest ++ job ∷ [])) (sym f) (pairs-more K rest done job back p k))
 
 pub push_reserved-requires : goal.push_reserved-requires
 push_reserved-requires g t c =
-    let s = pairs-long (BothKeep g.J.Job.keeps) c.pop.new.self.items c.start_all-done.result.items c.start_all-done.ensures.kept in
+    let s = pairs-long g.J.Job.keeps c.pop.new.self.items c.start_all-done.result.items c.start_all-done.ensures.kept in
     omega (arith, s, c.in-Some.ensures.cases, c.start_all-done.result.ok.0, c.pop.new.self.ok.0, c.args.jobs.ok.0, c.start_all-done.ensures.capacity, c.requires.room)
 
 pub returns-clause-kept : goal.returns-clause-kept
 returns-clause-kept g t c =
-    pairs-back g.J.Job.keeps c.args.jobs.items c.pop.new.self.items c.in-Some.both c.push_reserved.new.self.items c.start_all-done.result.items (record { commands = c.finish-commands.result; links = c.finish-links.result }) c.in-Some.ensures.items c.push_reserved.ensures.items c.start_all-done.ensures.kept (
-      kept _ g.J.Job.keeps c.start-commands.result c.in-Some.both.commands c.finish-commands.result c.start-commands.ensures.there c.start-commands.ensures.here c.finish-commands.ensures.there c.finish-commands.ensures.here,
-      kept _ g.J.Job.keeps c.start-links.result c.in-Some.both.links c.finish-links.result c.start-links.ensures.there c.start-links.ensures.here c.finish-links.ensures.there c.finish-links.ensures.here,
-    )
+    pairs-back g.J.Job.keeps c.args.jobs.items c.pop.new.self.items c.in-Some.job c.push_reserved.new.self.items c.start_all-done.result.items c.finish.result c.in-Some.ensures.items c.push_reserved.ensures.items c.start_all-done.ensures.kept
+    (kept _ g.J.Job.keeps c.start-started.result c.in-Some.job c.finish.result c.start-started.ensures.there c.start-started.ensures.here c.finish.ensures.there c.finish.ensures.here)

@@ -3,9 +3,9 @@ use Rattle.ev_numnode.specs.Cell.{CellParts}
 use Rattle.ev_workers.specs.Crews.{IsCrewOf}
 use Rattle.ev_workers.proofs.Pairs.{pairs-long}
 use Rattle.ev_workers.proofs.Rows.{eyes-last, place-less, roots-back, eyes-back, lock-for, lock-eyes, locked-back, same-long, eyes-long, locks-long}
-use Rattle.std.proofs.Common.{◌++◌, ◌∷◌, [], map, sym, subst}
+use Rattle.std.proofs.Common.{◌++◌, ◌∷◌, [], sym, subst}
 use mathlib.Core.List.{IsPrefix}
-use Rattle.ev_turnlock.specs.Passes.{first_value, seen_by}
+use Rattle.ev_turnlock.specs.Passes.{first_value}
 use Rattle.ev_numnode.specs.Together.{HaveGrown}
 use Rattle.ev_numnode.proofs.Growing.{grown-same}
 use Rattle.ev_workers.proofs.Back.{firsts-more, grown-more, seen-grown}

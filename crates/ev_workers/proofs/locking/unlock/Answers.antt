@@ -1,7 +1,6 @@
 use Rattle.std.proofs.Common.{All, sym, subst}
 use Rattle.ev_workers.specs.Crews.{IsFreePass}
 use Rattle.ev_workers.proofs.Passes.{all-more}
-use Rattle.std.proofs.Common.{◌++◌, ◌∷◌, [], refl}
 use mathlib.Core.List.{IsPrefix}
 use Rattle.ev_outside.specs.declared.gate.Worker.TheVariants.{Commands}
 use Rattle.ev_turnlock.specs.Passes.{seen_by}
