@@ -1,13 +1,22 @@
-//! Prints what reading gives of many documents: the line and the fault of those that are refused, and the nets of those
-//! that are read. With the word `measure` it reads standard input as a document and tells the time.
+//! Prints what reading gives of many documents, with patterns and without: the line and the fault of those that are refused,
+//! and the nets and patterns of those that are read; what catalogues of nets know, and where patterns occur in what is
+//! published. With the word `measure` it reads standard input as a document and tells the time.
 #![tactic(auto)]
 
+mod catalogued;
 mod large;
+mod many;
 mod measure;
 mod nets;
+mod occurring;
 mod outcome;
 mod prefixes;
 mod refused;
+mod sound;
+mod watch_large;
+mod watch_prefixes;
+mod watch_refused;
+mod watched;
 
 use ev_rows::Failure;
 use std::alloc::Global;
@@ -34,16 +43,30 @@ fn asked(rt: &(impl Env + AllocGlobal)) -> Result<Order, Failure> {
     }
 }
 
-fn print(rt: &impl Print, alloc: Global) -> Result<(), Failure> {
+/// Prints what reading gives of documents, and what is known of them.
+fn print_documents(rt: &impl Print, alloc: Global) -> Result<(), Failure> {
     refused::print_refused(rt, alloc)?;
     nets::print_nets(rt, alloc)?;
     prefixes::print_prefixes(rt, alloc)?;
-    large::print_large(rt, alloc)
+    large::print_large(rt, alloc)?;
+    catalogued::print_catalogues(rt, alloc)?;
+    many::print_many(rt, alloc)
+}
+
+/// Prints what reading gives of documents with patterns, and where these occur.
+fn print_watches(rt: &impl Print, alloc: Global) -> Result<(), Failure> {
+    watch_refused::print_refused(rt, alloc)?;
+    watch_prefixes::print_prefixes(rt, alloc)?;
+    watch_large::print_large(rt, alloc)?;
+    occurring::print_occurring(rt, alloc)
 }
 
 fn main(rt: HostRuntime) -> Result<(), Failure> {
     match asked(&rt)? {
-        Order::Print => print(&rt, rt.alloc()),
+        Order::Print => {
+            print_documents(&rt, rt.alloc())?;
+            print_watches(&rt, rt.alloc())
+        }
         Order::Measure => {
             let mut document = Vec::new(rt.alloc());
             rt.stdin().read_to_end(&mut document)?;

@@ -46,7 +46,7 @@ fn text(alloc: Global, command: &Command) -> Result<Vec<u8>, Failure> {
 }
 
 /// The bytes as text, where they are one.
-fn shown(bytes: &[u8]) -> &str {
+pub fn shown(bytes: &[u8]) -> &str {
     std::str::from_utf8(bytes).unwrap_or("no text")
 }
 

@@ -1,40 +1,55 @@
 //! Copies of an entry and of a delivery.
 use ev_model::{Act, Delivery, Entry, Id};
-use ev_wire::{SharedText, read_notice, write_notice};
+use ev_wire::SharedText;
+use std::alloc::Global;
 use std::rt::HostRuntime;
 use std::test::Fail;
 
-#[test]
-fn entry_copied(rt: HostRuntime) -> Result<(), Fail> {
-    let alloc = rt.alloc();
-    let entry = Entry {
+// A command's entry, with two messages.
+fn entry(alloc: Global) -> Result<Entry, Fail> {
+    Ok(Entry {
         stamp: 5,
         server: 3,
         act: Act::Command(2),
         outs: vec![in alloc; 1u32, 7]?,
-    };
-    let copy = entry.copy(alloc)?;
-    assert_eq!(rt; copy.stamp, 5);
-    assert_eq!(rt; copy.server, 3);
-    assert_eq!(rt; copy.act, Act::Command(2));
-    assert_eq!(rt; copy.outs.as_slice(), [1, 7].as_slice());
-    Ok(())
+    })
+}
+
+// Whether this is that entry.
+fn is_entry(entry: &Entry) -> bool {
+    entry.stamp == 5
+        && entry.server == 3
+        && entry.act == Act::Command(2)
+        && entry.outs.as_slice() == [1, 7].as_slice()
 }
 
 #[test]
-fn delivery_copied(rt: HostRuntime) -> Result<(), Fail> {
-    let alloc = rt.alloc();
-    let notice = read_notice(alloc, b"x int 1")?;
+fn entry_copied(rt: HostRuntime) -> Result<(), Fail> {
+    let copy = entry(rt.alloc())?.copy(rt.alloc())?;
+    assert!(rt; is_entry(&copy));
+    Ok(())
+}
+
+// A delivery.
+fn delivery(alloc: Global) -> Result<Delivery, Fail> {
     let id = Id {
         publisher: 2,
         ordinal: 1,
     };
-    let delivery = Delivery {
-        id,
-        bytes: SharedText::of(alloc, write_notice(alloc, &notice)?)?,
-    };
-    let copy = delivery.copy(alloc)?;
-    assert_eq!(rt; copy.id, id);
-    assert_eq!(rt; copy.bytes.as_slice(), b"x int 1".as_slice());
+    let bytes = SharedText::of(alloc, Vec::from_slice(alloc, b"x int 1")?)?;
+    Ok(Delivery { id, bytes })
+}
+
+// Whether this is that delivery.
+fn is_delivery(delivery: &Delivery) -> bool {
+    delivery.id.publisher == 2
+        && delivery.id.ordinal == 1
+        && delivery.bytes.as_slice() == b"x int 1".as_slice()
+}
+
+#[test]
+fn delivery_copied(rt: HostRuntime) -> Result<(), Fail> {
+    let copy = delivery(rt.alloc())?.copy(rt.alloc())?;
+    assert!(rt; is_delivery(&copy));
     Ok(())
 }

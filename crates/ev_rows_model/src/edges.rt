@@ -39,16 +39,25 @@ fn faults_at_their_edge(rt: HostRuntime) {
     assert_eq!(rt; last_fault(3, &[(1, 2), (2, 3)]), None);
 }
 
+// Whether the least server apart is told rightly before an edge, after it, after it again, and after the last one.
+fn tells_apart() -> bool {
+    let mut labels = Labels::new(3);
+    if labels.apart() != Some(2) {
+        return false;
+    }
+    let None = labels.join(&[], (3, 1)) else {
+        return false;
+    };
+    if labels.apart() != Some(2) {
+        return false;
+    }
+    let Some(EdgeFault::Twice) = labels.join(&[(3, 1)], (1, 3)) else {
+        return false;
+    };
+    labels.join(&[(3, 1)], (2, 3)).is_none() && labels.apart().is_none()
+}
+
 #[test]
 fn least_server_apart(rt: HostRuntime) {
-    let mut labels = Labels::new(3);
-    assert_eq!(rt; labels.apart(), Some(2));
-    let first = labels.join(&[], (3, 1));
-    assert_eq!(rt; first, None);
-    assert_eq!(rt; labels.apart(), Some(2));
-    let again = labels.join(&[(3, 1)], (1, 3));
-    assert_eq!(rt; again, Some(EdgeFault::Twice));
-    let second = labels.join(&[(3, 1)], (2, 3));
-    assert_eq!(rt; second, None);
-    assert_eq!(rt; labels.apart(), None);
+    assert!(rt; tells_apart());
 }

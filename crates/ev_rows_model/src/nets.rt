@@ -27,25 +27,31 @@ fn trees(alloc: Global) -> Result<Vec<(u32, Tree)>, Fail>
     Ok(trees)
 }
 
+// A client with one command, in its phase.
+fn client(
+    alloc: Global,
+    name: &[u8],
+    home: u32,
+    barriers: u32,
+    step: (u32, Command),
+) -> Result<Client, Fail>
+    ensures { IfOk result (λ c. c ≡ client_parts name.now home barriers (step ∷ [])) }
+{
+    Ok(Client {
+        name: Name::read(alloc, name)?,
+        home,
+        barriers,
+        script: vec![in alloc; step]?,
+    })
+}
+
 // Client a at server 1 subscribes, and client p at server 3 publishes in the next phase.
 fn clients(alloc: Global, subscribes: Command, publishes: Command) -> Result<Vec<Client>, Fail>
     ensures { IfOk result (λ v. v.items ≡ client_parts (97 ∷ []) 1 0 ((0, subscribes) ∷ []) ∷ client_parts (112 ∷ []) 3 1 ((1, publishes) ∷ []) ∷ []) }
 {
-    let first = Client {
-        name: Name::read(alloc, b"a")?,
-        home: 1,
-        barriers: 0,
-        script: vec![in alloc; (0, subscribes)]?,
-    };
-    let second = Client {
-        name: Name::read(alloc, b"p")?,
-        home: 3,
-        barriers: 1,
-        script: vec![in alloc; (1, publishes)]?,
-    };
     let mut clients = Vec::new(alloc);
-    clients.push(first)?;
-    clients.push(second)?;
+    clients.push(client(alloc, b"a", 1, 0, (0, subscribes))?)?;
+    clients.push(client(alloc, b"p", 3, 1, (1, publishes))?)?;
     Ok(clients)
 }
 

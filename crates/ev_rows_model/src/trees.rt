@@ -1,4 +1,5 @@
 //! Trees and lists of edges that are none.
+ghost use Rattle.std.specs.Prelude.{◌≡◌};
 ghost use Rattle.ev_tree.specs.Graph.{AreWithin, IsCount};
 
 use ev_tree::{Tree, TreeFault, one_path, sides};
@@ -27,6 +28,13 @@ fn no_trees(rt: HostRuntime) {
     assert!(rt; is_refused(alloc, 65, &[], TreeFault::TooMany));
 }
 
+// Whether this is the tree of three servers in a row.
+fn is_row(tree: &Tree) -> bool
+    requires { tree.now.count ≡ 3 }
+{
+    tree.next_hop(1, 3) == 2 && !tree.side(2, 3, 1) && tree.neighbours(2) == [1, 3].as_slice()
+}
+
 #[test]
 fn three_in_a_row(rt: HostRuntime) -> Result<(), Fail> {
     let alloc = rt.alloc();
@@ -35,8 +43,6 @@ fn three_in_a_row(rt: HostRuntime) -> Result<(), Fail> {
     let tree = Tree::build(alloc, 3, &[(1, 2), (2, 3)])?;
     assert_eq!(rt; tree.servers(), 3);
     assert_eq!(rt; tree.path(alloc, 1, 3)?.as_slice(), [1, 2, 3].as_slice());
-    assert_eq!(rt; tree.next_hop(1, 3), 2);
-    assert!(rt; !tree.side(2, 3, 1));
-    assert_eq!(rt; tree.neighbours(2), [1, 3].as_slice());
+    assert!(rt; is_row(&tree));
     Ok(())
 }

@@ -3,7 +3,9 @@
 #![tactic(auto)]
 
 mod audits;
+mod claims;
 mod devices;
+mod examples;
 mod faults;
 mod formats;
 mod generated;
@@ -14,27 +16,52 @@ mod patterns;
 mod replays;
 mod row;
 mod runs;
+mod steps;
 mod traffic;
 mod tried;
 mod usage;
 
 use ev_rows::Failure;
+use row::Row;
+use std::alloc::Global;
+
+/// All rows.
+const TABLES: [&[Row]; 12] = [
+    &runs::RUNS,
+    &replays::REPLAYS,
+    &steps::STEPS,
+    &replays::FLOODS,
+    &replays::CHECKS,
+    &hierarchies::HIERARCHIES,
+    &faults::FAULTS,
+    &patterns::PATTERNS,
+    &audits::AUDITS,
+    &formats::FORMATS,
+    &traffic::TRAFFIC,
+    &usage::USAGE,
+];
+
+/// Runs all rows.
+fn print_tables(rt: &impl Print, alloc: Global) -> Result<(), Failure> {
+    for rows in TABLES {
+        tried::print_rows(rt, alloc, rows)?;
+    }
+    Ok(())
+}
+
+/// Tries what is more than a row.
+fn print_others(rt: &impl Print, alloc: Global) -> Result<(), Failure> {
+    audits::print_changed(rt, alloc)?;
+    claims::print_whole(rt, alloc)?;
+    claims::print_generated(rt, alloc)?;
+    claims::print_made(rt, alloc)?;
+    pages::print_pages(rt, alloc)?;
+    devices::print_devices(rt, alloc)?;
+    large::print_large(rt, alloc)?;
+    generated::print_generated(rt, alloc)
+}
 
 fn main(rt: HostRuntime) -> Result<(), Failure> {
-    let alloc = rt.alloc();
-    tried::print_rows(&rt, alloc, &runs::RUNS)?;
-    tried::print_rows(&rt, alloc, &replays::REPLAYS)?;
-    tried::print_rows(&rt, alloc, &replays::FLOODS)?;
-    tried::print_rows(&rt, alloc, &hierarchies::HIERARCHIES)?;
-    tried::print_rows(&rt, alloc, &faults::FAULTS)?;
-    tried::print_rows(&rt, alloc, &patterns::PATTERNS)?;
-    tried::print_rows(&rt, alloc, &audits::AUDITS)?;
-    audits::print_changed(&rt, alloc)?;
-    tried::print_rows(&rt, alloc, &formats::FORMATS)?;
-    tried::print_rows(&rt, alloc, &traffic::TRAFFIC)?;
-    tried::print_rows(&rt, alloc, &usage::USAGE)?;
-    pages::print_pages(&rt, alloc)?;
-    devices::print_devices(&rt, alloc)?;
-    large::print_large(&rt, alloc)?;
-    generated::print_generated(&rt, alloc)
+    print_tables(&rt, rt.alloc())?;
+    print_others(&rt, rt.alloc())
 }

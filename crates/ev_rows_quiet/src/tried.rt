@@ -1,4 +1,6 @@
 //! One call of the program over devices in memory.
+ghost use Rattle.std.specs.Prelude.{◌<◌};
+
 use crate::row::Row;
 use ev_outside::{MemorySink, MemorySource, Word};
 use ev_quiet::{fault_text, is_quiet, quiet};
@@ -6,7 +8,10 @@ use ev_rows::Failure;
 use std::alloc::Global;
 
 /// Room for what is written.
-const ROOM: usize = 4_000_000;
+const ROOM: usize = 16_000_000;
+
+/// The bytes of a great piece.
+const PIECE: usize = 65_536;
 
 /// What a call told and wrote.
 #[derive(Drop)]
@@ -26,6 +31,32 @@ fn words(alloc: Global, line: &str) -> Result<Vec<Word>, Failure> {
     Ok(words)
 }
 
+/// A device: the bytes that it gives or takes at a call, and the calls at which it fails.
+type Device<'a> = (usize, &'a [u64]);
+
+/// Runs the words over these devices.
+fn called(
+    alloc: Global,
+    line: &str,
+    document: &[u8],
+    read: Device<'_>,
+    write: Device<'_>,
+) -> Result<Tried, Failure>
+    requires read { 0 < read.0 }
+    requires write { 0 < write.0 }
+{
+    let words = words(alloc, line)?;
+    if !is_quiet(&words) {
+        return Err(Failure::Threads);
+    }
+    let mut source = MemorySource::make(document.to_vec(alloc)?, read.0, read.1.to_vec(alloc)?);
+    let mut sink = MemorySink::make(alloc, write.0, write.1.to_vec(alloc)?, ROOM)?;
+    let ended = quiet(alloc, &words, &mut source, &mut sink);
+    let fault = fault_text(alloc, &ended.status)?;
+    let text = sink.bytes().to_vec(alloc)?;
+    Ok(Tried { fault, text })
+}
+
 /// Runs the words over a source in pieces of 16 bytes and a sink in pieces of 10, which fail at these calls.
 pub fn failing(
     alloc: Global,
@@ -34,19 +65,15 @@ pub fn failing(
     read_fails: &[u64],
     write_fails: &[u64],
 ) -> Result<Tried, Failure> {
-    let words = words(alloc, line)?;
-    if !is_quiet(&words) {
-        return Err(Failure::Threads);
-    }
-    let mut source = MemorySource::make(document.to_vec(alloc)?, 16, read_fails.to_vec(alloc)?);
-    let mut sink = MemorySink::make(alloc, 10, write_fails.to_vec(alloc)?, ROOM)?;
-    let ended = quiet(alloc, &words, &mut source, &mut sink);
-    let fault = fault_text(alloc, &ended.status)?;
-    let text = sink.bytes().to_vec(alloc)?;
-    Ok(Tried { fault, text })
+    called(alloc, line, document, (16, read_fails), (10, write_fails))
 }
 
-/// The same over devices that don't fail.
+/// Runs the words over devices that don't fail, in great pieces.
+pub fn at_once(alloc: Global, line: &str, document: &[u8]) -> Result<Tried, Failure> {
+    called(alloc, line, document, (PIECE, &[]), (PIECE, &[]))
+}
+
+/// Runs the words over such devices that don't fail, in small pieces.
 pub fn outcome(alloc: Global, line: &str, document: &[u8]) -> Result<Tried, Failure> {
     failing(alloc, line, document, &[], &[])
 }

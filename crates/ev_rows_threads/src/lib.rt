@@ -1,7 +1,11 @@
-//! Tests of what threads stand on: lanes and turn locks, in one thread and in two.
+//! Tests of what threads stand on: lanes and turn locks, versions with their viewers, in one thread and in two; and a cell without a stamp left.
 #![tactic(auto)]
 
 #[cfg(test)]
 mod lanes;
 #[cfg(test)]
 mod locks;
+#[cfg(test)]
+mod viewers;
+#[cfg(test)]
+mod worn;
