@@ -15,7 +15,7 @@ use Rattle.ev_numserver.proofs.Emptied.{numbers-emptied}
 use Rattle.ev_numserver.proofs.Sessions.{has-map}
 use Rattle.ev_hierturns.specs.Network.{moment_by, received_by}
 use Rattle.ev_hier.specs.Kept.{IsNetwork}
-use Rattle.ev_hier.specs.Acted.{Servers}
+use Rattle.ev_numnet.specs.Acted.{Servers}
 use Rattle.ev_hier.specs.Inboxes.{HaveInboxes, inbox_given}
 use Rattle.ev_turns.proofs.Among.{core_at}
 use Rattle.ev_numnet.proofs.Commanding.{home_low}
@@ -24,7 +24,7 @@ use Rattle.ev_numnet.proofs.Standing.{At, Found, get-at}
 use Rattle.ev_numnet.proofs.Turning.{set-same, set-other, set-long}
 
 -- nothing is handed on of a network
-pub have_all : (net : NetParts) (phase : ℕ) (now : Servers) → IsNetwork net phase now → HaveInboxes net now.journal 0 now.cores
+pub have_all : (net : NetParts) (phase : ℕ) (now : Servers HierarchyParts) → IsNetwork net phase now → HaveInboxes net now.journal 0 now.cores
 have_all net phase now kept = record {
   all = kept.cores.all;
   lives = λ client parts l m at. lives_there net kept.sound (moment_by net now.journal).network now.cores kept.cores client (omega (arith, l), m) parts at;

@@ -7,11 +7,10 @@ ghost use Rattle.ev_numserver.specs.Clients.{client_numbers};
 ghost use Rattle.ev_hierserver.specs.Core.{HierarchyParts};
 ghost use Rattle.ev_hierturns.specs.Network.{received_by};
 ghost use Rattle.ev_hier.specs.Kept.{IsNetwork};
-ghost use Rattle.ev_hier.specs.Seen.{seen};
+ghost use Rattle.ev_numnet.specs.Seen.{seen};
 ghost use Rattle.ev_hier.specs.Inboxes.{inbox_given};
 
-use crate::place::Place;
-use crate::servers::Servers;
+use crate::place::{Place, Ranks};
 use ev_memory::NoMemory;
 use ev_model::{Delivery, Net};
 use ev_numnet::home;
@@ -35,7 +34,7 @@ fn take_inbox(net: &Net, places: &mut Vec<Place<'_>>, client: u32) -> Lists<Deli
 /// Hands on what each client received, whose inboxes are empty then.
 pub(crate) fn take_inboxes(
     net: &Net,
-    servers: &mut Servers<'_>,
+    servers: &mut Ranks<'_>,
 ) -> Result<Vec<Lists<Delivery>>, NoMemory>
     requires { (phase : ℕ) × IsNetwork net.now phase (seen servers.old) }
     ensures received { IfOk result (λ lists. lists.items ≡ of_clients net.now (received_by net.now servers.old.journal.entries)) }

@@ -10,9 +10,8 @@ mod making;
 mod network;
 mod place;
 mod retelling;
-mod servers;
+mod scheduled;
 mod telling;
-mod trying;
 mod walking;
 
 pub use network::HierNetwork;

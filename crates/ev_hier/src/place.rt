@@ -1,8 +1,8 @@
 //! A server in a network of a hierarchy: its core, and what it published by numbers.
-ghost use Rattle.std.specs.Prelude.{◌≡◌, ◌<◌, ◌^◌, [], length, IfOk, OnErr};
+ghost use Rattle.std.specs.Prelude.{◌≡◌, ◌<◌, ◌^◌, length, IfOk, OnErr};
 ghost use Rattle.ev_sets.specs.Sets.{Has};
 ghost use Rattle.ev_run.specs.Machine.{Does, Takes};
-ghost use Rattle.ev_routing.specs.Step.{NextCommand, Version};
+ghost use Rattle.ev_routing.specs.Step.{NextCommand};
 ghost use Rattle.ev_model.specs.Nets.{servers_in};
 ghost use Rattle.ev_model.specs.Sound.{IsSound};
 ghost use Rattle.ev_catalogue.specs.Known.{known_publications};
@@ -25,7 +25,7 @@ use ev_hierserver::HierarchyCore;
 use ev_memory::NoMemory;
 use ev_message::Load;
 use ev_model::Delivery;
-use ev_numnet::{Waiting, unexhausted, unpublished};
+use ev_numnet::{Server, Servers, Waiting, unexhausted, unpublished};
 use ev_numserver::Step;
 use ev_tables::Tables;
 use std::alloc::Global;
@@ -91,21 +91,10 @@ impl<'a> Place<'a> {
     }
 }
 
-impl<'a> Place<'a> {
-    /// Takes the next command of a client that lives here and has one left.
-    pub(crate) fn command(&mut self, alloc: Global, client: u32) -> Result<Step<'a>, NoMemory>
-        requires lives { Has client (client_numbers self.old.core.clients) }
-        requires left { (s : SessionParts) → Has s self.old.core.clients → s.client ≡ client → s.taken < length s.script }
-        requires low { self.old.core.clock < last_stamp }
-        ensures step { IfOk result (λ s. MakesHierarchyStep (Does (NextCommand client)) 0 self.old self.new s.stamp s.sent.items) }
-        ensures err { OnErr result (self.new ≡ self.old) }
-    {
-        match self.core.next_publication(client) {
-            Some(number) => self.publish(alloc, client, number),
-            None => unexhausted(self.core.take_command(client)),
-        }
-    }
+/// The servers of a network of a hierarchy.
+pub(crate) type Ranks<'a> = Servers<'a, Place<'a>>;
 
+impl<'a> Place<'a> {
     /// Takes the next command of a client that lives here: a publish of the publication with a number, which is accepted.
     fn publish(&mut self, alloc: Global, client: u32, number: u32) -> Result<Step<'a>, NoMemory>
         requires lives { Has client (client_numbers self.old.core.clients) }
@@ -140,20 +129,26 @@ impl<'a> Place<'a> {
             _ => Ok(Route::nowhere(alloc)),
         }
     }
+}
 
-    /// Takes a message that a neighbour sent.
-    pub(crate) fn take(
+impl<'a> Server<'a> for Place<'a> {
+    ghost use Rattle.ev_hier.specs.Stepping.{hierarchy};
+
+    ghost stepping = { hierarchy };
+
+    fn command(&mut self, alloc: Global, client: u32) -> Result<Step<'a>, NoMemory> {
+        match self.core.next_publication(client) {
+            Some(number) => self.publish(alloc, client, number),
+            None => unexhausted(self.core.take_command(client)),
+        }
+    }
+
+    fn take(
         &mut self,
         alloc: Global,
         from: u32,
         waiting: &Waiting<'a>,
-    ) -> Result<Step<'a>, NoMemory>
-        requires from { Has from self.old.core.control.links }
-        requires low { (self.old.core.clock < last_stamp) × (waiting.now.stamp < last_stamp) }
-        requires run { waiting.now.sent.net ≡ self.old.core.net }
-        ensures step { IfOk result (λ s. MakesHierarchyStep (Takes from waiting.now.sent.message) waiting.now.stamp self.old self.new s.stamp s.sent.items) }
-        ensures err { OnErr result (self.new ≡ self.old) }
-    {
+    ) -> Result<Step<'a>, NoMemory> {
         let route = self.route(alloc, waiting.message.load())?;
         unexhausted(
             self.core
@@ -161,17 +156,16 @@ impl<'a> Place<'a> {
         )
     }
 
-    /// Publishes what is staged; the answer is the stamp. It takes no memory.
-    pub(crate) fn version(&mut self) -> u64
-        requires some { (self.old.core.staged ≡ []) → ⊥ }
-        requires low { self.old.core.clock < last_stamp }
-        ensures { MakesHierarchyStep (Does Version) 0 self.old self.new result [] }
-    {
+    fn version(&mut self) -> u64 {
         self.core.is_known();
         self.forwarding.apply(self.core.staged());
         match self.core.publish() {
             Ok(stamp) => stamp,
             Err(_) => unreachable!(),
         }
+    }
+
+    fn is_calm(&self) -> bool {
+        self.core.staged().is_empty()
     }
 }

@@ -23,7 +23,7 @@ use Rattle.ev_numnet.proofs.Standing.{At, Found, get-at}
 use Rattle.ev_numnet.proofs.Turning.{set-same, set-other, set-long}
 
 -- nothing is handed on of a network
-pub have_all : (net : NetParts) (phase : ℕ) (now : Servers) → IsNetwork net phase now → HaveInboxes net now.journal 0 now.cores
+pub have_all : (net : NetParts) (phase : ℕ) (now : Servers CoreParts) → IsNetwork net phase now → HaveInboxes net now.journal 0 now.cores
 have_all net phase now kept = record {
   all = kept.cores.all;
   lives = λ client core l m at. lives_there net kept.sound phase (moment_by net now.journal).state now.cores kept.cores client (omega (arith, l), m) core at;

@@ -216,7 +216,8 @@ pub(crate) fn begin<'a>(
     requires sound { IsSound tables.now }
     requires state { (state : State real) × AreServers tables.now last state places.old.items × IsAtRestOn real (phased_net tables.now) last state }
     ensures begun { IfOk result (λ _. (state : State real) → AreServers tables.now last state places.old.items
-        → IsAtRestOn real (phased_net tables.now) last state → AreServers tables.now phase (begun real (phased_net tables.now) last phase state) places.new.items) }
+        → IsAtRestOn real (phased_net tables.now) last state
+        → AreServers tables.now phase (begun real (phased_net tables.now) last phase state) places.new.items) }
     ensures back { IfOk result (λ before. IsUndoneBy before places.old.items places.new.items) }
     ensures err { OnErr result (places.new.items ≡ places.old.items) }
 {

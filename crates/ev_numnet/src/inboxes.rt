@@ -10,8 +10,7 @@ ghost use Rattle.ev_numnet.specs.Kept.{IsNetwork};
 ghost use Rattle.ev_numnet.specs.Seen.{seen};
 
 use crate::making::home;
-use crate::place::Place;
-use crate::servers::Servers;
+use crate::place::{Peers, Place};
 use ev_memory::NoMemory;
 use ev_model::{Delivery, Net};
 use ev_wire::Lists;
@@ -33,7 +32,7 @@ fn take_inbox(net: &Net, places: &mut Vec<Place<'_>>, client: u32) -> Lists<Deli
 /// Hands on what each client received, whose inboxes are empty then.
 pub(crate) fn take_inboxes(
     net: &Net,
-    servers: &mut Servers<'_>,
+    servers: &mut Peers<'_>,
 ) -> Result<Vec<Lists<Delivery>>, NoMemory>
     requires { (phase : ℕ) × IsNetwork net.now phase (seen servers.old) }
     ensures received { IfOk result (λ lists. lists.items ≡ of_clients net.now (received_by net.now servers.old.journal.entries)) }

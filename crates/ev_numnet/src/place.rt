@@ -2,7 +2,7 @@
 ghost use Rattle.std.specs.Prelude.{◌≡◌, ◌<◌, ◌^◌, ℕ, nat_lt, [], length, Some, Ok, Err, IfOk, OnErr};
 ghost use Rattle.ev_sets.specs.Sets.{Has, IsRising};
 ghost use Rattle.ev_run.specs.Machine.{Does, Takes};
-ghost use Rattle.ev_routing.specs.Step.{NextCommand, Version};
+ghost use Rattle.ev_routing.specs.Step.{NextCommand};
 ghost use Rattle.ev_model.specs.Nets.{servers_in};
 ghost use Rattle.ev_model.specs.Sound.{IsSound};
 ghost use Rattle.ev_catalogue.specs.Known.{known_filters, known_publications};
@@ -15,8 +15,11 @@ ghost use Rattle.ev_numserver.specs.Clients.{client_numbers};
 ghost use Rattle.ev_numserver.specs.Core.{published_from, without_inbox};
 ghost use Rattle.ev_numserver.specs.Routed.{IsRoute, RoutesMessage};
 ghost use Rattle.ev_numserver.specs.Step.{MakesStep, last_stamp};
-ghost use Rattle.ev_numnet.specs.Kept.{IsFirst, IsSomeServer};
+ghost use Rattle.ev_numnet.specs.Kept.{IsFirst};
+ghost use Rattle.ev_numnet.specs.Stepping.{IsSome, peers};
 
+use crate::server::Server;
+use crate::servers::Servers;
 use crate::waiting::Waiting;
 use ev_forwarding::{Forwarding, Route};
 use ev_memory::NoMemory;
@@ -105,22 +108,10 @@ impl<'a> Place<'a> {
     }
 }
 
-impl<'a> Place<'a> {
-    /// Takes the next command of a client that lives here and has one left.
-    pub(crate) fn command(&mut self, alloc: Global, client: u32) -> Result<Step<'a>, NoMemory>
-        requires lives { Has client (client_numbers self.old.clients) }
-        requires left { (s : SessionParts) → Has s self.old.clients → s.client ≡ client → s.taken < length s.script }
-        requires stands { IsSomeServer self.old }
-        requires low { self.old.clock < last_stamp }
-        ensures step { IfOk result (λ s. MakesStep (Does (NextCommand client)) 0 self.old self.new s.stamp s.sent.items) }
-        ensures err { OnErr result (self.new ≡ self.old) }
-    {
-        match self.core.next_publication(client) {
-            Some(number) => self.publish(alloc, client, number),
-            None => unexhausted(self.core.take_command(client)),
-        }
-    }
+/// The servers of a network of peers.
+pub(crate) type Peers<'a> = Servers<'a, Place<'a>>;
 
+impl<'a> Place<'a> {
     /// Takes the next command of a client that lives here: a publish of the publication with a number, which is accepted.
     fn publish(&mut self, alloc: Global, client: u32, number: u32) -> Result<Step<'a>, NoMemory>
         requires lives { Has client (client_numbers self.old.clients) }
@@ -128,7 +119,7 @@ impl<'a> Place<'a> {
         requires known { number < length (known_publications 1 self.old.net.clients) }
         requires publish { (s : SessionParts) → Has s self.old.clients → s.client ≡ client
             → next_plan s ≡ Some (plans.Publish (publication_at self.old.net number).id (publication_at self.old.net number).notice) }
-        requires stands { IsSomeServer self.old }
+        requires stands { IsSome peers self.old }
         requires low { self.old.clock < last_stamp }
         ensures step { IfOk result (λ s. MakesStep (Does (NextCommand client)) 0 self.old self.new s.stamp s.sent.items) }
         ensures err { OnErr result (self.new ≡ self.old) }
@@ -156,21 +147,26 @@ impl<'a> Place<'a> {
             _ => Ok(Route::nowhere(alloc)),
         }
     }
+}
 
-    /// Takes a message that a neighbour sent.
-    pub(crate) fn take(
+impl<'a> Server<'a> for Place<'a> {
+    ghost use Rattle.ev_numnet.specs.Stepping.{peers};
+
+    ghost stepping = { peers };
+
+    fn command(&mut self, alloc: Global, client: u32) -> Result<Step<'a>, NoMemory> {
+        match self.core.next_publication(client) {
+            Some(number) => self.publish(alloc, client, number),
+            None => unexhausted(self.core.take_command(client)),
+        }
+    }
+
+    fn take(
         &mut self,
         alloc: Global,
         from: u32,
         waiting: &Waiting<'a>,
-    ) -> Result<Step<'a>, NoMemory>
-        requires from { Has from self.old.control.links }
-        requires stands { IsSomeServer self.old }
-        requires low { (self.old.clock < last_stamp) × (waiting.now.stamp < last_stamp) }
-        requires run { waiting.now.sent.net ≡ self.old.net }
-        ensures step { IfOk result (λ s. MakesStep (Takes from waiting.now.sent.message) waiting.now.stamp self.old self.new s.stamp s.sent.items) }
-        ensures err { OnErr result (self.new ≡ self.old) }
-    {
+    ) -> Result<Step<'a>, NoMemory> {
         let route = self.route(alloc, waiting.message.load())?;
         unexhausted(
             self.core
@@ -178,19 +174,17 @@ impl<'a> Place<'a> {
         )
     }
 
-    /// Publishes what is staged; the answer is the stamp. It takes no memory.
-    pub(crate) fn version(&mut self) -> u64
-        requires some { (self.old.staged ≡ []) → ⊥ }
-        requires stands { IsSomeServer self.old }
-        requires low { self.old.clock < last_stamp }
-        ensures { MakesStep (Does Version) 0 self.old self.new result [] }
-    {
+    fn version(&mut self) -> u64 {
         self.core.is_known();
         self.forwarding.apply(self.core.staged());
         match self.core.publish() {
             Ok(stamp) => stamp,
             Err(_) => unreachable!(),
         }
+    }
+
+    fn is_calm(&self) -> bool {
+        self.core.staged().is_empty()
     }
 }
 

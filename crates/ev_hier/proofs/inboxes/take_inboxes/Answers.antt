@@ -4,7 +4,7 @@ use Rattle.std.proofs.lemmas.Grind.{common_steps}
 use Rattle.std.proofs.lemmas.List.FromFn.{map-range_with_len_more}
 use Rattle.ev_model.specs.Nets.{home_of}
 use Rattle.ev_hierturns.specs.Network.{received_by}
-use Rattle.ev_hier.specs.Seen.{seen}
+use Rattle.ev_numnet.specs.Seen.{seen}
 use Rattle.ev_numnet.proofs.Commanding.{home_low}
 use Rattle.ev_hier.proofs.HandedOn.{have_all, next_inbox}
 use Rattle.ev_hier.proofs.inboxes.take_inboxes.Goals as goal

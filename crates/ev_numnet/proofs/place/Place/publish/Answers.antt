@@ -8,7 +8,7 @@ use Rattle.ev_session.specs.Plan.{next_plan}
 use Rattle.ev_numserver.specs.Core.{CoreParts, published_from}
 use Rattle.ev_numserver.specs.Routed.{IsRoute}
 use Rattle.ev_numserver.specs.Step.{last_stamp}
-use Rattle.ev_numnet.specs.Kept.{IsSomeServer}
+use Rattle.ev_numnet.specs.Stepping.{IsSome, peers}
 use Rattle.ev_numnet.proofs.Placed.{not_exhausted, placed_after_command}
 use Rattle.ev_numnet.proofs.place.Place.publish.Goals as goal
 
@@ -28,5 +28,5 @@ unexhausted-requires c = not_exhausted c.take_publish.result c.self.inside.core.
 
 pub invariant_of-self : goal.invariant_of-self
 invariant_of-self c =
-    placed_after_command c.self.inside.core c.take_publish.new.self c.self.inside.forwarding c.args.client (subst IsSomeServer (sym c.self.view_is) c.requires.stands) c.take_publish.result
+    placed_after_command c.self.inside.core c.take_publish.new.self c.self.inside.forwarding c.args.client (subst (IsSome peers) (sym c.self.view_is) c.requires.stands) c.take_publish.result
     (λ s. s.stamp) (λ s. s.sent.items) c.take_publish.ensures.step c.take_publish.ensures.interfaces c.take_publish.ensures.err c.self.invariant

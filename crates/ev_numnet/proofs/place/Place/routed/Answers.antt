@@ -1,4 +1,4 @@
-use Rattle.std.proofs.Common.{◌≡◌, ◌∙◌, ◌<◌, length, IfOk, sym, ap, subst}
+use Rattle.std.proofs.Common.{◌∙◌, ◌<◌, length, IfOk, sym, ap, subst}
 use Rattle.ev_bits.specs.Rows.{Numbers}
 use Rattle.ev_model.specs.Parts.{NetParts}
 use Rattle.ev_catalogue.specs.Known.{known_publications}
