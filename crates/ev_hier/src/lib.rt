@@ -5,7 +5,6 @@
 #![tactic(auto)]
 
 mod clocks;
-mod inboxes;
 mod making;
 mod network;
 mod place;

@@ -7,14 +7,13 @@ ghost use Rattle.ev_hierturns.specs.Network.{opening_of};
 ghost use Rattle.ev_hierturns.specs.Told.{found_of, told_of};
 ghost use Rattle.ev_hier.specs.Kept.{AreServers};
 
-use crate::inboxes::take_inboxes;
 use crate::making::{command, received, refused, take, version};
 use crate::place::{Place, Ranks};
 use crate::telling::last_told;
 use ev_journal::Journal;
 use ev_memory::NoMemory;
 use ev_model::{Delivery, Entry, Sent, Turn};
-use ev_numnet::{Keeping, Kept, Links, Servers, all_clients};
+use ev_numnet::{Keeping, Kept, Links, Servers, all_clients, take_inboxes};
 use ev_tables::Tables;
 use ev_wire::Lists;
 use std::alloc::Global;

@@ -18,7 +18,6 @@ ghost use Rattle.ev_numserver.specs.Step.{last_stamp};
 ghost use Rattle.ev_hierserver.specs.Step.{MakesHierarchyStep};
 ghost use Rattle.ev_hier.specs.Kept.{IsFirst};
 ghost use Rattle.ev_hier.specs.Clocks.{with_clock};
-ghost use Rattle.ev_hier.specs.Inboxes.{inbox_given};
 
 use ev_forwarding::{Forwarding, Route};
 use ev_hierserver::HierarchyCore;
@@ -79,15 +78,6 @@ impl<'a> Place<'a> {
         ensures { self.new ≡ with_clock clock self.old }
     {
         self.core.raise(clock);
-    }
-
-    /// Hands on what was delivered to a client that lives here, whose inbox is empty then.
-    pub(crate) fn take_inbox(&mut self, client: u32) -> Vec<Delivery>
-        requires { Has client (client_numbers self.old.core.clients) }
-        ensures inbox { (s : SessionParts) → Has s self.old.core.clients → s.client ≡ client → result.items ≡ s.inbox }
-        ensures emptied { self.new ≡ inbox_given client self.old }
-    {
-        self.core.take_inbox(client)
     }
 }
 
@@ -167,5 +157,9 @@ impl<'a> Server<'a> for Place<'a> {
 
     fn is_calm(&self) -> bool {
         self.core.staged().is_empty()
+    }
+
+    fn take_inbox(&mut self, client: u32) -> Vec<Delivery> {
+        self.core.take_inbox(client)
     }
 }

@@ -1,5 +1,5 @@
 //! The beginning of a later phase, all or nothing, and how it is taken back.
-ghost use Rattle.std.specs.Prelude.{◌≡◌, ◌<◌, ◌≤◌, ◌^◌, ℕ, suc, false, List, length, slice_get, Some, None, IfOk, OnErr};
+ghost use Rattle.std.specs.Prelude.{◌≡◌, ◌<◌, ◌^◌, ℕ, false, List, length, slice_get, Some, None, IfOk, OnErr};
 ghost use Rattle.ev_phases.specs.Trees.{State, is_one_tree, trees_by, IsAtRestOn};
 ghost use Rattle.ev_phases.specs.Moments.{begun};
 ghost use Rattle.ev_theory.specs.Real.{real};

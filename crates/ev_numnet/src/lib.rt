@@ -24,6 +24,7 @@ mod texts;
 mod waiting;
 mod walking;
 
+pub use inboxes::take_inboxes;
 pub use keeping::{Keeping, Kept, Passed};
 pub use links::Links;
 pub use making::{home, is_among, is_below};

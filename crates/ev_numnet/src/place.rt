@@ -12,7 +12,7 @@ ghost use Rattle.ev_session.specs.Session.{SessionParts};
 ghost use Rattle.ev_session.specs.Plan.{next_plan};
 ghost use Rattle.ev_message.specs.Message.{IsLoad, meaning};
 ghost use Rattle.ev_numserver.specs.Clients.{client_numbers};
-ghost use Rattle.ev_numserver.specs.Core.{published_from, without_inbox};
+ghost use Rattle.ev_numserver.specs.Core.{published_from};
 ghost use Rattle.ev_numserver.specs.Routed.{IsRoute, RoutesMessage};
 ghost use Rattle.ev_numserver.specs.Step.{MakesStep, last_stamp};
 ghost use Rattle.ev_numnet.specs.Kept.{IsFirst};
@@ -97,15 +97,6 @@ impl<'a> Place<'a> {
     {
         self.core.raise(clock);
     }
-
-    /// Hands on what was delivered to a client that lives here, whose inbox is empty then.
-    pub(crate) fn take_inbox(&mut self, client: u32) -> Vec<Delivery>
-        requires { Has client (client_numbers self.old.clients) }
-        ensures inbox { (s : SessionParts) → Has s self.old.clients → s.client ≡ client → result.items ≡ s.inbox }
-        ensures emptied { self.new ≡ without_inbox client self.old }
-    {
-        self.core.take_inbox(client)
-    }
 }
 
 /// The servers of a network of peers.
@@ -185,6 +176,10 @@ impl<'a> Server<'a> for Place<'a> {
 
     fn is_calm(&self) -> bool {
         self.core.staged().is_empty()
+    }
+
+    fn take_inbox(&mut self, client: u32) -> Vec<Delivery> {
+        self.core.take_inbox(client)
     }
 }
 

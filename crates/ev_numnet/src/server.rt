@@ -5,12 +5,14 @@ ghost use Rattle.ev_run.specs.Machine.{Does, Takes};
 ghost use Rattle.ev_routing.specs.Step.{NextCommand, Version};
 ghost use Rattle.ev_session.specs.Session.{SessionParts};
 ghost use Rattle.ev_numserver.specs.Clients.{client_numbers};
+ghost use Rattle.ev_numserver.specs.Core.{without_inbox};
 ghost use Rattle.ev_numserver.specs.Staged.{is_some_there};
 ghost use Rattle.ev_numserver.specs.Step.{last_stamp};
 ghost use Rattle.ev_numnet.specs.Stepping.{IsSome, GoesOn};
 
 use crate::waiting::Waiting;
 use ev_memory::NoMemory;
+use ev_model::Delivery;
 use ev_numserver::Step;
 use std::alloc::Global;
 
@@ -57,4 +59,10 @@ pub trait Server<'a>: Drop {
     fn is_calm(&self) -> bool
         ensures staged { IsTrue result ↔ ((stepping.core self.now).staged ≡ []) }
         ensures calm { result ≡ not (is_some_there (stepping.core self.now).staged) };
+
+    /// Hands on what was delivered to a client that lives here, whose inbox is empty then.
+    fn take_inbox(&mut self, client: u32) -> Vec<Delivery>
+        requires { Has client (client_numbers (stepping.core self.old).clients) }
+        ensures inbox { (s : SessionParts) → Has s (stepping.core self.old).clients → s.client ≡ client → result.items ≡ s.inbox }
+        ensures emptied { stepping.core self.new ≡ without_inbox client (stepping.core self.old) };
 }

@@ -2,7 +2,7 @@ use Rattle.std.proofs.Common.{sym, subst}
 use Rattle.ev_sets.specs.Sets.{Has}
 use Rattle.ev_numserver.specs.Core.{CoreParts}
 use Rattle.ev_numnet.specs.Kept.{IsPlace}
-use Rattle.ev_numnet.proofs.place.Place.take_inbox.Goals as goal
+use Rattle.ev_numnet.proofs.place.PlaceServer.take_inbox.Goals as goal
 
 pub invariant_of-self : goal.invariant_of-self
 invariant_of-self c = subst (λ (z : CoreParts). IsPlace z c.self.inside.forwarding) (sym c.take_inbox.ensures.emptied) c.self.invariant
