@@ -10,21 +10,17 @@ ghost use Rattle.ev_tables.specs.Found.{publication_at};
 ghost use Rattle.ev_session.specs.declared.planned.Planned.TheVariants as plans;
 ghost use Rattle.ev_session.specs.Session.{SessionParts};
 ghost use Rattle.ev_session.specs.Plan.{next_plan};
-ghost use Rattle.ev_message.specs.Message.{IsLoad, meaning};
 ghost use Rattle.ev_numserver.specs.Clients.{client_numbers};
-ghost use Rattle.ev_numserver.specs.Core.{published_from};
-ghost use Rattle.ev_numserver.specs.Routed.{IsRoute, RoutesMessage};
 ghost use Rattle.ev_numserver.specs.Step.{last_stamp};
 ghost use Rattle.ev_hierserver.specs.Step.{MakesHierarchyStep};
 ghost use Rattle.ev_hier.specs.Kept.{IsFirst};
 ghost use Rattle.ev_hier.specs.Clocks.{with_clock};
 
-use ev_forwarding::{Forwarding, Route};
+use ev_forwarding::Forwarding;
 use ev_hierserver::HierarchyCore;
 use ev_memory::NoMemory;
-use ev_message::Load;
 use ev_model::Delivery;
-use ev_numnet::{Server, Servers, Waiting, unexhausted, unpublished};
+use ev_numnet::{Server, Servers, Waiting, route, routed, unexhausted, unpublished};
 use ev_numserver::Step;
 use ev_tables::Tables;
 use std::alloc::Global;
@@ -96,28 +92,9 @@ impl<'a> Place<'a> {
         ensures step { IfOk result (λ s. MakesHierarchyStep (Does (NextCommand client)) 0 self.old self.new s.stamp s.sent.items) }
         ensures err { OnErr result (self.new ≡ self.old) }
     {
-        let route = self.routed(alloc, number)?;
+        let tables = self.core.tables();
+        let route = routed(alloc, tables, &self.forwarding, number)?;
         unexhausted(self.core.take_publish(client, number, route.interfaces()))
-    }
-
-    /// Where the publication with a number goes by what was published.
-    fn routed(&self, alloc: Global, number: u32) -> Result<Route, NoMemory>
-        requires { number < length (known_publications 1 self.now.core.net.clients) }
-        ensures { IfOk result (IsRoute (publication_at self.now.core.net number).notice (published_from self.now.core)) }
-    {
-        let found = self.core.tables().found(number);
-        self.forwarding.route(alloc, found.matched())
-    }
-
-    /// Where a step routes what a message carries; nowhere where that is a change.
-    fn route(&self, alloc: Global, load: &Load) -> Result<Route, NoMemory>
-        requires { IsLoad self.now.core.net load.now }
-        ensures { IfOk result (λ r. RoutesMessage self.now.core (meaning self.now.core.net load.now) r) }
-    {
-        match load {
-            Load::Publication(number) => self.routed(alloc, *number),
-            _ => Ok(Route::nowhere(alloc)),
-        }
     }
 }
 
@@ -139,7 +116,9 @@ impl<'a> Server<'a> for Place<'a> {
         from: u32,
         waiting: &Waiting<'a>,
     ) -> Result<Step<'a>, NoMemory> {
-        let route = self.route(alloc, waiting.message.load())?;
+        let tables = self.core.tables();
+        let load = waiting.message.load();
+        let route = route(alloc, tables, &self.forwarding, load)?;
         unexhausted(
             self.core
                 .take_message(from, waiting.stamp, &waiting.message, route.interfaces()),
