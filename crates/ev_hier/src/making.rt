@@ -3,7 +3,7 @@ ghost use Rattle.std.specs.Prelude.{◌≡◌, ◌≤◌, ◌<◌, ◌↔◌, �
 ghost use Rattle.ev_run.specs.Runs.{IsQuiet, IsThrough};
 ghost use Rattle.ev_model.specs.declared.turn.Turn.TheVariants as turns;
 ghost use Rattle.ev_turns.specs.Sessions.{is_phase_below};
-ghost use Rattle.ev_hierturns.specs.Network.{servers_of, moment_by, next_phase_by, received_by, refused_by};
+ghost use Rattle.ev_hierturns.specs.Network.{servers_of, moment_by, next_phase_by};
 ghost use Rattle.ev_hierturns.specs.Turns.{IsTurn, IsMade};
 ghost use Rattle.ev_hier.specs.Kept.{IsNetwork};
 ghost use Rattle.ev_numnet.specs.Seen.{seen, shown};
@@ -12,7 +12,7 @@ ghost use Rattle.ev_hier.specs.Sessions.{IsSessionOf};
 use crate::clocks::{raise_all, set_clocks};
 use crate::place::Ranks;
 use ev_memory::NoMemory;
-use ev_model::{Delivery, Net};
+use ev_model::Net;
 use ev_numnet::{Server, home, is_among, is_below};
 use ev_numsession::Session;
 
@@ -81,24 +81,6 @@ pub(crate) fn next_phase(net: &Net, servers: &Ranks<'_>, client: u32) -> Option<
 {
     let (phase, _) = session(net, servers, client).next()?;
     Some(phase)
-}
-
-/// What a client received, in order.
-pub(crate) fn received<'s>(net: &Net, servers: &'s Ranks<'_>, client: u32) -> &'s [Delivery]
-    requires client { (1 ≤ client) × (client ≤ length net.now.clients) }
-    requires kept { (phase : ℕ) × IsNetwork net.now phase (seen servers.now) }
-    ensures { result.now ≡ received_by net.now servers.now.journal.entries client }
-{
-    session(net, servers, client).received()
-}
-
-/// The ordinals of a client's publishes that were refused, rising.
-pub(crate) fn refused<'s>(net: &Net, servers: &'s Ranks<'_>, client: u32) -> &'s [u32]
-    requires client { (1 ≤ client) × (client ≤ length net.now.clients) }
-    requires kept { (phase : ℕ) × IsNetwork net.now phase (seen servers.now) }
-    ensures { result.now ≡ refused_by net.now servers.now.journal.entries client }
-{
-    session(net, servers, client).refused()
 }
 
 /// A client's next command.

@@ -7,7 +7,7 @@ ghost use Rattle.ev_hierturns.specs.Network.{opening_of};
 ghost use Rattle.ev_hierturns.specs.Told.{found_of, told_of};
 ghost use Rattle.ev_hier.specs.Kept.{AreServers};
 
-use crate::making::{command, received, refused, take, version};
+use crate::making::{command, session, take, version};
 use crate::place::{Place, Ranks};
 use crate::telling::last_told;
 use ev_journal::Journal;
@@ -117,7 +117,7 @@ impl<'a, K: Keeping> HierNetwork<'a, K> {
         requires { (1 ≤ client) × (client ≤ length self.now.net.clients) }
         ensures { result.now ≡ received_by self.now.net self.now.journal client }
     {
-        received(self.tables.net(), &self.servers, client)
+        session(self.tables.net(), &self.servers, client).received()
     }
 
     /// The ordinals of a client's publishes that were refused, rising.
@@ -125,7 +125,7 @@ impl<'a, K: Keeping> HierNetwork<'a, K> {
         requires { (1 ≤ client) × (client ≤ length self.now.net.clients) }
         ensures { result.now ≡ refused_by self.now.net self.now.journal client }
     {
-        refused(self.tables.net(), &self.servers, client)
+        session(self.tables.net(), &self.servers, client).refused()
     }
 
     /// The texts of the messages of the last turn, by rising neighbour.

@@ -5,7 +5,7 @@ ghost use Rattle.ev_phases.specs.Trees.{IsQuietOn, IsThroughOn};
 ghost use Rattle.ev_theory.specs.Real.{real};
 ghost use Rattle.ev_model.specs.Nets.{phased_net, home_of};
 ghost use Rattle.ev_model.specs.declared.turn.Turn.TheVariants as turns;
-ghost use Rattle.ev_turns.specs.Network.{moment_by, next_phase_by, received_by, refused_by};
+ghost use Rattle.ev_turns.specs.Network.{moment_by, next_phase_by};
 ghost use Rattle.ev_turns.specs.Turns.{IsTurn, IsMade};
 ghost use Rattle.ev_numnet.specs.Kept.{IsNetwork};
 ghost use Rattle.ev_numnet.specs.Seen.{seen, shown};
@@ -15,7 +15,7 @@ use crate::begin::{begin, take_back};
 use crate::place::Peers;
 use crate::server::Server;
 use ev_memory::NoMemory;
-use ev_model::{Delivery, Net};
+use ev_model::Net;
 use ev_numsession::Session;
 
 /// Whether a number is in a list.
@@ -98,24 +98,6 @@ pub(crate) fn next_phase(net: &Net, servers: &Peers<'_>, client: u32) -> Option<
 {
     let (phase, _) = session(net, servers, client).next()?;
     Some(phase)
-}
-
-/// What a client received, in order.
-pub(crate) fn received<'s>(net: &Net, servers: &'s Peers<'_>, client: u32) -> &'s [Delivery]
-    requires client { (1 ≤ client) × (client ≤ length net.now.clients) }
-    requires kept { (phase : ℕ) × IsNetwork net.now phase (seen servers.now) }
-    ensures { result.now ≡ received_by net.now servers.now.journal.entries client }
-{
-    session(net, servers, client).received()
-}
-
-/// The ordinals of a client's publishes that were refused, rising.
-pub(crate) fn refused<'s>(net: &Net, servers: &'s Peers<'_>, client: u32) -> &'s [u32]
-    requires client { (1 ≤ client) × (client ≤ length net.now.clients) }
-    requires kept { (phase : ℕ) × IsNetwork net.now phase (seen servers.now) }
-    ensures { result.now ≡ refused_by net.now servers.now.journal.entries client }
-{
-    session(net, servers, client).refused()
 }
 
 /// A client's next command.

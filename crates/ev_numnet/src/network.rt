@@ -13,7 +13,7 @@ ghost use Rattle.ev_turns.specs.Told.{told_of};
 use crate::inboxes::take_inboxes;
 use crate::keeping::{Keeping, Kept};
 use crate::links::Links;
-use crate::making::{command, home, received, refused, take, version};
+use crate::making::{command, home, session, take, version};
 use crate::place::{Peers, Place};
 use crate::servers::Servers;
 use crate::telling::last_told;
@@ -157,7 +157,7 @@ impl<'a, K: Keeping> Network<'a, K> {
         requires { (1 ≤ client) × (client ≤ length self.now.net.clients) }
         ensures { result.now ≡ received_by self.now.net self.now.journal client }
     {
-        received(self.tables.net(), &self.servers, client)
+        session(self.tables.net(), &self.servers, client).received()
     }
 
     /// The ordinals of a client's publishes that were refused, rising.
@@ -165,7 +165,7 @@ impl<'a, K: Keeping> Network<'a, K> {
         requires { (1 ≤ client) × (client ≤ length self.now.net.clients) }
         ensures { result.now ≡ refused_by self.now.net self.now.journal client }
     {
-        refused(self.tables.net(), &self.servers, client)
+        session(self.tables.net(), &self.servers, client).refused()
     }
 
     /// The texts of the messages of the last turn, by rising neighbour.
