@@ -12,8 +12,9 @@ use crate::comparing::Comparing;
 use crate::fault::{AuditFault, AuditKind};
 use ev_memory::NoMemory;
 use ev_model::{Client, Entry, Sent, Turn};
-use ev_numnet::{Kept, Network, Passed, turn_of};
+use ev_numnet::{Kept, Network, Passed};
 use ev_report::{push_trace_entry, push_trace_head};
+use ev_schedule::turn_of;
 use ev_tables::Tables;
 use std::alloc::Global;
 

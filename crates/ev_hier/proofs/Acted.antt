@@ -27,7 +27,8 @@ use Rattle.ev_numnet.specs.Links.{waiting_in, messages_to, AreOnLinks}
 use Rattle.ev_numnet.proofs.Acted.{drop-append, drop-drop, drop-map, get-below, Placed, Here, There, set-get, set-length}
 use Rattle.ev_numnet.proofs.Sending.{receivers-told, messages-told, map-append, length-append}
 use Rattle.ev_hier.specs.Kept.{AreServers, state_in}
-use Rattle.ev_hier.specs.Acted.{Servers, StampedInput, input_of, stamp_of, told_as, messages_left, IsActed}
+use Rattle.ev_numnet.specs.Acted.{Servers, StampedInput, input_of, stamp_of, told_as, messages_left, IsActed}
+use Rattle.ev_hier.specs.Stepping.{hierarchy}
 
 -- receivers are told by messages alone
 pub same-receivers : (net : NetParts) (outs : ℕ → List (Message real)) (links : List ℕ) → receivers (routing_machine real (net_of net)) outs links ≡ receivers (servers_of net) outs links
@@ -41,68 +42,68 @@ module _ (net : NetParts) (laws : HierarchyLaws real (net_of net)) (state : Hier
   IsNext server (Takes from m) = slice_get (state.put from server) (state.taken from server) ≡ Some m
 
   -- what the acting of a server is in the network: the step of its entry, and cores and links stand for the state after it
-  pub record IsNetworkStep (entry : EntryParts) (new : Servers) : Type 0 where
+  pub record IsNetworkStep (entry : EntryParts) (new : Servers HierarchyParts) : Type 0 where
     pub after : Hierarchy real (net_of net)
     pub step : IsStep (servers_of net) state (entry_in net entry) after
     pub servers : AreServers net after new.cores
     pub links : AreOnLinks net (state_in net after) new.messages
 
-  module _ (place : ℕ) (input : StampedInput) (act : EntryAct) (old new : Servers) (servers : AreServers net state old.cores)
-      (links : AreOnLinks net (state_in net state) old.messages) (step : IsActed place input act old new) (told : act_of act ≡ told_as input)
-      (next : IsNext step.parts.core.server input) where
-    t-is : step.parts.core.server ≡ suc place
-    t-is = servers.number place step.parts step.here
+  module _ (place : ℕ) (input : StampedInput) (act : EntryAct) (old new : Servers HierarchyParts) (servers : AreServers net state old.cores)
+      (links : AreOnLinks net (state_in net state) old.messages) (step : IsActed hierarchy place input act old new) (told : act_of act ≡ told_as input)
+      (next : IsNext step.core.core.server input) where
+    t-is : step.core.core.server ≡ suc place
+    t-is = servers.number place step.core step.here
 
-    stands : IsHierarchyState (net_of net) step.parts (state.state step.parts.core.server)
-    stands = subst (λ z. IsHierarchyState (net_of net) step.parts (state.state z)) (sym t-is) (servers.states place step.parts step.here)
+    stands : IsHierarchyState (net_of net) step.core (state.state step.core.core.server)
+    stands = subst (λ z. IsHierarchyState (net_of net) step.core (state.state z)) (sym t-is) (servers.states place step.core step.here)
 
-    local : IsHierarchyStep (net_of net) (state.state step.parts.core.server) (input_of input) step.parts step.next step.sent
-    local = step.step.step (net_of net) (state.state step.parts.core.server) stands
+    local : IsHierarchyStep (net_of net) (state.state step.core.core.server) (input_of input) step.core step.next step.sent
+    local = step.step.step (net_of net) (state.state step.core.core.server) stands
 
-    links-are : (net_of net).links step.parts.core.server ≡ step.parts.core.control.links
+    links-are : (net_of net).links step.core.core.server ≡ step.core.core.control.links
     links-are = stands.stands.control.links
 
-    clock-is : step.parts.core.clock ≡ state.clock step.parts.core.server
-    clock-is = servers.clocks place step.parts step.here ∙ ap state.clock (sym t-is)
+    clock-is : step.core.core.clock ≡ state.clock step.core.core.server
+    clock-is = servers.clocks place step.core step.here ∙ ap state.clock (sym t-is)
 
-    stamp-is : (input : StampedInput) → next_stamp (servers_of net) (state.clock step.parts.core.server) input ≡ stamp_after (state.clock step.parts.core.server) (stamp_of input)
-    stamp-is (Does task) = let c = state.clock step.parts.core.server in omega arith
+    stamp-is : (input : StampedInput) → next_stamp (servers_of net) (state.clock step.core.core.server) input ≡ stamp_after (state.clock step.core.core.server) (stamp_of input)
+    stamp-is (Does task) = let c = state.clock step.core.core.server in omega arith
     stamp-is (Takes from m) = refl
 
-    stamp-next : step.stamp ≡ next_stamp (servers_of net) (state.clock step.parts.core.server) input
+    stamp-next : step.stamp ≡ next_stamp (servers_of net) (state.clock step.core.core.server) input
     stamp-next = step.step.stamp_is ∙ ap (λ z. stamp_after z (stamp_of input)) clock-is ∙ sym (stamp-is input)
 
     -- nothing goes where there is no link
-    outs-apart : (b : ℕ) → is_among b ((net_of net).links step.parts.core.server) ≡ false → local.outcome.outs b ≡ []
+    outs-apart : (b : ℕ) → is_among b ((net_of net).links step.core.core.server) ≡ false → local.outcome.outs b ≡ []
     outs-apart b e =
-        let s = served real (net_of net) step.parts.core.server (state.state step.parts.core.server) (input_of input) local.outcome local.step in
+        let s = served real (net_of net) step.core.core.server (state.state step.core.core.server) (input_of input) local.outcome local.step in
         ap (λ (z : Outcome (ServerState real) (Message real)). z.outs b) s.made
-        ∙ ap (λ z. cond z ((full_effect real (net_of net) step.parts.core.server s.from s.work).outs b) []) e
+        ∙ ap (λ z. cond z ((full_effect real (net_of net) step.core.core.server s.from s.work).outs b) []) e
 
-    one : (link : ℕ) → Has link step.parts.core.control.links → length (local.outcome.outs link) ≤ 1
-    one link h = measured.one step.parts.core.server (state.state step.parts.core.server) (input_of input) local.outcome local.step link (subst (Has link) (sym links-are) h)
+    one : (link : ℕ) → Has link step.core.core.control.links → length (local.outcome.outs link) ≤ 1
+    one link h = measured.one step.core.core.server (state.state step.core.core.server) (input_of input) local.outcome local.step link (subst (Has link) (sym links-are) h)
       where
         measured : MeasureLaws (servers_of net) (measure real (net_of net) (side_size (net_of net).hop (net_of net).servers))
         measured = measure-laws real real_laws (net_of net) laws.lawful
 
-    apart : IsDistinct step.parts.core.control.links
-    apart = subst IsDistinct links-are (laws.lawful.tree.single step.parts.core.server)
+    apart : IsDistinct step.core.core.control.links
+    apart = subst IsDistinct links-are (laws.lawful.tree.single step.core.core.server)
 
-    sent-by : step.sent ≡ sent_by net local.outcome.outs step.parts.core.control.links
-    sent-by = local.sent_are ∙ ap (λ z. sent_by z local.outcome.outs step.parts.core.control.links) (servers.nets place step.parts step.here)
+    sent-by : step.sent ≡ sent_by net local.outcome.outs step.core.core.control.links
+    sent-by = local.sent_are ∙ ap (λ z. sent_by z local.outcome.outs step.core.core.control.links) (servers.nets place step.core step.here)
 
-    receivers-are : map (λ s. s.to) step.sent ≡ receivers (servers_of net) local.outcome.outs ((net_of net).links step.parts.core.server)
-    receivers-are = ap (map (λ s. s.to)) sent-by ∙ receivers-told net local.outcome.outs (net_of net) step.parts.core.control.links one
-        ∙ (same-receivers net local.outcome.outs step.parts.core.control.links ∙ ap (receivers (servers_of net) local.outcome.outs) (sym links-are))
+    receivers-are : map (λ s. s.to) step.sent ≡ receivers (servers_of net) local.outcome.outs ((net_of net).links step.core.core.server)
+    receivers-are = ap (map (λ s. s.to)) sent-by ∙ receivers-told net local.outcome.outs (net_of net) step.core.core.control.links one
+        ∙ (same-receivers net local.outcome.outs step.core.core.control.links ∙ ap (receivers (servers_of net) local.outcome.outs) (sym links-are))
 
     -- what goes to a neighbour are the messages for it
     sent-are : (b : ℕ) → messages_to step.stamp step.sent b ≡ map (waiting_in net) (stamped (servers_of net) step.stamp (local.outcome.outs b))
     sent-are b =
-        ap (λ z. messages_to step.stamp z b) sent-by ∙ messages-told net local.outcome.outs (net_of net) step.stamp step.parts.core.control.links apart b
-        ∙ go (is_among b step.parts.core.control.links) refl
+        ap (λ z. messages_to step.stamp z b) sent-by ∙ messages-told net local.outcome.outs (net_of net) step.stamp step.core.core.control.links apart b
+        ∙ go (is_among b step.core.core.control.links) refl
       where
-        go : (a : Bool) → is_among b step.parts.core.control.links ≡ a
-            → cond (is_among b step.parts.core.control.links) (map (waiting_in net) (stamped (servers_of net) step.stamp (local.outcome.outs b))) []
+        go : (a : Bool) → is_among b step.core.core.control.links ≡ a
+            → cond (is_among b step.core.core.control.links) (map (waiting_in net) (stamped (servers_of net) step.stamp (local.outcome.outs b))) []
             ≡ map (waiting_in net) (stamped (servers_of net) step.stamp (local.outcome.outs b))
         go true e = rw e refl
         go false e = rw (e, outs-apart b (ap (is_among b) links-are ∙ e)) refl
@@ -115,39 +116,39 @@ module _ (net : NetParts) (laws : HierarchyLaws real (net_of net)) (state : Hier
     told-is (Does task) = refl
     told-is (Takes from m) = refl
 
-    available : (input : StampedInput) → IsNext step.parts.core.server input
-        → IsAvailable (servers_of net) state step.parts.core.server input
+    available : (input : StampedInput) → IsNext step.core.core.server input
+        → IsAvailable (servers_of net) state step.core.core.server input
     available (Does task) n = tt
     available (Takes from m) n = n
 
     abbrev pub entry : EntryParts
-    entry = entry_parts step.stamp step.parts.core.server act (map (λ s. s.to) step.sent)
+    entry = entry_parts step.stamp step.core.core.server act (map (λ s. s.to) step.sent)
 
     abbrev after-here : Hierarchy real (net_of net)
-    after-here = network_after (servers_of net) state step.parts.core.server input local.outcome
+    after-here = network_after (servers_of net) state step.core.core.server input local.outcome
 
     is-step : IsStep (servers_of net) state (entry_in net entry) after-here
     is-step = (
       input,
       local.outcome,
-      ap (local_step real (net_of net) step.parts.core.server (state.state step.parts.core.server)) (bare-is input) ∙ local.step,
-      (λ i. record { stamp = stamp-next i; server = step.parts.core.server; act = (told ∙ sym (told-is input)) i; outs = receivers-are i }),
+      ap (local_step real (net_of net) step.core.core.server (state.state step.core.core.server)) (bare-is input) ∙ local.step,
+      (λ i. record { stamp = stamp-next i; server = step.core.core.server; act = (told ∙ sym (told-is input)) i; outs = receivers-are i }),
       available input next,
       refl,
     )
 
     -- the server's own core, and those of the others
-    state-here : (j : ℕ) → j ≡ place → at state.state step.parts.core.server local.outcome.state (suc j) ≡ local.outcome.state
-    state-here j e = rw (eq-eqb (suc j) step.parts.core.server (ap suc e ∙ sym t-is)) refl
+    state-here : (j : ℕ) → j ≡ place → at state.state step.core.core.server local.outcome.state (suc j) ≡ local.outcome.state
+    state-here j e = rw (eq-eqb (suc j) step.core.core.server (ap suc e ∙ sym t-is)) refl
 
-    state-other : (j : ℕ) → (j ≡ place → ⊥) → at state.state step.parts.core.server local.outcome.state (suc j) ≡ state.state (suc j)
-    state-other j n = rw (ne_eqb (suc j) step.parts.core.server (λ e. n (omega (arith, e, t-is)))) refl
+    state-other : (j : ℕ) → (j ≡ place → ⊥) → at state.state step.core.core.server local.outcome.state (suc j) ≡ state.state (suc j)
+    state-other j n = rw (ne_eqb (suc j) step.core.core.server (λ e. n (omega (arith, e, t-is)))) refl
 
     clock-here : (j : ℕ) → j ≡ place → after-here.clock (suc j) ≡ step.stamp
-    clock-here j e = rw (eq-eqb (suc j) step.parts.core.server (ap suc e ∙ sym t-is)) (sym stamp-next)
+    clock-here j e = rw (eq-eqb (suc j) step.core.core.server (ap suc e ∙ sym t-is)) (sym stamp-next)
 
     clock-other : (j : ℕ) → (j ≡ place → ⊥) → after-here.clock (suc j) ≡ state.clock (suc j)
-    clock-other j n = rw (ne_eqb (suc j) step.parts.core.server (λ e. n (omega (arith, e, t-is)))) refl
+    clock-other j n = rw (ne_eqb (suc j) step.core.core.server (λ e. n (omega (arith, e, t-is)))) refl
 
     record At (j : ℕ) (parts : HierarchyParts) : Type 0 where
       of-net : parts.core.net ≡ net
@@ -157,7 +158,7 @@ module _ (net : NetParts) (laws : HierarchyLaws real (net_of net)) (state : Hier
 
     core-at : (j : ℕ) (core : HierarchyParts) → Placed HierarchyParts old.cores place step.next j core → At j core
     core-at j core (Here e q) = subst (At j) (sym q) (record {
-      of-net = step.step.same_net ∙ servers.nets place step.parts step.here;
+      of-net = step.step.same_net ∙ servers.nets place step.core step.here;
       number = step.step.same_server ∙ t-is ∙ ap suc (sym e);
       stands-for = subst (IsHierarchyState (net_of net) step.next) (sym (state-here j e)) local.state_after;
       clock = step.step.clock_is ∙ sym (clock-here j e);
@@ -182,21 +183,21 @@ module _ (net : NetParts) (laws : HierarchyLaws real (net_of net)) (state : Hier
     }
 
     -- what is taken, and what is on a link then
-    taken-within : (input : StampedInput) → IsNext step.parts.core.server input → (a b : ℕ)
-        → taken_after (servers_of net) state.taken step.parts.core.server input a b ≤ length (state.put a b)
+    taken-within : (input : StampedInput) → IsNext step.core.core.server input → (a b : ℕ)
+        → taken_after (servers_of net) state.taken step.core.core.server input a b ≤ length (state.put a b)
     taken-within (Does task) n a b = links.within a b
-    taken-within (Takes from m) n a b = go (compare a from) (compare b step.parts.core.server)
+    taken-within (Takes from m) n a b = go (compare a from) (compare b step.core.core.server)
       where
-        go : Same a from → Same b step.parts.core.server → cond ((a == from) && (b == step.parts.core.server)) (suc (state.taken a b)) (state.taken a b) ≤ length (state.put a b)
+        go : Same a from → Same b step.core.core.server → cond ((a == from) && (b == step.core.core.server)) (suc (state.taken a b)) (state.taken a b) ≤ length (state.put a b)
         go (Is e v) (Is f w) = rw (v, w) (subst (λ z. suc (state.taken z b) ≤ length (state.put z b)) (sym e)
-            (subst (λ z. suc (state.taken from z) ≤ length (state.put from z)) (sym f) (get-below (state.put from step.parts.core.server) (state.taken from step.parts.core.server) m n)))
+            (subst (λ z. suc (state.taken from z) ≤ length (state.put from z)) (sym f) (get-below (state.put from step.core.core.server) (state.taken from step.core.core.server) m n)))
         go (Is e v) (Not f w) = rw (v, w) (links.within a b)
         go (Not e v) s = rw v (links.within a b)
 
-    left-are : (input : StampedInput) → (a b : ℕ) → messages_left input step.parts.core.server old.messages a b
-        ≡ map (waiting_in net) (drop (taken_after (servers_of net) state.taken step.parts.core.server input a b) (state.put a b))
+    left-are : (input : StampedInput) → (a b : ℕ) → messages_left input step.core.core.server old.messages a b
+        ≡ map (waiting_in net) (drop (taken_after (servers_of net) state.taken step.core.core.server input a b) (state.put a b))
     left-are (Does task) a b = links.messages_are a b
-    left-are (Takes from m) a b = go ((a == from) && (b == step.parts.core.server))
+    left-are (Takes from m) a b = go ((a == from) && (b == step.core.core.server))
       where
         go : (c : Bool) → cond c (drop 1 (old.messages a b)) (old.messages a b) ≡ map (waiting_in net) (drop (cond c (suc (state.taken a b)) (state.taken a b)) (state.put a b))
         go true = ap (drop 1) (links.messages_are a b) ∙ drop-map (waiting_in net) 1 (drop (state.taken a b) (state.put a b)) ∙ ap (map (waiting_in net)) (drop-drop (state.taken a b) (state.put a b))
@@ -206,36 +207,36 @@ module _ (net : NetParts) (laws : HierarchyLaws real (net_of net)) (state : Hier
     puts = after-here.put
 
     messages-after : (a b : ℕ) → new.messages a b ≡ map (waiting_in net) (drop (after-here.taken a b) (after-here.put a b))
-    messages-after a b = step.messages a b ∙ go (a == step.parts.core.server)
+    messages-after a b = step.messages a b ∙ go (a == step.core.core.server)
       where
         k : ℕ
-        k = taken_after (servers_of net) state.taken step.parts.core.server input a b
+        k = taken_after (servers_of net) state.taken step.core.core.server input a b
 
-        sent : messages_to step.stamp step.sent b ≡ map (waiting_in net) (stamped (servers_of net) (next_stamp (servers_of net) (state.clock step.parts.core.server) input) (local.outcome.outs b))
+        sent : messages_to step.stamp step.sent b ≡ map (waiting_in net) (stamped (servers_of net) (next_stamp (servers_of net) (state.clock step.core.core.server) input) (local.outcome.outs b))
         sent = sent-are b ∙ ap (λ z. map (waiting_in net) (stamped (servers_of net) z (local.outcome.outs b))) stamp-next
 
-        go : (c : Bool) → messages_left input step.parts.core.server old.messages a b ++ cond c (messages_to step.stamp step.sent b) []
-            ≡ map (waiting_in net) (drop k (cond c (state.put a b ++ stamped (servers_of net) (next_stamp (servers_of net) (state.clock step.parts.core.server) input) (local.outcome.outs b)) (state.put a b)))
-        go false = append-nothing (messages_left input step.parts.core.server old.messages a b) ∙ left-are input a b
+        go : (c : Bool) → messages_left input step.core.core.server old.messages a b ++ cond c (messages_to step.stamp step.sent b) []
+            ≡ map (waiting_in net) (drop k (cond c (state.put a b ++ stamped (servers_of net) (next_stamp (servers_of net) (state.clock step.core.core.server) input) (local.outcome.outs b)) (state.put a b)))
+        go false = append-nothing (messages_left input step.core.core.server old.messages a b) ∙ left-are input a b
         go true =
             ap (λ z. z ++ messages_to step.stamp step.sent b) (left-are input a b)
             ∙ ap (λ z. map (waiting_in net) (drop k (state.put a b)) ++ z) sent
-            ∙ sym (map-append (waiting_in net) (drop k (state.put a b)) (stamped (servers_of net) (next_stamp (servers_of net) (state.clock step.parts.core.server) input) (local.outcome.outs b)))
-            ∙ ap (map (waiting_in net)) (sym (drop-append k (state.put a b) (stamped (servers_of net) (next_stamp (servers_of net) (state.clock step.parts.core.server) input) (local.outcome.outs b)) (taken-within input next a b)))
+            ∙ sym (map-append (waiting_in net) (drop k (state.put a b)) (stamped (servers_of net) (next_stamp (servers_of net) (state.clock step.core.core.server) input) (local.outcome.outs b)))
+            ∙ ap (map (waiting_in net)) (sym (drop-append k (state.put a b) (stamped (servers_of net) (next_stamp (servers_of net) (state.clock step.core.core.server) input) (local.outcome.outs b)) (taken-within input next a b)))
 
     within-after : (a b : ℕ) → after-here.taken a b ≤ length (after-here.put a b)
-    within-after a b = go (a == step.parts.core.server)
+    within-after a b = go (a == step.core.core.server)
       where
         k : ℕ
-        k = taken_after (servers_of net) state.taken step.parts.core.server input a b
+        k = taken_after (servers_of net) state.taken step.core.core.server input a b
 
-        low : taken_after (servers_of net) state.taken step.parts.core.server input a b ≤ length (state.put a b)
+        low : taken_after (servers_of net) state.taken step.core.core.server input a b ≤ length (state.put a b)
         low = taken-within input next a b
 
-        go : (c : Bool) → taken_after (servers_of net) state.taken step.parts.core.server input a b
-            ≤ length (cond c (state.put a b ++ stamped (servers_of net) (next_stamp (servers_of net) (state.clock step.parts.core.server) input) (local.outcome.outs b)) (state.put a b))
+        go : (c : Bool) → taken_after (servers_of net) state.taken step.core.core.server input a b
+            ≤ length (cond c (state.put a b ++ stamped (servers_of net) (next_stamp (servers_of net) (state.clock step.core.core.server) input) (local.outcome.outs b)) (state.put a b))
         go false = low
-        go true = let sum = length-append (state.put a b) (stamped (servers_of net) (next_stamp (servers_of net) (state.clock step.parts.core.server) input) (local.outcome.outs b)) in omega (arith, low, sum)
+        go true = let sum = length-append (state.put a b) (stamped (servers_of net) (next_stamp (servers_of net) (state.clock step.core.core.server) input) (local.outcome.outs b)) in omega (arith, low, sum)
 
     pub network-step : IsNetworkStep entry new
     network-step = record {

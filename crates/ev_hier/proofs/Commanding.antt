@@ -24,8 +24,8 @@ use Rattle.ev_numserver.specs.Clients.{client_numbers}
 use Rattle.ev_hierserver.specs.Core.{HierarchyParts}
 use Rattle.ev_numserver.specs.Staged.{is_some_there}
 use Rattle.ev_numserver.specs.Step.{last_stamp}
-use Rattle.ev_hier.specs.declared.servers.Servers as code
-use Rattle.ev_hier.specs.Seen.{seen, calm_in, calm_at, AreCalmCores}
+use Rattle.ev_numnet.specs.declared.servers.Servers as code
+use Rattle.ev_numnet.specs.Seen.{seen, calm_in, calm_at, AreCalmCores}
 use Rattle.ev_turns.specs.Sessions.{is_phase_below}
 use Rattle.std.proofs.lemmas.Bool.Decides.{nat_tests}
 use Rattle.ev_memory.specs.declared.NoMemory.{NoMemory}
@@ -39,12 +39,13 @@ use Rattle.ev_numnet.proofs.Standing.{At, Found, get-at}
 use Rattle.ev_tree.proofs.Servers.{server-in}
 use Rattle.ev_turns.proofs.Among.{server_low, low_server}
 use Rattle.ev_hier.specs.Kept.{AreServers, IsNetwork, state_in}
-use Rattle.ev_hier.specs.Acted.{Servers, IsActed}
+use Rattle.ev_numnet.specs.Acted.{Servers, IsActed}
 use Rattle.ev_hier.proofs.Acted.{network-step, IsNetworkStep}
-use Rattle.ev_hier.proofs.Barred.{Permits, permits}
+use Rattle.ev_hierturns.proofs.Barred.{Permits, permits}
 use Rattle.ev_hier.proofs.Grown.{is_made, is_kept}
 use Rattle.ev_hier.proofs.Tried.{IsSame, same_kept}
 use Rattle.ev_hier.proofs.Standing.{low_at}
+use Rattle.ev_hier.specs.Stepping.{hierarchy}
 
 -- the phase of a next command is that of its act
 phase-some : (net : NetParts) (own : ℕ) (o : Option (PhasedCommand real)) → phase_in o ≡ Some own → phase_of real (net_of net) o ≡ Some own
@@ -83,7 +84,7 @@ module _ (net : NetParts) (sound : IsSound net) (state : Hierarchy real (net_of 
           let m = length-of-map phased_command s.script in
           omega (arith, l, t, n, m)
 
-module _ (net : NetParts) (phase : ℕ) (now : Servers) (kept : IsNetwork net phase now) (client : ℕ) where
+module _ (net : NetParts) (phase : ℕ) (now : Servers HierarchyParts) (kept : IsNetwork net phase now) (client : ℕ) where
   -- there is no command, so the turn is barred
   pub command_none : next_phase_by net now.journal client ≡ None → IsBarred net now.journal (turns.Command client)
   command_none none entry next after permitted =
@@ -119,40 +120,40 @@ module _ (net : NetParts) (phase : ℕ) (now : Servers) (kept : IsNetwork net ph
       at (a, inr (l, t, q, g)) = never (subst (λ z. z < own) kept.in_hand l) t q
 
   -- what it makes, from the state that it finds
-  module _ (new mid : Servers) (found : Hierarchy real (net_of net)) (own : ℕ) (next : next_phase_by net now.journal client ≡ Some own)
+  module _ (new mid : Servers HierarchyParts) (found : Hierarchy real (net_of net)) (own : ℕ) (next : next_phase_by net now.journal client ≡ Some own)
       (ready : IsReady (servers_of net) (moment_by net now.journal).network (moment_by net now.journal).phase (Some own) found own)
       (servers : AreServers net found mid.cores) (links : AreOnLinks net (state_in net found) mid.messages) (same-run : mid.run ≡ now.run) (same : mid.journal ≡ now.journal)
-      (acted : IsActed (home_of net client - 1) (Does (NextCommand client)) (acts.Command client) mid new) where
-    here : acted.parts.core.server ≡ home_of net client
-    here = servers.number (home_of net client - 1) acted.parts acted.here ∙ home_place net kept.sound (moment_by net now.journal).network now.cores kept.cores client
+      (acted : IsActed hierarchy (home_of net client - 1) (Does (NextCommand client)) (acts.Command client) mid new) where
+    here : acted.core.core.server ≡ home_of net client
+    here = servers.number (home_of net client - 1) acted.core acted.here ∙ home_place net kept.sound (moment_by net now.journal).network now.cores kept.cores client
 
-    step : IsNetworkStep net (laws-of net kept.sound) found (entry_parts acted.stamp acted.parts.core.server (acts.Command client) (map (λ (s : SendingParts). s.to) acted.sent)) new
+    step : IsNetworkStep net (laws-of net kept.sound) found (entry_parts acted.stamp acted.core.core.server (acts.Command client) (map (λ (s : SendingParts). s.to) acted.sent)) new
     step = network-step net (laws-of net kept.sound) found (home_of net client - 1) (Does (NextCommand client)) (acts.Command client) mid new servers links acted refl tt
 
     ready-there : IsReady (servers_of net) (moment_by net now.journal).network (moment_by net now.journal).phase
-        (act_phase (servers_of net) acted.parts.core.server ((moment_by net now.journal).network.state acted.parts.core.server) (Did (NextCommand client))) found own
+        (act_phase (servers_of net) acted.core.core.server ((moment_by net now.journal).network.state acted.core.core.server) (Did (NextCommand client))) found own
     ready-there = subst (λ z. IsReady (servers_of net) (moment_by net now.journal).network (moment_by net now.journal).phase z found own)
         (sym (ap (λ z. phase_of real (net_of net) (slice_get (script_of net client) (((moment_by net now.journal).network.state z).done client))) here
         ∙ phase-some net own (slice_get (script_of net client) (taken_by net now.journal client)) next)) ready
 
-    longer : new.journal ≡ now.journal ++ entry_parts acted.stamp acted.parts.core.server (acts.Command client) (map (λ (s : SendingParts). s.to) acted.sent) ∷ []
-    longer = acted.journal ∙ ap (λ z. z ++ entry_parts acted.stamp acted.parts.core.server (acts.Command client) (map (λ (s : SendingParts). s.to) acted.sent) ∷ []) same
+    longer : new.journal ≡ now.journal ++ entry_parts acted.stamp acted.core.core.server (acts.Command client) (map (λ (s : SendingParts). s.to) acted.sent) ∷ []
+    longer = acted.journal ∙ ap (λ z. z ++ entry_parts acted.stamp acted.core.core.server (acts.Command client) (map (λ (s : SendingParts). s.to) acted.sent) ∷ []) same
 
     pub command_made : IsMade (turns.Command client) (network_parts net now.journal) (network_parts net new.journal)
-    command_made = is_made net phase now new kept (entry_parts acted.stamp acted.parts.core.server (acts.Command client) (map (λ (s : SendingParts). s.to) acted.sent)) found own step.after longer ready-there step.step
+    command_made = is_made net phase now new kept (entry_parts acted.stamp acted.core.core.server (acts.Command client) (map (λ (s : SendingParts). s.to) acted.sent)) found own step.after longer ready-there step.step
         (turns.Command client) (λ i. (sym here i, Did (NextCommand client)))
 
     pub command_kept : IsNetwork net own new
-    command_kept = is_kept net phase now new kept (entry_parts acted.stamp acted.parts.core.server (acts.Command client) (map (λ (s : SendingParts). s.to) acted.sent)) found own step.after longer ready-there step.step
+    command_kept = is_kept net phase now new kept (entry_parts acted.stamp acted.core.core.server (acts.Command client) (map (λ (s : SendingParts). s.to) acted.sent)) found own step.after longer ready-there step.step
         (acted.same_run ∙ same-run) step.servers step.links
 
 -- in the phase in hand it finds the state as it is
-pub ready_now : (net : NetParts) (phase : ℕ) (now : Servers) → IsNetwork net phase now
+pub ready_now : (net : NetParts) (phase : ℕ) (now : Servers HierarchyParts) → IsNetwork net phase now
     → IsReady (servers_of net) (moment_by net now.journal).network (moment_by net now.journal).phase (Some phase) (moment_by net now.journal).network phase
 ready_now net phase now kept = (refl, inl (kept.in_hand, refl))
 
 -- a later phase finds all clocks raised
-module _ (net : NetParts) (last own : ℕ) (now : Servers) (kept : IsNetwork net last now) (later : last < own)
+module _ (net : NetParts) (last own : ℕ) (now : Servers HierarchyParts) (kept : IsNetwork net last now) (later : last < own)
     (quiet : IsQuiet (servers_of net) (moment_by net now.journal).network)
     (through : IsThrough (servers_of net) (moment_by net now.journal).network own) where
   pub ready_later : IsReady (servers_of net) (moment_by net now.journal).network (moment_by net now.journal).phase (Some own)
@@ -171,13 +172,13 @@ module _ (net : NetParts) (last own : ℕ) (now : Servers) (kept : IsNetwork net
           (λ x h. let l = (low_at net now.journal kept.sound kept.legal).clocks x in omega (arith, l))
 
 -- what an answer tells of a command: it was made, and the network is kept; or nothing changed
-pub record IsCommanded (net : NetParts) (client last own : ℕ) (old new : Servers) (answer : Result (Unit {0}) NoMemory) : Type 0 where
+pub record IsCommanded (net : NetParts) (client last own : ℕ) (old new : Servers HierarchyParts) (answer : Result (Unit {0}) NoMemory) : Type 0 where
   pub made : OnOk answer (IsMade (turns.Command client) (network_parts net old.journal) (network_parts net new.journal))
   pub kept_on : OnOk answer (IsNetwork net own new)
   pub err : OnErr answer (IsNetwork net last new × (new.journal ≡ old.journal))
 
-pub commanded_now : (net : NetParts) (phase : ℕ) (old new : Servers) (kept : IsNetwork net phase old) (client : ℕ) → next_phase_by net old.journal client ≡ Some phase
-    → (answer : Result (Unit {0}) NoMemory) → OnOk answer (IsActed (home_of net client - 1) (Does (NextCommand client)) (acts.Command client) old new) → OnErr answer (IsSame old new)
+pub commanded_now : (net : NetParts) (phase : ℕ) (old new : Servers HierarchyParts) (kept : IsNetwork net phase old) (client : ℕ) → next_phase_by net old.journal client ≡ Some phase
+    → (answer : Result (Unit {0}) NoMemory) → OnOk answer (IsActed hierarchy (home_of net client - 1) (Does (NextCommand client)) (acts.Command client) old new) → OnErr answer (IsSame old new)
     → IsCommanded net client phase phase old new answer
 commanded_now net phase old new kept client next (Ok x) acted same = record {
   made = command_made net phase old kept client new old (moment_by net old.journal).network phase next (ready_now net phase old kept) kept.cores kept.links refl refl acted;
@@ -186,23 +187,23 @@ commanded_now net phase old new kept client next (Ok x) acted same = record {
 }
 commanded_now net phase old new kept client next (Err e) acted same = record { made = tt; kept_on = tt; err = (same_kept net phase old new kept same, same.journal) }
 
-pub on_ok_same : (net : NetParts) (client home : ℕ) (old new : code.Servers) (answer : Result (Unit {0}) NoMemory) → home ≡ home_of net client
-    → OnOk answer (IsActed (home - 1) (Does (NextCommand client)) (acts.Command client) (seen old) (seen new))
-    → OnOk answer (IsActed (home_of net client - 1) (Does (NextCommand client)) (acts.Command client) (seen old) (seen new))
-on_ok_same net client home old new (Ok x) e acted = subst (λ z. IsActed (z - 1) (Does (NextCommand client)) (acts.Command client) (seen old) (seen new)) e acted
+pub on_ok_same : (net : NetParts) (client home : ℕ) (old new : code.Servers HierarchyParts) (answer : Result (Unit {0}) NoMemory) → home ≡ home_of net client
+    → OnOk answer (IsActed hierarchy (home - 1) (Does (NextCommand client)) (acts.Command client) (seen old) (seen new))
+    → OnOk answer (IsActed hierarchy (home_of net client - 1) (Does (NextCommand client)) (acts.Command client) (seen old) (seen new))
+on_ok_same net client home old new (Ok x) e acted = subst (λ z. IsActed hierarchy (z - 1) (Does (NextCommand client)) (acts.Command client) (seen old) (seen new)) e acted
 on_ok_same net client home old new (Err x) e acted = tt
 
-pub kept_either : (net : NetParts) (phase : ℕ) {client : ℕ} {old new : Servers} (answer : Result (Unit {0}) NoMemory) → IsCommanded net client phase phase old new answer → IsNetwork net phase new
+pub kept_either : (net : NetParts) (phase : ℕ) {client : ℕ} {old new : Servers HierarchyParts} (answer : Result (Unit {0}) NoMemory) → IsCommanded net client phase phase old new answer → IsNetwork net phase new
 kept_either net phase (Ok x) is = is.kept_on
 kept_either net phase (Err e) is = is.err.0
 
-pub journal_on_err : (net : NetParts) (phase : ℕ) {client : ℕ} {old new : Servers} (answer : Result (Unit {0}) NoMemory) → IsCommanded net client phase phase old new answer
+pub journal_on_err : (net : NetParts) (phase : ℕ) {client : ℕ} {old new : Servers HierarchyParts} (answer : Result (Unit {0}) NoMemory) → IsCommanded net client phase phase old new answer
     → OnErr answer (new.journal ≡ old.journal)
 journal_on_err net phase (Ok x) is = tt
 journal_on_err net phase (Err e) is = is.err.1
 
 -- quiet where nothing lies on a link and no core has anything staged
-pub quiet_where : (net : NetParts) (phase : ℕ) (now : Servers) → IsNetwork net phase now → ((a b : ℕ) → now.messages a b ≡ []) → AreCalmCores now.cores
+pub quiet_where : (net : NetParts) (phase : ℕ) (now : Servers HierarchyParts) → IsNetwork net phase now → ((a b : ℕ) → now.messages a b ≡ []) → AreCalmCores hierarchy now.cores
     → IsQuiet (servers_of net) (moment_by net now.journal).network
 quiet_where net phase now kept empty calm = record {
   empty = λ a b. all-taken ((moment_by net now.journal).network.put a b) ((moment_by net now.journal).network.taken a b) (kept.links.within a b)
@@ -218,18 +219,18 @@ quiet_where net phase now kept empty calm = record {
 
         go : At now.cores (server - 1) → ((moment_by net now.journal).network.state server).staged ≡ false
         go (Found parts e) = ap (λ z. ((moment_by net now.journal).network.state z).staged) (sym place) ∙ (kept.cores.states (server - 1) parts e).stands.staged
-            ∙ not-true (is_some_there parts.core.staged) (sym (ap calm_in e) ∙ calm (server - 1) (let l = get-below now.cores (server - 1) parts e in omega (arith, l)))
+            ∙ not-true (is_some_there parts.core.staged) (sym (ap (calm_in hierarchy) e) ∙ calm (server - 1) (let l = get-below now.cores (server - 1) parts e in omega (arith, l)))
 
-pub empty_where : (net : NetParts) (phase : ℕ) (now : Servers) → IsNetwork net phase now → IsQuiet (servers_of net) (moment_by net now.journal).network → (a b : ℕ) → now.messages a b ≡ []
+pub empty_where : (net : NetParts) (phase : ℕ) (now : Servers HierarchyParts) → IsNetwork net phase now → IsQuiet (servers_of net) (moment_by net now.journal).network → (a b : ℕ) → now.messages a b ≡ []
 empty_where net phase now kept quiet a b =
     kept.links.messages_are a b
     ∙ ap (map (waiting_in net)) (ap (λ z. drop z ((moment_by net now.journal).network.put a b)) (quiet.empty a b) ∙ drop-all ((moment_by net now.journal).network.put a b))
 
-pub calm_where : (net : NetParts) (phase : ℕ) (now : Servers) → IsNetwork net phase now → IsQuiet (servers_of net) (moment_by net now.journal).network → AreCalmCores now.cores
+pub calm_where : (net : NetParts) (phase : ℕ) (now : Servers HierarchyParts) → IsNetwork net phase now → IsQuiet (servers_of net) (moment_by net now.journal).network → AreCalmCores hierarchy now.cores
 calm_where net phase now kept quiet k l = go (get-at now.cores k l)
   where
-    go : At now.cores k → calm_at now.cores k ≡ true
-    go (Found parts e) = ap calm_in e ∙ ap not (sym (kept.cores.states k parts e).stands.staged ∙ quiet.calm (suc k) (low_server net (suc k) (omega arith, (let all = kept.cores.all in omega (arith, l, all)))))
+    go : At now.cores k → calm_at hierarchy now.cores k ≡ true
+    go (Found parts e) = ap (calm_in hierarchy) e ∙ ap not (sym (kept.cores.states k parts e).stands.staged ∙ quiet.calm (suc k) (low_server net (suc k) (omega arith, (let all = kept.cores.all in omega (arith, l, all)))))
 
 below-not : (net : NetParts) (own : ℕ) (o : Option (PhasedCommand real)) → is_phase_below (phase_in o) own ≡ false → not_below real (net_of net) own o ≡ true
 below-not net own None e = refl
@@ -240,7 +241,7 @@ not-below-is net own None e = refl
 not-below-is net own (Some x) e = grind (arith, nat_tests, e)
 
 -- through where no client's next command is below
-module _ (net : NetParts) (phase : ℕ) (now : Servers) (kept : IsNetwork net phase now) (own : ℕ) where
+module _ (net : NetParts) (phase : ℕ) (now : Servers HierarchyParts) (kept : IsNetwork net phase now) (own : ℕ) where
   abbrev next-of : ℕ → ℕ → Option (PhasedCommand real)
   next-of server client = slice_get (script_of net client) (((moment_by net now.journal).network.state server).done client)
 

@@ -15,8 +15,8 @@ use Rattle.ev_model.specs.Parts.{NetParts, EntryParts}
 use Rattle.ev_model.specs.Meaning.{act_of}
 use Rattle.ev_hierturns.specs.Network.{NetworkParts, net_of, servers_of, entry_in, journal_in, opening_of, moment_by, IsLegal, IsDrainedBy}
 use Rattle.ev_hierturns.specs.Walked.{IsPhaseWalked}
-use Rattle.ev_hier.proofs.Again.{begin-is, permitted-there}
-use Rattle.ev_hier.proofs.Barred.{Needs, permits}
+use Rattle.ev_hierturns.proofs.Again.{begin-is, permitted-there}
+use Rattle.ev_hierturns.proofs.Barred.{Needs, permits}
 
 both-ways : (b : Bool) → b ≡ true → b ≡ false → ⊥
 both-ways b p q = cc

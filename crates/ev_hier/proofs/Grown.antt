@@ -17,9 +17,10 @@ use Rattle.ev_hierturns.specs.Turns.{IsMade}
 use Rattle.ev_numnet.specs.Links.{AreOnLinks}
 use Rattle.ev_numnet.proofs.Sending.{map-append}
 use Rattle.ev_hier.specs.Kept.{AreServers, IsNetwork, state_in}
-use Rattle.ev_hier.specs.Acted.{Servers}
+use Rattle.ev_hierserver.specs.Core.{HierarchyParts}
+use Rattle.ev_numnet.specs.Acted.{Servers}
 
-module _ (net : NetParts) (phase : ℕ) (old new : Servers) (kept : IsNetwork net phase old) where
+module _ (net : NetParts) (phase : ℕ) (old new : Servers HierarchyParts) (kept : IsNetwork net phase old) where
   -- an entry steps from what it finds
   module _ (entry : EntryParts) (found : Hierarchy real (net_of net)) (own : ℕ) (after : Hierarchy real (net_of net)) (longer : new.journal ≡ old.journal ++ entry ∷ [])
       (ready : IsReady (servers_of net) (moment_by net old.journal).network (moment_by net old.journal).phase

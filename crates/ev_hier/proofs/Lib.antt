@@ -1,16 +1,6 @@
-pub mod Turned
-pub mod Tries
-pub mod Rounds
-pub mod Walks
-pub mod Begun
-pub mod Barred
-pub mod Commands
-pub mod Again
 pub mod Sent
 pub mod Acted
-pub mod Putting
 pub mod Standing
-pub mod Able
 pub mod Grown
 pub mod Tried
 pub mod Commanding

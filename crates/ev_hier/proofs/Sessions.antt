@@ -9,11 +9,11 @@ use Rattle.ev_numserver.specs.Clients.{bare}
 use Rattle.ev_hierserver.specs.Core.{HierarchyParts}
 use Rattle.ev_hierturns.specs.Network.{network_parts, moment_by}
 use Rattle.ev_hier.specs.Kept.{IsNetwork}
-use Rattle.ev_hier.specs.Acted.{Servers}
+use Rattle.ev_numnet.specs.Acted.{Servers}
 use Rattle.ev_hier.specs.Sessions.{IsSessionOf}
 use Rattle.ev_hier.proofs.Commanding.{taken_there, script_there, home_place}
 
-pub session_of : (net : NetParts) (phase : ℕ) (now : Servers) (kept : IsNetwork net phase now) (client : ℕ) (parts : HierarchyParts) → slice_get now.cores (home_of net client - 1) ≡ Some parts
+pub session_of : (net : NetParts) (phase : ℕ) (now : Servers HierarchyParts) (kept : IsNetwork net phase now) (client : ℕ) (parts : HierarchyParts) → slice_get now.cores (home_of net client - 1) ≡ Some parts
     → (s : SessionParts) → Has (bare s) parts.core.clients → s.client ≡ client → s.semantics ≡ parts.core.net.semantics → IsSessionOf (network_parts net now.journal) client s
 session_of net phase now kept client parts at s h e semantics = record {
   semantics = semantics ∙ ap (λ (n : NetParts). n.semantics) (kept.cores.nets (home_of net client - 1) parts at);

@@ -20,9 +20,10 @@ use Rattle.ev_hierarchy.proofs.Spread.{bounded-run}
 use Rattle.ev_theory.specs.Real.{real_laws}
 use Rattle.ev_numnet.specs.Links.{WaitingParts, waiting_in}
 use Rattle.ev_numnet.proofs.Standing.{At, Found, get-at, drop-has}
-use Rattle.ev_hier.specs.Seen.{CanAct}
+use Rattle.ev_numnet.specs.Seen.{CanAct}
 use Rattle.ev_hier.specs.Kept.{AreServers, IsNetwork}
-use Rattle.ev_hier.specs.Acted.{Servers}
+use Rattle.ev_numnet.specs.Acted.{Servers}
+use Rattle.ev_hier.specs.Stepping.{hierarchy}
 
 pub links_at : (net : NetParts) (server : ℕ) → (net_of net).links server ≡ links_of (topology_at net 0) server
 links_at net server = ap (λ z. z.links server) (sym (tree-map (first_tree net.trees) (later_trees net.trees) 0))
@@ -33,29 +34,27 @@ low_at net journal sound legal = low-of net journal sound legal (bounded-run rea
 module _ (net : NetParts) (sound : IsSound net) (state : Hierarchy real (net_of net)) (cores : List HierarchyParts) (servers : AreServers net state cores) where
   -- where clocks are low, a server can act
   pub can_act : (server : ℕ) → 1 ≤ server → server ≤ (first_tree net.trees).count → ((s : ℕ) → state.clock s < last_stamp)
-      → CanAct server (links_of (topology_at net 0) server) cores
+      → CanAct hierarchy server (links_of (topology_at net 0) server) cores
   can_act server counted few low = go (get-at cores (server - 1) (let all = servers.all in omega (arith, counted, few, all)))
     where
       place-is : suc (server - 1) ≡ server
       place-is = omega (arith, counted)
 
-      go : At cores (server - 1) → CanAct server (links_of (topology_at net 0) server) cores
+      go : At cores (server - 1) → CanAct hierarchy server (links_of (topology_at net 0) server) cores
       go (Found core e) = record {
         counted = counted;
         small = let most = few-servers net.trees sound.trees in omega (arith, few, most);
-        parts = core;
+        near = λ link h. (laws-of net sound).lawful.small server link (subst (Has link) (sym (links_at net server)) h);
+        core = core;
         here = e;
         number = servers.number (server - 1) core e ∙ place-is;
         low = subst (λ z. z < last_stamp) (sym (servers.clocks (server - 1) core e)) (low (suc (server - 1)));
-        net = net_of net;
-        laws = (laws-of net sound).lawful;
-        state = state.state (suc (server - 1));
-        stands = servers.states (server - 1) core e;
+        some = (net_of net, (laws-of net sound).lawful, state.state (suc (server - 1)), servers.states (server - 1) core e);
         links = sym (links_at net server) ∙ ap ((net_of net).links) (sym (servers.number (server - 1) core e ∙ place-is)) ∙ (servers.states (server - 1) core e).stands.control.links;
       }
 
 -- the clocks of a network are low, and so are the stamps on its links
-module _ (net : NetParts) (phase : ℕ) (now : Servers) (kept : IsNetwork net phase now) where
+module _ (net : NetParts) (phase : ℕ) (now : Servers HierarchyParts) (kept : IsNetwork net phase now) where
   pub clocks_low : (s : ℕ) → (moment_by net now.journal).network.clock s < last_stamp
   clocks_low s = let l = (low_at net now.journal kept.sound kept.legal).clocks s in omega (arith, l)
 

@@ -6,7 +6,7 @@ use Rattle.ev_model.specs.Sound.{IsSound}
 use Rattle.ev_hierserver.specs.Core.{HierarchyParts}
 use Rattle.ev_hierturns.specs.Network.{opening_of}
 use Rattle.ev_hier.specs.Kept.{AreServers, ArePlacesUpTo, IsNetwork}
-use Rattle.ev_hier.specs.Acted.{Servers}
+use Rattle.ev_numnet.specs.Acted.{Servers}
 
 -- all servers before their first steps
 pub servers_start : (net : NetParts) (cores : List HierarchyParts) → length cores ≡ (first_tree net.trees).count → ArePlacesUpTo net cores
@@ -20,7 +20,7 @@ servers_start net cores all each = record {
 }
 
 -- the network then
-pub network_start : (net : NetParts) → IsSound net → (servers : Servers) → servers.run ≡ net → servers.journal ≡ [] → ((a b : ℕ) → servers.messages a b ≡ [])
+pub network_start : (net : NetParts) → IsSound net → (servers : Servers HierarchyParts) → servers.run ≡ net → servers.journal ≡ [] → ((a b : ℕ) → servers.messages a b ≡ [])
     → AreServers net (opening_of net).network servers.cores → IsNetwork net 0 servers
 network_start net sound servers run journal empty cores = subst (λ z. IsNetwork net 0 (record { run = servers.run; cores = servers.cores; messages = servers.messages; journal = z })) (sym journal) (record {
   sound = sound;

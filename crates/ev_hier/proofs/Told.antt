@@ -32,9 +32,10 @@ use Rattle.ev_hierturns.specs.Network.{net_of, servers_of, entry_in, journal_in,
 use Rattle.ev_hierturns.specs.Told.{found_of, told_of}
 use Rattle.ev_hierturns.proofs.Lawful.{laws-of}
 use Rattle.ev_hier.specs.Kept.{IsNetwork}
-use Rattle.ev_hier.specs.Acted.{Servers}
+use Rattle.ev_numnet.specs.Acted.{Servers}
 use Rattle.ev_hier.proofs.Acted.{same-receivers}
-use Rattle.ev_hier.proofs.Turned.{found-is}
+use Rattle.ev_hierserver.specs.Core.{HierarchyParts}
+use Rattle.ev_hierturns.proofs.Turned.{found-is}
 
 step-outcome : (m : Machine) (w : NetworkState m) (t : ℕ) (d : Input m.Task (Stamped m.Message)) (r : Outcome m.State m.Message) → IsAvailable m w t d → m.step t (w.state t) (unstamped m d) ≡ Some r
     → outcome_at m w t (machine_act m d) ≡ Some r
@@ -47,7 +48,7 @@ ready-within m w p None x q (e, f) within = subst (IsWithinPuts m) e within
 ready-within m w p (Some k) x q (f, inl (a, b)) within = subst (IsWithinPuts m) b within
 ready-within m w p (Some k) x q (f, inr (l, t, c, g)) within = subst (IsWithinPuts m) g within
 
-module _ (net : NetParts) (phase : ℕ) (servers : Servers) (kept : IsNetwork net phase servers) (before : List EntryParts) (entry : EntryParts) (is : servers.journal ≡ before ++ entry ∷ []) where
+module _ (net : NetParts) (phase : ℕ) (servers : Servers HierarchyParts) (kept : IsNetwork net phase servers) (before : List EntryParts) (entry : EntryParts) (is : servers.journal ≡ before ++ entry ∷ []) where
   abbrev end : Moment (servers_of net)
   end = moment_by net servers.journal
 
@@ -193,7 +194,7 @@ module _ (net : NetParts) (phase : ℕ) (servers : Servers) (kept : IsNetwork ne
       (laws.lawful.small to entry.server (laws.lawful.tree.both entry.server to near), laws.lawful.small entry.server to near)
 
 -- of the last entry of a network's journal
-module _ (net : NetParts) (phase : ℕ) (servers : Servers) (kept : IsNetwork net phase servers) (x : EntryParts) (server : ℕ) (outs : List ℕ) (here : slice_get servers.journal (length servers.journal - 1) ≡ Some x) (server-is : x.server ≡ server) (outs-are : x.outs ≡ outs) where
+module _ (net : NetParts) (phase : ℕ) (servers : Servers HierarchyParts) (kept : IsNetwork net phase servers) (x : EntryParts) (server : ℕ) (outs : List ℕ) (here : slice_get servers.journal (length servers.journal - 1) ≡ Some x) (server-is : x.server ≡ server) (outs-are : x.outs ≡ outs) where
   pub small_last : (to : ℕ) → Has to outs → (server ≤ 64) × (to ≤ 64)
   small_last to h =
       let b = split-last servers.journal x here in

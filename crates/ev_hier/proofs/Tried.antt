@@ -21,32 +21,33 @@ use Rattle.ev_hierturns.proofs.Lawful.{laws-of}
 use Rattle.ev_numnet.specs.Links.{waiting_in}
 use Rattle.ev_numnet.proofs.Tried.{first-left, none-left}
 use Rattle.ev_hier.specs.Kept.{IsNetwork}
-use Rattle.ev_hier.specs.declared.servers.Servers as code
-use Rattle.ev_hier.specs.Seen.{seen, IsUnchanged}
-use Rattle.ev_hier.specs.Acted.{Servers, IsActed}
+use Rattle.ev_numnet.specs.declared.servers.Servers as code
+use Rattle.ev_numnet.specs.Seen.{seen, IsUnchanged}
+use Rattle.ev_numnet.specs.Acted.{Servers, IsActed}
 use Rattle.ev_hier.proofs.Acted.{network-step, IsNetworkStep}
-use Rattle.ev_hier.proofs.Barred.{permits}
+use Rattle.ev_hierturns.proofs.Barred.{permits}
 use Rattle.ev_hier.proofs.Grown.{is_made, is_kept, stays_kept}
 use Rattle.ev_hier.proofs.Standing.{links_at}
+use Rattle.ev_hier.specs.Stepping.{hierarchy}
 
 -- nothing of the servers changed
-pub record IsSame (old new : Servers) : Type 0 where
+pub record IsSame (old new : Servers HierarchyParts) : Type 0 where
   pub run : new.run ≡ old.run
   pub cores : new.cores ≡ old.cores
   pub messages : (a b : ℕ) → new.messages a b ≡ old.messages a b
   pub journal : new.journal ≡ old.journal
 
 -- what the code tells of that
-pub same_of : (old new : code.Servers) (answer : Result Bool NoMemory) → IfOk answer (λ made. (made ≡ false) × IsUnchanged old new)
+pub same_of : (old new : code.Servers HierarchyParts) (answer : Result Bool NoMemory) → IfOk answer (λ made. (made ≡ false) × IsUnchanged old new)
     → IfOk answer (λ made. (made ≡ false) × IsSame (seen old) (seen new))
 same_of old new (Ok made) same = (same.0, record { run = same.1.run; cores = same.1.cores; messages = same.1.messages; journal = same.1.journal })
 same_of old new (Err e) same = tt
 
-pub same_on_err : {T : Type 0} (old new : code.Servers) (answer : Result T NoMemory) → OnErr answer (IsUnchanged old new) → OnErr answer (IsSame (seen old) (seen new))
+pub same_on_err : {T : Type 0} (old new : code.Servers HierarchyParts) (answer : Result T NoMemory) → OnErr answer (IsUnchanged old new) → OnErr answer (IsSame (seen old) (seen new))
 same_on_err old new (Ok made) same = tt
 same_on_err old new (Err e) same = record { run = same.run; cores = same.cores; messages = same.messages; journal = same.journal }
 
-module _ (net : NetParts) (phase : ℕ) (old new : Servers) (kept : IsNetwork net phase old) where
+module _ (net : NetParts) (phase : ℕ) (old new : Servers HierarchyParts) (kept : IsNetwork net phase old) where
   abbrev state : Hierarchy real (net_of net)
   state = (moment_by net old.journal).network
 
@@ -77,7 +78,7 @@ module _ (net : NetParts) (phase : ℕ) (old new : Servers) (kept : IsNetwork ne
 
   pub taken_turn : (server from : ℕ) → 1 ≤ server → (answer : Result Bool NoMemory)
       → ((of : NetParts) (m : Stamped (Message real)) → slice_get (old.messages from server) 0 ≡ Some (waiting_in of m)
-      → IfOk answer (λ made. (made ≡ true) × IsActed (server - 1) (Takes from m) (acts.Take from) old new))
+      → IfOk answer (λ made. (made ≡ true) × IsActed hierarchy (server - 1) (Takes from m) (acts.Take from) old new))
       → (old.messages from server ≡ [] → IfOk answer (λ made. (made ≡ false) × IsSame old new))
       → OnErr answer (IsSame old new)
       → Tells (turns.Take server from) answer
@@ -98,17 +99,17 @@ module _ (net : NetParts) (phase : ℕ) (old new : Servers) (kept : IsNetwork ne
           n = none (kept.links.messages_are from server ∙ ap (map (waiting_in net)) (none-left (state.put from server) (state.taken from server) e))
       go (Some m) e = record {
         turned = subst (λ z. IsTurn z (turns.Take server from) (network_parts net old.journal) (network_parts net new.journal)) (sym a.0)
-            (is_made net phase old new kept (entry_parts a.1.stamp a.1.parts.core.server (acts.Take from) (map (λ (s : SendingParts). s.to) a.1.sent)) state phase step.after a.1.journal ready step.step (turns.Take server from) (λ i. (sym here i, Took from)));
-        kept_on = is_kept net phase old new kept (entry_parts a.1.stamp a.1.parts.core.server (acts.Take from) (map (λ (s : SendingParts). s.to) a.1.sent)) state phase step.after a.1.journal ready step.step a.1.same_run step.servers step.links;
+            (is_made net phase old new kept (entry_parts a.1.stamp a.1.core.core.server (acts.Take from) (map (λ (s : SendingParts). s.to) a.1.sent)) state phase step.after a.1.journal ready step.step (turns.Take server from) (λ i. (sym here i, Took from)));
+        kept_on = is_kept net phase old new kept (entry_parts a.1.stamp a.1.core.core.server (acts.Take from) (map (λ (s : SendingParts). s.to) a.1.sent)) state phase step.after a.1.journal ready step.step a.1.same_run step.servers step.links;
       }
         where
-          a : (made ≡ true) × IsActed (server - 1) (Takes from m) (acts.Take from) old new
+          a : (made ≡ true) × IsActed hierarchy (server - 1) (Takes from m) (acts.Take from) old new
           a = acted net m (ap (λ z. slice_get z 0) (kept.links.messages_are from server) ∙ first-left (waiting_in net) (state.put from server) (state.taken from server) m e)
 
-          here : a.1.parts.core.server ≡ server
-          here = kept.cores.number (server - 1) a.1.parts a.1.here ∙ omega (arith, counted)
+          here : a.1.core.core.server ≡ server
+          here = kept.cores.number (server - 1) a.1.core a.1.here ∙ omega (arith, counted)
 
-          step : IsNetworkStep net (laws-of net kept.sound) state (entry_parts a.1.stamp a.1.parts.core.server (acts.Take from) (map (λ (s : SendingParts). s.to) a.1.sent)) new
+          step : IsNetworkStep net (laws-of net kept.sound) state (entry_parts a.1.stamp a.1.core.core.server (acts.Take from) (map (λ (s : SendingParts). s.to) a.1.sent)) new
           step = network-step net (laws-of net kept.sound) state (server - 1) (Takes from m) (acts.Take from) old new kept.cores kept.links a.1 refl
               (subst (λ z. slice_get (state.put from z) (state.taken from z) ≡ Some m) (sym here) e)
 
@@ -133,17 +134,17 @@ module _ (net : NetParts) (phase : ℕ) (old new : Servers) (kept : IsNetwork ne
           place : suc (server - 1) ≡ server
           place = omega (arith, counted)
 
-  pub version_turn : (server : ℕ) → 1 ≤ server → (acted : IsActed (server - 1) (Does Version) acts.Version old new)
+  pub version_turn : (server : ℕ) → 1 ≤ server → (acted : IsActed hierarchy (server - 1) (Does Version) acts.Version old new)
       → IsMade (turns.Version server) (network_parts net old.journal) (network_parts net new.journal) × IsNetwork net phase new
   version_turn server counted acted = (
-    is_made net phase old new kept (entry_parts acted.stamp acted.parts.core.server acts.Version (map (λ (s : SendingParts). s.to) acted.sent)) state phase step.after acted.journal ready step.step (turns.Version server) (λ i. (sym here i, Did Version)),
-    is_kept net phase old new kept (entry_parts acted.stamp acted.parts.core.server acts.Version (map (λ (s : SendingParts). s.to) acted.sent)) state phase step.after acted.journal ready step.step acted.same_run step.servers step.links,
+    is_made net phase old new kept (entry_parts acted.stamp acted.core.core.server acts.Version (map (λ (s : SendingParts). s.to) acted.sent)) state phase step.after acted.journal ready step.step (turns.Version server) (λ i. (sym here i, Did Version)),
+    is_kept net phase old new kept (entry_parts acted.stamp acted.core.core.server acts.Version (map (λ (s : SendingParts). s.to) acted.sent)) state phase step.after acted.journal ready step.step acted.same_run step.servers step.links,
   )
     where
-      here : acted.parts.core.server ≡ server
-      here = kept.cores.number (server - 1) acted.parts acted.here ∙ omega (arith, counted)
+      here : acted.core.core.server ≡ server
+      here = kept.cores.number (server - 1) acted.core acted.here ∙ omega (arith, counted)
 
-      step : IsNetworkStep net (laws-of net kept.sound) state (entry_parts acted.stamp acted.parts.core.server acts.Version (map (λ (s : SendingParts). s.to) acted.sent)) new
+      step : IsNetworkStep net (laws-of net kept.sound) state (entry_parts acted.stamp acted.core.core.server acts.Version (map (λ (s : SendingParts). s.to) acted.sent)) new
       step = network-step net (laws-of net kept.sound) state (server - 1) (Does Version) acts.Version old new kept.cores kept.links acted refl tt
 
       ready : (state ≡ state) × ((moment_by net old.journal).phase ≡ phase)

@@ -9,8 +9,8 @@ use Rattle.ev_model.specs.Nets.{first_tree}
 use Rattle.ev_model.specs.Sound.{IsSound}
 use Rattle.ev_hierturns.specs.Network.{net_of, moment_by, IsLegal}
 use Rattle.ev_hierserver.specs.Core.{HierarchyParts, IsHierarchyState}
+use Rattle.ev_numnet.specs.Acted.{Servers}
 use Rattle.ev_numnet.specs.Links.{AreOnLinks}
-use Rattle.ev_hier.specs.Acted.{Servers}
 
 -- the state of a network of a hierarchy, whatever its tree
 abbrev pub state_in : (net : NetParts) → Hierarchy real (net_of net) → State real
@@ -38,7 +38,7 @@ ArePlacesUpTo net cores = (place : ℕ) (parts : HierarchyParts) → slice_get c
 
 -- WHAT A NETWORK KEEPS: its net is sound and its journal a legal run, at whose end the phase is the one in hand, and the cores and the links are those
 -- of the state then
-pub record IsNetwork (net : NetParts) (phase : ℕ) (servers : Servers) : Type 0 where
+pub record IsNetwork (net : NetParts) (phase : ℕ) (servers : Servers HierarchyParts) : Type 0 where
   pub sound : IsSound net
   pub run : servers.run ≡ net
   pub legal : IsLegal net servers.journal

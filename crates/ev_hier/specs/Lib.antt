@@ -1,7 +1,4 @@
-pub mod Acted
+pub mod Stepping
 pub mod Kept
-pub mod Seen
-pub mod Trying
-pub mod Inboxes
 pub mod Clocks
 pub mod Sessions

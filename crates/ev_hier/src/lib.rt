@@ -5,14 +5,12 @@
 #![tactic(auto)]
 
 mod clocks;
-mod inboxes;
 mod making;
 mod network;
 mod place;
 mod retelling;
-mod servers;
+mod scheduled;
 mod telling;
-mod trying;
 mod walking;
 
 pub use network::HierNetwork;

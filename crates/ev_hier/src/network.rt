@@ -1,22 +1,19 @@
 //! Networks of a hierarchy.
 ghost use Rattle.std.specs.Prelude.{◌≡◌, ◌≤◌, ◌++◌, ◌∷◌, List, [], length, IfOk, OnErr};
-ghost use Rattle.ev_sets.specs.Sets.{Has};
 ghost use Rattle.ev_model.specs.Parts.{EntryParts};
-ghost use Rattle.ev_model.specs.Nets.{first_tree, servers_in, clients_of, of_clients};
+ghost use Rattle.ev_model.specs.Nets.{first_tree, of_clients};
 ghost use Rattle.ev_model.specs.Sound.{IsSound};
 ghost use Rattle.ev_hierturns.specs.Network.{opening_of};
 ghost use Rattle.ev_hierturns.specs.Told.{found_of, told_of};
 ghost use Rattle.ev_hier.specs.Kept.{AreServers};
 
-use crate::inboxes::take_inboxes;
-use crate::making::{command, next_phase, received, refused, take, version};
-use crate::place::Place;
-use crate::servers::Servers;
+use crate::making::{command, session, take, version};
+use crate::place::{Place, Ranks};
 use crate::telling::last_told;
 use ev_journal::Journal;
 use ev_memory::NoMemory;
-use ev_model::{Delivery, Entry, Net, Sent, Turn};
-use ev_numnet::{Keeping, Kept, Links, all_clients};
+use ev_model::{Delivery, Entry, Sent, Turn};
+use ev_numnet::{Keeping, Kept, Links, Servers, all_clients, take_inboxes};
 use ev_tables::Tables;
 use ev_wire::Lists;
 use std::alloc::Global;
@@ -29,19 +26,18 @@ use std::marker::{Model, PhantomData};
 /// these. The entries of the journal stand in memory where they are to be shown (`Kept`), and else in proofs alone (`Passed`).
 #[derive(Drop)]
 pub struct HierNetwork<'a, K: Keeping> {
-    tables: &'a Tables<'a>,
-    phase: u32,
-    clients: Vec<Lists<u32>>,
-    servers: Servers<'a>,
+    pub(crate) tables: &'a Tables<'a>,
+    pub(crate) phase: u32,
+    pub(crate) clients: Vec<Lists<u32>>,
+    pub(crate) servers: Ranks<'a>,
     keeping: PhantomData<K>,
 }
 
 impl<'a, K: Keeping> Model for HierNetwork<'a, K> {
     ghost use Rattle.std.specs.Prelude.{◌≡◌};
     ghost use Rattle.ev_turns.specs.Network.{NetworkParts, network_parts};
-    ghost use Rattle.ev_numnet.specs.Seen.{AreClients};
+    ghost use Rattle.ev_numnet.specs.Seen.{seen, AreClients};
     ghost use Rattle.ev_hier.specs.Kept.{IsNetwork};
-    ghost use Rattle.ev_hier.specs.Seen.{seen};
 
     ghost Value = { NetworkParts };
 
@@ -66,7 +62,7 @@ fn places<'a>(alloc: Global, tables: &'a Tables<'a>, count: u32) -> Result<Vec<P
 
 impl<'a, K: Keeping> HierNetwork<'a, K> {
     ghost use Rattle.ev_turns.specs.Network.{network_parts};
-    ghost use Rattle.ev_hierturns.specs.Network.{moment_by, next_phase_by, IsLegal, received_by, refused_by};
+    ghost use Rattle.ev_hierturns.specs.Network.{IsLegal, received_by, refused_by};
     ghost use Rattle.ev_hierturns.specs.Turns.{IsTurn};
 
     /// The network of a net before its first turn, over the tables of its run.
@@ -116,44 +112,12 @@ impl<'a, K: Keeping> HierNetwork<'a, K> {
         Ok((servers.journal, received))
     }
 
-    /// The net.
-    pub(crate) fn net(&self) -> &'a Net
-        ensures net { result.now ≡ self.now.net }
-        ensures sound { IsSound self.now.net }
-        ensures legal { IsLegal self.now.net self.now.journal }
-    {
-        self.tables.net()
-    }
-
-    /// The phase of the last command.
-    pub(crate) fn phase(&self) -> u32
-        ensures { result ≡ (moment_by self.now.net self.now.journal).phase }
-    {
-        self.phase
-    }
-
-    /// The clients of a server, rising.
-    pub(crate) fn clients(&self, server: u32) -> &[u32]
-        requires { Has server (servers_in self.now.net) }
-        ensures { result.now ≡ clients_of self.now.net server }
-    {
-        self.clients[server as usize - 1].as_slice()
-    }
-
-    /// The phase of a client's next command; `None` where it has none left.
-    pub(crate) fn next_phase(&self, client: u32) -> Option<u32>
-        requires { (1 ≤ client) × (client ≤ length self.now.net.clients) }
-        ensures { result ≡ next_phase_by self.now.net self.now.journal client }
-    {
-        next_phase(self.tables.net(), &self.servers, client)
-    }
-
     /// What a client received, in order.
     pub fn received(&self, client: u32) -> &[Delivery]
         requires { (1 ≤ client) × (client ≤ length self.now.net.clients) }
         ensures { result.now ≡ received_by self.now.net self.now.journal client }
     {
-        received(self.tables.net(), &self.servers, client)
+        session(self.tables.net(), &self.servers, client).received()
     }
 
     /// The ordinals of a client's publishes that were refused, rising.
@@ -161,7 +125,7 @@ impl<'a, K: Keeping> HierNetwork<'a, K> {
         requires { (1 ≤ client) × (client ≤ length self.now.net.clients) }
         ensures { result.now ≡ refused_by self.now.net self.now.journal client }
     {
-        refused(self.tables.net(), &self.servers, client)
+        session(self.tables.net(), &self.servers, client).refused()
     }
 
     /// The texts of the messages of the last turn, by rising neighbour.

@@ -7,7 +7,8 @@ ghost use Rattle.ev_hierturns.specs.Told.{told_by};
 use crate::network::HierNetwork;
 use ev_memory::NoMemory;
 use ev_model::{Entry, Sent};
-use ev_numnet::{Passed, turn_of};
+use ev_numnet::Passed;
+use ev_schedule::retold;
 use ev_tables::Tables;
 use ev_wire::Lists;
 use std::alloc::Global;
@@ -24,11 +25,5 @@ pub fn retell(
     ensures { IfOk result (λ told. told.items ≡ told_by tables.now journal.now) }
 {
     let mut network: HierNetwork<'_, Passed> = HierNetwork::start(alloc, tables)?;
-    let mut told = Vec::with_capacity(alloc, journal.len())?;
-    for entry in journal {
-        network.turn(turn_of(entry))?;
-        let texts = network.last_told()?;
-        told.push(texts)?;
-    }
-    Ok(told)
+    retold(alloc, &mut network, journal)
 }

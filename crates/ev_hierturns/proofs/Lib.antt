@@ -1,1 +1,10 @@
 pub mod Lawful
+pub mod Turned
+pub mod Tries
+pub mod Rounds
+pub mod Walks
+pub mod Begun
+pub mod Barred
+pub mod Commands
+pub mod Again
+pub mod Scheduled

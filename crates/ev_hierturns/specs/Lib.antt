@@ -4,3 +4,4 @@ pub mod Walked
 pub mod Told
 pub mod Promise
 pub mod Limits
+pub mod Trying

@@ -1,35 +1,29 @@
--- What follows for a server that can act.
-use Rattle.std.proofs.Common.{◌≡◌, ℕ, suc, ◌-◌, ◌<◌, ◌≤◌, ◌^◌, List, [], ◌∷◌, zero, length, slice_get, slice_index_or, Some, sym, subst, ◌∙◌, arith}
+-- What follows for a server that can act, whatever its kind.
+use Rattle.std.proofs.Common.{◌≡◌, ℕ, suc, ◌-◌, ◌<◌, ◌≤◌, List, [], ◌∷◌, zero, length, slice_get, slice_index_or, Some, sym, subst, ◌∙◌, arith}
 use Rattle.ev_sets.specs.Sets.{Has}
-use Rattle.ev_routing.specs.Server.{Message}
-use Rattle.ev_routing.specs.Step.{Task}
-use Rattle.ev_run.specs.Machine.{Input}
-use Rattle.ev_theory.specs.Real.{real}
 use Rattle.ev_message.specs.Parts.{SendingParts}
-use Rattle.ev_numserver.specs.Core.{CoreParts}
-use Rattle.ev_numserver.specs.Step.{MakesStep, last_stamp}
 use Rattle.ev_numnet.specs.Seen.{CanAct}
-use Rattle.ev_numnet.specs.Kept.{IsSomeServer}
+use Rattle.ev_numnet.specs.Stepping.{Stepping, IsSome, GoesOn}
 use Rattle.ev_numnet.proofs.Acted.{get-below}
 
-get-or : (xs : List CoreParts) (k : ℕ) (x d : CoreParts) → slice_get xs k ≡ Some x → slice_index_or xs k d ≡ x
+get-or : {P : Type 0} (xs : List P) (k : ℕ) (x d : P) → slice_get xs k ≡ Some x → slice_index_or xs k d ≡ x
 get-or [] k x d e = absurd cc
 get-or (y ∷ ys) zero x d e = cc
 get-or (y ∷ ys) (suc k) x d e = get-or ys k x d e
 
-module _ (server : ℕ) (neighbours : List ℕ) (cores : List CoreParts) (able : CanAct server neighbours cores) where
+module _ {P : Type 0} (kind : Stepping P) (server : ℕ) (neighbours : List ℕ) (cores : List P) (able : CanAct kind server neighbours cores) where
   pub neighbours_small : (link : ℕ) → Has link neighbours → link ≤ 64
-  neighbours_small link h = able.laws.small able.core.server link (subst (Has link) (able.links ∙ sym able.stands.control.links) h)
+  neighbours_small link h = able.near link h
 
   pub place_within : (n : ℕ) → n ≡ length cores → server - 1 < n
   place_within n e = let l = get-below cores (server - 1) able.core able.here in omega (arith, l, e)
 
-  pub core_is : (x : CoreParts) → x ≡ slice_index_or cores (server - 1) x → x ≡ able.core
+  pub core_is : (x : P) → x ≡ slice_index_or cores (server - 1) x → x ≡ able.core
   core_is x e = e ∙ get-or cores (server - 1) able.core x able.here
 
-  pub some_server : (x : CoreParts) → x ≡ able.core → IsSomeServer x
-  some_server x e = subst IsSomeServer (sym e) (able.net, able.laws, able.state, able.stands)
+  pub some_server : (x : P) → x ≡ able.core → IsSome kind x
+  some_server x e = subst (IsSome kind) (sym e) able.some
 
-  pub stamp_below : (input : Input Task (Message real)) (taken : ℕ) (next : CoreParts) (stamp : ℕ) (sent : List SendingParts) → taken < last_stamp
-      → MakesStep input taken able.core next stamp sent → stamp < 2 ^ 62
-  stamp_below input taken next stamp sent low step = let is = step.stamp_is in let clock = able.low in omega (arith, is, low, clock)
+  -- what it sends goes to its neighbours
+  pub goes_to : (x : P) → x ≡ able.core → (stamp : ℕ) (sent : List SendingParts) → GoesOn (kind.core x).control.links stamp sent → GoesOn neighbours stamp sent
+  goes_to x e stamp sent on = subst (λ z. GoesOn z stamp sent) (sym able.links) (subst (λ z. GoesOn (kind.core z).control.links stamp sent) e on)

@@ -29,6 +29,7 @@ use Rattle.ev_numnet.specs.Links.{waiting_in, messages_to, AreOnLinks}
 use Rattle.ev_numnet.specs.Kept.{AreServers}
 use Rattle.ev_numnet.specs.Acted.{Servers, StampedInput, input_of, stamp_of, told_as, messages_left, IsActed}
 use Rattle.ev_numnet.proofs.Sending.{receivers-told, messages-told, map-append, length-append}
+use Rattle.ev_numnet.specs.Stepping.{peers}
 
 -- lists
 
@@ -80,14 +81,14 @@ module _ (net : NetParts) (phase : ℕ) (laws : NetLaws real (net_at real (phase
   IsNext server (Takes from m) = slice_get (state.put from server) (state.taken from server) ≡ Some m
 
   -- what the acting of a server is in the network: the step of its entry, and cores and links stand for the state after it
-  pub record IsNetworkStep (entry : EntryParts) (new : Servers) : Type 0 where
+  pub record IsNetworkStep (entry : EntryParts) (new : Servers CoreParts) : Type 0 where
     pub after : State real
     pub step : IsStepOn real (phased_net net) phase state (entry_of entry) after
     pub servers : AreServers net phase after new.cores
     pub links : AreOnLinks net after new.messages
 
-  module _ (place : ℕ) (input : StampedInput) (act : EntryAct) (old new : Servers) (servers : AreServers net phase state old.cores)
-      (links : AreOnLinks net state old.messages) (step : IsActed place input act old new) (told : act_of act ≡ told_as input)
+  module _ (place : ℕ) (input : StampedInput) (act : EntryAct) (old new : Servers CoreParts) (servers : AreServers net phase state old.cores)
+      (links : AreOnLinks net state old.messages) (step : IsActed peers place input act old new) (told : act_of act ≡ told_as input)
       (next : IsNext step.core.server input) where
     t-is : step.core.server ≡ suc place
     t-is = servers.number place step.core step.here

@@ -45,6 +45,7 @@ use Rattle.ev_turns.proofs.Barred.{Permits, permits}
 use Rattle.ev_numnet.proofs.Grown.{is_made, is_kept}
 use Rattle.ev_numnet.proofs.Tried.{IsSame, same_kept}
 use Rattle.ev_numnet.proofs.Standing.{At, Found, get-at, laws_at, low_at, run_of}
+use Rattle.ev_numnet.specs.Stepping.{peers}
 
 pub drop-all : {A : Type 0} (xs : List A) → drop (length xs) xs ≡ []
 drop-all [] = refl
@@ -136,7 +137,7 @@ module _ (net : NetParts) (sound : IsSound net) (phase : ℕ) (state : State rea
           let m = length-of-map phased_command s.script in
           omega (arith, l, t, n, m)
 
-module _ (net : NetParts) (phase : ℕ) (now : Servers) (kept : IsNetwork net phase now) (client : ℕ) where
+module _ (net : NetParts) (phase : ℕ) (now : Servers CoreParts) (kept : IsNetwork net phase now) (client : ℕ) where
   -- there is no command, so the turn is barred
   pub command_none : next_phase_by net now.journal client ≡ None → IsBarred net now.journal (turns.Command client)
   command_none none entry next permitted = go (slice_get (script_of net client) (taken_by net now.journal client)) refl none (permits net (moment_by net now.journal) (home_of net client, Did (NextCommand client)) entry next permitted)
@@ -173,10 +174,10 @@ module _ (net : NetParts) (phase : ℕ) (now : Servers) (kept : IsNetwork net ph
           (subst (λ z. IsQuietOn real (phased_net net) z (moment_by net now.journal).state) kept.in_hand q)
 
   -- what it makes, from the state that it finds
-  module _ (new mid : Servers) (found : State real) (own : ℕ) (next : next_phase_by net now.journal client ≡ Some own)
+  module _ (new mid : Servers CoreParts) (found : State real) (own : ℕ) (next : next_phase_by net now.journal client ≡ Some own)
       (ready : ActFinds real (phased_net net) (moment_by net now.journal).state (moment_by net now.journal).phase (Some own) found own)
       (servers : AreServers net own found mid.cores) (links : AreOnLinks net found mid.messages) (same-run : mid.run ≡ now.run) (same : mid.journal ≡ now.journal)
-      (acted : IsActed (home_of net client - 1) (Does (NextCommand client)) (acts.Command client) mid new) where
+      (acted : IsActed peers (home_of net client - 1) (Does (NextCommand client)) (acts.Command client) mid new) where
     abbrev entry : EntryParts
     entry = entry_parts acted.stamp acted.core.server (acts.Command client) (map (λ (s : SendingParts). s.to) acted.sent)
 
@@ -204,12 +205,12 @@ module _ (net : NetParts) (phase : ℕ) (now : Servers) (kept : IsNetwork net ph
         (acted.same_run ∙ same-run) step.servers step.links
 
 -- in the phase in hand it finds the state as it is
-pub ready_now : (net : NetParts) (phase : ℕ) (now : Servers) → IsNetwork net phase now
+pub ready_now : (net : NetParts) (phase : ℕ) (now : Servers CoreParts) → IsNetwork net phase now
     → ActFinds real (phased_net net) (moment_by net now.journal).state (moment_by net now.journal).phase (Some phase) (moment_by net now.journal).state phase
 ready_now net phase now kept = (refl, inl (kept.in_hand, refl))
 
 -- a later phase finds its beginning
-module _ (net : NetParts) (last own : ℕ) (now : Servers) (kept : IsNetwork net last now) (later : last < own)
+module _ (net : NetParts) (last own : ℕ) (now : Servers CoreParts) (kept : IsNetwork net last now) (later : last < own)
     (quiet : IsQuietOn real (phased_net net) last (moment_by net now.journal).state)
     (through : IsThroughOn real (phased_net net) last (moment_by net now.journal).state own) where
   pub ready_later : ActFinds real (phased_net net) (moment_by net now.journal).state (moment_by net now.journal).phase (Some own)
@@ -261,13 +262,13 @@ module _ (net : NetParts) (last own : ℕ) (now : Servers) (kept : IsNetwork net
       go false = refl
 
 -- what an answer tells of a command: it was made, and the network is kept; or nothing changed
-pub record IsCommanded (net : NetParts) (client last own : ℕ) (old new : Servers) (answer : Result (Unit {0}) NoMemory) : Type 0 where
+pub record IsCommanded (net : NetParts) (client last own : ℕ) (old new : Servers CoreParts) (answer : Result (Unit {0}) NoMemory) : Type 0 where
   pub made : OnOk answer (IsMade (turns.Command client) (network_parts net old.journal) (network_parts net new.journal))
   pub kept_on : OnOk answer (IsNetwork net own new)
   pub err : OnErr answer (IsNetwork net last new × (new.journal ≡ old.journal))
 
-pub commanded_now : (net : NetParts) (phase : ℕ) (old new : Servers) (kept : IsNetwork net phase old) (client : ℕ) → next_phase_by net old.journal client ≡ Some phase
-    → (answer : Result (Unit {0}) NoMemory) → OnOk answer (IsActed (home_of net client - 1) (Does (NextCommand client)) (acts.Command client) old new) → OnErr answer (IsSame old new)
+pub commanded_now : (net : NetParts) (phase : ℕ) (old new : Servers CoreParts) (kept : IsNetwork net phase old) (client : ℕ) → next_phase_by net old.journal client ≡ Some phase
+    → (answer : Result (Unit {0}) NoMemory) → OnOk answer (IsActed peers (home_of net client - 1) (Does (NextCommand client)) (acts.Command client) old new) → OnErr answer (IsSame old new)
     → IsCommanded net client phase phase old new answer
 commanded_now net phase old new kept client next (Ok x) acted same = record {
   made = command_made net phase old kept client new old (moment_by net old.journal).state phase next (ready_now net phase old kept) kept.cores kept.links refl refl acted;
@@ -276,23 +277,23 @@ commanded_now net phase old new kept client next (Ok x) acted same = record {
 }
 commanded_now net phase old new kept client next (Err e) acted same = record { made = tt; kept_on = tt; err = (same_kept net phase old new kept same, same.journal) }
 
-pub on_ok_same : (net : NetParts) (client home : ℕ) (old new : code.Servers) (answer : Result (Unit {0}) NoMemory) → home ≡ home_of net client
-    → OnOk answer (IsActed (home - 1) (Does (NextCommand client)) (acts.Command client) (seen old) (seen new))
-    → OnOk answer (IsActed (home_of net client - 1) (Does (NextCommand client)) (acts.Command client) (seen old) (seen new))
-on_ok_same net client home old new (Ok x) e acted = subst (λ z. IsActed (z - 1) (Does (NextCommand client)) (acts.Command client) (seen old) (seen new)) e acted
+pub on_ok_same : (net : NetParts) (client home : ℕ) (old new : code.Servers CoreParts) (answer : Result (Unit {0}) NoMemory) → home ≡ home_of net client
+    → OnOk answer (IsActed peers (home - 1) (Does (NextCommand client)) (acts.Command client) (seen old) (seen new))
+    → OnOk answer (IsActed peers (home_of net client - 1) (Does (NextCommand client)) (acts.Command client) (seen old) (seen new))
+on_ok_same net client home old new (Ok x) e acted = subst (λ z. IsActed peers (z - 1) (Does (NextCommand client)) (acts.Command client) (seen old) (seen new)) e acted
 on_ok_same net client home old new (Err x) e acted = tt
 
-pub kept_either : (net : NetParts) (phase : ℕ) {client : ℕ} {old new : Servers} (answer : Result (Unit {0}) NoMemory) → IsCommanded net client phase phase old new answer → IsNetwork net phase new
+pub kept_either : (net : NetParts) (phase : ℕ) {client : ℕ} {old new : Servers CoreParts} (answer : Result (Unit {0}) NoMemory) → IsCommanded net client phase phase old new answer → IsNetwork net phase new
 kept_either net phase (Ok x) is = is.kept_on
 kept_either net phase (Err e) is = is.err.0
 
-pub journal_on_err : (net : NetParts) (phase : ℕ) {client : ℕ} {old new : Servers} (answer : Result (Unit {0}) NoMemory) → IsCommanded net client phase phase old new answer
+pub journal_on_err : (net : NetParts) (phase : ℕ) {client : ℕ} {old new : Servers CoreParts} (answer : Result (Unit {0}) NoMemory) → IsCommanded net client phase phase old new answer
     → OnErr answer (new.journal ≡ old.journal)
 journal_on_err net phase (Ok x) is = tt
 journal_on_err net phase (Err e) is = is.err.1
 
 -- after a beginning that was taken back the network is as before
-pub taken_back : (net : NetParts) (last : ℕ) (old new : Servers) (kept : IsNetwork net last old) → AreServers net last (moment_by net old.journal).state new.cores
+pub taken_back : (net : NetParts) (last : ℕ) (old new : Servers CoreParts) (kept : IsNetwork net last old) → AreServers net last (moment_by net old.journal).state new.cores
     → new.run ≡ old.run → ((a b : ℕ) → new.messages a b ≡ old.messages a b) → new.journal ≡ old.journal → IsNetwork net last new
 taken_back net last old new kept cores same-run messages journal = record {
   sound = kept.sound;
@@ -310,7 +311,7 @@ taken_back net last old new kept cores same-run messages journal = record {
     same = ap (moment_by net) journal
 
 -- quiet where nothing lies on a link and no core has anything staged
-pub quiet_where : (net : NetParts) (phase : ℕ) (now : Servers) → IsNetwork net phase now → ((a b : ℕ) → now.messages a b ≡ []) → AreCalmCores now.cores
+pub quiet_where : (net : NetParts) (phase : ℕ) (now : Servers CoreParts) → IsNetwork net phase now → ((a b : ℕ) → now.messages a b ≡ []) → AreCalmCores peers now.cores
     → IsQuietOn real (phased_net net) phase (moment_by net now.journal).state
 quiet_where net phase now kept empty calm = record {
   empty = λ a b. all-taken ((moment_by net now.journal).state.put a b) ((moment_by net now.journal).state.taken a b) (kept.links.within a b)
@@ -326,19 +327,19 @@ quiet_where net phase now kept empty calm = record {
 
         go : At now.cores (server - 1) → ((moment_by net now.journal).state.state server).staged ≡ false
         go (Found core e) = ap (λ z. ((moment_by net now.journal).state.state z).staged) (sym place) ∙ (kept.cores.states (server - 1) core e).staged
-            ∙ not-true (is_some_there core.staged) (sym (ap calm_in e) ∙ calm (server - 1) (let l = get-below now.cores (server - 1) core e in omega (arith, l)))
+            ∙ not-true (is_some_there core.staged) (sym (ap (calm_in peers) e) ∙ calm (server - 1) (let l = get-below now.cores (server - 1) core e in omega (arith, l)))
 
-pub empty_where : (net : NetParts) (phase : ℕ) (now : Servers) → IsNetwork net phase now → IsQuietOn real (phased_net net) phase (moment_by net now.journal).state → (a b : ℕ) → now.messages a b ≡ []
+pub empty_where : (net : NetParts) (phase : ℕ) (now : Servers CoreParts) → IsNetwork net phase now → IsQuietOn real (phased_net net) phase (moment_by net now.journal).state → (a b : ℕ) → now.messages a b ≡ []
 empty_where net phase now kept quiet a b = kept.links.messages_are a b ∙ ap (map (waiting_in net)) (ap (λ z. drop z ((moment_by net now.journal).state.put a b)) (quiet.empty a b) ∙ drop-all ((moment_by net now.journal).state.put a b))
 
-pub calm_where : (net : NetParts) (phase : ℕ) (now : Servers) → IsNetwork net phase now → IsQuietOn real (phased_net net) phase (moment_by net now.journal).state → AreCalmCores now.cores
+pub calm_where : (net : NetParts) (phase : ℕ) (now : Servers CoreParts) → IsNetwork net phase now → IsQuietOn real (phased_net net) phase (moment_by net now.journal).state → AreCalmCores peers now.cores
 calm_where net phase now kept quiet k l = go (get-at now.cores k l)
   where
-    go : At now.cores k → calm_at now.cores k ≡ true
-    go (Found core e) = ap calm_in e ∙ ap not (sym (kept.cores.states k core e).staged ∙ quiet.calm (suc k) (low_server net (suc k) (omega arith, (let all = kept.cores.all in omega (arith, l, all)))))
+    go : At now.cores k → calm_at peers now.cores k ≡ true
+    go (Found core e) = ap (calm_in peers) e ∙ ap not (sym (kept.cores.states k core e).staged ∙ quiet.calm (suc k) (low_server net (suc k) (omega arith, (let all = kept.cores.all in omega (arith, l, all)))))
 
 -- through where no client's next command is below
-module _ (net : NetParts) (phase : ℕ) (now : Servers) (kept : IsNetwork net phase now) (own : ℕ) where
+module _ (net : NetParts) (phase : ℕ) (now : Servers CoreParts) (kept : IsNetwork net phase now) (own : ℕ) where
   below-not : (net : NetParts) (phase : ℕ) (o : Option (PhasedCommand real)) → is_phase_below (phase_in o) own ≡ false → not_below real (net_at real (phased_net net) phase) own o ≡ true
   below-not net phase None e = refl
   below-not net phase (Some x) e = grind (arith, nat_tests, e)

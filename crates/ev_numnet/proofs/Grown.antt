@@ -17,9 +17,10 @@ use Rattle.ev_turns.specs.Turns.{IsMade}
 use Rattle.ev_numnet.specs.Links.{AreOnLinks}
 use Rattle.ev_numnet.specs.Kept.{AreServers, IsNetwork}
 use Rattle.ev_numnet.specs.Acted.{Servers}
+use Rattle.ev_numserver.specs.Core.{CoreParts}
 use Rattle.ev_numnet.proofs.Sending.{map-append}
 
-module _ (net : NetParts) (phase : ℕ) (old new : Servers) (kept : IsNetwork net phase old) where
+module _ (net : NetParts) (phase : ℕ) (old new : Servers CoreParts) (kept : IsNetwork net phase old) where
   abbrev pub before : Moment real (phased_net net)
   before = moment_by net old.journal
 

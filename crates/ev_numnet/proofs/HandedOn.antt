@@ -3,7 +3,7 @@ use Rattle.std.proofs.Common.{◌≡◌, ℕ, suc, ◌+◌, ◌-◌, ◌<◌, �
 use Rattle.std.proofs.lemmas.Option.{same_Some}
 use Rattle.ev_sets.specs.Sets.{Has}
 use Rattle.ev_sets.proofs.Numbers.{Same, Is, Not, compare}
-use Rattle.ev_model.specs.Parts.{NetParts, EntryParts}
+use Rattle.ev_model.specs.Parts.{NetParts}
 use Rattle.ev_model.specs.Meaning.{deliveries_of}
 use Rattle.ev_model.specs.Nets.{home_of}
 use Rattle.ev_model.specs.Sound.{IsSound}
@@ -17,13 +17,14 @@ use Rattle.ev_turns.specs.Network.{moment_by, received_by}
 use Rattle.ev_numnet.specs.Kept.{IsNetwork}
 use Rattle.ev_numnet.specs.Acted.{Servers}
 use Rattle.ev_numnet.specs.Inboxes.{HaveInboxes}
+use Rattle.ev_numnet.specs.Stepping.{Stepping, peers}
 use Rattle.ev_turns.proofs.Among.{core_at}
 use Rattle.ev_numnet.proofs.Commanding.{home_low, lives_there, home_place}
 use Rattle.ev_numnet.proofs.Standing.{At, Found, get-at}
 use Rattle.ev_numnet.proofs.Turning.{set-same, set-other, set-long}
 
 -- nothing is handed on of a network
-pub have_all : (net : NetParts) (phase : ℕ) (now : Servers) → IsNetwork net phase now → HaveInboxes net now.journal 0 now.cores
+pub have_all : (net : NetParts) (phase : ℕ) (now : Servers CoreParts) → IsNetwork net phase now → HaveInboxes peers net (received_by net now.journal) 0 now.cores
 have_all net phase now kept = record {
   all = kept.cores.all;
   lives = λ client core l m at. lives_there net kept.sound phase (moment_by net now.journal).state now.cores kept.cores client (omega (arith, l), m) core at;
@@ -43,71 +44,74 @@ other-session client (t ∷ sessions) s n (inl e) = inl (go (compare t.client cl
     go (Is q v) f = absurd (n (ap (λ (z : SessionParts). z.client) f ∙ (rw v q)))
     go (Not m v) f = rw v at f
 
--- at each place stands the core of before, or the one that handed on
-data Stands (before : List CoreParts) (place k client : ℕ) (core : CoreParts) : Type 0 where
-  Here : (old : CoreParts) → slice_get before k ≡ Some old → core ≡ without_inbox client old → Stands before place k client core
-  Elsewhere : slice_get before k ≡ Some core → Stands before place k client core
+module _ {P : Type 0} (kind : Stepping P) where
+  -- at each place stands the server of before, or the one that handed on
+  data Stands (before : List P) (place k client : ℕ) (core : P) : Type 0 where
+    Here : (old : P) → slice_get before k ≡ Some old → kind.core core ≡ without_inbox client (kind.core old) → Stands before place k client core
+    Elsewhere : slice_get before k ≡ Some core → Stands before place k client core
 
-stands : (before : List CoreParts) (place k client : ℕ) (old core : CoreParts) → place < length before → slice_get before place ≡ Some old
-    → slice_get (set before place (without_inbox client old)) k ≡ Some core → Stands before place k client core
-stands before place k client old core l at e = go (compare k place)
-  where
-    go : Same k place → Stands before place k client core
-    go (Is q v) = Here old (ap (slice_get before) q ∙ at)
-        (same_Some _ _ (sym e ∙ ap (slice_get (set before place (without_inbox client old))) q ∙ set-same before place (without_inbox client old) l))
-    go (Not n v) = Elsewhere (sym (set-other before place k (without_inbox client old) n) ∙ e)
+  stands : (before : List P) (place k client : ℕ) (old next core : P) → kind.core next ≡ without_inbox client (kind.core old) → place < length before
+      → slice_get before place ≡ Some old → slice_get (set before place next) k ≡ Some core → Stands before place k client core
+  stands before place k client old next core given l at e = go (compare k place)
+    where
+      go : Same k place → Stands before place k client core
+      go (Is q v) = Here old (ap (slice_get before) q ∙ at)
+          (ap kind.core (same_Some _ _ (sym e ∙ ap (slice_get (set before place next)) q ∙ set-same before place next l)) ∙ given)
+      go (Not n v) = Elsewhere (sym (set-other before place k next n) ∙ e)
 
--- one more client's is handed on
-pub have_rest : (net : NetParts) (journal : List EntryParts) (done : ℕ) (before after : List CoreParts) (old : CoreParts) → HaveInboxes net journal done before
-    → slice_get before (home_of net (done + 1) - 1) ≡ Some old → home_of net (done + 1) - 1 < length before
-    → after ≡ set before (home_of net (done + 1) - 1) (without_inbox (done + 1) old) → HaveInboxes net journal (done + 1) after
-have_rest net journal done before after old have at within is = subst (HaveInboxes net journal (done + 1)) (sym is) (record {
-  all = set-long before place (without_inbox (done + 1) old) ∙ have.all;
-  lives = λ client core l m e. lives client core l m (stands before place (home_of net client - 1) (done + 1) old core within at e);
-  inbox = λ client core s l m e h c. inbox client core s l m h c (stands before place (home_of net client - 1) (done + 1) old core within at e);
-})
-  where
-    place : ℕ
-    place = home_of net (done + 1) - 1
+  -- one more client's is handed on
+  pub have_rest : (net : NetParts) (delivered : ℕ → List Delivery) (done : ℕ) (before after : List P) (old next : P) → HaveInboxes kind net delivered done before
+      → slice_get before (home_of net (done + 1) - 1) ≡ Some old → home_of net (done + 1) - 1 < length before
+      → kind.core next ≡ without_inbox (done + 1) (kind.core old)
+      → after ≡ set before (home_of net (done + 1) - 1) next → HaveInboxes kind net delivered (done + 1) after
+  have_rest net delivered done before after old next have at within given is = subst (HaveInboxes kind net delivered (done + 1)) (sym is) (record {
+    all = set-long before place next ∙ have.all;
+    lives = λ client core l m e. lives client core l m (stands before place (home_of net client - 1) (done + 1) old next core given within at e);
+    inbox = λ client core s l m e h c. inbox client core s l m h c (stands before place (home_of net client - 1) (done + 1) old next core given within at e);
+  })
+    where
+      place : ℕ
+      place = home_of net (done + 1) - 1
 
-    lives : (client : ℕ) (core : CoreParts) → done + 1 < client → client ≤ length net.clients → Stands before place (home_of net client - 1) (done + 1) core
-        → Has client (client_numbers core.clients)
-    lives client core l m (Elsewhere e) = have.lives client core (omega (arith, l)) m e
-    lives client core l m (Here one e c) =
-        subst (λ (z : CoreParts). Has client (client_numbers z.clients)) (sym c)
-        (subst (Has client) (sym (numbers-emptied (done + 1) one.clients)) (have.lives client one (omega (arith, l)) m e))
+      lives : (client : ℕ) (core : P) → done + 1 < client → client ≤ length net.clients → Stands before place (home_of net client - 1) (done + 1) core
+          → Has client (client_numbers (kind.core core).clients)
+      lives client core l m (Elsewhere e) = have.lives client core (omega (arith, l)) m e
+      lives client core l m (Here one e c) =
+          subst (λ (z : CoreParts). Has client (client_numbers z.clients)) (sym c)
+          (subst (Has client) (sym (numbers-emptied (done + 1) (kind.core one).clients)) (have.lives client one (omega (arith, l)) m e))
 
-    inbox : (client : ℕ) (core : CoreParts) (s : SessionParts) → done + 1 < client → client ≤ length net.clients → Has s core.clients → s.client ≡ client
-        → Stands before place (home_of net client - 1) (done + 1) core → s.inbox ≡ received_by net journal client
-    inbox client core s l m h c (Elsewhere e) = have.inbox client core s (omega (arith, l)) m e h c
-    inbox client core s l m h c (Here one e is) =
-        have.inbox client one s (omega (arith, l)) m e
-        (other-session (done + 1) one.clients s (λ q. omega (arith, l, q, c)) (subst (λ (z : CoreParts). Has s z.clients) is h)) c
+      inbox : (client : ℕ) (core : P) (s : SessionParts) → done + 1 < client → client ≤ length net.clients → Has s (kind.core core).clients → s.client ≡ client
+          → Stands before place (home_of net client - 1) (done + 1) core → s.inbox ≡ delivered client
+      inbox client core s l m h c (Elsewhere e) = have.inbox client core s (omega (arith, l)) m e h c
+      inbox client core s l m h c (Here one e is) =
+          have.inbox client one s (omega (arith, l)) m e
+          (other-session (done + 1) (kind.core one).clients s (λ q. omega (arith, l, q, c)) (subst (λ (z : CoreParts). Has s z.clients) is h)) c
 
--- what stands at the place of a home
-pub found_core : (cores : List CoreParts) (home number : ℕ) (now core : CoreParts) → home ≡ number → (1 ≤ number) × (number ≤ length cores)
-    → now ≡ slice_index_or cores (home - 1) now → slice_get cores (number - 1) ≡ Some core → now ≡ core
-found_core cores home number now core e low is at =
-    same_Some _ _ (sym (core_at cores (home - 1) now (omega (arith, e, low.0, low.1)) is) ∙ ap (λ z. slice_get cores (z - 1)) e ∙ at)
+  -- what stands at the place of a home
+  pub found_core : (cores : List P) (home number : ℕ) (now core : P) → home ≡ number → (1 ≤ number) × (number ≤ length cores)
+      → now ≡ slice_index_or cores (home - 1) now → slice_get cores (number - 1) ≡ Some core → now ≡ core
+  found_core cores home number now core e low is at =
+      same_Some _ _ (sym (core_at cores (home - 1) now (omega (arith, e, low.0, low.1)) is) ∙ ap (λ z. slice_get cores (z - 1)) e ∙ at)
 
--- the next client's inbox is handed on
-pub next_inbox : (net : NetParts) (journal : List EntryParts) (done : ℕ) (before after : List CoreParts) (given : List Delivery) → IsSound net
-    → HaveInboxes net journal done before → done < length net.clients
-    → ((core : CoreParts) (s : SessionParts) → slice_get before (home_of net (done + 1) - 1) ≡ Some core → Has s core.clients → s.client ≡ done + 1 → given ≡ s.inbox)
-    → ((core : CoreParts) → slice_get before (home_of net (done + 1) - 1) ≡ Some core
-    → after ≡ set before (home_of net (done + 1) - 1) (without_inbox (done + 1) core))
-    → (given ≡ received_by net journal (done + 1)) × HaveInboxes net journal (done + 1) after
-next_inbox net journal done before after given sound have more gives leaves = go (get-at before (home_of net (done + 1) - 1) within)
-  where
-    within : home_of net (done + 1) - 1 < length before
-    within =
-        let low = home_low net sound (done + 1) in
-        let all = have.all in
-        omega (arith, low.0, low.1, all)
+  -- the next client's inbox is handed on
+  pub next_inbox : (net : NetParts) (delivered : ℕ → List Delivery) (done : ℕ) (before after : List P) (given : List Delivery) → IsSound net
+      → HaveInboxes kind net delivered done before → done < length net.clients
+      → ((core : P) (s : SessionParts) → slice_get before (home_of net (done + 1) - 1) ≡ Some core → Has s (kind.core core).clients → s.client ≡ done + 1 → given ≡ s.inbox)
+      → ((core : P) → slice_get before (home_of net (done + 1) - 1) ≡ Some core
+      → (next : P) × (kind.core next ≡ without_inbox (done + 1) (kind.core core)) × (after ≡ set before (home_of net (done + 1) - 1) next))
+      → (given ≡ delivered (done + 1)) × HaveInboxes kind net delivered (done + 1) after
+  next_inbox net delivered done before after given sound have more gives leaves = go (get-at before (home_of net (done + 1) - 1) within)
+    where
+      within : home_of net (done + 1) - 1 < length before
+      within =
+          let low = home_low net sound (done + 1) in
+          let all = have.all in
+          omega (arith, low.0, low.1, all)
 
-    go : At before (home_of net (done + 1) - 1) → (given ≡ received_by net journal (done + 1)) × HaveInboxes net journal (done + 1) after
-    go (Found core at) =
-        let r = has-map (λ (s : SessionParts). s.client) core.clients (done + 1) (have.lives (done + 1) core (omega arith) (omega (arith, more)) at) in (
-          gives core r.0 at r.1 (sym r.2) ∙ have.inbox (done + 1) core r.0 (omega arith) (omega (arith, more)) at r.1 (sym r.2),
-          have_rest net journal done before after core have at within (leaves core at),
-        )
+      go : At before (home_of net (done + 1) - 1) → (given ≡ delivered (done + 1)) × HaveInboxes kind net delivered (done + 1) after
+      go (Found core at) =
+          let r = has-map (λ (s : SessionParts). s.client) (kind.core core).clients (done + 1) (have.lives (done + 1) core (omega arith) (omega (arith, more)) at) in
+          let left = leaves core at in (
+            gives core r.0 at r.1 (sym r.2) ∙ have.inbox (done + 1) core r.0 (omega arith) (omega (arith, more)) at r.1 (sym r.2),
+            have_rest net delivered done before after core left.0 have at within left.1 left.2,
+          )

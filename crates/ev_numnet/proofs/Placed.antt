@@ -18,7 +18,8 @@ use Rattle.ev_numserver.specs.declared.stepped.StepFault.TheVariants.{StampsExha
 use Rattle.ev_numserver.specs.Core.{CoreParts, published_from}
 use Rattle.ev_numserver.specs.Staged.{IsStaged, StandFor}
 use Rattle.ev_numserver.specs.Step.{MakesStep, last_stamp}
-use Rattle.ev_numnet.specs.Kept.{IsForwardingOf, IsPlace, IsSomeServer}
+use Rattle.ev_numnet.specs.Kept.{IsForwardingOf, IsPlace}
+use Rattle.ev_numnet.specs.Stepping.{IsSome, peers}
 use Rattle.ev_numnet.proofs.Published.{kept_by_command, kept_by_taking, held_by_version}
 
 -- the same pairs stand for what is the same
@@ -90,21 +91,21 @@ module _ (core next : CoreParts) (f : Published) where
       forwarding-at core.net next.net core.interfaces next.interfaces (published_from next) f net interfaces
       (forwarding-same core.net core.interfaces (published_from core) (published_from next) f same is)
 
-  pub placed_after_command : (client : ℕ) → IsSomeServer core → {T : Type 0} (answer : Result T StepFault) (stamp : T → ℕ) (sent : T → List SendingParts)
+  pub placed_after_command : (client : ℕ) → IsSome peers core → {T : Type 0} (answer : Result T StepFault) (stamp : T → ℕ) (sent : T → List SendingParts)
       → IfOk answer (λ s. MakesStep (Does (NextCommand client)) 0 core next (stamp s) (sent s)) → OnOk answer (next.interfaces ≡ core.interfaces) → OnErr answer (next ≡ core)
       → IsPlace core f → IsPlace next f
   placed_after_command client (net, laws, state, stands) (Ok s) stamp sent step interfaces same is =
       stays step.same_net interfaces (kept_by_command net state core next (sent s) stands client (step.step net state stands) step.same_server) is
   placed_after_command client some (Err e) stamp sent step interfaces same is = subst (λ z. IsPlace z f) (sym same) is
 
-  pub placed_after_taking : (from : ℕ) (m : Message real) (taken : ℕ) → IsSomeServer core → {T : Type 0} (answer : Result T StepFault) (stamp : T → ℕ) (sent : T → List SendingParts)
+  pub placed_after_taking : (from : ℕ) (m : Message real) (taken : ℕ) → IsSome peers core → {T : Type 0} (answer : Result T StepFault) (stamp : T → ℕ) (sent : T → List SendingParts)
       → IfOk answer (λ s. MakesStep (Takes from m) taken core next (stamp s) (sent s)) → OnOk answer (next.interfaces ≡ core.interfaces) → OnErr answer (next ≡ core)
       → IsPlace core f → IsPlace next f
   placed_after_taking from m taken (net, laws, state, stands) (Ok s) stamp sent step interfaces same is =
       stays step.same_net interfaces (kept_by_taking net state core next (sent s) stands from m (step.step net state stands) step.same_server) is
   placed_after_taking from m taken some (Err e) stamp sent step interfaces same is = subst (λ z. IsPlace z f) (sym same) is
 
-  pub placed_after_version : (g : Published) (stamp : ℕ) → IsSomeServer core → MakesStep (Does Version) 0 core next stamp [] → next.interfaces ≡ core.interfaces
+  pub placed_after_version : (g : Published) (stamp : ℕ) → IsSome peers core → MakesStep (Does Version) 0 core next stamp [] → next.interfaces ≡ core.interfaces
       → IsStaged (known_filters core.net.clients) core.interfaces (published_from core) (subs core.control) core.staged
       → ((i : ℕ) (x : List ConstraintParts) → Has x (subs core.control i) → Has x (known_filters core.net.clients))
       → IsOfSame g f → g.pairs ≡ all_changed core.staged f.pairs → IsPlace core f → IsPlace next g

@@ -9,14 +9,13 @@ use Rattle.ev_message.specs.Parts.{SendingParts}
 use Rattle.ev_numnet.specs.Links.{WaitingParts}
 use Rattle.ev_model.specs.declared.turn.Act.{Act as EntryAct}
 use Rattle.ev_model.specs.Parts.{entry_parts}
-use Rattle.ev_numserver.specs.Core.{CoreParts}
-use Rattle.ev_numserver.specs.Step.{MakesStep}
 use Rattle.ev_run.specs.Machine.{Takes, Stamped}
 use Rattle.ev_routing.specs.Server.{Message}
 use Rattle.ev_theory.specs.Real.{real}
 use Rattle.ev_numnet.specs.Links.{QueueParts, messages_at, waiting_as, messages_to, has_room, AreSame}
 use Rattle.ev_numnet.specs.Acted.{Servers, StampedInput, input_of, stamp_of, messages_left, IsActed}
 use Rattle.ev_numnet.specs.Putting.{ArePut}
+use Rattle.ev_numnet.specs.Stepping.{Stepping}
 use Rattle.ev_numnet.proofs.Sending.{filter-append, map-append, length-append}
 
 -- what comes after a member of a list
@@ -87,15 +86,15 @@ module _ (all : List SendingParts) (server stamp : ℕ) (old : List QueueParts) 
           none = rw (ne_eqb x.to b (λ q. n (sym q))) refl
 
 -- what a step comes to: by what was left on the links, and what was put there
-pub acted_by : (place server : ℕ) (input : StampedInput) (act : EntryAct) (old new : Servers) (core next : CoreParts) (stamp : ℕ) (sent : List SendingParts)
-    → slice_get old.cores place ≡ Some core → core.server ≡ server → MakesStep (input_of input) (stamp_of input) core next stamp sent
+pub acted_by : {P : Type 0} (kind : Stepping P) (place server : ℕ) (input : StampedInput) (act : EntryAct) (old new : Servers P) (core next : P) (stamp : ℕ) (sent : List SendingParts)
+    → slice_get old.cores place ≡ Some core → (kind.core core).server ≡ server → kind.Steps (input_of input) (stamp_of input) core next stamp sent
     → new.run ≡ old.run → new.cores ≡ slice_set old.cores place next
     → new.journal ≡ old.journal ++ entry_parts stamp server act (map (λ s. s.to) sent) ∷ []
     → (left : ℕ → ℕ → List WaitingParts) → ((a b : ℕ) → left a b ≡ messages_left input server old.messages a b)
     → ((b : ℕ) → new.messages server b ≡ left server b ++ messages_to stamp sent b)
     → ((a b : ℕ) → (a ≡ server → ⊥) → new.messages a b ≡ left a b)
-    → IsActed place input act old new
-acted_by place server input act old new core next stamp sent here is step same-run cores journal left left-is put others = record {
+    → IsActed kind place input act old new
+acted_by kind place server input act old new core next stamp sent here is step same-run cores journal left left-is put others = record {
   core = core;
   next = next;
   stamp = stamp;
@@ -105,15 +104,15 @@ acted_by place server input act old new core next stamp sent here is step same-r
   step = step;
   cores = cores;
   journal = journal ∙ ap (λ z. old.journal ++ entry_parts stamp z act (map (λ (s : SendingParts). s.to) sent) ∷ []) (sym is);
-  messages = λ a b. go a b (compare a core.server);
+  messages = λ a b. go a b (compare a (kind.core core).server);
 }
   where
-    left-at : (a b : ℕ) → left a b ≡ messages_left input core.server old.messages a b
+    left-at : (a b : ℕ) → left a b ≡ messages_left input (kind.core core).server old.messages a b
     left-at a b = left-is a b ∙ ap (λ z. messages_left input z old.messages a b) (sym is)
 
-    go : (a b : ℕ) → Same a core.server → new.messages a b ≡ messages_left input core.server old.messages a b ++ cond (a == core.server) (messages_to stamp sent b) []
+    go : (a b : ℕ) → Same a (kind.core core).server → new.messages a b ≡ messages_left input (kind.core core).server old.messages a b ++ cond (a == (kind.core core).server) (messages_to stamp sent b) []
     go a b (Is e v) = rw v (ap (λ z. new.messages z b) (e ∙ is) ∙ put b ∙ ap (λ z. z ++ messages_to stamp sent b) (ap (λ z. left z b) (sym (e ∙ is)) ∙ left-at a b))
-    go a b (Not n v) = rw v (others a b (λ q. n (q ∙ sym is)) ∙ left-at a b ∙ sym (append-nothing (messages_left input core.server old.messages a b)))
+    go a b (Not n v) = rw v (others a b (λ q. n (q ∙ sym is)) ∙ left-at a b ∙ sym (append-nothing (messages_left input (kind.core core).server old.messages a b)))
 
 -- what a taking leaves on the links: its own has lost its first message
 pub first_left : (old mid new : List QueueParts) (server from : ℕ) (m : Stamped (Message real)) → AreSame old mid

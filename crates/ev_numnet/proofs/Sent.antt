@@ -1,5 +1,5 @@
 -- What a step sends goes on links of its server, at most one message on each.
-use Rattle.std.proofs.Common.{ℕ, ◌≤◌, List, length, map, sym, subst}
+use Rattle.std.proofs.Common.{◌≡◌, ℕ, ◌<◌, ◌≤◌, List, length, map, Result, Ok, Err, IfOk, sym, subst, arith}
 use Rattle.ev_sets.specs.Sets.{Has}
 use Rattle.ev_sets.specs.Numbers.{IsDistinct}
 use Rattle.ev_tree.specs.Hops.{side_size}
@@ -11,40 +11,44 @@ use Rattle.ev_routing.specs.Routing.{routing_machine, measure}
 use Rattle.ev_routing.proofs.Along.{strict-of, tree}
 use Rattle.ev_routing.proofs.Spreading.{spreads}
 use Rattle.ev_theory.specs.Real.{real, real_laws}
+use Rattle.ev_memory.specs.declared.NoMemory.{NoMemory}
 use Rattle.ev_message.specs.Parts.{SendingParts, sent_by}
 use Rattle.ev_numserver.specs.Core.{CoreParts}
-use Rattle.ev_numserver.specs.Step.{IsServerStep, MakesStep}
-use Rattle.ev_numnet.specs.Seen.{CanAct}
+use Rattle.ev_numserver.specs.Step.{IsServerStep, MakesStep, last_stamp}
+use Rattle.ev_numnet.specs.Stepping.{GoesOn, IsSome, peers}
 use Rattle.ev_numnet.proofs.Sending.{sent-few, sent-to, sent-apart}
 
--- what is sent, on these links
-pub record GoesOn (neighbours : List ℕ) (sent : List SendingParts) : Type 0 where
-  pub to : (s : SendingParts) → Has s sent → Has s.to neighbours
-  pub small : (s : SendingParts) → Has s sent → s.to ≤ 64
-  pub apart : IsDistinct (map (λ s. s.to) sent)
-  pub few : length sent ≤ length neighbours
-
-pub goes_on : (server : ℕ) (neighbours : List ℕ) (cores : List CoreParts) (able : CanAct server neighbours cores) (input : Input Task (Message real)) (taken : ℕ)
-    (next : CoreParts) (stamp : ℕ) (sent : List SendingParts) → MakesStep input taken able.core next stamp sent → GoesOn neighbours sent
-goes_on server neighbours cores able input taken next stamp sent step = record {
-  to = λ s h. onto s.to (sent-to able.core.net local.outcome.outs able.core.control.links s (there s h));
-  small = λ s h. able.laws.small able.core.server s.to (subst (Has s.to) (sym able.stands.control.links) (sent-to able.core.net local.outcome.outs able.core.control.links s (there s h)));
+pub goes_on : (core : CoreParts) → IsSome peers core → core.clock < last_stamp → (input : Input Task (Message real)) (taken : ℕ) → taken < last_stamp
+    → (next : CoreParts) (stamp : ℕ) (sent : List SendingParts) → MakesStep input taken core next stamp sent → GoesOn core.control.links stamp sent
+goes_on core (net, laws, state, stands) low input taken taken-low next stamp sent step = record {
+  low = let is = step.stamp_is in omega (arith, is, low, taken-low);
+  to = λ s h. sent-to core.net local.outcome.outs core.control.links s (there s h);
+  small = λ s h. laws.small core.server s.to (subst (Has s.to) (sym stands.control.links) (sent-to core.net local.outcome.outs core.control.links s (there s h)));
   apart = subst (λ z. IsDistinct (map (λ (s : SendingParts). s.to) z)) (sym local.sent_are)
-      (sent-apart able.core.net local.outcome.outs able.core.control.links one (subst IsDistinct able.stands.control.links (able.laws.tree.single able.core.server)));
-  few = subst (λ z. length sent ≤ length z) (sym able.links) (subst (λ z. length z ≤ length able.core.control.links) (sym local.sent_are) (sent-few able.core.net local.outcome.outs able.core.control.links one));
+      (sent-apart core.net local.outcome.outs core.control.links one (subst IsDistinct stands.control.links (laws.tree.single core.server)));
+  few = subst (λ z. length z ≤ length core.control.links) (sym local.sent_are) (sent-few core.net local.outcome.outs core.control.links one);
 }
   where
-    local : IsServerStep able.net able.state input able.core next sent
-    local = step.step able.net able.state able.stands
+    local : IsServerStep net state input core next sent
+    local = step.step net state stands
 
-    there : (s : SendingParts) → Has s sent → Has s (sent_by able.core.net local.outcome.outs able.core.control.links)
+    there : (s : SendingParts) → Has s sent → Has s (sent_by core.net local.outcome.outs core.control.links)
     there s h = subst (Has s) local.sent_are h
 
-    onto : (x : ℕ) → Has x able.core.control.links → Has x neighbours
-    onto x h = subst (Has x) (sym able.links) h
+    measured : MeasureLaws (routing_machine real net) (measure real net (side_size net.hop net.servers))
+    measured = spreads real (strict-of real real_laws) net (side_size net.hop net.servers) laws.single (tree real real_laws net laws)
 
-    measured : MeasureLaws (routing_machine real able.net) (measure real able.net (side_size able.net.hop able.net.servers))
-    measured = spreads real (strict-of real real_laws) able.net (side_size able.net.hop able.net.servers) able.laws.single (tree real real_laws able.net able.laws)
+    one : (link : ℕ) → Has link core.control.links → length (local.outcome.outs link) ≤ 1
+    one link h = measured.one core.server state input local.outcome local.step link (subst (Has link) (sym stands.control.links) h)
 
-    one : (link : ℕ) → Has link able.core.control.links → length (local.outcome.outs link) ≤ 1
-    one link h = measured.one able.core.server able.state input local.outcome local.step link (subst (Has link) (sym able.stands.control.links) h)
+-- the same of what a call answers
+pub sends : (core : CoreParts) → IsSome peers core → core.clock < last_stamp → (input : Input Task (Message real)) (taken : ℕ) → taken < last_stamp → (next : CoreParts)
+    → {T : Type 0} (answer : Result T NoMemory) (stamp : T → ℕ) (sent : T → List SendingParts) → IfOk answer (λ s. MakesStep input taken core next (stamp s) (sent s))
+    → IfOk answer (λ s. GoesOn core.control.links (stamp s) (sent s))
+sends core some low input taken taken-low next (Ok s) stamp sent step = goes_on core some low input taken taken-low next (stamp s) (sent s) step
+sends core some low input taken taken-low next (Err e) stamp sent step = tt
+
+-- what an answer says where it was handed on
+pub handed : {T E : Type 0} (Q : T → Type 0) (answer : Result T E) (result : Result T NoMemory) → IfOk answer Q → IfOk result (λ x. answer ≡ Ok x) → IfOk result Q
+handed Q answer (Ok x) q is = subst (λ a. IfOk a Q) is q
+handed Q answer (Err e) q is = tt

@@ -22,7 +22,7 @@ one-semantics Advertisement Advertisement e = refl
 one-semantics Subscription Advertisement e = absurd cc
 one-semantics Advertisement Subscription e = absurd cc
 
-pub session_of : (net : NetParts) (phase : ℕ) (now : Servers) (kept : IsNetwork net phase now) (client : ℕ) (core : CoreParts) → slice_get now.cores (home_of net client - 1) ≡ Some core
+pub session_of : (net : NetParts) (phase : ℕ) (now : Servers CoreParts) (kept : IsNetwork net phase now) (client : ℕ) (core : CoreParts) → slice_get now.cores (home_of net client - 1) ≡ Some core
     → (s : SessionParts) → Has (bare s) core.clients → s.client ≡ client → s.semantics ≡ core.control.semantics → IsSessionOf (network_parts net now.journal) client s
 session_of net phase now kept client core at s h e semantics = record {
   semantics = semantics ∙ one-semantics net.semantics core.control.semantics (kept.cores.states (home_of net client - 1) core at).control.adverts;

@@ -24,6 +24,7 @@ use Rattle.ev_turns.specs.Network.{moment_by, IsLegal}
 use Rattle.ev_numnet.specs.Seen.{CanAct}
 use Rattle.ev_numnet.specs.Kept.{AreServers, IsNetwork}
 use Rattle.ev_numnet.specs.Acted.{Servers}
+use Rattle.ev_numnet.specs.Stepping.{peers}
 
 pub laws_at : (net : NetParts) → IsSound net → (phase : ℕ) → NetLaws real (net_at real (phased_net net) phase)
 laws_at net sound phase = each-net real (phased_net net) (net-laws net sound) phase
@@ -65,29 +66,27 @@ get-at {T} (x ∷ xs) (suc k) l = go (get-at xs k (omega (arith, l)))
 module _ (net : NetParts) (sound : IsSound net) (phase : ℕ) (state : State real) (cores : List CoreParts) (servers : AreServers net phase state cores) where
   -- where clocks are low, a server can act
   pub can_act : (server : ℕ) → 1 ≤ server → server ≤ (first_tree net.trees).count → ((s : ℕ) → state.clock s < last_stamp)
-      → CanAct server (links_of (topology_at net phase) server) cores
+      → CanAct peers server (links_of (topology_at net phase) server) cores
   can_act server counted few low = go (get-at cores (server - 1) (let all = servers.all in omega (arith, counted, few, all)))
     where
       place-is : suc (server - 1) ≡ server
       place-is = omega (arith, counted)
 
-      go : At cores (server - 1) → CanAct server (links_of (topology_at net phase) server) cores
+      go : At cores (server - 1) → CanAct peers server (links_of (topology_at net phase) server) cores
       go (Found core e) = record {
         counted = counted;
         small = let most = few-servers net.trees sound.trees in omega (arith, few, most);
+        near = λ link h. (laws_at net sound phase).small server link (subst (Has link) (sym (links_at net phase server)) h);
         core = core;
         here = e;
         number = servers.number (server - 1) core e ∙ place-is;
         low = subst (λ z. z < last_stamp) (sym (servers.clocks (server - 1) core e)) (low (suc (server - 1)));
-        net = net_at real (phased_net net) phase;
-        laws = laws_at net sound phase;
-        state = state.state (suc (server - 1));
-        stands = servers.states (server - 1) core e;
+        some = (net_at real (phased_net net) phase, laws_at net sound phase, state.state (suc (server - 1)), servers.states (server - 1) core e);
         links = sym (links_at net phase server) ∙ ap ((net_at real (phased_net net) phase).links) (sym (servers.number (server - 1) core e ∙ place-is)) ∙ (servers.states (server - 1) core e).control.links;
       }
 
 -- the clocks of a network are low, and so are the stamps on its links
-module _ (net : NetParts) (phase : ℕ) (now : Servers) (kept : IsNetwork net phase now) where
+module _ (net : NetParts) (phase : ℕ) (now : Servers CoreParts) (kept : IsNetwork net phase now) where
   pub clocks_low : (s : ℕ) → (moment_by net now.journal).state.clock s < last_stamp
   clocks_low s = let l = (low_at net now.journal kept.sound kept.legal).clocks s in omega (arith, l)
 

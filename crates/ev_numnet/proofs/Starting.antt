@@ -71,7 +71,7 @@ servers_start net cores all each = record {
 }
 
 -- the network then
-pub network_start : (net : NetParts) → IsSound net → (servers : Servers) → servers.run ≡ net → servers.journal ≡ [] → ((a b : ℕ) → servers.messages a b ≡ [])
+pub network_start : (net : NetParts) → IsSound net → (servers : Servers CoreParts) → servers.run ≡ net → servers.journal ≡ [] → ((a b : ℕ) → servers.messages a b ≡ [])
     → AreServers net 0 (opening_moment real (phased_net net)).state servers.cores → IsNetwork net 0 servers
 network_start net sound servers run journal empty cores = subst (λ z. IsNetwork net 0 (record { run = servers.run; cores = servers.cores; messages = servers.messages; journal = z })) (sym journal) (record {
   sound = sound;

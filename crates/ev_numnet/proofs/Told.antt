@@ -35,6 +35,7 @@ use Rattle.ev_turns.specs.Told.{told_of}
 use Rattle.ev_numnet.proofs.Sending.{receivers-told, sent-to, sent-of}
 use Rattle.ev_numnet.proofs.Standing.{laws_at, run_of}
 use Rattle.ev_turns.proofs.Within.{taken-low, found-within}
+use Rattle.ev_numserver.specs.Core.{CoreParts}
 use Rattle.ev_numnet.proofs.Last.{split-last, last-is}
 
 pub drop-append : {T : Type 0} (k : ℕ) (xs ys : List T) → k ≤ length xs → drop k (xs ++ ys) ≡ drop k xs ++ ys
@@ -65,7 +66,7 @@ texts-are net messages (l ∷ links) =
     map-append text_of_sending (map (onto net l) (messages l)) (sent_by net messages links)
     ∙ ap₂ (λ (a b : List Sent). a ++ b) (same-texts net l (messages l)) (texts-are net messages links)
 
-module _ (net : NetParts) (phase : ℕ) (servers : Servers) (kept : IsNetwork net phase servers) (before : List EntryParts) (entry : EntryParts) (is : servers.journal ≡ before ++ entry ∷ []) where
+module _ (net : NetParts) (phase : ℕ) (servers : Servers CoreParts) (kept : IsNetwork net phase servers) (before : List EntryParts) (entry : EntryParts) (is : servers.journal ≡ before ++ entry ∷ []) where
   abbrev run : PhasedRun real
   run = run_of net servers.journal kept.sound kept.legal
 
@@ -172,7 +173,7 @@ module _ (net : NetParts) (phase : ℕ) (servers : Servers) (kept : IsNetwork ne
       (laws.small to entry.server (laws.tree.both entry.server to near), laws.small entry.server to near)
 
 -- of the last entry of a network's journal
-module _ (net : NetParts) (phase : ℕ) (servers : Servers) (kept : IsNetwork net phase servers) (x : EntryParts) (server : ℕ) (outs : List ℕ) (here : slice_get servers.journal (length servers.journal - 1) ≡ Some x) (server-is : x.server ≡ server) (outs-are : x.outs ≡ outs) where
+module _ (net : NetParts) (phase : ℕ) (servers : Servers CoreParts) (kept : IsNetwork net phase servers) (x : EntryParts) (server : ℕ) (outs : List ℕ) (here : slice_get servers.journal (length servers.journal - 1) ≡ Some x) (server-is : x.server ≡ server) (outs-are : x.outs ≡ outs) where
   pub small_last : (to : ℕ) → Has to outs → (server ≤ 64) × (to ≤ 64)
   small_last to h =
       let b = split-last servers.journal x here in

@@ -26,6 +26,7 @@ use Rattle.ev_numnet.proofs.Acted.{network-step, IsNetworkStep}
 use Rattle.ev_turns.proofs.Barred.{permits}
 use Rattle.ev_numnet.proofs.Grown.{is_made, is_kept, stays_kept}
 use Rattle.ev_numnet.proofs.Standing.{laws_at, links_at}
+use Rattle.ev_numnet.specs.Stepping.{peers}
 
 -- the first of what is left of a list
 pub first-left : {A B : Type 0} (f : A → B) (xs : List A) (k : ℕ) (x : A) → slice_get xs k ≡ Some x → slice_get (map f (drop k xs)) 0 ≡ Some (f x)
@@ -41,23 +42,23 @@ none-left (y ∷ ys) zero e = absurd cc
 none-left (y ∷ ys) (suc k) e = none-left ys k e
 
 -- nothing of the servers changed
-pub record IsSame (old new : Servers) : Type 0 where
+pub record IsSame (old new : Servers CoreParts) : Type 0 where
   pub run : new.run ≡ old.run
   pub cores : new.cores ≡ old.cores
   pub messages : (a b : ℕ) → new.messages a b ≡ old.messages a b
   pub journal : new.journal ≡ old.journal
 
 -- what the code tells of that
-pub same_of : (old new : code.Servers) (answer : Result Bool NoMemory) → IfOk answer (λ made. (made ≡ false) × IsUnchanged old new)
+pub same_of : (old new : code.Servers CoreParts) (answer : Result Bool NoMemory) → IfOk answer (λ made. (made ≡ false) × IsUnchanged old new)
     → IfOk answer (λ made. (made ≡ false) × IsSame (seen old) (seen new))
 same_of old new (Ok made) same = (same.0, record { run = same.1.run; cores = same.1.cores; messages = same.1.messages; journal = same.1.journal })
 same_of old new (Err e) same = tt
 
-pub same_on_err : {T : Type 0} (old new : code.Servers) (answer : Result T NoMemory) → OnErr answer (IsUnchanged old new) → OnErr answer (IsSame (seen old) (seen new))
+pub same_on_err : {T : Type 0} (old new : code.Servers CoreParts) (answer : Result T NoMemory) → OnErr answer (IsUnchanged old new) → OnErr answer (IsSame (seen old) (seen new))
 same_on_err old new (Ok made) same = tt
 same_on_err old new (Err e) same = record { run = same.run; cores = same.cores; messages = same.messages; journal = same.journal }
 
-module _ (net : NetParts) (phase : ℕ) (old new : Servers) (kept : IsNetwork net phase old) where
+module _ (net : NetParts) (phase : ℕ) (old new : Servers CoreParts) (kept : IsNetwork net phase old) where
   abbrev state : State real
   state = (moment_by net old.journal).state
 
@@ -88,7 +89,7 @@ module _ (net : NetParts) (phase : ℕ) (old new : Servers) (kept : IsNetwork ne
 
   pub taken_turn : (server from : ℕ) → 1 ≤ server → (answer : Result Bool NoMemory)
       → ((of : NetParts) (m : Stamped (Message real)) → slice_get (old.messages from server) 0 ≡ Some (waiting_in of m)
-      → IfOk answer (λ made. (made ≡ true) × IsActed (server - 1) (Takes from m) (acts.Take from) old new))
+      → IfOk answer (λ made. (made ≡ true) × IsActed peers (server - 1) (Takes from m) (acts.Take from) old new))
       → (old.messages from server ≡ [] → IfOk answer (λ made. (made ≡ false) × IsSame old new))
       → OnErr answer (IsSame old new)
       → Tells (turns.Take server from) answer
@@ -113,7 +114,7 @@ module _ (net : NetParts) (phase : ℕ) (old new : Servers) (kept : IsNetwork ne
         kept_on = is_kept net phase old new kept (entry_parts a.1.stamp a.1.core.server (acts.Take from) (map (λ (s : SendingParts). s.to) a.1.sent)) state phase step.after a.1.journal ready step.step a.1.same_run step.servers step.links;
       }
         where
-          a : (made ≡ true) × IsActed (server - 1) (Takes from m) (acts.Take from) old new
+          a : (made ≡ true) × IsActed peers (server - 1) (Takes from m) (acts.Take from) old new
           a = acted net m (ap (λ z. slice_get z 0) (kept.links.messages_are from server) ∙ first-left (waiting_in net) (state.put from server) (state.taken from server) m e)
 
           here : a.1.core.server ≡ server
@@ -144,7 +145,7 @@ module _ (net : NetParts) (phase : ℕ) (old new : Servers) (kept : IsNetwork ne
           place : suc (server - 1) ≡ server
           place = omega (arith, counted)
 
-  pub version_turn : (server : ℕ) → 1 ≤ server → (acted : IsActed (server - 1) (Does Version) acts.Version old new)
+  pub version_turn : (server : ℕ) → 1 ≤ server → (acted : IsActed peers (server - 1) (Does Version) acts.Version old new)
       → IsMade (turns.Version server) (network_parts net old.journal) (network_parts net new.journal) × IsNetwork net phase new
   version_turn server counted acted = (
     is_made net phase old new kept (entry_parts acted.stamp acted.core.server acts.Version (map (λ (s : SendingParts). s.to) acted.sent)) state phase step.after acted.journal ready step.step (turns.Version server) (λ i. (sym here i, Did Version)),

@@ -1,4 +1,4 @@
--- What a step of one server makes of the cores, the links and the journal.
+-- What a step of one server makes of the servers, the links and the journal, whatever their kind.
 use Rattle.std.specs.Prelude.{◌≡◌, ℕ, ◌==◌, ◌&&◌, cond, List, [], ◌∷◌, ◌++◌, map, drop, slice_get, slice_set, Some}
 use Rattle.ev_run.specs.Machine.{Input, Does, Takes, Act, Did, Took, Stamped}
 use Rattle.ev_routing.specs.Server.{Message}
@@ -7,14 +7,13 @@ use Rattle.ev_theory.specs.Real.{real}
 use Rattle.ev_message.specs.Parts.{SendingParts}
 use Rattle.ev_model.specs.declared.turn.Act.{Act as EntryAct}
 use Rattle.ev_model.specs.Parts.{NetParts, EntryParts, entry_parts}
-use Rattle.ev_numserver.specs.Core.{CoreParts}
-use Rattle.ev_numserver.specs.Step.{MakesStep}
 use Rattle.ev_numnet.specs.Links.{WaitingParts, messages_to}
+use Rattle.ev_numnet.specs.Stepping.{Stepping}
 
--- the net whose run it is, the cores of the servers, what is on each link, and the journal
-pub record Servers : Type 0 where
+-- the net whose run it is, the servers at their places, what is on each link, and the journal
+pub record Servers (P : Type 0) : Type 0 where
   pub run : NetParts
-  pub cores : List CoreParts
+  pub cores : List P
   pub messages : ℕ → ℕ → List WaitingParts
   pub journal : List EntryParts
 
@@ -40,15 +39,16 @@ abbrev pub messages_left : StampedInput → ℕ → (ℕ → ℕ → List Waitin
 messages_left (Does task) server messages a b = messages a b
 messages_left (Takes from m) server messages a b = cond ((a == from) && (b == server)) (drop 1 (messages a b)) (messages a b)
 
--- the server at a place made a step: its core went on, what it sends is on its links, and the step joined the journal
-pub record IsActed (place : ℕ) (input : StampedInput) (act : EntryAct) (old new : Servers) : Type 0 where
-  pub core : CoreParts
-  pub next : CoreParts
+-- the server at a place made a step: it went on, what it sends is on its links, and the step joined the journal
+pub record IsActed {P : Type 0} (kind : Stepping P) (place : ℕ) (input : StampedInput) (act : EntryAct) (old new : Servers P) : Type 0 where
+  pub core : P
+  pub next : P
   pub stamp : ℕ
   pub sent : List SendingParts
   pub here : slice_get old.cores place ≡ Some core
   pub same_run : new.run ≡ old.run
-  pub step : MakesStep (input_of input) (stamp_of input) core next stamp sent
+  pub step : kind.Steps (input_of input) (stamp_of input) core next stamp sent
   pub cores : new.cores ≡ slice_set old.cores place next
-  pub journal : new.journal ≡ old.journal ++ entry_parts stamp core.server act (map (λ s. s.to) sent) ∷ []
-  pub messages : (a b : ℕ) → new.messages a b ≡ messages_left input core.server old.messages a b ++ cond (a == core.server) (messages_to stamp sent b) []
+  pub journal : new.journal ≡ old.journal ++ entry_parts stamp (kind.core core).server act (map (λ s. s.to) sent) ∷ []
+  pub messages : (a b : ℕ) → new.messages a b
+      ≡ messages_left input (kind.core core).server old.messages a b ++ cond (a == (kind.core core).server) (messages_to stamp sent b) []

@@ -3,8 +3,6 @@ use Rattle.std.specs.Prelude.{◌≡◌, ℕ, suc, List, length, slice_get, Some
 use Rattle.ev_constraint.specs.Constraint.{ConstraintParts}
 use Rattle.ev_sets.specs.Sets.{Has}
 use Rattle.ev_forwarding.specs.Published.{Published}
-use Rattle.ev_routing.specs.Net.{Net, NetLaws}
-use Rattle.ev_routing.specs.Server.{ServerState}
 use Rattle.ev_routing.specs.Routing.{empty_server}
 use Rattle.ev_phases.specs.Trees.{State, net_at}
 use Rattle.ev_theory.specs.Real.{real}
@@ -29,10 +27,6 @@ pub record IsForwardingOf (net : NetParts) (interfaces : List ℕ) (published : 
 abbrev pub IsPlace : CoreParts → Published → Type 0
 IsPlace core forwarding = IsForwardingOf core.net core.interfaces (published_from core) forwarding
 
--- a core stands for some state of its server in some net
-abbrev pub IsSomeServer : CoreParts → Type 0
-IsSomeServer core = (net : Net real) × NetLaws real net × (state : ServerState real) × IsServerState net core state
-
 -- the cores of all servers of a net, by rising number, each at its server's state and clock, on the tree of a phase
 pub record AreServers (net : NetParts) (phase : ℕ) (state : State real) (cores : List CoreParts) : Type 0 where
   pub all : length cores ≡ (first_tree net.trees).count
@@ -55,7 +49,7 @@ ArePlacesUpTo net cores = (place : ℕ) (core : CoreParts) → slice_get cores p
 
 -- WHAT A NETWORK KEEPS: its net is sound and its journal a legal run, at whose end the phase is the one in hand, and the cores and the links are those
 -- of the state then
-pub record IsNetwork (net : NetParts) (phase : ℕ) (servers : Servers) : Type 0 where
+pub record IsNetwork (net : NetParts) (phase : ℕ) (servers : Servers CoreParts) : Type 0 where
   pub sound : IsSound net
   pub run : servers.run ≡ net
   pub legal : IsLegal net servers.journal

@@ -1,4 +1,5 @@
 pub mod Links
+pub mod Stepping
 pub mod Acted
 pub mod Kept
 pub mod Seen

@@ -1,37 +1,35 @@
--- What the code of a network's servers shows, and what is asked of one that is to make a step.
+-- What the code of a network's servers shows, whatever their kind, and what is asked of one that is to make a step.
 use Rattle.std.specs.Prelude.{◌≡◌, ℕ, suc, ◌-◌, ◌≤◌, ◌<◌, Bool, true, not, List, length, slice_get, Option, Some, None}
-use Rattle.ev_routing.specs.Net.{Net, NetLaws}
-use Rattle.ev_routing.specs.Server.{ServerState}
-use Rattle.ev_theory.specs.Real.{real}
+use Rattle.ev_sets.specs.Sets.{Has}
 use Rattle.ev_model.specs.Parts.{NetParts}
 use Rattle.ev_model.specs.Nets.{first_tree, clients_of}
-use Rattle.ev_numserver.specs.Core.{CoreParts, IsServerState}
 use Rattle.ev_numserver.specs.Staged.{is_some_there}
 use Rattle.ev_numserver.specs.Step.{last_stamp}
 use Rattle.ev_numnet.specs.declared.servers.Servers as code
 use Rattle.ev_turns.specs.Network.{NetworkParts, network_parts}
 use Rattle.ev_numnet.specs.Acted.{Servers}
 use Rattle.ev_numnet.specs.Links.{messages_at, AreSame}
+use Rattle.ev_numnet.specs.Stepping.{Stepping, IsSome}
 
--- the net whose run it is, the cores, what is on each link, and the journal
-abbrev pub seen : code.Servers → Servers
+-- the net whose run it is, the servers, what is on each link, and the journal
+abbrev pub seen : {P : Type 0} → code.Servers P → Servers P
 seen servers = record { run = servers.tables.now; cores = servers.places.items; messages = messages_at servers.links; journal = servers.journal.entries }
 
 -- as a network of a net
-abbrev pub shown : NetParts → code.Servers → NetworkParts
+abbrev pub shown : {P : Type 0} → NetParts → code.Servers P → NetworkParts
 shown net servers = network_parts net servers.journal.entries
 
--- a core, if there is one, has nothing staged
-abbrev pub calm_in : Option CoreParts → Bool
-calm_in None = true
-calm_in (Some core) = not (is_some_there core.staged)
+-- a server, if there is one, has nothing staged
+abbrev pub calm_in : {P : Type 0} → Stepping P → Option P → Bool
+calm_in kind None = true
+calm_in kind (Some core) = not (is_some_there (kind.core core).staged)
 
 -- the same of the one at a place, and of all
-abbrev pub calm_at : List CoreParts → ℕ → Bool
-calm_at cores place = calm_in (slice_get cores place)
+abbrev pub calm_at : {P : Type 0} → Stepping P → List P → ℕ → Bool
+calm_at kind cores place = calm_in kind (slice_get cores place)
 
-abbrev pub AreCalmCores : List CoreParts → Type 0
-AreCalmCores cores = (place : ℕ) → place < length cores → calm_at cores place ≡ true
+abbrev pub AreCalmCores : {P : Type 0} → Stepping P → List P → Type 0
+AreCalmCores kind cores = (place : ℕ) → place < length cores → calm_at kind cores place ≡ true
 
 -- for each server its clients, rising
 pub record AreClients (net : NetParts) (clients : List (List ℕ)) : Type 0 where
@@ -39,23 +37,21 @@ pub record AreClients (net : NetParts) (clients : List (List ℕ)) : Type 0 wher
   pub each : (place : ℕ) (list : List ℕ) → slice_get clients place ≡ Some list → list ≡ clients_of net (suc place)
 
 -- nothing of these is other than it was
-pub record IsUnchanged (old new : code.Servers) : Type 0 where
+pub record IsUnchanged {P : Type 0} (old new : code.Servers P) : Type 0 where
   pub run : new.tables.now ≡ old.tables.now
   pub cores : new.places.items ≡ old.places.items
   pub messages : AreSame old.links new.links
   pub journal : new.journal.entries ≡ old.journal.entries
   pub kept : new.journal.kept ≡ old.journal.kept
 
--- the core of a server stands at its place, for some state of it in some net where it has these neighbours, and its clock is not at its end
-pub record CanAct (server : ℕ) (neighbours : List ℕ) (cores : List CoreParts) : Type 0 where
+-- a server is at its place, for some state of it in some net where it has these neighbours, and its clock is not at its end
+pub record CanAct {P : Type 0} (kind : Stepping P) (server : ℕ) (neighbours : List ℕ) (cores : List P) : Type 0 where
   pub counted : 1 ≤ server
   pub small : server ≤ 64
-  pub core : CoreParts
+  pub near : (link : ℕ) → Has link neighbours → link ≤ 64
+  pub core : P
   pub here : slice_get cores (server - 1) ≡ Some core
-  pub number : core.server ≡ server
-  pub low : core.clock < last_stamp
-  pub net : Net real
-  pub laws : NetLaws real net
-  pub state : ServerState real
-  pub stands : IsServerState net core state
-  pub links : neighbours ≡ core.control.links
+  pub number : (kind.core core).server ≡ server
+  pub low : (kind.core core).clock < last_stamp
+  pub some : IsSome kind core
+  pub links : neighbours ≡ (kind.core core).control.links

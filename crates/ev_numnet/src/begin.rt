@@ -1,5 +1,5 @@
 //! The beginning of a later phase, all or nothing, and how it is taken back.
-ghost use Rattle.std.specs.Prelude.{◌≡◌, ◌<◌, ◌≤◌, ◌^◌, ℕ, suc, false, List, length, slice_get, Some, None, IfOk, OnErr};
+ghost use Rattle.std.specs.Prelude.{◌≡◌, ◌<◌, ◌^◌, ℕ, false, List, length, slice_get, Some, None, IfOk, OnErr};
 ghost use Rattle.ev_phases.specs.Trees.{State, is_one_tree, trees_by, IsAtRestOn};
 ghost use Rattle.ev_phases.specs.Moments.{begun};
 ghost use Rattle.ev_theory.specs.Real.{real};
@@ -216,7 +216,8 @@ pub(crate) fn begin<'a>(
     requires sound { IsSound tables.now }
     requires state { (state : State real) × AreServers tables.now last state places.old.items × IsAtRestOn real (phased_net tables.now) last state }
     ensures begun { IfOk result (λ _. (state : State real) → AreServers tables.now last state places.old.items
-        → IsAtRestOn real (phased_net tables.now) last state → AreServers tables.now phase (begun real (phased_net tables.now) last phase state) places.new.items) }
+        → IsAtRestOn real (phased_net tables.now) last state
+        → AreServers tables.now phase (begun real (phased_net tables.now) last phase state) places.new.items) }
     ensures back { IfOk result (λ before. IsUndoneBy before places.old.items places.new.items) }
     ensures err { OnErr result (places.new.items ≡ places.old.items) }
 {

@@ -5,6 +5,7 @@
 #![tactic(auto)]
 
 mod begin;
+mod calm;
 mod inboxes;
 mod keeping;
 mod links;
@@ -15,20 +16,24 @@ mod queue;
 mod relinking;
 mod replaying;
 mod retelling;
+mod routing;
+mod scheduled;
+mod server;
 mod servers;
 mod telling;
 mod texts;
-mod trying;
 mod waiting;
 mod walking;
 
+pub use inboxes::take_inboxes;
 pub use keeping::{Keeping, Kept, Passed};
 pub use links::Links;
 pub use making::{home, is_among, is_below};
 pub use network::{Network, all_clients};
 pub use place::{unexhausted, unpublished};
-pub use retelling::{retell, turn_of};
-pub use servers::put;
+pub use retelling::retell;
+pub use routing::{route, routed};
+pub use server::Server;
+pub use servers::Servers;
 pub use telling::last_on;
-pub use trying::script_len;
 pub use waiting::Waiting;

@@ -1,32 +1,22 @@
 //! The turns of a network: each is made where it is permitted, and else nothing changes.
-ghost use Rattle.std.specs.Prelude.{◌≡◌, ◌≤◌, ◌<◌, ◌↔◌, ℕ, [], false, length, Some, IfOk, OnOk, OnErr, IsTrue};
+ghost use Rattle.std.specs.Prelude.{◌≡◌, ◌≤◌, ◌<◌, ◌↔◌, ℕ, false, length, Some, IfOk, OnOk, OnErr, IsTrue};
 ghost use Rattle.ev_sets.specs.Sets.{Has};
 ghost use Rattle.ev_phases.specs.Trees.{IsQuietOn, IsThroughOn};
 ghost use Rattle.ev_theory.specs.Real.{real};
-ghost use Rattle.ev_model.specs.Parts.{NetParts};
 ghost use Rattle.ev_model.specs.Nets.{phased_net, home_of};
 ghost use Rattle.ev_model.specs.declared.turn.Turn.TheVariants as turns;
-ghost use Rattle.ev_numserver.specs.Core.{CoreParts};
-ghost use Rattle.ev_turns.specs.Network.{moment_by, next_phase_by, received_by, refused_by};
+ghost use Rattle.ev_turns.specs.Network.{moment_by, next_phase_by};
 ghost use Rattle.ev_turns.specs.Turns.{IsTurn, IsMade};
 ghost use Rattle.ev_numnet.specs.Kept.{IsNetwork};
-ghost use Rattle.ev_numnet.specs.Seen.{seen, shown, calm_in, calm_at, AreCalmCores};
-ghost use Rattle.ev_numnet.specs.Links.{messages_at};
+ghost use Rattle.ev_numnet.specs.Seen.{seen, shown};
 ghost use Rattle.ev_turns.specs.Sessions.{IsSessionOf, is_phase_below};
 
 use crate::begin::{begin, take_back};
-use crate::place::Place;
-use crate::servers::Servers;
+use crate::place::Peers;
+use crate::server::Server;
 use ev_memory::NoMemory;
-use ev_model::{Delivery, Net};
+use ev_model::Net;
 use ev_numsession::Session;
-
-/// Whether a number is that of a server.
-fn has_server(servers: &Servers<'_>, server: u32) -> bool
-    ensures { IsTrue result ↔ ((1 ≤ server) × (server ≤ length servers.now.places.items)) }
-{
-    server != 0 && server as usize <= servers.places.len()
-}
 
 /// Whether a number is in a list.
 pub fn is_among(number: u32, list: &[u32]) -> bool
@@ -39,7 +29,7 @@ pub fn is_among(number: u32, list: &[u32]) -> bool
 pub(crate) fn take(
     net: &Net,
     phase: u32,
-    servers: &mut Servers<'_>,
+    servers: &mut Peers<'_>,
     server: u32,
     from: u32,
 ) -> Result<bool, NoMemory>
@@ -49,7 +39,7 @@ pub(crate) fn take(
     ensures err { OnErr result (servers.new.journal.entries ≡ servers.old.journal.entries) }
     ensures keeps { servers.new.journal.kept ≡ servers.old.journal.kept }
 {
-    if !has_server(servers, server) {
+    if !servers.has_server(server) {
         return Ok(false);
     }
     let neighbours = net.tree(phase).neighbours(server);
@@ -63,7 +53,7 @@ pub(crate) fn take(
 pub(crate) fn version(
     net: &Net,
     phase: u32,
-    servers: &mut Servers<'_>,
+    servers: &mut Peers<'_>,
     server: u32,
 ) -> Result<bool, NoMemory>
     requires kept { IsNetwork net.now phase (seen servers.old) }
@@ -72,22 +62,14 @@ pub(crate) fn version(
     ensures err { OnErr result (servers.new.journal.entries ≡ servers.old.journal.entries) }
     ensures keeps { servers.new.journal.kept ≡ servers.old.journal.kept }
 {
-    if !has_server(servers, server) {
+    if !servers.has_server(server) {
         return Ok(false);
     }
-    if is_calm(&servers.places[server as usize - 1]) {
+    if servers.places[server as usize - 1].is_calm() {
         return Ok(false);
     }
     servers.version(server)?;
     Ok(true)
-}
-
-/// Whether a server has nothing staged.
-fn is_calm(place: &Place<'_>) -> bool
-    ensures staged { IsTrue result ↔ (place.now.staged ≡ []) }
-    ensures calm { result ≡ calm_in (Some place.now) }
-{
-    place.core().staged().is_empty()
 }
 
 /// The server of a client.
@@ -99,7 +81,7 @@ pub fn home(net: &Net, client: u32) -> u32
 }
 
 /// The session of a client.
-pub(crate) fn session<'s, 'a>(net: &Net, servers: &'s Servers<'a>, client: u32) -> &'s Session<'a>
+pub(crate) fn session<'s, 'a>(net: &Net, servers: &'s Peers<'a>, client: u32) -> &'s Session<'a>
     requires client { (1 ≤ client) × (client ≤ length net.now.clients) }
     requires kept { (phase : ℕ) × IsNetwork net.now phase (seen servers.now) }
     ensures { IsSessionOf (shown net.now servers.now) client result.now.session }
@@ -109,7 +91,7 @@ pub(crate) fn session<'s, 'a>(net: &Net, servers: &'s Servers<'a>, client: u32) 
 }
 
 /// The phase of a client's next command; `None` where it has none left.
-pub(crate) fn next_phase(net: &Net, servers: &Servers<'_>, client: u32) -> Option<u32>
+pub(crate) fn next_phase(net: &Net, servers: &Peers<'_>, client: u32) -> Option<u32>
     requires client { (1 ≤ client) × (client ≤ length net.now.clients) }
     requires kept { (phase : ℕ) × IsNetwork net.now phase (seen servers.now) }
     ensures { result ≡ next_phase_by net.now servers.now.journal.entries client }
@@ -118,29 +100,11 @@ pub(crate) fn next_phase(net: &Net, servers: &Servers<'_>, client: u32) -> Optio
     Some(phase)
 }
 
-/// What a client received, in order.
-pub(crate) fn received<'s>(net: &Net, servers: &'s Servers<'_>, client: u32) -> &'s [Delivery]
-    requires client { (1 ≤ client) × (client ≤ length net.now.clients) }
-    requires kept { (phase : ℕ) × IsNetwork net.now phase (seen servers.now) }
-    ensures { result.now ≡ received_by net.now servers.now.journal.entries client }
-{
-    session(net, servers, client).received()
-}
-
-/// The ordinals of a client's publishes that were refused, rising.
-pub(crate) fn refused<'s>(net: &Net, servers: &'s Servers<'_>, client: u32) -> &'s [u32]
-    requires client { (1 ≤ client) × (client ≤ length net.now.clients) }
-    requires kept { (phase : ℕ) × IsNetwork net.now phase (seen servers.now) }
-    ensures { result.now ≡ refused_by net.now servers.now.journal.entries client }
-{
-    session(net, servers, client).refused()
-}
-
 /// A client's next command.
 pub(crate) fn command(
     net: &Net,
     phase: &mut u32,
-    servers: &mut Servers<'_>,
+    servers: &mut Peers<'_>,
     client: u32,
 ) -> Result<bool, NoMemory>
     requires kept { IsNetwork net.now phase.old (seen servers.old) }
@@ -162,7 +126,7 @@ pub(crate) fn command(
     if own < *phase {
         return Ok(false);
     }
-    if !is_quiet(servers) {
+    if !servers.is_quiet() {
         return Ok(false);
     }
     if !none_below(net, servers, own) {
@@ -177,7 +141,7 @@ pub(crate) fn command(
 fn command_of_phase(
     net: &Net,
     phase: u32,
-    servers: &mut Servers<'_>,
+    servers: &mut Peers<'_>,
     client: u32,
 ) -> Result<(), NoMemory>
     requires kept { IsNetwork net.now phase (seen servers.old) }
@@ -198,7 +162,7 @@ fn command_of_phase(
 fn first_command<'a>(
     net: &Net,
     last: u32,
-    servers: &mut Servers<'a>,
+    servers: &mut Peers<'a>,
     client: u32,
     own: u32,
 ) -> Result<(), NoMemory>
@@ -224,35 +188,8 @@ fn first_command<'a>(
     Ok(())
 }
 
-/// Whether all links are empty and nothing is staged.
-fn is_quiet(servers: &Servers<'_>) -> bool
-    ensures { IsTrue result ↔ (((a b : ℕ) → messages_at servers.now.links a b ≡ []) × AreCalmCores servers.now.places.items) }
-{
-    servers.links.are_empty() && are_calm(&servers.places)
-}
-
-/// Whether no server has anything staged.
-fn are_calm(places: &[Place<'_>]) -> bool
-    ensures { IsTrue result ↔ AreCalmCores places.now }
-{
-    for i in 0..places.len() {
-        if !is_calm_at(places, i) {
-            return false;
-        }
-    }
-    true
-}
-
-/// Whether the server at a place has nothing staged.
-fn is_calm_at(places: &[Place<'_>], i: usize) -> bool
-    requires { i < length places.now }
-    ensures { result ≡ calm_at places.now i }
-{
-    is_calm(&places[i])
-}
-
 /// Whether no client has a command of a lower phase left.
-fn none_below(net: &Net, servers: &Servers<'_>, own: u32) -> bool
+fn none_below(net: &Net, servers: &Peers<'_>, own: u32) -> bool
     requires kept { (phase : ℕ) × IsNetwork net.now phase (seen servers.now) }
     ensures { IsTrue result ↔ ((client : ℕ) → 1 ≤ client → client ≤ length net.now.clients
         → is_phase_below (next_phase_by net.now servers.now.journal.entries client) own ≡ false) }

@@ -1,11 +1,10 @@
 //! Networks.
 ghost use Rattle.std.specs.Prelude.{◌≡◌, ◌≤◌, ◌==◌, ◌++◌, ◌∷◌, cond, List, [], length, IfOk, OnOk, OnErr};
-ghost use Rattle.ev_sets.specs.Sets.{Has};
 ghost use Rattle.ev_phases.specs.Moments.{opening_moment, found_of};
 ghost use Rattle.ev_theory.specs.Real.{real};
 ghost use Rattle.ev_model.specs.Meaning.{journal_of};
 ghost use Rattle.ev_model.specs.Parts.{EntryParts};
-ghost use Rattle.ev_model.specs.Nets.{phased_net, first_tree, servers_in, clients_of, of_clients};
+ghost use Rattle.ev_model.specs.Nets.{phased_net, first_tree, clients_of, of_clients};
 ghost use Rattle.ev_model.specs.Sound.{IsSound};
 ghost use Rattle.ev_numnet.specs.Kept.{AreServers};
 ghost use Rattle.ev_numnet.specs.Seen.{AreClients};
@@ -14,8 +13,8 @@ ghost use Rattle.ev_turns.specs.Told.{told_of};
 use crate::inboxes::take_inboxes;
 use crate::keeping::{Keeping, Kept};
 use crate::links::Links;
-use crate::making::{command, home, next_phase, received, refused, take, version};
-use crate::place::Place;
+use crate::making::{command, home, session, take, version};
+use crate::place::{Peers, Place};
 use crate::servers::Servers;
 use crate::telling::last_told;
 use ev_journal::Journal;
@@ -32,10 +31,10 @@ use std::marker::{Model, PhantomData};
 /// these. The entries of the journal stand in memory where they are to be shown (`Kept`), and else in proofs alone (`Passed`).
 #[derive(Drop)]
 pub struct Network<'a, K: Keeping> {
-    tables: &'a Tables<'a>,
-    phase: u32,
-    clients: Vec<Lists<u32>>,
-    servers: Servers<'a>,
+    pub(crate) tables: &'a Tables<'a>,
+    pub(crate) phase: u32,
+    pub(crate) clients: Vec<Lists<u32>>,
+    pub(crate) servers: Peers<'a>,
     keeping: PhantomData<K>,
 }
 
@@ -103,7 +102,7 @@ pub fn all_clients(alloc: Global, net: &Net, count: u32) -> Result<Vec<Lists<u32
 }
 
 impl<'a, K: Keeping> Network<'a, K> {
-    ghost use Rattle.ev_turns.specs.Network.{network_parts, moment_by, next_phase_by, IsLegal, received_by, refused_by};
+    ghost use Rattle.ev_turns.specs.Network.{network_parts, IsLegal, received_by, refused_by};
     ghost use Rattle.ev_turns.specs.Turns.{IsTurn};
 
     /// The network of a net before its first turn, over the tables of its run.
@@ -153,44 +152,12 @@ impl<'a, K: Keeping> Network<'a, K> {
         Ok((servers.journal, received))
     }
 
-    /// The net.
-    pub(crate) fn net(&self) -> &'a Net
-        ensures net { result.now ≡ self.now.net }
-        ensures sound { IsSound self.now.net }
-        ensures legal { IsLegal self.now.net self.now.journal }
-    {
-        self.tables.net()
-    }
-
-    /// The phase of the last command.
-    pub(crate) fn phase(&self) -> u32
-        ensures { result ≡ (moment_by self.now.net self.now.journal).phase }
-    {
-        self.phase
-    }
-
-    /// The clients of a server, rising.
-    pub(crate) fn clients(&self, server: u32) -> &[u32]
-        requires { Has server (servers_in self.now.net) }
-        ensures { result.now ≡ clients_of self.now.net server }
-    {
-        self.clients[server as usize - 1].as_slice()
-    }
-
-    /// The phase of a client's next command; `None` where it has none left.
-    pub(crate) fn next_phase(&self, client: u32) -> Option<u32>
-        requires { (1 ≤ client) × (client ≤ length self.now.net.clients) }
-        ensures { result ≡ next_phase_by self.now.net self.now.journal client }
-    {
-        next_phase(self.tables.net(), &self.servers, client)
-    }
-
     /// What a client received, in order.
     pub fn received(&self, client: u32) -> &[Delivery]
         requires { (1 ≤ client) × (client ≤ length self.now.net.clients) }
         ensures { result.now ≡ received_by self.now.net self.now.journal client }
     {
-        received(self.tables.net(), &self.servers, client)
+        session(self.tables.net(), &self.servers, client).received()
     }
 
     /// The ordinals of a client's publishes that were refused, rising.
@@ -198,7 +165,7 @@ impl<'a, K: Keeping> Network<'a, K> {
         requires { (1 ≤ client) × (client ≤ length self.now.net.clients) }
         ensures { result.now ≡ refused_by self.now.net self.now.journal client }
     {
-        refused(self.tables.net(), &self.servers, client)
+        session(self.tables.net(), &self.servers, client).refused()
     }
 
     /// The texts of the messages of the last turn, by rising neighbour.

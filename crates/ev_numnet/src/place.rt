@@ -2,7 +2,7 @@
 ghost use Rattle.std.specs.Prelude.{◌≡◌, ◌<◌, ◌^◌, ℕ, nat_lt, [], length, Some, Ok, Err, IfOk, OnErr};
 ghost use Rattle.ev_sets.specs.Sets.{Has, IsRising};
 ghost use Rattle.ev_run.specs.Machine.{Does, Takes};
-ghost use Rattle.ev_routing.specs.Step.{NextCommand, Version};
+ghost use Rattle.ev_routing.specs.Step.{NextCommand};
 ghost use Rattle.ev_model.specs.Nets.{servers_in};
 ghost use Rattle.ev_model.specs.Sound.{IsSound};
 ghost use Rattle.ev_catalogue.specs.Known.{known_filters, known_publications};
@@ -10,17 +10,17 @@ ghost use Rattle.ev_tables.specs.Found.{publication_at};
 ghost use Rattle.ev_session.specs.declared.planned.Planned.TheVariants as plans;
 ghost use Rattle.ev_session.specs.Session.{SessionParts};
 ghost use Rattle.ev_session.specs.Plan.{next_plan};
-ghost use Rattle.ev_message.specs.Message.{IsLoad, meaning};
 ghost use Rattle.ev_numserver.specs.Clients.{client_numbers};
-ghost use Rattle.ev_numserver.specs.Core.{published_from, without_inbox};
-ghost use Rattle.ev_numserver.specs.Routed.{IsRoute, RoutesMessage};
 ghost use Rattle.ev_numserver.specs.Step.{MakesStep, last_stamp};
-ghost use Rattle.ev_numnet.specs.Kept.{IsFirst, IsSomeServer};
+ghost use Rattle.ev_numnet.specs.Kept.{IsFirst};
+ghost use Rattle.ev_numnet.specs.Stepping.{IsSome, peers};
 
+use crate::routing::{route, routed};
+use crate::server::Server;
+use crate::servers::Servers;
 use crate::waiting::Waiting;
-use ev_forwarding::{Forwarding, Route};
+use ev_forwarding::Forwarding;
 use ev_memory::NoMemory;
-use ev_message::Load;
 use ev_model::Delivery;
 use ev_numserver::{Core, Step, StepFault};
 use ev_tables::Tables;
@@ -94,33 +94,12 @@ impl<'a> Place<'a> {
     {
         self.core.raise(clock);
     }
-
-    /// Hands on what was delivered to a client that lives here, whose inbox is empty then.
-    pub(crate) fn take_inbox(&mut self, client: u32) -> Vec<Delivery>
-        requires { Has client (client_numbers self.old.clients) }
-        ensures inbox { (s : SessionParts) → Has s self.old.clients → s.client ≡ client → result.items ≡ s.inbox }
-        ensures emptied { self.new ≡ without_inbox client self.old }
-    {
-        self.core.take_inbox(client)
-    }
 }
 
-impl<'a> Place<'a> {
-    /// Takes the next command of a client that lives here and has one left.
-    pub(crate) fn command(&mut self, alloc: Global, client: u32) -> Result<Step<'a>, NoMemory>
-        requires lives { Has client (client_numbers self.old.clients) }
-        requires left { (s : SessionParts) → Has s self.old.clients → s.client ≡ client → s.taken < length s.script }
-        requires stands { IsSomeServer self.old }
-        requires low { self.old.clock < last_stamp }
-        ensures step { IfOk result (λ s. MakesStep (Does (NextCommand client)) 0 self.old self.new s.stamp s.sent.items) }
-        ensures err { OnErr result (self.new ≡ self.old) }
-    {
-        match self.core.next_publication(client) {
-            Some(number) => self.publish(alloc, client, number),
-            None => unexhausted(self.core.take_command(client)),
-        }
-    }
+/// The servers of a network of peers.
+pub(crate) type Peers<'a> = Servers<'a, Place<'a>>;
 
+impl<'a> Place<'a> {
     /// Takes the next command of a client that lives here: a publish of the publication with a number, which is accepted.
     fn publish(&mut self, alloc: Global, client: u32, number: u32) -> Result<Step<'a>, NoMemory>
         requires lives { Has client (client_numbers self.old.clients) }
@@ -128,69 +107,59 @@ impl<'a> Place<'a> {
         requires known { number < length (known_publications 1 self.old.net.clients) }
         requires publish { (s : SessionParts) → Has s self.old.clients → s.client ≡ client
             → next_plan s ≡ Some (plans.Publish (publication_at self.old.net number).id (publication_at self.old.net number).notice) }
-        requires stands { IsSomeServer self.old }
+        requires stands { IsSome peers self.old }
         requires low { self.old.clock < last_stamp }
         ensures step { IfOk result (λ s. MakesStep (Does (NextCommand client)) 0 self.old self.new s.stamp s.sent.items) }
         ensures err { OnErr result (self.new ≡ self.old) }
     {
-        let route = self.routed(alloc, number)?;
+        let tables = self.core.tables();
+        let route = routed(alloc, tables, &self.forwarding, number)?;
         unexhausted(self.core.take_publish(client, number, route.interfaces()))
     }
+}
 
-    /// Where the publication with a number goes by what was published.
-    fn routed(&self, alloc: Global, number: u32) -> Result<Route, NoMemory>
-        requires { number < length (known_publications 1 self.now.net.clients) }
-        ensures { IfOk result (IsRoute (publication_at self.now.net number).notice (published_from self.now)) }
-    {
-        let found = self.core.tables().found(number);
-        self.forwarding.route(alloc, found.matched())
-    }
+impl<'a> Server<'a> for Place<'a> {
+    ghost use Rattle.ev_numnet.specs.Stepping.{peers};
 
-    /// Where a step routes what a message carries; nowhere where that is a change.
-    fn route(&self, alloc: Global, load: &Load) -> Result<Route, NoMemory>
-        requires { IsLoad self.now.net load.now }
-        ensures { IfOk result (λ r. RoutesMessage self.now (meaning self.now.net load.now) r) }
-    {
-        match load {
-            Load::Publication(number) => self.routed(alloc, *number),
-            _ => Ok(Route::nowhere(alloc)),
+    ghost stepping = { peers };
+
+    fn command(&mut self, alloc: Global, client: u32) -> Result<Step<'a>, NoMemory> {
+        match self.core.next_publication(client) {
+            Some(number) => self.publish(alloc, client, number),
+            None => unexhausted(self.core.take_command(client)),
         }
     }
 
-    /// Takes a message that a neighbour sent.
-    pub(crate) fn take(
+    fn take(
         &mut self,
         alloc: Global,
         from: u32,
         waiting: &Waiting<'a>,
-    ) -> Result<Step<'a>, NoMemory>
-        requires from { Has from self.old.control.links }
-        requires stands { IsSomeServer self.old }
-        requires low { (self.old.clock < last_stamp) × (waiting.now.stamp < last_stamp) }
-        requires run { waiting.now.sent.net ≡ self.old.net }
-        ensures step { IfOk result (λ s. MakesStep (Takes from waiting.now.sent.message) waiting.now.stamp self.old self.new s.stamp s.sent.items) }
-        ensures err { OnErr result (self.new ≡ self.old) }
-    {
-        let route = self.route(alloc, waiting.message.load())?;
+    ) -> Result<Step<'a>, NoMemory> {
+        let tables = self.core.tables();
+        let load = waiting.message.load();
+        let route = route(alloc, tables, &self.forwarding, load)?;
         unexhausted(
             self.core
                 .take_message(from, waiting.stamp, &waiting.message, route.interfaces()),
         )
     }
 
-    /// Publishes what is staged; the answer is the stamp. It takes no memory.
-    pub(crate) fn version(&mut self) -> u64
-        requires some { (self.old.staged ≡ []) → ⊥ }
-        requires stands { IsSomeServer self.old }
-        requires low { self.old.clock < last_stamp }
-        ensures { MakesStep (Does Version) 0 self.old self.new result [] }
-    {
+    fn version(&mut self) -> u64 {
         self.core.is_known();
         self.forwarding.apply(self.core.staged());
         match self.core.publish() {
             Ok(stamp) => stamp,
             Err(_) => unreachable!(),
         }
+    }
+
+    fn is_calm(&self) -> bool {
+        self.core.staged().is_empty()
+    }
+
+    fn take_inbox(&mut self, client: u32) -> Vec<Delivery> {
+        self.core.take_inbox(client)
     }
 }
 

@@ -3,12 +3,12 @@ ghost use Rattle.std.specs.Prelude.{◌≡◌, IfOk};
 ghost use Rattle.ev_model.specs.Sound.{IsSound};
 ghost use Rattle.ev_turns.specs.Network.{IsLegal};
 ghost use Rattle.ev_turns.specs.Told.{told_by};
-ghost use Rattle.ev_turns.specs.Retold.{turn_of_entry};
 
 use crate::keeping::Passed;
 use crate::network::Network;
 use ev_memory::NoMemory;
-use ev_model::{Act, Entry, Sent, Turn};
+use ev_model::{Entry, Sent};
+use ev_schedule::retold;
 use ev_tables::Tables;
 use ev_wire::Lists;
 use std::alloc::Global;
@@ -25,25 +25,5 @@ pub fn retell(
     ensures { IfOk result (λ told. told.items ≡ told_by tables.now journal.now) }
 {
     let mut network: Network<'_, Passed> = Network::start(alloc, tables)?;
-    let mut told = Vec::with_capacity(alloc, journal.len())?;
-    for entry in journal {
-        network.turn(turn_of(entry))?;
-        let texts = network.last_told()?;
-        told.push(texts)?;
-    }
-    Ok(told)
-}
-
-/// The turn of an entry.
-pub fn turn_of(entry: &Entry) -> Turn
-    ensures { result ≡ turn_of_entry entry.now }
-{
-    match entry.act {
-        Act::Command(client) => Turn::Command(client),
-        Act::Take(from) => Turn::Take {
-            server: entry.server,
-            from,
-        },
-        Act::Version => Turn::Version(entry.server),
-    }
+    retold(alloc, &mut network, journal)
 }

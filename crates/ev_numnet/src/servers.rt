@@ -1,4 +1,4 @@
-//! The servers of a network with their links and their journal, and the steps of one of them.
+//! The servers of a network, whatever their kind, with their links and their journal, and the steps of one of them.
 ghost use Rattle.std.specs.Prelude.{◌≡◌, ℕ, ◌≤◌, ◌<◌, ◌^◌, ◌-◌, ◌∷◌, ◌++◌, [], true, false, Some, slice_get, length, map, IfOk, OnOk};
 ghost use Rattle.std.specs.Prelude.{OnErr, vec_len, vec_capacity};
 ghost use Rattle.ev_sets.specs.Sets.{Has};
@@ -12,14 +12,13 @@ ghost use Rattle.ev_model.specs.Parts.{NetParts, entry_parts};
 ghost use Rattle.ev_model.specs.declared.turn.Act.TheVariants as acts;
 ghost use Rattle.ev_session.specs.Session.{SessionParts};
 ghost use Rattle.ev_numserver.specs.Clients.{client_numbers};
-ghost use Rattle.ev_numserver.specs.Core.{CoreParts};
 ghost use Rattle.ev_numserver.specs.Step.{last_stamp};
 ghost use Rattle.ev_numnet.specs.Acted.{IsActed};
 ghost use Rattle.ev_numnet.specs.Seen.{CanAct, seen, IsUnchanged};
 ghost use Rattle.ev_numnet.specs.Links.{WaitingParts, messages_at, messages_to, waiting_in, has_room};
 
 use crate::links::Links;
-use crate::place::Place;
+use crate::server::Server;
 use crate::waiting::Waiting;
 use ev_journal::Journal;
 use ev_memory::NoMemory;
@@ -29,14 +28,19 @@ use ev_numserver::Step;
 use ev_tables::Tables;
 use std::alloc::Global;
 
-/// The servers by rising number, what is on the links between them, what they did, and the tables of their run.
+/// The servers of a network, of some kind, what is on the links between them, what they did, and the tables of their run.
 #[derive(Drop)]
-pub(crate) struct Servers<'a> {
-    pub(crate) alloc: Global,
-    pub(crate) places: Vec<Place<'a>>,
-    pub(crate) links: Links<'a>,
-    pub(crate) journal: Journal,
-    pub(crate) tables: &'a Tables<'a>,
+pub struct Servers<'a, P> {
+    /// Where memory is taken.
+    pub alloc: Global,
+    /// The servers, by rising number.
+    pub places: Vec<P>,
+    /// The links between them.
+    pub links: Links<'a>,
+    /// What they did.
+    pub journal: Journal,
+    /// The tables of their run.
+    pub tables: &'a Tables<'a>,
 }
 
 /// Messages that a step sends go on the links of its server, and their receivers into a list. There is room for both, so it
@@ -78,7 +82,7 @@ fn without_room(alloc: Global, list: Vec<u32>) -> Vec<u32>
 
 /// What a step sends goes on the links of its server, and the step joins the journal. There is room for both, so it takes
 /// no memory.
-pub fn put<'a>(
+fn put<'a>(
     alloc: Global,
     links: &mut Links<'a>,
     journal: &mut Journal,
@@ -109,7 +113,7 @@ pub fn put<'a>(
     });
 }
 
-impl<'a> Servers<'a> {
+impl<'a, P: Server<'a>> Servers<'a, P> {
     /// Makes room for what a step of a server puts on these links, and for its entry; the answer is an empty list with room
     /// for as many neighbours.
     fn make_room(&mut self, server: u32, neighbours: &[u32]) -> Result<Vec<u32>, NoMemory>
@@ -126,17 +130,12 @@ impl<'a> Servers<'a> {
     }
 
     /// Takes the next command of a client of a server, whose neighbours are given.
-    pub(crate) fn command(
-        &mut self,
-        server: u32,
-        client: u32,
-        neighbours: &[u32],
-    ) -> Result<(), NoMemory>
-        requires able { CanAct server neighbours.now self.old.places.items }
-        requires lives { (core : CoreParts) → slice_get self.old.places.items (server - 1) ≡ Some core → Has client (client_numbers core.clients) }
-        requires left { (core : CoreParts) (s : SessionParts) → slice_get self.old.places.items (server - 1) ≡ Some core → Has s core.clients
+    pub fn command(&mut self, server: u32, client: u32, neighbours: &[u32]) -> Result<(), NoMemory>
+        requires able { CanAct P.stepping server neighbours.now self.old.places.items }
+        requires lives { (core : P) → slice_get self.old.places.items (server - 1) ≡ Some core → Has client (client_numbers (P.stepping.core core).clients) }
+        requires left { (core : P) (s : SessionParts) → slice_get self.old.places.items (server - 1) ≡ Some core → Has s (P.stepping.core core).clients
             → s.client ≡ client → s.taken < length s.script }
-        ensures acted { OnOk result (IsActed (server - 1) (Does (NextCommand client)) (acts.Command client) (seen self.old) (seen self.new)) }
+        ensures acted { OnOk result (IsActed P.stepping (server - 1) (Does (NextCommand client)) (acts.Command client) (seen self.old) (seen self.new)) }
         ensures kept { self.new.journal.kept ≡ self.old.journal.kept }
         ensures err { OnErr result (IsUnchanged self.old self.new) }
     {
@@ -156,19 +155,14 @@ impl<'a> Servers<'a> {
     }
 
     /// Has a server, whose neighbours are given, take the next message from one of them.
-    pub(crate) fn take(
-        &mut self,
-        server: u32,
-        from: u32,
-        neighbours: &[u32],
-    ) -> Result<bool, NoMemory>
-        requires able { CanAct server neighbours.now self.old.places.items }
+    pub fn take(&mut self, server: u32, from: u32, neighbours: &[u32]) -> Result<bool, NoMemory>
+        requires able { CanAct P.stepping server neighbours.now self.old.places.items }
         requires from { Has from neighbours.now }
         requires low { (w : WaitingParts) → Has w (messages_at self.old.links from server) → w.stamp < last_stamp }
-        requires run { (w : WaitingParts) (core : CoreParts) → Has w (messages_at self.old.links from server)
-            → slice_get self.old.places.items (server - 1) ≡ Some core → w.sent.net ≡ core.net }
+        requires run { (w : WaitingParts) (core : P) → Has w (messages_at self.old.links from server)
+            → slice_get self.old.places.items (server - 1) ≡ Some core → w.sent.net ≡ (P.stepping.core core).net }
         ensures acted { (net : NetParts) (m : Stamped (Message real)) → slice_get (messages_at self.old.links from server) 0 ≡ Some (waiting_in net m)
-            → IfOk result (λ made. (made ≡ true) × IsActed (server - 1) (Takes from m) (acts.Take from) (seen self.old) (seen self.new)) }
+            → IfOk result (λ made. (made ≡ true) × IsActed P.stepping (server - 1) (Takes from m) (acts.Take from) (seen self.old) (seen self.new)) }
         ensures none { messages_at self.old.links from server ≡ [] → IfOk result (λ made. (made ≡ false) × IsUnchanged self.old self.new) }
         ensures kept { self.new.journal.kept ≡ self.old.journal.kept }
         ensures err { OnErr result (IsUnchanged self.old self.new) }
@@ -196,10 +190,10 @@ impl<'a> Servers<'a> {
     }
 
     /// Has a server publish what it has staged.
-    pub(crate) fn version(&mut self, server: u32) -> Result<(), NoMemory>
-        requires able { (neighbours : _) × CanAct server neighbours self.old.places.items }
-        requires some { (core : CoreParts) → slice_get self.old.places.items (server - 1) ≡ Some core → (core.staged ≡ []) → ⊥ }
-        ensures acted { OnOk result (IsActed (server - 1) (Does Version) acts.Version (seen self.old) (seen self.new)) }
+    pub fn version(&mut self, server: u32) -> Result<(), NoMemory>
+        requires able { (neighbours : _) × CanAct P.stepping server neighbours self.old.places.items }
+        requires some { (core : P) → slice_get self.old.places.items (server - 1) ≡ Some core → ((P.stepping.core core).staged ≡ []) → ⊥ }
+        ensures acted { OnOk result (IsActed P.stepping (server - 1) (Does Version) acts.Version (seen self.old) (seen self.new)) }
         ensures kept { self.new.journal.kept ≡ self.old.journal.kept }
         ensures err { OnErr result (IsUnchanged self.old self.new) }
     {

@@ -15,7 +15,7 @@ ghost use Rattle.ev_numnet.specs.Links.{WaitingParts, messages_at};
 ghost use Rattle.ev_numnet.specs.Seen.{seen};
 
 use crate::links::Links;
-use crate::servers::Servers;
+use crate::place::Peers;
 use crate::texts::text_of;
 use ev_memory::NoMemory;
 use ev_model::Sent;
@@ -69,7 +69,7 @@ pub fn last_on(
 }
 
 /// The texts of the messages of the last entry, by rising neighbour.
-pub(crate) fn last_told(tables: &Tables<'_>, servers: &Servers<'_>) -> Result<Lists<Sent>, NoMemory>
+pub(crate) fn last_told(tables: &Tables<'_>, servers: &Peers<'_>) -> Result<Lists<Sent>, NoMemory>
     requires kept { (phase : ℕ) × IsNetwork tables.now phase (seen servers.now) }
     ensures { IfOk result (λ told. (before : List EntryParts) (entry : EntryParts) → servers.now.journal.entries ≡ before ++ entry ∷ []
         → told ≡ told_of tables.now (found_of real (phased_net tables.now) (journal_of servers.now.journal.entries) (length before)) entry) }

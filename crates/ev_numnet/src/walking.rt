@@ -16,14 +16,8 @@ impl<'a, K: Keeping> Network<'a, K> {
         ensures begun { OnErr result (IsPhaseBegun self.old self.new) }
         ensures err { OnErr result (IsLater self.old self.new) }
     {
-        let before = self.made();
-        for phase in self.phase()..self.net().phases() {
-            self.make_phase(phase)?;
-            if self.made() > before {
-                return Ok(true);
-            }
-        }
-        Ok(false)
+        let net = self.tables.net();
+        ev_schedule::walk_phase(self, net)
     }
 
     /// Makes what is left of all phases, so that all commands are taken, all links are empty and nothing is staged.
@@ -33,9 +27,7 @@ impl<'a, K: Keeping> Network<'a, K> {
         ensures begun { OnErr result (IsWalkBegun self.old self.new) }
         ensures err { OnErr result (IsLater self.old self.new) }
     {
-        for phase in self.phase()..self.net().phases() {
-            self.make_phase(phase)?;
-        }
-        Ok(())
+        let net = self.tables.net();
+        ev_schedule::walk(self, net)
     }
 }

@@ -1,9 +1,7 @@
 -- What was made before want of memory: a beginning of what was to be made.
-use Rattle.std.proofs.Common.{◌≡◌, ℕ, suc, ◌-◌, ◌<◌, ◌≤◌, List, [], ◌++◌, length, take, drop, Result, Ok, Err, OnErr, refl, sym, ap, subst, ◌∙◌, arith}
+use Rattle.std.proofs.Common.{◌≡◌, ℕ, suc, ◌-◌, ◌<◌, ◌≤◌, List, [], ◌++◌, take, drop, Result, Ok, Err, OnErr, refl, sym, ap, subst, ◌∙◌}
 use Rattle.std.proofs.lemmas.List.{append-nil, append_assoc, map-append, take-append-drop}
-use Rattle.ev_run.specs.Walk.{repeated}
-use Rattle.ev_routing.specs.Walk.{enough_rounds}
-use Rattle.ev_phases.specs.Trees.{JournalEntry, net_at, machine_at}
+use Rattle.ev_phases.specs.Trees.{JournalEntry}
 use Rattle.ev_phases.specs.Runs.{Turn}
 use Rattle.ev_phases.specs.Walk.{entries_by, walk_phases}
 use Rattle.ev_phases.specs.Walk.{moment_by as moment_tried}
@@ -11,14 +9,12 @@ use Rattle.ev_theory.specs.Real.{real}
 use Rattle.ev_model.specs.declared.turn.Turn.{Turn as NetTurn}
 use Rattle.ev_model.specs.Meaning.{entry_of, journal_of}
 use Rattle.ev_model.specs.Nets.{phased_net, phases_of}
-use Rattle.ev_turns.specs.Network.{NetworkParts, network_parts, moment_by, IsLater}
+use Rattle.ev_turns.specs.Network.{NetworkParts, network_parts, moment_by}
 use Rattle.ev_turns.specs.Turns.{AreMade, AreBegun}
 use Rattle.ev_turns.specs.Walked.{IsWalkBegun, IsPhaseBegun}
-use Rattle.ev_turns.specs.Trying.{entries_tried, IsOnWay, IsBegun, Tries, Begins, round_turns, rounds_turns, phase_turns, IsWalkedTo}
-use Rattle.ev_turns.proofs.Later.{later-net}
+use Rattle.ev_turns.specs.Trying.{entries_tried, IsOnWay, IsBegun, Begins, phase_turns, IsWalkedTo}
 use Rattle.ev_turns.proofs.Turns.{entries-append}
-use Rattle.ev_turns.proofs.Tries.{Going, can-part, going-starts, going-on}
-use Rattle.ev_turns.proofs.Rounds.{Settling}
+use Rattle.ev_turns.proofs.Tries.{Going, can-part}
 use Rattle.ev_turns.proofs.Walks.{walk-split, here-can, AreEmpty}
 use Rattle.ev_turns.proofs.Replayed.{IsReplayedTo}
 
@@ -60,33 +56,6 @@ breaks phase turns part more old middle new way begun = record {
 
 pub going-breaks : (phase : ℕ) (turns left part more : List Turn) (old middle new : NetworkParts) → left ≡ part ++ more → Going phase turns left old middle → Begins phase part middle new → Begins phase turns old new
 going-breaks phase turns left part more old middle new e way begun can = breaks phase turns part more old middle new (subst (λ z. IsOnWay phase turns z old middle) e (way can)) begun
-
--- nothing more was made
-pub going-stops : (phase : ℕ) (turns left : List Turn) (old middle new : NetworkParts) → Going phase turns left old middle → new ≡ middle → Begins phase turns old new
-going-stops phase turns left old middle new way same = going-breaks phase turns left [] left old middle new refl way (begun-none phase [] middle new same)
-
--- of two lists of turns the first was begun, or the second
-pub first-begun : (phase : ℕ) (part more : List Turn) (old new : NetworkParts) → Begins phase part old new → Begins phase (part ++ more) old new
-first-begun phase part more old new begun = going-breaks phase (part ++ more) (part ++ more) part more old old new refl (going-starts phase (part ++ more) old) begun
-
-pub second-begun : (phase : ℕ) (part more : List Turn) (old middle new : NetworkParts) → Tries phase part old middle → Begins phase more middle new → Begins phase (part ++ more) old new
-second-begun phase part more old middle new tries begun =
-    going-breaks phase (part ++ more) more more [] old middle new (sym (append-nil more))
-    (going-on phase (part ++ more) (part ++ more) part more old old middle refl (going-starts phase (part ++ more) old) tries) begun
-
--- one repetition of what was left was begun
-pub repeat-breaks : (phase q left k : ℕ) (all turns : List Turn) (old middle new : NetworkParts) → left ≡ suc k → Going phase all (repeated (machine_at real (phased_net old.net) q) left turns) old middle
-    → Begins phase turns middle new → Begins phase all old new
-repeat-breaks phase q left k all turns old middle new e way begun =
-    going-breaks phase all (repeated (machine_at real (phased_net old.net) q) left turns) turns (repeated (machine_at real (phased_net old.net) q) k turns) old middle new
-    (ap (λ n. repeated (machine_at real (phased_net old.net) q) n turns) e) way begun
-
-pub settling-breaks : (phase : ℕ) (old middle new : NetworkParts) → IsLater old middle → Settling phase old middle → length middle.journal < enough_rounds real (net_at real (phased_net middle.net) phase)
-    → Begins phase (round_turns middle.net phase) middle new → Begins phase (rounds_turns old.net phase) old new
-settling-breaks phase old middle new later so fewer begun =
-    repeat-breaks phase phase so.left (so.left - 1) (rounds_turns old.net phase) (round_turns old.net phase) old middle new
-    (omega (arith, so.few, fewer, ap (λ n. enough_rounds real (net_at real (phased_net n) phase)) (later-net old middle later))) so.way
-    (subst (λ n. Begins phase (round_turns n phase) middle new) (later-net old middle later) begun)
 
 -- a phase of the walk was begun
 pub walk-begun : (phase : ℕ) (old middle new : NetworkParts) → IsWalkedTo phase old middle → phase < phases_of middle.net → Begins phase (phase_turns middle.net phase) middle new → IsWalkBegun old new

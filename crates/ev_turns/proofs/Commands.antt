@@ -1,5 +1,5 @@
 -- The turn of a client's next command within a phase.
-use Rattle.std.proofs.Common.{◌≡◌, ℕ, ◌==◌, Bool, true, false, cond, not, ◌&&◌, [], ◌∷◌, slice_get, Option, Some, None, Result, Ok, Err, IfOk, OnOk, OnErr, refl, sym, ap, subst, ◌∙◌, eq-eqb, eqb-true, ne_eqb}
+use Rattle.std.proofs.Common.{◌≡◌, ℕ, ◌==◌, Bool, true, false, cond, not, ◌&&◌, slice_get, Option, Some, None, refl, sym, ap, ◌∙◌, eq-eqb, eqb-true, ne_eqb}
 use Rattle.std.specs.Option.{option_eq}
 use Rattle.std.proofs.lemmas.Option.{same_Some}
 use lib.Dec.{eqb}
@@ -16,16 +16,9 @@ use Rattle.ev_phases.specs.Turns.{off_maybe, entry_made}
 use Rattle.ev_phases.specs.Walk.{entry_of_phase, entry_in}
 use Rattle.ev_phases.proofs.Entries.{found-keeps}
 use Rattle.ev_theory.specs.Real.{real}
-use Rattle.ev_memory.specs.declared.NoMemory.{NoMemory}
-use Rattle.ev_model.specs.declared.turn.Turn.{Turn}
-use Rattle.ev_model.specs.declared.turn.Turn.TheVariants as turns
 use Rattle.ev_model.specs.Parts.{NetParts}
 use Rattle.ev_model.specs.Nets.{phased_net, home_of, script_of}
-use Rattle.ev_turns.specs.Network.{NetworkParts, moment_by, IsLater}
-use Rattle.ev_turns.specs.Turns.{IsTurn}
-use Rattle.ev_turns.specs.Trying.{phase_in, next_phase_by, command_turn, Tries}
-use Rattle.ev_turns.proofs.Later.{later-same, later-turn}
-use Rattle.ev_turns.proofs.Tries.{turn-tries}
+use Rattle.ev_turns.specs.Trying.{phase_in, command_turn}
 
 -- a next command of the phase is of the phase
 pub own-phase : (net : NetParts) (o : Option (PhasedCommand real)) (phase q r : ℕ) → phase_in o ≡ Some phase → is_of_phase (machine_at real (phased_net net) q) phase (phase_of real (net_at real (phased_net net) r) o) ≡ true
@@ -66,22 +59,6 @@ skipped net m client phase other = go (slice_get (script_of net client) ((m.stat
     go None e other =
         keep (0 == phase) (entry_made real (phased_net net) (as_found real (phased_net net) m (Some 0)) (command_turn net client)) (no-entry net (as_found real (phased_net net) m (Some 0)) client (ap (slice_get (script_of net client)) (ap (λ f. f client) (found-keeps real (phased_net net) m (Some 0) (home_of net client)).0) ∙ e))
     go (Some command) e other = ap (λ b. cond b (entry_made real (phased_net net) (as_found real (phased_net net) m (Some command.phase)) (command_turn net client)) None) (ne_eqb command.phase phase (λ q. other (ap Some q)))
-
--- what a call that makes the turn of a next command answers
-pub command-tried : (result : Result Bool NoMemory) (client phase : ℕ) (old new : NetworkParts) → IfOk result (λ made. IsTurn made (turns.Command client) old new)
-    → next_phase_by old.net old.journal client ≡ Some phase → OnOk result (Tries phase (command_turn old.net client ∷ []) old new)
-command-tried (Ok made) client phase old new x own =
-    turn-tries made (turns.Command client) old new x phase
-    (own-phase old.net (slice_get (script_of old.net client) (((moment_by old.net old.journal).state.state (home_of old.net client)).done client)) phase phase (moment_by old.net old.journal).phase own)
-command-tried (Err e) client phase old new x own = tt
-
-pub turn-none : (result : Result Bool NoMemory) (turn : Turn) (old new : NetworkParts) → IfOk result (λ made. IsTurn made turn old new) → IfOk result (λ made. made ≡ false → new ≡ old)
-turn-none (Ok made) turn old new x = λ e. (subst (λ b. IsTurn b turn old new) e x).0
-turn-none (Err e) turn old new x = tt
-
-pub turn-later : (result : Result Bool NoMemory) (turn : Turn) (old new : NetworkParts) → IfOk result (λ made. IsTurn made turn old new) → OnErr result (new ≡ old) → IsLater old new
-turn-later (Ok made) turn old new x e = later-turn made turn old new x
-turn-later (Err want) turn old new x e = later-same old new e
 
 -- a phase is compared with a next command's
 pub same-phase : (o : Option ℕ) (phase : ℕ) → not (option_eq eqb o (Some phase)) ≡ false → o ≡ Some phase

@@ -1,8 +1,7 @@
 -- In a drained run nothing more is permitted: so where a walk goes on, the run was not drained.
-use Rattle.std.proofs.Common.{◌≡◌, inl, inr, ℕ, suc, take, ◌+◌, ◌<◌, Bool, true, false, List, [], ◌∷◌, ◌++◌, length, slice_get, get_or, Option, Some, None, refl, sym, ap, subst, ◌∙◌, arith, length-append}
+use Rattle.std.proofs.Common.{◌≡◌, inl, inr, ℕ, suc, take, ◌<◌, Bool, true, false, List, [], ◌∷◌, ◌++◌, length, slice_get, get_or, Option, Some, None, refl, sym, ap, subst, ◌∙◌, arith, length-append}
 use Rattle.std.proofs.lemmas.List.{take_at}
 use Rattle.std.proofs.lemmas.Option.{slice_get_past}
-use Rattle.ev_sets.specs.Sets.{Has}
 use Rattle.ev_run.specs.Machine.{Did, Took, Act, act_phase}
 use Rattle.ev_run.proofs.Phases.{get-end}
 use Rattle.ev_routing.specs.Step.{Task, NextCommand, Version}
@@ -15,7 +14,7 @@ use Rattle.ev_theory.specs.Real.{real}
 use Rattle.ev_model.specs.Parts.{NetParts, EntryParts}
 use Rattle.ev_model.specs.Meaning.{act_of, entry_of, journal_of}
 use Rattle.ev_model.specs.Nets.{phased_net}
-use Rattle.ev_turns.specs.Network.{NetworkParts, network_parts, moment_by, IsLegal, IsDrainedBy}
+use Rattle.ev_turns.specs.Network.{NetworkParts, moment_by, IsLegal, IsDrainedBy}
 use Rattle.ev_turns.specs.Walked.{IsPhaseWalked}
 use Rattle.ev_turns.proofs.Again.{begin-is, permitted-there}
 use Rattle.ev_turns.proofs.Barred.{Needs, permits}

@@ -1,29 +1,24 @@
 -- Rounds of takings and versions: their turns server by server, and that there are more rounds than a run has entries.
-use Rattle.std.proofs.Common.{◌≡◌, ℕ, ◌+◌, ◌-◌, ◌<◌, ◌≤◌, nat_le, Bool, true, false, cond, List, [], ◌∷◌, ◌++◌, inl, inr, length, drop, refl, sym, ap, subst, ◌∙◌, arith}
+use Rattle.std.proofs.Common.{◌≡◌, ℕ, ◌+◌, ◌-◌, ◌<◌, ◌≤◌, nat_le, Bool, true, false, cond, List, [], ◌∷◌, ◌++◌, inl, inr, length, drop, refl, sym, ap, ◌∙◌, arith}
 use Rattle.std.proofs.lemmas.List.{length-map}
 use Rattle.ev_sets.specs.Sets.{Has}
 use Rattle.ev_tree.specs.Tree.{Topology, links_of}
 use Rattle.ev_run.specs.Machine.{Did}
-use Rattle.ev_run.specs.Walk.{repeated}
 use Rattle.ev_routing.specs.Step.{Version}
 use Rattle.ev_routing.specs.Walk.{round_at, enough_rounds}
-use Rattle.ev_phases.specs.Trees.{Tree, tree_after, net_at, tree_at, machine_at}
+use Rattle.ev_phases.specs.Trees.{Tree, tree_after, net_at, tree_at}
 use Rattle.ev_phases.specs.Runs.{PhasedRun}
 use Rattle.ev_phases.specs.Bounds.{KeepsBounds}
 use Rattle.ev_phases.proofs.Counted.{bounded}
 use Rattle.ev_theory.specs.Real.{real, real_laws}
-use Rattle.ev_model.specs.declared.turn.Turn.TheVariants as turns
 use Rattle.ev_model.specs.Parts.{NetParts, EntryParts}
 use Rattle.ev_model.specs.Meaning.{entry_of, journal_of}
 use Rattle.ev_model.specs.Nets.{phased_net, first_tree, later_trees, servers_in, topology_at}
 use Rattle.ev_model.specs.Sound.{HasTrees, IsSound}
 use Rattle.ev_model.proofs.SoundNets.{net-laws, tree-map}
-use Rattle.ev_turns.specs.Network.{NetworkParts, moment_by, IsLegal, IsLater}
-use Rattle.ev_turns.specs.Turns.{IsTurn}
-use Rattle.ev_turns.specs.Trying.{takings, round_turns, rounds_turns, Tries}
+use Rattle.ev_turns.specs.Network.{moment_by, IsLegal}
+use Rattle.ev_turns.specs.Trying.{takings}
 use Rattle.ev_turns.proofs.Ranges.{servers-next, servers-past}
-use Rattle.ev_turns.proofs.Later.{later-net}
-use Rattle.ev_turns.proofs.Tries.{Going, going-starts, going-on, going-repeats, going-rests, turn-tries}
 
 -- all trees have the servers of the first
 count-after : (count : ℕ) (tree : Topology) (later : List (ℕ × Topology)) → tree.count ≡ count → ((next : ℕ × Topology) → Has next later → next.1.count ≡ count) → (phase : ℕ) → (tree_after tree later phase).count ≡ count
@@ -51,19 +46,6 @@ round-left net sound phase tree server e some most =
     ap (round_at real (net_at real (phased_net net) phase)) (servers-next (first_tree net.trees).count server some (omega (arith, most, count)))
     ∙ ap (λ z. takings server z ++ ((server, Did Version) ∷ round_at real (net_at real (phased_net net) phase) (drop (server + 1 - 1) (servers_in net)))) links
 
--- a server's part of a round
-pub round-goes : (phase : ℕ) (tree : Topology) (server : ℕ) (neighbours : List ℕ) (some : Bool) (old first middle new : NetworkParts) → IsSound old.net → tree ≡ topology_at old.net phase → 1 ≤ server → server ≤ tree.count
-    → neighbours ≡ links_of tree server
-    → Going phase (round_turns old.net phase) (round_at real (net_at real (phased_net old.net) phase) (drop (server - 1) (servers_in old.net))) old first
-    → Tries phase (takings server neighbours) first middle → IsTurn some (turns.Version server) middle new
-    → Going phase (round_turns old.net phase) (round_at real (net_at real (phased_net old.net) phase) (drop (server + 1 - 1) (servers_in old.net))) old new
-round-goes phase tree server neighbours some old first middle new sound e least most near way taken turn =
-    let more = round_at real (net_at real (phased_net old.net) phase) (drop (server + 1 - 1) (servers_in old.net)) in
-    going-on phase (round_turns old.net phase) ((server, Did Version) ∷ more) ((server, Did Version) ∷ []) more old middle new refl
-    (going-on phase (round_turns old.net phase) (round_at real (net_at real (phased_net old.net) phase) (drop (server - 1) (servers_in old.net))) (takings server neighbours) ((server, Did Version) ∷ more) old first middle
-    (round-left old.net sound phase tree server e least most ∙ ap (λ z. takings server z ++ ((server, Did Version) ∷ more)) (sym near)) way taken)
-    (turn-tries some (turns.Version server) middle new turn phase refl)
-
 -- a legal run has fewer entries than there may be rounds
 pub fewer-entries : (net : NetParts) (journal : List EntryParts) → IsSound net → IsLegal net journal → (phase : ℕ) → length journal < enough_rounds real (net_at real (phased_net net) phase)
 fewer-entries net journal sound legal phase = omega (arith, bounds.within, length-map journal entry_of)
@@ -86,35 +68,3 @@ pub round-past : (net : NetParts) → IsSound net → (phase : ℕ) (tree : Topo
     → round_at real (net_at real (phased_net net) phase) (drop server (servers_in net)) ≡ []
 round-past net sound phase tree server e past =
     ap (round_at real (net_at real (phased_net net) phase)) (servers-past (first_tree net.trees).count server (omega (arith, past, ap (λ (z : Topology). z.count) e, count-same net sound phase)))
-
--- some rounds were made, and no more than there are entries
-pub record Settling (phase : ℕ) (old new : NetworkParts) : Type 0 where
-  pub left : ℕ
-  pub few : enough_rounds real (net_at real (phased_net old.net) phase) ≤ left + length new.journal
-  pub way : Going phase (rounds_turns old.net phase) (repeated (machine_at real (phased_net old.net) phase) left (round_turns old.net phase)) old new
-
-pub settling-starts : (phase : ℕ) (network : NetworkParts) → Settling phase network network
-settling-starts phase network = record {
-  left = enough_rounds real (net_at real (phased_net network.net) phase);
-  few = omega arith;
-  way = going-starts phase (rounds_turns network.net phase) network;
-}
-
--- a further round that makes something
-pub settling-on : (phase : ℕ) (old middle new : NetworkParts) → IsLater old middle → Settling phase old middle → length middle.journal < enough_rounds real (net_at real (phased_net middle.net) phase)
-    → Tries phase (round_turns middle.net phase) middle new → length middle.journal < length new.journal → Settling phase old new
-settling-on phase old middle new later so fewer tries more = record {
-  left = so.left - 1;
-  few = omega (arith, so.few, more);
-  way = going-repeats phase phase so.left (so.left - 1) (rounds_turns old.net phase) (round_turns old.net phase) old middle new
-      (omega (arith, so.few, fewer, ap (λ n. enough_rounds real (net_at real (phased_net n) phase)) (later-net old middle later))) so.way
-      (subst (λ n. Tries phase (round_turns n phase) middle new) (later-net old middle later) tries);
-}
-
--- and one that makes nothing
-pub settling-ends : (phase : ℕ) (old middle new : NetworkParts) → IsLater old middle → Settling phase old middle → length middle.journal < enough_rounds real (net_at real (phased_net middle.net) phase)
-    → Tries phase (round_turns middle.net phase) middle new → new ≡ middle → Tries phase (rounds_turns old.net phase) old new
-settling-ends phase old middle new later so fewer tries same =
-    going-rests phase phase so.left (so.left - 1) (rounds_turns old.net phase) (round_turns old.net phase) old middle new
-    (omega (arith, so.few, fewer, ap (λ n. enough_rounds real (net_at real (phased_net n) phase)) (later-net old middle later))) so.way
-    (subst (λ n. Tries phase (round_turns n phase) middle new) (later-net old middle later) tries) same

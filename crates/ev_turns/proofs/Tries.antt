@@ -104,13 +104,6 @@ turn-tries false turn old new (same, barred) phase own can = record {
   entries = sym (made-nothing real (phased_net old.net) phase (moment_by old.net old.journal) (turn_of old.net turn) [] (barred-none real (phased_net old.net) phase (moment_by old.net old.journal) can.end (turn_of old.net turn) [] can.run barred));
 }
 
--- two lists of turns, one after the other
-pub both-tried : (phase : ℕ) (part more : List Turn) (old middle new : NetworkParts) → Tries phase part old middle → Tries phase more middle new → Tries phase (part ++ more) old new
-both-tried phase part more old middle new first second can =
-    ends phase (part ++ more) [] old new
-    (goes-on phase (part ++ more) more [] old middle new
-    (subst (λ z. IsOnWay phase (part ++ more) z old middle) (sym (append-nil more)) (goes-on phase (part ++ more) part more old old middle (starts phase (part ++ more) old can) first)) second) refl
-
 no-more : {X : Type 0} (xs ys : List X) → xs ++ ys ≡ xs → ys ≡ []
 no-more [] ys e = e
 no-more (x ∷ xs) ys e = no-more xs ys (tails e)
@@ -156,13 +149,6 @@ going-on phase turns left part more old middle new e way tries can = goes-on pha
 
 pub going-ends : (phase : ℕ) (turns left : List Turn) (old new : NetworkParts) → left ≡ [] → Going phase turns left old new → Tries phase turns old new
 going-ends phase turns left old new e way can = ends phase turns [] old new (subst (λ z. IsOnWay phase turns z old new) e (way can)) refl
-
--- one repetition of what is left
-pub going-repeats : (phase q left k : ℕ) (all turns : List Turn) (old middle new : NetworkParts) → left ≡ suc k → Going phase all (repeated (machine_at real (phased_net old.net) q) left turns) old middle
-    → Tries phase turns middle new → Going phase all (repeated (machine_at real (phased_net old.net) q) k turns) old new
-going-repeats phase q left k all turns old middle new e way tries =
-    going-on phase all (repeated (machine_at real (phased_net old.net) q) left turns) turns (repeated (machine_at real (phased_net old.net) q) k turns) old middle new
-    (ap (λ n. repeated (machine_at real (phased_net old.net) q) n turns) e) way tries
 
 -- one that makes nothing
 pub going-rests : (phase q left k : ℕ) (all turns : List Turn) (old middle new : NetworkParts) → left ≡ suc k → Going phase all (repeated (machine_at real (phased_net old.net) q) left turns) old middle

@@ -1,5 +1,5 @@
 use Rattle.std.proofs.Common.{refl, sym, ◌∙◌}
-use Rattle.ev_hier.specs.Seen.{seen}
+use Rattle.ev_numnet.specs.Seen.{seen}
 use Rattle.ev_turns.proofs.Among.{not_both}
 use Rattle.ev_hier.proofs.Commanding.{command_early, quiet_where, empty_where, calm_where, through_where, below_where}
 use Rattle.ev_hier.proofs.making.command.Goals as goal

@@ -11,14 +11,15 @@ use Rattle.ev_turns.proofs.Among.{count_at}
 use Rattle.ev_hierturns.specs.Network.{servers_of, moment_by}
 use Rattle.ev_numnet.specs.Links.{messages_at}
 use Rattle.ev_numnet.proofs.Commanding.{home_low}
-use Rattle.ev_hier.specs.Acted.{IsActed}
+use Rattle.ev_numnet.specs.Acted.{IsActed}
 use Rattle.ev_hier.specs.Clocks.{clock_from, greatest_clock, with_clocks}
 use Rattle.ev_hier.specs.Kept.{AreServers}
-use Rattle.ev_hier.specs.Seen.{seen, CanAct}
+use Rattle.ev_numnet.specs.Seen.{seen, CanAct}
 use Rattle.ev_hier.proofs.Commanding.{lives_there, left_there, ready_later, links_later, low_later, command_made, command_kept}
 use Rattle.ev_hier.proofs.Grown.{stays_kept}
 use Rattle.ev_hier.proofs.Raised.{clocks-long, set-back, raised-servers}
 use Rattle.ev_hier.proofs.Standing.{can_act}
+use Rattle.ev_hier.specs.Stepping.{hierarchy}
 use Rattle.ev_hier.proofs.making.first_command.Goals as goal
 
 pub neighbours-neighbours-requires : goal.neighbours-neighbours-requires
@@ -27,32 +28,34 @@ neighbours-neighbours-requires c =
     let count = ap (λ z. z.count) c.tree.ensures ∙ count_at c.args.net.now c.requires.kept.sound 0 in
     (low.0, subst (λ n. c.home-home.result ≤ n) (sym count) low.1)
 
-pub command-requires-clause-able : goal.command-requires-clause-able
-command-requires-clause-able c =
-    let net = c.args.net.now in
-    let state = (moment_by c.args.net.now c.args.servers.now.journal.entries).network in
-    let low = subst (λ z. (1 ≤ z) × (z ≤ (first_tree c.args.net.now.trees).count)) (sym c.home-home.ensures) (home_low c.args.net.now c.requires.kept.sound c.args.client) in
-    let links = c.neighbours-neighbours.ensures.value ∙ ap (λ z. links_of z c.home-home.result) c.tree.ensures in
-    let servers = subst (AreServers net (raised (servers_of net) state)) (sym c.in_ok-before.ensures.raised) (raised-servers net state c.args.servers.now.places.items c.requires.kept.cores) in
-    subst (λ z. CanAct c.home-home.result z c.raise_all.new.places.items) (sym links)
-    (can_act net c.requires.kept.sound (raised (servers_of net) state) c.raise_all.new.places.items servers c.home-home.result low.0 low.1
-    (low_later net c.args.last c.args.own (seen c.args.servers.now) c.requires.kept c.requires.later c.requires.quiet c.requires.through))
-
-pub command-requires-clause-lives : goal.command-requires-clause-lives
-command-requires-clause-lives c = λ parts at.
-    let net = c.args.net.now in
-    let state = (moment_by c.args.net.now c.args.servers.now.journal.entries).network in
-    let servers = subst (AreServers net (raised (servers_of net) state)) (sym c.in_ok-before.ensures.raised) (raised-servers net state c.args.servers.now.places.items c.requires.kept.cores) in
-    lives_there net c.requires.kept.sound (raised (servers_of net) state) c.raise_all.new.places.items servers c.args.client c.requires.client parts
-    (subst (λ z. slice_get c.raise_all.new.places.items (z - 1) ≡ Some parts) c.home-home.ensures at)
-
-pub command-requires-clause-left : goal.command-requires-clause-left
-command-requires-clause-left c = λ parts s at h e.
-    let net = c.args.net.now in
-    let state = (moment_by c.args.net.now c.args.servers.now.journal.entries).network in
-    let servers = subst (AreServers net (raised (servers_of net) state)) (sym c.in_ok-before.ensures.raised) (raised-servers net state c.args.servers.now.places.items c.requires.kept.cores) in
-    left_there net c.requires.kept.sound (raised (servers_of net) state) c.raise_all.new.places.items servers c.args.client c.args.own c.requires.next parts s
-    (subst (λ z. slice_get c.raise_all.new.places.items (z - 1) ≡ Some parts) c.home-home.ensures at) h e
+pub command-requires : goal.command-requires
+command-requires c = λ k. (
+  (refl, tt),
+  (
+    (let net = c.args.net.now in
+        let state = (moment_by c.args.net.now c.args.servers.now.journal.entries).network in
+        let low = subst (λ z. (1 ≤ z) × (z ≤ (first_tree c.args.net.now.trees).count)) (sym c.home-home.ensures) (home_low c.args.net.now c.requires.kept.sound c.args.client) in
+        let links = c.neighbours-neighbours.ensures.value ∙ ap (λ z. links_of z c.home-home.result) c.tree.ensures in
+        let servers = subst (AreServers net (raised (servers_of net) state)) (sym c.in_ok-before.ensures.raised) (raised-servers net state c.args.servers.now.places.items c.requires.kept.cores) in
+        subst (λ z. CanAct hierarchy c.home-home.result z c.raise_all.new.places.items) (sym links)
+        (can_act net c.requires.kept.sound (raised (servers_of net) state) c.raise_all.new.places.items servers c.home-home.result low.0 low.1
+        (low_later net c.args.last c.args.own (seen c.args.servers.now) c.requires.kept c.requires.later c.requires.quiet c.requires.through))),
+    (
+      (λ parts at.
+          let net = c.args.net.now in
+          let state = (moment_by c.args.net.now c.args.servers.now.journal.entries).network in
+          let servers = subst (AreServers net (raised (servers_of net) state)) (sym c.in_ok-before.ensures.raised) (raised-servers net state c.args.servers.now.places.items c.requires.kept.cores) in
+          lives_there net c.requires.kept.sound (raised (servers_of net) state) c.raise_all.new.places.items servers c.args.client c.requires.client parts
+          (subst (λ z. slice_get c.raise_all.new.places.items (z - 1) ≡ Some parts) c.home-home.ensures at)),
+      (λ parts s at h e.
+          let net = c.args.net.now in
+          let state = (moment_by c.args.net.now c.args.servers.now.journal.entries).network in
+          let servers = subst (AreServers net (raised (servers_of net) state)) (sym c.in_ok-before.ensures.raised) (raised-servers net state c.args.servers.now.places.items c.requires.kept.cores) in
+          left_there net c.requires.kept.sound (raised (servers_of net) state) c.raise_all.new.places.items servers c.args.client c.args.own c.requires.next parts s
+          (subst (λ z. slice_get c.raise_all.new.places.items (z - 1) ≡ Some parts) c.home-home.ensures at) h e),
+    ),
+  ),
+)
 
 pub set_clocks-requires-clause-long : goal.set_clocks-requires-clause-long
 set_clocks-requires-clause-long c =
@@ -85,7 +88,7 @@ returns-clause-made c =
     (raised (servers_of net) state) c.args.own c.requires.next
     (ready_later net c.args.last c.args.own (seen c.args.servers.now) c.requires.kept c.requires.later c.requires.quiet c.requires.through) servers
     (links_later net c.args.last c.args.own (seen c.args.servers.now) c.requires.kept c.requires.later c.requires.quiet c.requires.through (messages_at c.args.servers.now.links) (λ a b. refl)) refl refl
-    (subst (λ z. IsActed (z - 1) (Does (NextCommand c.args.client)) (acts.Command c.args.client)
+    (subst (λ z. IsActed hierarchy (z - 1) (Does (NextCommand c.args.client)) (acts.Command c.args.client)
     (record { run = c.args.servers.now.tables.now; cores = c.raise_all.new.places.items; messages = messages_at c.args.servers.now.links; journal = c.args.servers.now.journal.entries })
     (seen c.command.new.self)) c.home-home.ensures c.in_default.ensures.acted)
 
@@ -99,6 +102,6 @@ returns-clause-kept c =
     (raised (servers_of net) state) c.args.own c.requires.next
     (ready_later net c.args.last c.args.own (seen c.args.servers.now) c.requires.kept c.requires.later c.requires.quiet c.requires.through) servers
     (links_later net c.args.last c.args.own (seen c.args.servers.now) c.requires.kept c.requires.later c.requires.quiet c.requires.through (messages_at c.args.servers.now.links) (λ a b. refl)) refl refl
-    (subst (λ z. IsActed (z - 1) (Does (NextCommand c.args.client)) (acts.Command c.args.client)
+    (subst (λ z. IsActed hierarchy (z - 1) (Does (NextCommand c.args.client)) (acts.Command c.args.client)
     (record { run = c.args.servers.now.tables.now; cores = c.raise_all.new.places.items; messages = messages_at c.args.servers.now.links; journal = c.args.servers.now.journal.entries })
     (seen c.command.new.self)) c.home-home.ensures c.in_default.ensures.acted)

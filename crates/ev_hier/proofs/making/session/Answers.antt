@@ -3,7 +3,7 @@ use Rattle.ev_numserver.specs.Clients.{bare, client_numbers}
 use Rattle.ev_sets.specs.Sets.{Has}
 use Rattle.ev_model.specs.Nets.{first_tree}
 use Rattle.ev_hierturns.specs.Network.{moment_by}
-use Rattle.ev_hier.specs.Seen.{seen}
+use Rattle.ev_numnet.specs.Seen.{seen}
 use Rattle.ev_turns.proofs.Among.{core_at}
 use Rattle.ev_numnet.proofs.Commanding.{home_low}
 use Rattle.ev_hier.proofs.Commanding.{lives_there}

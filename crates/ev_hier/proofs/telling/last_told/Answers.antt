@@ -6,7 +6,7 @@ use Rattle.ev_model.specs.Parts.{EntryParts}
 use Rattle.ev_hierturns.specs.Told.{found_of, told_of}
 use Rattle.ev_numnet.specs.Last.{LieLast, text_of_sending}
 use Rattle.ev_numnet.specs.Links.{messages_at}
-use Rattle.ev_hier.specs.Seen.{seen}
+use Rattle.ev_numnet.specs.Seen.{seen}
 use Rattle.ev_hier.proofs.Standing.{waiting_of_net}
 use Rattle.ev_hier.proofs.Told.{small_last, told_last}
 use Rattle.ev_hier.proofs.telling.last_told.Goals as goal

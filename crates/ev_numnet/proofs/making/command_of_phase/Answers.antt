@@ -1,4 +1,4 @@
-use Rattle.std.proofs.Common.{◌≡◌, ◌≤◌, ◌-◌, Some, slice_get, sym, ap, subst, ◌∙◌}
+use Rattle.std.proofs.Common.{◌≡◌, ◌≤◌, ◌-◌, Some, slice_get, sym, ap, subst, ◌∙◌, refl}
 use Rattle.ev_tree.specs.Tree.{links_of}
 use Rattle.ev_model.specs.Nets.{first_tree}
 use Rattle.ev_turns.specs.Network.{moment_by}
@@ -7,6 +7,7 @@ use Rattle.ev_turns.proofs.Among.{count_at}
 use Rattle.ev_numnet.proofs.Standing.{can_act, clocks_low}
 use Rattle.ev_numnet.proofs.Tried.{same_on_err}
 use Rattle.ev_numnet.proofs.Commanding.{home_low, lives_there, left_there, commanded_now, on_ok_same, kept_either, journal_on_err}
+use Rattle.ev_numnet.specs.Stepping.{peers}
 use Rattle.ev_numnet.proofs.making.command_of_phase.Goals as goal
 
 pub neighbours-neighbours-requires : goal.neighbours-neighbours-requires
@@ -15,22 +16,24 @@ neighbours-neighbours-requires c =
     let count = ap (λ z. z.count) c.tree.ensures ∙ count_at c.args.net.now c.requires.kept.sound c.args.phase in
     (low.0, subst (λ n. c.home-home.result ≤ n) (sym count) low.1)
 
-pub command-requires-clause-able : goal.command-requires-clause-able
-command-requires-clause-able c =
-    let low = subst (λ z. (1 ≤ z) × (z ≤ (first_tree c.args.net.now.trees).count)) (sym c.home-home.ensures) (home_low c.args.net.now c.requires.kept.sound c.args.client) in
-    let links = c.neighbours-neighbours.ensures.value ∙ ap (λ z. links_of z c.home-home.result) c.tree.ensures in
-    subst (λ z. CanAct c.home-home.result z c.args.servers.now.places.items) (sym links)
-    (can_act c.args.net.now c.requires.kept.sound c.args.phase (moment_by c.args.net.now c.args.servers.now.journal.entries).state c.args.servers.now.places.items c.requires.kept.cores c.home-home.result low.0 low.1 (clocks_low c.args.net.now c.args.phase (seen c.args.servers.now) c.requires.kept))
-
-pub command-requires-clause-lives : goal.command-requires-clause-lives
-command-requires-clause-lives c = λ core at.
-    lives_there c.args.net.now c.requires.kept.sound c.args.phase (moment_by c.args.net.now c.args.servers.now.journal.entries).state c.args.servers.now.places.items c.requires.kept.cores c.args.client c.requires.client core
-    (subst (λ z. slice_get c.args.servers.now.places.items (z - 1) ≡ Some core) c.home-home.ensures at)
-
-pub command-requires-clause-left : goal.command-requires-clause-left
-command-requires-clause-left c = λ core s at h e.
-    left_there c.args.net.now c.requires.kept.sound c.args.phase (moment_by c.args.net.now c.args.servers.now.journal.entries).state c.args.servers.now.places.items c.requires.kept.cores c.args.client c.args.phase c.requires.next core s
-    (subst (λ z. slice_get c.args.servers.now.places.items (z - 1) ≡ Some core) c.home-home.ensures at) h e
+pub command-requires : goal.command-requires
+command-requires c = λ k. (
+  (refl, tt),
+  (
+    ((let low = subst (λ z. (1 ≤ z) × (z ≤ (first_tree c.args.net.now.trees).count)) (sym c.home-home.ensures) (home_low c.args.net.now c.requires.kept.sound c.args.client) in
+        let links = c.neighbours-neighbours.ensures.value ∙ ap (λ z. links_of z c.home-home.result) c.tree.ensures in
+        subst (λ z. CanAct peers c.home-home.result z c.args.servers.now.places.items) (sym links)
+        (can_act c.args.net.now c.requires.kept.sound c.args.phase (moment_by c.args.net.now c.args.servers.now.journal.entries).state c.args.servers.now.places.items c.requires.kept.cores c.home-home.result low.0 low.1 (clocks_low c.args.net.now c.args.phase (seen c.args.servers.now) c.requires.kept)))),
+    (
+      ((λ core at.
+          lives_there c.args.net.now c.requires.kept.sound c.args.phase (moment_by c.args.net.now c.args.servers.now.journal.entries).state c.args.servers.now.places.items c.requires.kept.cores c.args.client c.requires.client core
+          (subst (λ z. slice_get c.args.servers.now.places.items (z - 1) ≡ Some core) c.home-home.ensures at))),
+      ((λ core s at h e.
+          left_there c.args.net.now c.requires.kept.sound c.args.phase (moment_by c.args.net.now c.args.servers.now.journal.entries).state c.args.servers.now.places.items c.requires.kept.cores c.args.client c.args.phase c.requires.next core s
+          (subst (λ z. slice_get c.args.servers.now.places.items (z - 1) ≡ Some core) c.home-home.ensures at) h e)),
+    ),
+  ),
+)
 
 pub returns-clause-made : goal.returns-clause-made
 returns-clause-made c =

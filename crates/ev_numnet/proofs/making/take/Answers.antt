@@ -6,6 +6,7 @@ use Rattle.ev_turns.specs.Network.{moment_by}
 use Rattle.ev_turns.proofs.Among.{count_at, server_low, not_both}
 use Rattle.ev_numnet.proofs.Standing.{can_act, clocks_low, waiting_low, waiting_of_net}
 use Rattle.ev_numnet.proofs.Tried.{taken_none, taken_turn, same_of, same_on_err}
+use Rattle.ev_numnet.specs.Stepping.{peers}
 use Rattle.ev_numnet.proofs.making.take.Goals as goal
 
 pub returns-then-not-has_server-clause-turn : goal.returns-then-not-has_server-clause-turn
@@ -30,19 +31,26 @@ returns-then-not-is_among-clause-turn c =
           (λ a b. not_both c.is_among.result (c.is_among.ensures.1 (subst (Has c.args.from) (sym links) b)) c.if-not-is_among.true),
     )
 
-pub take-requires-clause-able : goal.take-requires-clause-able
-take-requires-clause-able c =
-    let low = c.has_server.ensures.0 c.if-not-has_server.false in
-    let links = c.neighbours-neighbours.ensures.value ∙ ap (λ z. links_of z c.args.server) c.tree.ensures in
-    subst (λ z. CanAct c.args.server z c.args.servers.now.places.items) (sym links)
-    (can_act c.args.net.now c.requires.kept.sound c.args.phase (moment_by c.args.net.now c.args.servers.now.journal.entries).state c.args.servers.now.places.items c.requires.kept.cores
-    c.args.server low.0 (subst (λ n. c.args.server ≤ n) c.requires.kept.cores.all low.1) (clocks_low c.args.net.now c.args.phase (seen c.args.servers.now) c.requires.kept))
-
-pub take-requires-clause-from : goal.take-requires-clause-from
-take-requires-clause-from c = c.is_among.ensures.0 c.if-not-is_among.false
-
-pub take-requires-clause-low : goal.take-requires-clause-low
-take-requires-clause-low c = λ frame h. waiting_low c.args.net.now c.args.phase (seen c.args.servers.now) c.requires.kept c.args.from c.args.server frame h
+pub take-requires : goal.take-requires
+take-requires c = λ k. (
+  (refl, tt),
+  (
+    ((let low = c.has_server.ensures.0 c.if-not-has_server.false in
+        let links = c.neighbours-neighbours.ensures.value ∙ ap (λ z. links_of z c.args.server) c.tree.ensures in
+        subst (λ z. CanAct peers c.args.server z c.args.servers.now.places.items) (sym links)
+        (can_act c.args.net.now c.requires.kept.sound c.args.phase (moment_by c.args.net.now c.args.servers.now.journal.entries).state c.args.servers.now.places.items c.requires.kept.cores
+        c.args.server low.0 (subst (λ n. c.args.server ≤ n) c.requires.kept.cores.all low.1) (clocks_low c.args.net.now c.args.phase (seen c.args.servers.now) c.requires.kept)))),
+    (
+      ((c.is_among.ensures.0 c.if-not-is_among.false)),
+      (
+        ((λ frame h. waiting_low c.args.net.now c.args.phase (seen c.args.servers.now) c.requires.kept c.args.from c.args.server frame h)),
+        ((λ w core h at.
+            waiting_of_net c.args.net.now c.args.phase (seen c.args.servers.now) c.requires.kept c.args.from c.args.server w h
+            ∙ sym (c.requires.kept.cores.nets (c.args.server - 1) core at))),
+      ),
+    ),
+  ),
+)
 
 pub returns-clause-turn : goal.returns-clause-turn
 returns-clause-turn c =
@@ -55,8 +63,3 @@ returns-clause-kept c =
     let low = c.has_server.ensures.0 c.if-not-has_server.false in
     (taken_turn c.args.net.now c.args.phase (seen c.args.servers.now) (seen c.take.new.self) c.requires.kept c.args.server c.args.from low.0 c.take.result
     c.take.ensures.acted (λ e. same_of c.args.servers.now c.take.new.self c.take.result (c.take.ensures.none e)) (same_on_err c.args.servers.now c.take.new.self c.take.result c.take.ensures.err)).kept_on
-
-pub take-requires-clause-run : goal.take-requires-clause-run
-take-requires-clause-run c = λ w core h at.
-    waiting_of_net c.args.net.now c.args.phase (seen c.args.servers.now) c.requires.kept c.args.from c.args.server w h
-    ∙ sym (c.requires.kept.cores.nets (c.args.server - 1) core at)

@@ -28,20 +28,21 @@ returns-then-is_calm-clause-turn c =
           (c.is_calm.ensures.staged.0 c.if-is_calm.true),
     )
 
-pub version-requires-clause-able : goal.version-requires-clause-able
-version-requires-clause-able c =
-    let low = c.has_server.ensures.0 c.if-not-has_server.false in (
+pub version-requires : goal.version-requires
+version-requires c = λ k. (
+  (refl, tt),
+  (
+    ((let low = c.has_server.ensures.0 c.if-not-has_server.false in (
       links_of (topology_at c.args.net.now c.args.phase) c.args.server,
       can_act c.args.net.now c.requires.kept.sound c.args.phase (moment_by c.args.net.now c.args.servers.now.journal.entries).state c.args.servers.now.places.items c.requires.kept.cores
           c.args.server low.0 (subst (λ n. c.args.server ≤ n) c.requires.kept.cores.all low.1) (clocks_low c.args.net.now c.args.phase (seen c.args.servers.now) c.requires.kept),
-    )
-
-pub version-requires-clause-some : goal.version-requires-clause-some
-version-requires-clause-some c =
-    let low = c.has_server.ensures.0 c.if-not-has_server.false in
-    let within : c.args.server - 1 < length c.args.servers.now.places.items = omega (arith, low.0, low.1) in
-    let at = core_at c.args.servers.now.places.items (c.args.server - 1) c.index.result.now within c.index.ensures in
-    λ core e none. not_both c.is_calm.result (c.is_calm.ensures.staged.1 (ap (λ z. z.staged) (same_Some _ _ (sym at ∙ e)) ∙ none)) c.if-is_calm.false
+    ))),
+    ((let low = c.has_server.ensures.0 c.if-not-has_server.false in
+        let within : c.args.server - 1 < length c.args.servers.now.places.items = omega (arith, low.0, low.1) in
+        let at = core_at c.args.servers.now.places.items (c.args.server - 1) c.index.result.now within c.index.ensures in
+        λ core e none. not_both c.is_calm.result (c.is_calm.ensures.staged.1 (ap (λ z. z.staged) (same_Some _ _ (sym at ∙ e)) ∙ none)) c.if-is_calm.false)),
+  ),
+)
 
 pub returns-clause-turn : goal.returns-clause-turn
 returns-clause-turn c =

@@ -1,8 +1,9 @@
-use Rattle.std.proofs.Common.{◌≡◌, ◌<◌, length, Some, sym, subst}
+use Rattle.std.proofs.Common.{◌≡◌, ◌<◌, length, Some, sym, subst, ap, ◌∙◌}
 use Rattle.ev_sets.specs.Sets.{Has}
 use Rattle.ev_run.specs.Machine.{Does}
 use Rattle.ev_routing.specs.Step.{NextCommand}
-use Rattle.ev_catalogue.specs.Known.{known_publications}
+use Rattle.ev_model.specs.Parts.{NetParts}
+use Rattle.ev_catalogue.specs.Known.{known_filters, known_publications}
 use Rattle.ev_tables.specs.Found.{publication_at}
 use Rattle.ev_session.specs.declared.planned.Planned.TheVariants as plans
 use Rattle.ev_session.specs.Session.{SessionParts}
@@ -22,9 +23,18 @@ pub take_publish-requires-clause-publish : goal.take_publish-requires-clause-pub
 take_publish-requires-clause-publish c = subst (λ (z : HierarchyParts). (s : SessionParts) → Has s z.core.clients → s.client ≡ c.args.client
     → next_plan s ≡ Some (plans.Publish (publication_at z.core.net c.args.number).id (publication_at z.core.net c.args.number).notice)) (sym c.self.view_is) c.requires.publish
 
+pub routed-requires-clause-number : goal.routed-requires-clause-number
+routed-requires-clause-number c = subst (λ (n : NetParts). c.args.number < length (known_publications 1 n.clients)) (sym (c.tables-tables.ensures ∙ ap (λ (z : HierarchyParts). z.core.net) c.self.view_is)) c.requires.known
+
+pub routed-requires-clause-wide : goal.routed-requires-clause-wide
+routed-requires-clause-wide c = subst (λ (n : NetParts). c.self.inside.forwarding.width ≡ length (known_filters n.clients)) (sym c.tables-tables.ensures) c.self.invariant.width
+
 pub take_publish-requires-clause-route : goal.take_publish-requires-clause-route
-take_publish-requires-clause-route c = subst (λ (z : HierarchyParts). IsRoute (publication_at z.core.net c.args.number).notice (published_from z.core) c.interfaces.result.now) (sym c.self.view_is)
-    (subst (IsRoute (publication_at c.args.self.now.core.net c.args.number).notice (published_from c.args.self.now.core)) (sym c.interfaces.ensures) c.in_ok-route.ensures)
+take_publish-requires-clause-route c =
+    let core = c.self.inside.core.core in
+    subst (IsRoute (publication_at core.net c.args.number).notice (published_from core)) (sym c.interfaces.ensures)
+    (subst (λ (n : NetParts). IsRoute (publication_at n c.args.number).notice (published_from core) c.in_ok-route.route) c.tables-tables.ensures
+    (c.in_ok-route.ensures core (sym c.tables-tables.ensures) c.self.invariant))
 
 pub unexhausted-requires : goal.unexhausted-requires
 unexhausted-requires c = not_exhausted c.take_publish.result c.self.inside.core.core.clock (subst (λ (z : HierarchyParts). z.core.clock < last_stamp) (sym c.self.view_is) c.requires.low) c.take_publish.ensures.exhausted

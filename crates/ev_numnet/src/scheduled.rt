@@ -1,0 +1,48 @@
+//! A network as the walk schedule sees it.
+use crate::keeping::Keeping;
+use crate::making::next_phase;
+use crate::network::Network;
+use ev_memory::NoMemory;
+use ev_model::{Sent, Turn};
+use ev_schedule::Turning;
+use ev_wire::Lists;
+
+impl<'a, K: Keeping> Turning for Network<'a, K> {
+    ghost use Rattle.ev_schedule.proofs.Peers.{peers_trying, peers_walking, peers_telling};
+
+    ghost seen = { λ network. network };
+
+    ghost trying = { peers_trying };
+
+    ghost walking = { peers_walking };
+
+    ghost telling = { peers_telling };
+
+    fn tree_phase(&self, phase: u32) -> u32 {
+        phase
+    }
+
+    fn phase(&self) -> u32 {
+        self.phase
+    }
+
+    fn clients(&self, server: u32) -> &[u32] {
+        self.clients[server as usize - 1].as_slice()
+    }
+
+    fn next_phase(&self, client: u32) -> Option<u32> {
+        next_phase(self.tables.net(), &self.servers, client)
+    }
+
+    fn count(&self) -> u64 {
+        self.made()
+    }
+
+    fn make(&mut self, turn: Turn) -> Result<bool, NoMemory> {
+        self.turn(turn)
+    }
+
+    fn last(&self) -> Result<Lists<Sent>, NoMemory> {
+        self.last_told()
+    }
+}

@@ -1,0 +1,68 @@
+//! A server at its place in a network.
+ghost use Rattle.std.specs.Prelude.{◌≡◌, ◌<◌, ◌↔◌, [], not, length, IfOk, OnErr, IsTrue};
+ghost use Rattle.ev_sets.specs.Sets.{Has};
+ghost use Rattle.ev_run.specs.Machine.{Does, Takes};
+ghost use Rattle.ev_routing.specs.Step.{NextCommand, Version};
+ghost use Rattle.ev_session.specs.Session.{SessionParts};
+ghost use Rattle.ev_numserver.specs.Clients.{client_numbers};
+ghost use Rattle.ev_numserver.specs.Core.{without_inbox};
+ghost use Rattle.ev_numserver.specs.Staged.{is_some_there};
+ghost use Rattle.ev_numserver.specs.Step.{last_stamp};
+ghost use Rattle.ev_numnet.specs.Stepping.{IsSome, GoesOn};
+
+use crate::waiting::Waiting;
+use ev_memory::NoMemory;
+use ev_model::Delivery;
+use ev_numserver::Step;
+use std::alloc::Global;
+
+/// A server at its place in a network, of some kind: it makes steps one by one. After a fault it is as before.
+pub trait Server<'a>: Drop {
+    ghost use Rattle.ev_numnet.specs.Stepping.{Stepping};
+
+    /// What it is to its network.
+    ghost stepping: { Stepping Self };
+
+    /// Takes the next command of a client that lives here and has one left.
+    fn command(&mut self, alloc: Global, client: u32) -> Result<Step<'a>, NoMemory>
+        requires lives { Has client (client_numbers (stepping.core self.old).clients) }
+        requires left { (s : SessionParts) → Has s (stepping.core self.old).clients → s.client ≡ client → s.taken < length s.script }
+        requires stands { IsSome stepping self.old }
+        requires low { (stepping.core self.old).clock < last_stamp }
+        ensures step { IfOk result (λ s. stepping.Steps (Does (NextCommand client)) 0 self.old self.new s.stamp s.sent.items) }
+        ensures sends { IfOk result (λ s. GoesOn (stepping.core self.old).control.links s.stamp s.sent.items) }
+        ensures err { OnErr result (self.new ≡ self.old) };
+
+    /// Takes a message that a neighbour sent.
+    fn take(
+        &mut self,
+        alloc: Global,
+        from: u32,
+        waiting: &Waiting<'a>,
+    ) -> Result<Step<'a>, NoMemory>
+        requires from { Has from (stepping.core self.old).control.links }
+        requires stands { IsSome stepping self.old }
+        requires low { ((stepping.core self.old).clock < last_stamp) × (waiting.now.stamp < last_stamp) }
+        requires run { waiting.now.sent.net ≡ (stepping.core self.old).net }
+        ensures step { IfOk result (λ s. stepping.Steps (Takes from waiting.now.sent.message) waiting.now.stamp self.old self.new s.stamp s.sent.items) }
+        ensures sends { IfOk result (λ s. GoesOn (stepping.core self.old).control.links s.stamp s.sent.items) }
+        ensures err { OnErr result (self.new ≡ self.old) };
+
+    /// Publishes what is staged; the answer is the stamp. It takes no memory.
+    fn version(&mut self) -> u64
+        requires some { ((stepping.core self.old).staged ≡ []) → ⊥ }
+        requires stands { IsSome stepping self.old }
+        requires low { (stepping.core self.old).clock < last_stamp }
+        ensures { stepping.Steps (Does Version) 0 self.old self.new result [] };
+
+    /// Whether it has nothing staged.
+    fn is_calm(&self) -> bool
+        ensures staged { IsTrue result ↔ ((stepping.core self.now).staged ≡ []) }
+        ensures calm { result ≡ not (is_some_there (stepping.core self.now).staged) };
+
+    /// Hands on what was delivered to a client that lives here, whose inbox is empty then.
+    fn take_inbox(&mut self, client: u32) -> Vec<Delivery>
+        requires { Has client (client_numbers (stepping.core self.old).clients) }
+        ensures inbox { (s : SessionParts) → Has s (stepping.core self.old).clients → s.client ≡ client → result.items ≡ s.inbox }
+        ensures emptied { stepping.core self.new ≡ without_inbox client (stepping.core self.old) };
+}

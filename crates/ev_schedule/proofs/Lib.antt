@@ -1,0 +1,4 @@
+pub mod Going
+pub mod Rounds
+pub mod Called
+pub mod Peers
