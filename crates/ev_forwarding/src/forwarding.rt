@@ -1,10 +1,9 @@
 //! What a server publishes from which interface, with a row of the interfaces' places for each number: a route joins the
 //! rows of the matched numbers. Numbers that were ever published are marked, so that a route looks at no other one.
 use crate::change::Change;
-use crate::columns::{columns, joined, listed};
-use crate::places::{is_there, place};
+use crate::places::{is_there, listed, place};
 use crate::route::Route;
-use ev_bits::Row;
+use ev_bits::{Grid, Row};
 use ev_memory::NoMemory;
 use std::alloc::Global;
 use std::marker::Model;
@@ -13,9 +12,8 @@ use std::marker::Model;
 #[derive(Drop)]
 pub struct Forwarding {
     width: u32,
-    count: u32,
     interfaces: Vec<u32>,
-    columns: Vec<Row>,
+    columns: Grid,
     present: Row,
 }
 
@@ -26,10 +24,10 @@ impl Model for Forwarding {
 
     ghost Value = { Published };
 
-    ghost view = { λ f. published_by f.width f.interfaces.items f.columns.items };
+    ghost view = { λ f. published_by f.width f.interfaces.items f.columns.rows };
 
-    ghost invariant = { λ f. AreColumns f.width f.interfaces.items f.columns.items × (f.count ≡ length f.interfaces.items)
-        × ArePresent f.width f.present f.columns.items };
+    ghost invariant = { λ f. AreColumns f.width f.interfaces.items f.columns.rows × (f.columns.width ≡ length f.interfaces.items)
+        × ArePresent f.width f.present f.columns.rows };
 }
 
 impl Forwarding {
@@ -48,12 +46,11 @@ impl Forwarding {
         ensures pairs { IfOk result (λ f. f.pairs ≡ []) }
     {
         let count = interfaces.len() as u32;
-        let columns = columns(alloc, width, count)?;
+        let columns = Grid::new(alloc, width, count)?;
         let present = Row::new(alloc, width)?;
         let interfaces = Vec::from_slice(alloc, interfaces)?;
         Ok(Forwarding {
             width,
-            count,
             interfaces,
             columns,
             present,
@@ -94,7 +91,7 @@ impl Forwarding {
     {
         let place = place(&self.interfaces, interface) as u32;
         self.present.insert(number);
-        self.columns[number as usize].insert(place)
+        self.columns.insert(number, place)
     }
 
     /// No longer publishes a number from an interface, and tells whether it did. It takes no memory.
@@ -105,7 +102,7 @@ impl Forwarding {
         ensures pairs { self.new.pairs ≡ minus pair_before self.old.pairs ((interface, number) ∷ []) }
     {
         let place = place(&self.interfaces, interface) as u32;
-        self.columns[number as usize].remove(place)
+        self.columns.remove(number, place)
     }
 
     /// Makes a change. It takes no memory.
@@ -142,7 +139,7 @@ impl Forwarding {
         ensures { IfOk result (IsRouteBy matched.now.members self.now.pairs) }
     {
         matched.is_a_set();
-        let places = joined(alloc, self.count, &self.columns, &self.present, matched)?;
+        let places = self.columns.joined(alloc, matched, &self.present)?;
         let interfaces = listed(alloc, &self.interfaces, &places)?;
         Ok(Route::to(interfaces))
     }

@@ -7,7 +7,6 @@
 #![tactic(auto)]
 
 mod change;
-mod columns;
 mod forwarding;
 pub mod law;
 mod places;

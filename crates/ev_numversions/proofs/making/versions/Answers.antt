@@ -64,3 +64,9 @@ returns-in-Ok-clause-forwarding g c =
       interfaces = ap (λ s. s.value.forwarding.interfaces) shown ∙ v.server.interfaces ∙ ap (λ x. x.forwarding.interfaces) e.0 ∙ ap (λ (p : Published). p.interfaces) first.forwarding;
     })
     (ap (λ s. s.value.forwarding.pairs) shown ∙ v.folded ∙ ap (λ (t : Known). pairs_after t.log) seen ∙ ap pairs_after c.open-front.ensures.0 ∙ none_after)
+
+pub returns-in-Ok-clause-viewers : goal.returns-in-Ok-clause-viewers
+returns-in-Ok-clause-viewers g c k d l =
+    let v = c.in-Ok.ensures.viewers.1 k d l in
+    let seen = c.again.ensures.1 in
+    (record { book = ap (λ s. s.book) v.0 ∙ sym (ap (λ s. s.book) seen); width = v.1 ∙ c.publish_now-writer.ensures.book.width ∙ sym (ap (λ s. s.value.forwarding.width) c.seats.ensures.shown) }, ap (λ s. s.log) v.0 ∙ c.open-front.ensures.0)

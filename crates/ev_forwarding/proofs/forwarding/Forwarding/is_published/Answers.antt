@@ -8,4 +8,4 @@ use Rattle.ev_forwarding.proofs.forwarding.Forwarding.is_published.Goals as goal
 pub returns : goal.returns
 returns c =
     let ifs = c.self.inside.interfaces.items in
-    subst IsPublished c.self.view_is (published-is c.self.inside.width ifs (rows_from 0 ifs c.self.inside.columns.items) (are-rows c.self.inside.width ifs c.self.inside.columns.items c.self.invariant.0))
+    subst IsPublished c.self.view_is (published-is c.self.inside.width ifs (rows_from 0 ifs c.self.inside.columns.rows) (are-rows c.self.inside.width ifs c.self.inside.columns.rows c.self.invariant.0))

@@ -1,17 +1,31 @@
-use Rattle.std.proofs.Common.{rules}
+use Rattle.std.proofs.Common.{rules, ◌≡◌, ◌∙◌, ℕ, List, [], length, sym, ap, subst, arith}
+use Rattle.std.proofs.lemmas.List.{length-replicate}
+use Rattle.ev_bits.specs.Rows.{Numbers}
+use Rattle.ev_forwarding.specs.Rows.{AreEmpty, AreSets}
+use Rattle.ev_forwarding.proofs.Empty.{empty-rows, sets-rows}
 use Rattle.ev_forwarding.proofs.ByPlace.{none-published}
 use Rattle.ev_forwarding.proofs.Presence.{none-present}
 use Rattle.ev_forwarding.proofs.forwarding.Forwarding.new.Goals as goal
 
 pub returns-clause-pairs : goal.returns-clause-pairs
-returns-clause-pairs c = none-published c.in_ok-interfaces.interfaces.items c.in_ok-columns.columns.items c.in_ok-columns.ensures.none
+returns-clause-pairs c =
+    none-published c.in_ok-interfaces.interfaces.items c.in_ok-columns.columns.rows (subst AreEmpty (sym c.in_ok-columns.ensures.rows) (empty-rows c.args.width (length c.args.interfaces.now)))
 
 pub invariant_of-result : goal.invariant_of-result
-invariant_of-result c = (
-  search (rules, c.in_ok-interfaces.ensures),
-  search (rules, c.in_ok-interfaces.ensures),
-  record {
-    wide = c.in_ok-present.ensures.width;
-    each = λ i place h. absurd (none-present c.in_ok-columns.columns.items c.in_ok-columns.ensures.none i place h);
-  },
-)
+invariant_of-result c =
+    let rows = c.in_ok-columns.ensures.rows in
+    let count : length c.in_ok-interfaces.interfaces.items ≡ length c.args.interfaces.now = ap (λ (xs : List ℕ). length xs) c.in_ok-interfaces.ensures.items in
+    let empty = subst AreEmpty (sym rows) (empty-rows c.args.width (length c.args.interfaces.now)) in (
+      record {
+        rising = search (rules, c.in_ok-interfaces.ensures);
+        long = ap (λ (xs : List Numbers). length xs) rows ∙ length-replicate c.args.width (record { width = length c.args.interfaces.now; members = [] });
+        fits = omega arith;
+        few = omega (arith, count, c.requires.few);
+        sets = subst (λ (n : ℕ). AreSets n c.in_ok-columns.columns.rows) (sym count) (subst (AreSets (length c.args.interfaces.now)) (sym rows) (sets-rows c.args.width (length c.args.interfaces.now) c.requires.few));
+      },
+      c.in_ok-columns.ensures.width ∙ sym count,
+      record {
+        wide = c.in_ok-present.ensures.width;
+        each = λ i place h. absurd (none-present c.in_ok-columns.columns.rows empty i place h);
+      },
+    )
