@@ -2,9 +2,8 @@
 ghost use Rattle.std.specs.Prelude.{◌≡◌, length};
 ghost use Rattle.std.specs.List.{flat_map};
 ghost use Rattle.ev_outside.specs.Pending.{outlet, Went};
-ghost use Rattle.ev_report.specs.Flood.{row_line, flood_section, flood_sections};
+ghost use Rattle.ev_report.specs.Flood.{row_word, row_line, flood_section, flood_sections};
 
-use crate::flood::row_word;
 use crate::publish::{text_at, texts_in};
 use crate::writing::{put_client, put_publication, put_refused};
 use ev_flood::{Owed, OwedRow};
@@ -14,6 +13,13 @@ use ev_outside::{Pending, Sink};
 use ev_wire::{Bytes, Lists};
 use std::alloc::Global;
 use std::marker::Model;
+
+// The word of a row.
+fn row_word(must: bool) -> &'static [u8]
+    ensures { result.now ≡ row_word must }
+{
+    if must { b"deliver " } else { b"may " }
+}
 
 /// What flooding brings, kept until it is written. Contracts see its text.
 #[derive(Drop)]

@@ -1,9 +1,8 @@
-//! The texts that are printed: each written once into one vector, or put line by line on its way to a sink.
+//! The texts that are printed: written once into one vector, or put line by line on their way to a sink.
 #![tactic(auto)]
 
 mod counting;
 mod deliveries;
-mod flood;
 mod flooded;
 pub mod law;
 mod lines;
@@ -15,8 +14,7 @@ mod trace;
 mod writing;
 
 pub use counting::total;
-pub use deliveries::{deliveries_text, push_delivery};
-pub use flood::flood_text;
+pub use deliveries::push_delivery;
 pub use flooded::Flooded;
 pub use lines::{push_client, push_refused};
 pub use ordering::ordered;

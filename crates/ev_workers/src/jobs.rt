@@ -30,7 +30,7 @@ impl<B, J: Job<B>> Promise<B> for Gives<J> {
 /// A job in a thread, or what it gave back where no thread could be had and it was run here.
 type Started<B, J> = Result<PromisedHandle<B, Gives<J>>, B>;
 
-/// Starts the job with a number in a thread of the scope, or runs it here.
+/// Starts the job with a number in a thread of the scope, or runs it here; the first one, which comes last, is run here at once.
 fn start<'s, B: Drop + Send + 's, J: Job<B> + Send + 's, E>(
     scope: &'s Scope<'s, E>,
     pace: &Pace,
@@ -40,6 +40,9 @@ fn start<'s, B: Drop + Send + 's, J: Job<B> + Send + 's, E>(
     ensures there { IfOk result (λ h. h.promise.job.value ≡ job) }
     ensures here { IfErr result (λ e. J.keeps job e) }
 {
+    if number == 0 {
+        return Err(job.run());
+    }
     let gives = Gives {
         job: Snapshot::of(&job),
     };
@@ -90,7 +93,7 @@ fn start_all<'s, B: Drop + Send + 's, J: Job<B> + Send + 's, E, R: Threads + Wai
     done
 }
 
-/// Runs all jobs, each in a thread where one can be had, and gives what each gave back, in their order.
+/// Runs all jobs, the first one here and each other one in a thread where one can be had, and gives what each gave back, in their order.
 pub(crate) fn run_all<B: Drop + Send, J: Job<B> + Send, R: Threads + Wait>(
     rt: &R,
     pace: &Pace,
