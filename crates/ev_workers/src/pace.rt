@@ -38,7 +38,7 @@ impl Pace {
 
     /// Whether the thread with a number couldn't be had.
     pub(crate) fn is_refused(&self, number: usize) -> bool {
-        self.refused.load(Ordering::SeqCst) >> (number % 64) % 2 == 1
+        self.refused.load(Ordering::SeqCst) & (1 << (number % 64)) != 0
     }
 
     /// What a thread has seen of the others' events.
