@@ -2,10 +2,10 @@
 use Rattle.std.proofs.Common.{◌≡◌, ◌≢◌, ◌↔◌, inl, inr, ℕ, zero, suc, ◌+◌, ◌*◌, ◌/◌, ◌%◌, ◌^◌, ◌<◌, ◌==◌, List, [], ◌∷◌, length, replicate, get_or, set, refl, sym, ap, subst, ◌∙◌, arith, eqb-true, eq-eqb}
 use Rattle.std.specs.Int.{bit_at}
 use Rattle.std.proofs.lemmas.Bool.{cases_lt, cases_eq}
-use Rattle.std.proofs.lemmas.Nat.{mul-add-lt, mul-le, same_from_place}
+use Rattle.std.proofs.lemmas.Nat.{mul-add-lt, same_from_place}
 use Rattle.std.proofs.lemmas.List.{same_lists, length-append, length-set, length-replicate, get_or-replicate, get_or_append_left, get_or_push, get_or-set_same, get_or-set_other}
 use Rattle.ev_sets.specs.Sets.{Has}
-use Rattle.ev_bits.specs.Words.{bit, members_of, IsPickedByBoth}
+use Rattle.ev_bits.specs.Words.{bit, members_of}
 use Rattle.ev_bits.specs.Rows.{Numbers, is_in, IsKept}
 use Rattle.ev_bits.specs.Grid.{row_of, with_number, without_number, Table, IsJoinedFrom, AreJoined, spot, each_below, row_at, table_of, IsGrid}
 use Rattle.ev_bits.proofs.Bits.{bit-at, bit-past, zero-bits}
@@ -47,11 +47,6 @@ pub spot-one : (count row other i j : ℕ) → row < count → other < count →
 spot-one count row other i j l m e =
     let p = same_from_place (i / 64) row (j / 64) other count l m (omega (arith, e)) in
     (p.1, omega (arith, p.0, e))
-
-pub spot-fits : (count row i : ℕ) → row < count → count < 2 ^ 32 → i < 2 ^ 32 → spot count row i < 2 ^ 64
-spot-fits count row i l m n =
-    let p = spot-within 67108864 count row i l (omega (arith, n)) in
-    omega (arith, p, mul-le 67108864 count 67108864 4294967295 (omega arith) (omega (arith, m)))
 
 module _ {words : List ℕ} {span count width : ℕ} (is : IsGrid words span count width) where
   pub in-span : (i : ℕ) → i < width → i < 64 * span
@@ -165,16 +160,6 @@ abbrev pub IsJoinedBit : List ℕ → ℕ → List ℕ → List ℕ → ℕ → 
 IsJoinedBit words count a b i = (row : ℕ) × (bit a row ≡ 1) × (bit b row ≡ 1) × (bit words (spot count row i) ≡ 1)
 
 module _ (words : List ℕ) (count : ℕ) (a b : List ℕ) (span : ℕ) where
-  pub join-more : (k w : ℕ) (joined : List ℕ) → AreJoined words count a b span k joined → k < span → ((q : ℕ) → (bit_at w q ≡ 1) ↔ IsPickedByBoth words (k * count) a b q) → AreJoined words count a b span (k + 1) (set joined k w)
-  join-more k w joined is l picked = record {
-    long = length-set joined k w ∙ is.long;
-    done = λ j q m. elim (cases_eq j k) [
-      | inl e ↦
-          let f : get_or (set joined k w) j 0 ≡ w = ap (λ z. get_or (set joined k w) z 0) e ∙ get_or-set_same joined k w 0 (omega (arith, l, is.long)) in
-          subst (λ z. (bit_at z q ≡ 1) ↔ IsPickedByBoth words (j * count) a b q) (sym f) (subst (λ z. (bit_at w q ≡ 1) ↔ IsPickedByBoth words (z * count) a b q) (sym e) (picked q))
-      | inr n ↦ subst (λ z. (bit_at z q ≡ 1) ↔ IsPickedByBoth words (j * count) a b q) (sym (get_or-set_other joined k j w 0 n)) (is.done j q (omega (arith, m, n)))
-    ];
-  }
 
   module _ (joined : List ℕ) (is : AreJoined words count a b span span joined) where
     at-spot : (i : ℕ) → bit joined i ≡ bit_at (get_or joined (i / 64) 0) (i % 64)

@@ -12,7 +12,8 @@ pub record Table : Type 0 where
   pub rows : List Numbers
 
 abbrev pub table_code : Coded Table
-table_code = code_by (ℕ × List Numbers) (coded× coded_ℕ (coded_list numbers_code)) (λ t. (t.width, t.rows)) (λ p. record { width = p.0; rows = p.1 }) (λ _. refl)
+table_code =
+    code_by (ℕ × List Numbers) (coded× coded_ℕ (coded_list numbers_code)) (λ t. (t.width, t.rows)) (λ p. record { width = p.0; rows = p.1 }) (λ _. refl)
 
 -- a row by its number
 abbrev pub row_of : List Numbers → ℕ → Numbers
