@@ -118,8 +118,3 @@ pub follows_at : (old : ComparingParts) (claimed : List ℕ) (at : ℕ) (part : 
 follows_at old claimed at part piece same is h =
     subst (λ z. GoesOn z (comparing claimed (at + part.at) part.apart) piece) same
     (record { claimed = refl; compared = λ text t. joins_at claimed part.claimed piece text at part.at part.apart is h t })
-
-pub goes_any : (c : ComparingParts) (claimed : List ℕ) (at : ℕ) (piece : List ℕ) → comparing claimed at true ≡ c → GoesOn c c piece
-goes_any c claimed at piece same =
-    subst (λ z. GoesOn z z piece) same
-    (record { claimed = refl; compared = λ text h more. ap (difference claimed) (append_assoc text piece more) ∙ h (piece ++ more) })

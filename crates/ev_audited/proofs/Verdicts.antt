@@ -3,7 +3,7 @@ use Rattle.std.proofs.Common.{◌≡◌, ◌⊎◌, inl, inr, ℕ, Bool, true, f
 use Rattle.std.specs.Prelude.{IfOk, IsOkAnd, codes}
 use Rattle.ev_model.specs.declared.turn.Turn.{Turn}
 use Rattle.ev_model.specs.Parts.{NetParts, EntryParts}
-use Rattle.ev_turns.specs.Network.{NetworkParts, IsLegal}
+use Rattle.ev_turns.specs.Network.{IsLegal}
 use Rattle.ev_turns.specs.Turns.{AreMade}
 use Rattle.ev_turns.proofs.Stopping.{never-stops, one-journal, one-line}
 use Rattle.ev_input.specs.declared.fault.Fault.{Fault}
@@ -17,7 +17,7 @@ use Rattle.ev_audit.specs.declared.fault.ClaimFault.TheVariants as claims
 use Rattle.ev_audit.proofs.Apart.{none_equal}
 use Rattle.ev_audit.proofs.Inputs.{written_input}
 use Rattle.ev_audit.proofs.Claiming.{formless_or_bad, input_or_bad, not_alone, one_bad}
-use Rattle.ev_audited.specs.Answers.{AnswersAudit, ConcludesAt, TellsAudited, TellsDrained, TellsMade, TellsRun, fault_of_claim}
+use Rattle.ev_audited.specs.Answers.{AnswersAudit, ConcludesAt, TellsAudited, TellsDrained, TellsRun, fault_of_claim}
 use Rattle.ev_audited.specs.Comparing.{ComparingParts, GoesOn, IsComparedTo, comparing}
 use Rattle.ev_audited.specs.Verdict.{CanAudit, ComparesRun, EndsRun, IsAudited, IsInputOfRun, IsOutputOf, IsRefuted, IsVerdict, MakesRun, IsWrittenByRun, MustBeRefuted, ShowsRun}
 use Rattle.ev_audited.specs.Verdict.{line_at, traced_text}
@@ -86,12 +86,6 @@ written_of_run bytes net journal w = record {
 -- the text of a run was compared from its beginning
 pub compared_all : (claimed text : List ℕ) (a c : ComparingParts) → a ≡ comparing claimed 0 false → GoesOn a c text → IsComparedTo c text
 compared_all claimed text a c e p = p.compared [] (subst (λ z. IsComparedTo z []) (sym e) (omega arith, refl))
-
-pub made_tells : {A B : Type 0} (view : A → NetworkParts) (j : B → List EntryParts) (n : B → ℕ) (net : NetParts) (first end : ℕ) (output : List ℕ) (turns : List (ℕ × Turn)) (e : AuditFault)
-    → TellsMade view net turns (Err e) → TellsRun j n net first end output turns (Err e)
-made_tells view j n net first end output turns faults.NoMemory h = tt
-made_tells view j n net first end output turns (faults.Document line kind) h = h
-made_tells view j n net first end output turns (faults.Refuted line kind) h = inl (line, h.1, ap (λ k. Err (line, k)) h.0)
 
 module _ {A : Type 0} (j : A → List EntryParts) (n : A → ℕ) (net : NetParts) (first end : ℕ) (output : List ℕ) (turns : List (ℕ × Turn)) (journal : List EntryParts) (made : AreMade net [] turns journal) (legal : IsLegal net journal) where
   pub tells_err : (drained : Bool) → TellsDrained drained net journal → (e : AuditFault) (d : Option ℕ) → d ≡ difference output (traced_text net journal)

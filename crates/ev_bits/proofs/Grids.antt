@@ -160,7 +160,6 @@ abbrev pub IsJoinedBit : List ℕ → ℕ → List ℕ → List ℕ → ℕ → 
 IsJoinedBit words count a b i = (row : ℕ) × (bit a row ≡ 1) × (bit b row ≡ 1) × (bit words (spot count row i) ≡ 1)
 
 module _ (words : List ℕ) (count : ℕ) (a b : List ℕ) (span : ℕ) where
-
   module _ (joined : List ℕ) (is : AreJoined words count a b span span joined) where
     at-spot : (i : ℕ) → bit joined i ≡ bit_at (get_or joined (i / 64) 0) (i % 64)
     at-spot i =

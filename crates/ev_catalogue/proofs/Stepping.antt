@@ -55,9 +55,6 @@ counted_next old new client count phase (commands.Advertise a) l e = rw (e, appe
 counted_next old new client count phase (commands.Unadvertise a) l e = rw (e, append-nil old) l
 counted_next old new client count phase (commands.Publish n) l e = rw e (omega (arith, length-append old (publication client (suc count) phase n ∷ [])))
 
-pub few_left : (old rest final : List PublicationParts) (most : ℕ) → old ++ rest ≡ final → length final ≤ most → length old ≤ most
-few_left old rest final most e l = omega (arith, length-append old rest, ap length e)
-
 -- one more step by its number
 pub numbered_next : (filters adverts : Lists) (new rest final later : List PublicationParts) (client count : ℕ) (step : ℕ × Command) (steps script : List (ℕ × Command))
     (n : NumberedCommand) (done : List (ℕ × NumberedCommand)) → new ++ rest ≡ final

@@ -112,7 +112,3 @@ found bytes word rest line after front number n s e f same g m =
     alone : (rest ≡ []) ⊎ ((more : List ℕ) → lines (s.before ++ more) ≡ s.done ++ lines more) → lines s.before ≡ s.done
     alone (inl z) = absurd (some z)
     alone (inr h) = ap lines (sym (nothing_more s.before)) ∙ h [] ∙ ap (λ l. s.done ++ l) no_lines ∙ nothing_more s.done
-
--- no line is left
-pub nowhere : (bytes word rest : List ℕ) (number : ℕ) → Searching bytes word rest number → lines rest ≡ [] → IsNoLine word (lines bytes)
-nowhere bytes word rest number s e = subst (IsNoLine word) (sym (s.left ∙ ap (λ l. s.done ++ l) e ∙ nothing_more s.done)) s.none

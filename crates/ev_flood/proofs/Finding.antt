@@ -189,9 +189,6 @@ apart : (i : ℕ) (every passing : List ℕ) → is_found i (filter (λ x. not (
 apart i every passing =
     any-filter_same (λ y. nat_eq y i) (λ x. not (is_found x every)) (not (is_found i every)) (λ k e. ap (λ z. not (is_found z every)) (eq_is k i e)) passing
 
-pub apart_by : (left a b c d : List ℕ) → left ≡ filter (λ x. not (is_found x b)) a → a ≡ c → b ≡ d → left ≡ filter (λ x. not (is_found x d)) c
-apart_by left a b c d e p q = e ∙ ap (λ z. filter (λ x. not (is_found x z)) a) q ∙ ap (filter (λ x. not (is_found x d))) p
-
 pub list_at : {X : Type 0} (xs : List X) (k : ℕ) → k < length xs → (x : X) × (slice_get xs k ≡ Some x)
 list_at [] k l = absurd (omega (arith, l))
 list_at (x ∷ xs) zero l = (x, refl)

@@ -60,14 +60,6 @@ pushed_at all more place old new row at push is i l =
         ∙ ap (λ z. z ++ row ∷ []) (sym (rows_read all place old at) ∙ ap (rows_at all) (eq_is place i e))
     go false e = set_apart all place i new (eq_not place i e) ∙ sym (append-none (rows_at all i))
 
-pub not_pushed : (all : List (Vec OwedRow Global)) (place : ℕ) (row : OwedRow) → (place < length all → ⊥)
-    → (i : ℕ) → i < length all → rows_at all i ≡ rows_at all i ++ once (nat_eq place i) row
-not_pushed all place row past i l = go (nat_eq place i) refl
-  where
-    go : (b : Bool) → nat_eq place i ≡ b → rows_at all i ≡ rows_at all i ++ once b row
-    go true e = absurd (past (subst (λ z. z < length all) (sym (eq_is place i e)) l))
-    go false e = sym (append-none (rows_at all i))
-
 pub none_more : (all more : List (Vec OwedRow Global)) (rows : Vec OwedRow Global) → rows.items ≡ [] → more ≡ all ++ rows ∷ [] → ((i : ℕ) → rows_at all i ≡ [])
     → (i : ℕ) → rows_at more i ≡ []
 none_more all more rows e push none i = ap (λ z. rows_at z i) push ∙ go all none i

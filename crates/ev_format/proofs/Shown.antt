@@ -42,9 +42,6 @@ shown-then xs ys e f = shown-append xs (32 ∷ ys) e f
 name_shown : (name : List ℕ) → IsName name → are_shown name ≡ true
 name_shown name is = word_shown name (name_word name is).bytes
 
-eq_of : (a b : ℕ) → (a == b) ≡ true → a ≡ b
-eq_of a b e = grind (arith, nat_tests)
-
 open_high : (b : ℕ) → is_open_byte b ≡ true → (b == 10) ≡ false → (b == 9) ≡ false → nat_le 32 b ≡ true
 open_high b e f g = grind (arith, nat_tests, e, f, g)
 

@@ -1,5 +1,5 @@
 -- The servers of a network at its moment: each can act, since no stamp comes near the greatest.
-use Rattle.std.proofs.Common.{◌≡◌, ℕ, suc, ◌-◌, ◌<◌, ◌≤◌, List, drop, slice_get, Some, sym, ap, subst, ◌∙◌, arith}
+use Rattle.std.proofs.Common.{◌≡◌, ℕ, suc, ◌-◌, ◌<◌, ◌≤◌, List, drop, sym, ap, subst, ◌∙◌, arith}
 use Rattle.ev_sets.specs.Sets.{Has}
 use Rattle.ev_run.specs.Machine.{Stamped}
 use Rattle.ev_routing.specs.Server.{Message}
@@ -74,6 +74,3 @@ module _ (net : NetParts) (phase : ℕ) (now : Servers HierarchyParts) (kept : I
   -- they are of the net
   pub waiting_of_net : (from to : ℕ) (w : WaitingParts) → Has w (now.messages from to) → w.sent.net ≡ net
   waiting_of_net from to w h = ap (λ z. z.sent.net) (waiting-of from to w h).2
-
-  pub core_of_net : (place : ℕ) (core : HierarchyParts) → slice_get now.cores place ≡ Some core → core.core.net ≡ now.run
-  core_of_net place core e = kept.cores.nets place core e ∙ sym kept.run

@@ -1,5 +1,5 @@
 -- The laws of every run of a hierarchy, from those of the peers.
-use Rattle.std.proofs.Common.{◌≡◌, arith, ℕ, zero, suc, ◌+◌, ◌==◌, Bool, true, false, cond, ◌&&◌, List, [], ◌∷◌, ◌++◌, ◌⊎◌, inl, inr, map, length, slice_get, Option, Some, None, refl, sym, ap, subst, ◌∙◌}
+use Rattle.std.proofs.Common.{◌≡◌, arith, ℕ, zero, suc, ◌+◌, Bool, true, false, cond, ◌&&◌, List, [], ◌∷◌, ◌⊎◌, inl, inr, map, length, slice_get, Option, Some, None, refl, sym, ap, subst, ◌∙◌}
 use Rattle.ev_links.proofs.Links.{back-sent}
 use Rattle.ev_sets.specs.Sets.{Has, union}
 use Rattle.ev_run.specs.Machine.{Stamped, Act, Did, Took}
@@ -40,10 +40,6 @@ get-map f [] k y e = absurd cc
 get-map f (x ∷ xs) zero y e = (x, refl, same_Some _ _ e)
 get-map f (x ∷ xs) (suc k) y e = get-map f xs k y e
 
-append-one : {X : Type 0} (xs : List X) (x : X) → Has x (xs ++ x ∷ [])
-append-one [] x = inl refl
-append-one (y ∷ xs) x = inr (append-one xs x)
-
 all-held : {T : Type 0} (before : T → T → Bool) (sets : ℕ → List T) (but : ℕ) → sets but ≡ [] → (is : List ℕ) → union_except before sets but is ≡ union_all before sets is
 all-held before sets but e [] = refl
 all-held before sets but e (i ∷ is) = go (compare i but) (all-held before sets but e is)
@@ -64,9 +60,6 @@ module _ (th : Theory) (laws : TheoryLaws th) (run : HierarchyRun th) where
 
   abbrev alike : (n : ℕ) → AlikeNets th laws run.net run.laws (h th laws run n) (h' th laws run n)
   alike n = (moments th laws run n).network
-
-  abbrev same-client : ℕ → Type 0
-  same-client c = (c == listener th run.net) ≡ false
 
   -- a run's last moment is its end
   pub last-moment : states th run (length run.journal) ≡ last_state th run

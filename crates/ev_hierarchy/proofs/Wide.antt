@@ -1,6 +1,5 @@
 -- A theory with one more filter, which matches every notice, and one more notice, which no filter matches.
 use Rattle.std.proofs.Common.{◌≡◌, inl, inr, Bool, true, false, cond, not, ◌&&◌, ◌||◌, List, [], ◌∷◌, map, filter, Option, Some, None, refl, ap, ◌∙◌}
-use Rattle.std.proofs.lemmas.Option.{same_Some}
 use Rattle.ev_sets.specs.Laws.{CoverLaws}
 use Rattle.ev_sets.specs.Sets.{Has, yields, is_root, roots, same, member, same_list, IsRising, put_in, union, minus}
 use Rattle.ev_routing.specs.Theory.{Theory, TheoryLaws}
@@ -104,23 +103,10 @@ unsaid {T} (x ∷ xs) (y ∷ ys) e = both (head e) (unsaid xs ys (tail e))
     both : x ≡ y → xs ≡ ys → x ∷ xs ≡ y ∷ ys
     both p q = λ i. p i ∷ q i
 
-pub has-said : {T : Type 0} (x : T) (xs : List T) → Has (Some x) (said xs) → Has x xs
-has-said x [] h = absurd h
-has-said x (y ∷ ys) (inl e) = inl (same_Some _ _ e)
-has-said x (y ∷ ys) (inr h) = inr (has-said x ys h)
-
 pub said-has : {T : Type 0} (x : T) (xs : List T) → Has x xs → Has (Some x) (said xs)
 said-has x [] h = absurd h
 said-has x (y ∷ ys) (inl e) = inl (ap Some e)
 said-has x (y ∷ ys) (inr h) = inr (said-has x ys h)
-
-pub none-said : {T : Type 0} (xs : List T) → Has None (said xs) → ⊥
-none-said [] h = absurd h
-none-said (y ∷ ys) (inl e) = never e
-  where
-    never : {T : Type 0} {a : T} → None ≡ Some a → ⊥
-    never e = cc
-none-said (y ∷ ys) (inr h) = none-said ys h
 
 -- sets of them are as they were
 module _ {T : Type 0} (before : T → T → Bool) where

@@ -34,7 +34,7 @@ use Rattle.ev_numserver.specs.Acting.{HasDone, IsSpread, planned_message, delive
 use Rattle.ev_numserver.specs.Core.{core_parts, published_from, IsServerState}
 use Rattle.ev_numserver.specs.Kept.{IsCore}
 use Rattle.ev_numserver.specs.Routed.{IsRoute, RoutesNext}
-use Rattle.ev_numserver.proofs.Sessions.{has-map, map-has, only}
+use Rattle.ev_numserver.proofs.Sessions.{has-map, only}
 use Rattle.ev_numserver.proofs.Keeping.{one-notice}
 use Rattle.ev_numserver.proofs.Steps.{flat-none}
 use Rattle.ev_numserver.proofs.Commands.{plan_work, work-planned, committed, bare-stepped, command-made, command-kept}
@@ -108,9 +108,6 @@ module _ (server clock stamp client master : ℕ) (old new : LedgerParts) (befor
 
   lives-plain : Has client (client_numbers (map bare (map plain before)))
   lives-plain = subst (Has client) (sym (ap client_numbers (plain-bare before) ∙ plain-numbers (map bare before))) lives
-
-  here-plain : Has (plain here.0) (map bare (map plain before))
-  here-plain = subst (Has (plain here.0)) (sym (plain-bare before)) (map-has plain (map bare before) here.0 here.1)
 
   stepped-plain : map bare (at_client client stepped (map plain after)) ≡ map bare (map plain (at_client client stepped after))
   stepped-plain = ap (map bare) (plain-stepped client after)

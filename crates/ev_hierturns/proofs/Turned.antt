@@ -36,14 +36,6 @@ module _ (m : Machine) where
   after-append s [] fs = refl
   after-append s (e ∷ es) fs = after-append (network_step m s e) es fs
 
-  -- the moment after a beginning of a journal
-  pub moment-left : (s : Moment m) (es fs : List (Entry m)) (n : ℕ) → n ≡ length es → moment_after m s (es ++ fs) n ≡ moment_after m s es (length es)
-  moment-left s es fs n e = ap (moment_after m s (es ++ fs)) e ∙ go s es
-    where
-      go : (s : Moment m) (es : List (Entry m)) → moment_after m s (es ++ fs) (length es) ≡ moment_after m s es (length es)
-      go s [] = refl
-      go s (e ∷ es) = go (network_step m s e) es
-
   -- a permitted turn of the phase is made in the walk too, with the same entry
   pub permitted-makes : (p : ℕ) (s : Moment m) (t : Turn m) (e : Entry m) (next : NetworkState m) (q : ℕ) → is_of_phase m p (act_phase m t.0 (s.network.state t.0) t.1) ≡ true
       → IsPermitted m s.network s.phase t.0 t.1 e next q → entry_in m p s t ≡ Some e

@@ -1,16 +1,9 @@
 -- What a list keeps at its beginning.
-use Rattle.std.proofs.Common.{◌≡◌, ◌∙◌, ap, refl, sym, List, [], ◌∷◌, ◌++◌, ℕ, append-nil, append_assoc, take, length}
+use Rattle.std.proofs.Common.{◌≡◌, ◌∙◌, ap, refl, sym, List, [], ◌∷◌, ◌++◌, ℕ, append-nil, take, length}
 use Rattle.ev_index.specs.Pairs.{BeginsWith, KeepsBeginning}
 
 pub begins-itself : (xs : List ℕ) → BeginsWith xs xs
 begins-itself xs = record { tail = []; whole = sym (append-nil xs) }
-
--- what is appended changes no beginning
-pub append-keeps : (old new ids : List ℕ) → new ≡ old ++ ids → KeepsBeginning old new
-append-keeps old new ids h = λ first b. record { tail = b.tail ++ ids; whole = h ∙ ap (λ xs. xs ++ ids) b.whole ∙ append_assoc first b.tail ids }
-
-pub keeps-then : (old between new : List ℕ) → KeepsBeginning old between → KeepsBeginning between new → KeepsBeginning old new
-keeps-then old between new h g = λ first b. g first (h first b)
 
 take-first : (xs ys : List ℕ) → take (length xs) (xs ++ ys) ≡ xs
 take-first [] [] = refl

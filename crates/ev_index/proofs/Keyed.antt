@@ -1,26 +1,13 @@
 -- What a change of one group does to the ids with their keys.
-use Rattle.std.proofs.Common.{◌≡◌, ◌+◌, ◌≤◌, ◌<◌, ℕ, Bool, true, false, cond, refl, sym, ap, ◌∙◌, arith, List, [], ◌∷◌, ◌++◌, length, map, get_or, Some, None, Ordering}
+use Rattle.std.proofs.Common.{◌≡◌, ◌+◌, ◌≤◌, ◌<◌, ℕ, Bool, true, false, cond, refl, sym, ap, ◌∙◌, arith, List, [], ◌∷◌, length, get_or, Some, None}
 use Rattle.std.specs.Prelude.{Vec}
 use Rattle.std.specs.declared.alloc.Global.{Global}
 use Rattle.std.specs.List.{remove, IsDistinct, AllByRecursion}
 use Rattle.std.specs.Map.{lookup, set_value, remove_entry, keys_of}
-use Rattle.std.specs.BTreeMap.{insert_entry, is_at}
 use Rattle.ev_index.specs.Pairs.{tally, Same}
 use Rattle.ev_index.specs.Groups.{under, keyed}
-use Rattle.ev_index.proofs.Tallies.{tally-append, tally-remove, tally-none, tally-map}
-use Rattle.ev_index.proofs.Groups.{tally-under, spread-insert, spread-set, spread-remove, spread-absent}
-
--- a group with the same ids
-pub keyed-same : {K N : Type 0} (said : K → N) (t : K → Bool) (old new : Vec ℕ Global) (es fs : List (K × Vec ℕ Global)) → lookup t es ≡ Some old → new.items ≡ old.items → fs ≡ set_value t es new → keyed said fs ≡ keyed said es
-keyed-same {K = K} {N = N} said t old new es fs h e f = ap (keyed said) f ∙ same es h
-  where
-    same : (es : List (K × Vec ℕ Global)) → lookup t es ≡ Some old → keyed said (set_value t es new) ≡ keyed said es
-    same [] h = refl
-    same (x ∷ es) h = go (t x.0) h (same es)
-      where
-        go : (b : Bool) → cond b (Some x.1) (lookup t es) ≡ Some old → (lookup t es ≡ Some old → keyed said (set_value t es new) ≡ keyed said es) → keyed said (cond b ((x.0, new) ∷ es) (x ∷ set_value t es new)) ≡ keyed said (x ∷ es)
-        go true g r = let s : x.1 ≡ old = cc in ap (λ (ids : List ℕ). under (said x.0) ids ++ keyed said es) (e ∙ sym (ap {B = List ℕ} (λ (v : Vec ℕ Global). v.items) s))
-        go false g r = ap (λ ys. under (said x.0) x.1.items ++ ys) (r g)
+use Rattle.ev_index.proofs.Tallies.{tally-append, tally-remove, tally-none}
+use Rattle.ev_index.proofs.Groups.{tally-under, spread-set, spread-remove, spread-absent}
 
 module _ {K N : Type 0} (said : K → N) (p : N × ℕ → Bool) where
   abbrev part : K → Vec ℕ Global → List (N × ℕ)
@@ -31,10 +18,6 @@ module _ {K N : Type 0} (said : K → N) (p : N × ℕ → Bool) where
 
   of-part : (k : K) (n : N) (ids : Vec ℕ Global) → said k ≡ n → tally p (part k ids) ≡ met n ids.items
   of-part k n ids e = tally-under p (said k) ids.items ∙ ap {B = ℕ} (λ (m : N). met m ids.items) e
-
-  -- an id under a new key
-  pub keyed-new : (R : K → K → Ordering) (k : K) (new : Vec ℕ Global) (id : ℕ) (es fs : List (K × Vec ℕ Global)) → lookup (is_at (R k)) es ≡ None → new.items ≡ id ∷ [] → fs ≡ insert_entry R es k new → tally p (keyed said fs) ≡ cond (p (said k, id)) 1 0 + tally p (keyed said es)
-  keyed-new R k new id es fs h e f = omega (arith, ap {B = ℕ} (λ xs. tally p (keyed said xs)) f, spread-insert part p R k new es h, of-part k (said k) new refl, ap (met (said k)) e)
 
   module _ (t : K → Bool) (n : N) (one : (q : K) → t q ≡ true → said q ≡ n) where
     -- another group
@@ -74,15 +57,3 @@ module _ {K N : Type 0} (said : K → N) (p : N × ℕ → Bool) where
     -- a group's ids are among all
     pub keyed-has : (old : Vec ℕ Global) (es : List (K × Vec ℕ Global)) → lookup t es ≡ Some old → met n old.items ≤ tally p (keyed said es)
     keyed-has old es h = omega (arith, spread-remove part p t (λ ids. met n ids.items) old es (λ q ids w. of-part q n ids (one q w)) h)
-
--- ids with their keys are ids with what the keys say
-pub keyed-said : {K N : Type 0} (said : K → N) (es : List (K × Vec ℕ Global)) → keyed said es ≡ map (λ x. (said x.0, x.1)) (keyed (λ k. k) es)
-keyed-said {K = K} {N = N} said [] = refl
-keyed-said {K = K} {N = N} said (e ∷ es) = all e.1.items (keyed-said said es)
-  where
-    all : (ids : List ℕ) → keyed said es ≡ map (λ x. (said x.0, x.1)) (keyed (λ k. k) es) → under (said e.0) ids ++ keyed said es ≡ map (λ x. (said x.0, x.1)) (under e.0 ids ++ keyed (λ k. k) es)
-    all [] r = r
-    all (id ∷ ids) r = ap (λ xs. (said e.0, id) ∷ xs) (all ids r)
-
-pub tally-said : {K N : Type 0} (said : K → N) (p : N × ℕ → Bool) (es : List (K × Vec ℕ Global)) → tally p (keyed said es) ≡ tally (λ x. p (said x.0, x.1)) (keyed (λ k. k) es)
-tally-said {K = K} {N = N} said p es = ap (tally p) (keyed-said said es) ∙ tally-map (λ (x : K × ℕ). (said x.0, x.1)) p (keyed (λ k. k) es)

@@ -3,7 +3,6 @@ pub mod Groups
 pub mod Keyed
 pub mod Rows
 pub mod Members
-pub mod Found
 pub mod Begins
 pub mod Orders
 pub mod Lines

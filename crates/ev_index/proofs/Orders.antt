@@ -21,11 +21,6 @@ neither-is Less h k = cc
 neither-is Equal h k = refl
 neither-is Greater h k = cc
 
-pub not-both : (o : Ordering) → is_lt o ≡ true → is_gt o ≡ false
-not-both Less h = refl
-not-both Equal h = cc
-not-both Greater h = cc
-
 turned-less : (o : Ordering) → is_lt o ≡ false → is_gt (ordering_reverse o) ≡ false
 turned-less Less h = cc
 turned-less Equal h = refl

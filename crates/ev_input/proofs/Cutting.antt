@@ -37,10 +37,6 @@ cr_one b rest e = elim (nat_eq b 13) as (λ v. nat_eq b 13 ≡ v → lines (b �
   | false ↦ λ f. (plain b (10 ∷ rest) e f ∙ ap (before_first b) (end_here 10 rest refl)) ∙ rw f refl
 ] refl
 
-cr_more : (b c : ℕ) (cs : List ℕ) → without_return (b ∷ c ∷ cs) ≡ b ∷ without_return (c ∷ cs)
-unfolding without_return
-cr_more b c cs = refl
-
 -- a line with its end
 pub cut_line : (bs : List ℕ) (n : ℕ) → n < length bs → get_or bs n 0 ≡ 10 → ((k : ℕ) → k < n → get_or bs k 0 ≢ 10) → lines bs ≡ without_return (take n bs) ∷ lines (drop (suc n) bs)
 unfolding without_return

@@ -3,8 +3,8 @@ use Rattle.std.proofs.Common.{◌≡◌, ℕ, zero, suc, ◌+◌, ◌<◌, ◌�
 use Rattle.std.proofs.Math.ListN.{set}
 use Rattle.std.specs.Prelude.{IfSome, OnErr, OnOk, Result, Ok, Err}
 use Rattle.ev_input.specs.declared.draft.Draft.{Draft}
-use Rattle.ev_input.specs.Drafts.{AreNamesOf, changed_at, client_at, name_of, name_place, scriptless}
-use Rattle.ev_input.proofs.NamePlaces.{map-append, place_within}
+use Rattle.ev_input.specs.Drafts.{AreNamesOf, changed_at, client_at, name_of, name_place}
+use Rattle.ev_input.proofs.NamePlaces.{place_within}
 
 -- a write at a place is a change there
 pub changed_is_set : {A : Type 0} (f : A → A) (xs : List A) (n : ℕ) (d : A) → n < length xs → set xs n (f (get_or xs n d)) ≡ changed_at n f xs
@@ -34,23 +34,10 @@ pub length-more : {A : Type 0} (xs : List A) (x : A) → length (xs ++ x ∷ [])
 length-more [] x = refl
 length-more (y ∷ xs) x = omega (arith, length-more xs x)
 
-pub one_more_named : (names : List (List ℕ)) (xs : List Draft) (name : List ℕ) (home : ℕ) → AreNamesOf names xs → length xs < 1024 → AreNamesOf (names ++ name ∷ []) (xs ++ scriptless name home ∷ [])
-one_more_named names xs name home h room = record {
-  same = map-append name_of xs (scriptless name home) ∙ ap (λ ns. ns ++ name ∷ []) h.same;
-  few = omega (arith, length-more xs (scriptless name home));
-}
-
 -- a name that no client has is not among the names
 pub new_place : (names : List (List ℕ)) (xs ys : List Draft) (name : List ℕ) → AreNamesOf names xs → xs ≡ ys → client_at ys name ≡ None → name_place names name ≡ None
 unfolding client_at
 new_place names xs ys name h e none = ap (λ ns. name_place ns name) (sym h.same ∙ ap (map name_of) e) ∙ none
-
--- one client more
-pub more_named : (names more : List (List ℕ)) (xs ys zs : List Draft) (name : List ℕ) (home : ℕ) (d : Draft) → AreNamesOf names xs → length xs < 1024
-    → more ≡ names ++ name ∷ [] → ys ≡ xs → d ≡ scriptless name home → zs ≡ ys ++ d ∷ [] → AreNamesOf more zs
-more_named names more xs ys zs name home d h room m e f g =
-    subst (λ (ns : List (List ℕ)). AreNamesOf ns zs) (sym m)
-    (subst (λ (ws : List Draft). AreNamesOf (names ++ name ∷ []) ws) (sym (g ∙ (ap (λ (vs : List Draft). vs ++ d ∷ []) e ∙ ap (λ (v : Draft). xs ++ v ∷ []) f))) (one_more_named names xs name home h room))
 
 -- what a write at a place keeps
 pub set_named : (f : Draft → Draft) → ((d : Draft) → name_of (f d) ≡ name_of d) → (names : List (List ℕ)) (xs ys : List Draft) (n : ℕ) → ys ≡ changed_at n f xs → AreNamesOf names xs → AreNamesOf names ys

@@ -40,9 +40,6 @@ sized-push [] g s a b (suc k) l = absurd (omega (arith, l))
 sized-push (x ∷ goals) g s a b zero l = s 0 (omega arith)
 sized-push (x ∷ goals) g s a b (suc k) l = sized-push goals g (λ j m. s (suc j) (omega (arith, m))) a b k (omega (arith, l))
 
-pub filled-none : (filters : List (List ConstraintParts)) → IsFilled [] [] (take 0 filters)
-filled-none filters = record { indexed = λ p. refl; lengths = refl; sized = λ k l. absurd (omega (arith, l)) }
-
 pub filled-more : (filters : List (List ConstraintParts)) (i : ℕ) (f : List ConstraintParts) (old new : List Use) (goals more : List ℕ) → i < length filters → f ≡ get_or filters i f → IsListed 16 f → Same new (numbered i f ++ old) → more ≡ goals ++ length f ∷ [] → IsFilled old goals (take i filters) → IsFilled new more (take (i + 1) filters)
 filled-more filters i f old new goals more l e listed same m is = record {
   indexed = λ p. (

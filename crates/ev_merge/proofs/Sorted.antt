@@ -23,9 +23,6 @@ ties_with e f = ties (λ x y. is_lt (nat_cmp (stamp_of x) (stamp_of y))) e f
 tied : (e f : EntryParts) → e.stamp ≡ f.stamp → ties_with e f ≡ true
 tied e f q = grind (arith, nat_tests)
 
-untied : (e f : EntryParts) → ties_with e f ≡ true → e.stamp ≡ f.stamp
-untied e f q = grind (arith, nat_tests)
-
 -- none is below an earlier one
 abbrev IsUp : EntryParts → EntryParts → Type 0
 IsUp e f = e.stamp ≤ f.stamp

@@ -138,24 +138,6 @@ module _ (net : NetParts) (sound : IsSound net) (phase : ℕ) (state : State rea
           omega (arith, l, t, n, m)
 
 module _ (net : NetParts) (phase : ℕ) (now : Servers CoreParts) (kept : IsNetwork net phase now) (client : ℕ) where
-  -- there is no command, so the turn is barred
-  pub command_none : next_phase_by net now.journal client ≡ None → IsBarred net now.journal (turns.Command client)
-  command_none none entry next permitted = go (slice_get (script_of net client) (taken_by net now.journal client)) refl none (permits net (moment_by net now.journal) (home_of net client, Did (NextCommand client)) entry next permitted)
-    where
-      go : (o : Option (PhasedCommand real)) → slice_get (script_of net client) (taken_by net now.journal client) ≡ o → phase_in o ≡ None → Permits net (moment_by net now.journal) (home_of net client, Did (NextCommand client)) → ⊥
-      go (Some x) e f p = absurd cc
-      go None e f p = at (subst (λ z. ActFinds real (phased_net net) (moment_by net now.journal).state (moment_by net now.journal).phase (phase_of real (net_at real (phased_net net) (moment_by net now.journal).phase) z) p.found.state p.found.phase) e p.ready)
-        where
-          none-some : {x : PhasedCommand real} → ◌≡◌ {A = Option (PhasedCommand real)} None (Some x) → ⊥
-          none-some q = cc
-
-          at : ActFinds real (phased_net net) (moment_by net now.journal).state (moment_by net now.journal).phase (Some 0) p.found.state p.found.phase → ⊥
-          at (a, inl (b, c)) = none-some (sym e ∙ ap (λ (z : State real). slice_get (script_of net client) ((z.state (home_of net client)).done client)) c ∙ p.needs.2.1)
-          at (a, inr (l, t, q, g)) = omega (arith, l)
-
-  pub command_apart : (Has client (clients_of net (home_of net client)) → ⊥) → IsBarred net now.journal (turns.Command client)
-  command_apart none entry next permitted = none (permits net (moment_by net now.journal) (home_of net client, Did (NextCommand client)) entry next permitted).needs.1
-
   -- it is of another phase, which may not begin
   pub command_early : (own : ℕ) → next_phase_by net now.journal client ≡ Some own → (phase ≡ own → ⊥)
       → (phase < own → IsThroughOn real (phased_net net) phase (moment_by net now.journal).state own → IsQuietOn real (phased_net net) phase (moment_by net now.journal).state → ⊥)

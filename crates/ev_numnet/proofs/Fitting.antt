@@ -1,12 +1,11 @@
 -- What is published by numbers at a core that is given a ledger, and with what comes back.
-use Rattle.std.proofs.Common.{◌≡◌, ℕ, Option, Some, None, sym, ap, subst, ◌∙◌}
+use Rattle.std.proofs.Common.{◌≡◌, ℕ, sym, subst, ◌∙◌}
 use Rattle.ev_control.specs.Control.{subs}
 use Rattle.ev_forwarding.specs.Published.{Published}
 use Rattle.ev_numserver.specs.Ledger.{LedgerParts}
 use Rattle.ev_numserver.specs.Core.{CoreParts, published_from}
 use Rattle.ev_numserver.specs.Linked.{IsOnLinks, ledger_of}
 use Rattle.ev_numnet.specs.Kept.{IsForwardingOf, IsPlace}
-use Rattle.ev_numnet.specs.Begin.{FitsCore, FitsWhere, IsOn, IsGivenLedger}
 use Rattle.ev_numnet.proofs.Placed.{forwarding-same, forwarding-at}
 
 -- a core on other links has the pairs that were made for it
@@ -24,19 +23,4 @@ forwarding-back core ledger f e published is =
 
 -- what fits, fits whatever the clock
 
-fits-clock : (core : CoreParts) (ledger : LedgerParts) (clock : ℕ) → FitsCore core ledger → FitsCore (record core { clock = clock }) ledger
-fits-clock core ledger clock f = record {
-  suits = record { net = f.suits.net; interfaces = f.suits.interfaces; semantics = f.suits.semantics; rising = f.suits.rising; small = f.suits.small; client_filters = f.suits.client_filters; client_adverts = f.suits.client_adverts };
-  staged = f.staged;
-  published = f.published;
-}
-
-pub fits-where-clock : (core new : CoreParts) (links : Option LedgerParts) (clock : ℕ) → new ≡ record core { clock = clock } → FitsWhere core links → FitsWhere new links
-fits-where-clock core new None clock e f = f
-fits-where-clock core new (Some ledger) clock e f = subst (λ z. FitsCore z ledger) (sym e) (fits-clock core ledger clock f)
-
 -- given a control first and then a clock
-
-pub given-clock : (links : Option LedgerParts) (old between new : CoreParts) (clock : ℕ) → IsOn links old between → new ≡ record between { clock = clock } → IsGivenLedger links old new
-given-clock None old between new clock on e = ap (λ (z : CoreParts). record z { clock = old.clock }) e ∙ ap (λ (z : CoreParts). record z { clock = old.clock }) on
-given-clock (Some ledger) old between new clock on e = subst (IsOnLinks ledger old) (ap (λ c. record between { clock = c }) on.clock ∙ sym (ap (λ (z : CoreParts). record z { clock = old.clock }) e)) on

@@ -106,6 +106,3 @@ module _ (net : NetParts) (phase : ℕ) (now : Servers CoreParts) (kept : IsNetw
   -- they are of the net
   pub waiting_of_net : (from to : ℕ) (w : WaitingParts) → Has w (now.messages from to) → w.sent.net ≡ net
   waiting_of_net from to w h = ap (λ z. z.sent.net) (waiting-of from to w h).2
-
-  pub core_of_net : (place : ℕ) (core : CoreParts) → slice_get now.cores place ≡ Some core → core.net ≡ now.run
-  core_of_net place core e = kept.cores.nets place core e ∙ sym kept.run

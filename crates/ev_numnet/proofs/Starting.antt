@@ -5,10 +5,8 @@ use Rattle.ev_phases.specs.Moments.{opening_moment}
 use Rattle.ev_theory.specs.Real.{real}
 use Rattle.ev_model.specs.Parts.{NetParts}
 use Rattle.ev_model.specs.Nets.{phased_net, first_tree}
-use Rattle.ev_model.specs.Sound.{IsSound}
 use Rattle.ev_numserver.specs.Core.{CoreParts}
-use Rattle.ev_numnet.specs.Kept.{AreServers, ArePlacesUpTo, IsNetwork}
-use Rattle.ev_numnet.specs.Acted.{Servers}
+use Rattle.ev_numnet.specs.Kept.{AreServers, ArePlacesUpTo}
 use Rattle.ev_numnet.proofs.Sending.{filter-append}
 
 -- a fact of each member of a list goes on to one member more
@@ -69,15 +67,3 @@ servers_start net cores all each = record {
   states = λ k core e. (each k core e).state;
   clocks = λ k core e. (each k core e).clock;
 }
-
--- the network then
-pub network_start : (net : NetParts) → IsSound net → (servers : Servers CoreParts) → servers.run ≡ net → servers.journal ≡ [] → ((a b : ℕ) → servers.messages a b ≡ [])
-    → AreServers net 0 (opening_moment real (phased_net net)).state servers.cores → IsNetwork net 0 servers
-network_start net sound servers run journal empty cores = subst (λ z. IsNetwork net 0 (record { run = servers.run; cores = servers.cores; messages = servers.messages; journal = z })) (sym journal) (record {
-  sound = sound;
-  run = run;
-  legal = (refl, refl);
-  in_hand = refl;
-  cores = cores;
-  links = record { messages_are = empty; within = λ a b. omega arith };
-})

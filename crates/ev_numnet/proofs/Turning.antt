@@ -35,9 +35,6 @@ set-long [] i x = refl
 set-long (y ∷ ys) zero x = refl
 set-long (y ∷ ys) (suc i) x = ap suc (set-long ys i x)
 
-pub going-start : (standings : List Standing) (old : List CoreParts) → AreGoing 0 standings old standings old
-going-start standings old = record { long = refl; long_back = refl; each = λ place standing core s c. (standing, core, s, c, record { done = λ l. absurd (omega (arith, l)); other = λ l. (refl, refl) }) }
-
 -- at the next place all is as it was
 pub going-here : (n : ℕ) (standings : List Standing) (old : List CoreParts) (back : List Standing) (new : List CoreParts) (left : Standing) (after : CoreParts) → AreGoing n standings old back new → CanAllTake standings old
     → slice_get back n ≡ Some left → slice_get new n ≡ Some after → CanTake left after × (slice_get standings n ≡ Some left) × (slice_get old n ≡ Some after)

@@ -59,12 +59,6 @@ version-routes core (Does (NextCommand client)) n e r = let q : ◌≡◌ {A = A
 version-routes core (Does Version) n e r = r
 version-routes core (Takes from m) n e r = let q : ◌≡◌ {A = Act Task} (Took from) (Did Version) = e in absurd cc
 
--- a command routes the publication that it is
-pub command-routes : (core : CoreParts) (input : StampedInput) (client : ℕ) (numbers : List ℕ) → told_as input ≡ Did (NextCommand client) → RoutesMatched core input numbers → PublishesNext core client numbers
-command-routes core (Does (NextCommand c)) client n e r = let q : ◌≡◌ {A = Act Task} (Did (NextCommand c)) (Did (NextCommand client)) = e in let p : c ≡ client = cc in subst (λ k. PublishesNext core k n) p r
-command-routes core (Does Version) client n e r = let q : ◌≡◌ {A = Act Task} (Did Version) (Did (NextCommand client)) = e in absurd cc
-command-routes core (Takes from m) client n e r = let q : ◌≡◌ {A = Act Task} (Took from) (Did (NextCommand client)) = e in absurd cc
-
 -- a message is one notice
 one-notice : (p q : ℕ) (n : List Attribute) (r s : ℕ) (m : List Attribute) → ◌≡◌ {A = Message real} (Noticed p q n) (Noticed r s m) → n ≡ m
 one-notice p q n r s m e = cc

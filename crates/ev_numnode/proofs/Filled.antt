@@ -1,5 +1,5 @@
 -- The cells of a net are started one by one.
-use Rattle.std.proofs.Common.{◌≡◌, ◌⊎◌, inl, inr, true, false, ℕ, zero, suc, ◌+◌, ◌<◌, ◌≤◌, List, [], ◌∷◌, ◌++◌, length, map, get_or, set, Some, slice_get, refl, sym, ap, subst, ◌∙◌, arith}
+use Rattle.std.proofs.Common.{◌≡◌, ◌⊎◌, inl, inr, ℕ, zero, suc, ◌+◌, ◌<◌, ◌≤◌, List, [], ◌∷◌, ◌++◌, length, map, get_or, set, Some, slice_get, refl, sym, ap, subst, ◌∙◌, arith}
 use Rattle.std.proofs.lemmas.List.{length-append, length-map}
 use Rattle.std.proofs.lemmas.Option.{same_Some}
 use Rattle.ev_sets.specs.Sets.{Has}
@@ -8,16 +8,12 @@ use Rattle.ev_model.specs.Parts.{NetParts}
 use Rattle.ev_model.specs.Sound.{IsSound}
 use Rattle.ev_model.proofs.SoundNets.{few-servers}
 use Rattle.ev_model.specs.Nets.{first_tree, servers_in}
-use Rattle.ev_forwarding.specs.declared.change.Change.{Change}
-use Rattle.ev_numserver.specs.Staged.{is_some_there}
 use Rattle.ev_numnode.specs.declared.held.Root.{Root}
 use Rattle.ev_numnode.specs.declared.link.Link.{Link}
 use Rattle.ev_numnode.specs.declared.starting.Started.{Started}
 use Rattle.ev_numnode.specs.Lanes.{AreEnds}
 use Rattle.ev_numnode.specs.Started.{IsStarted, AreStarted}
-use Rattle.ev_numnode.specs.Cell.{CellParts}
 use Rattle.ev_numnode.specs.Together.{root_links}
-use Rattle.ev_numnode.specs.Entered.{AreCalm}
 use Rattle.ev_numnode.proofs.Places.{found}
 use Rattle.ev_numnode.proofs.Gathered.{map-found, found-map, found-within}
 
@@ -110,14 +106,3 @@ row-is f rows first place d lt lt' rest =
 
 pub few-rows : (net : NetParts) (rows : List (List Link)) → IsSound net → length rows ≡ (first_tree net.trees).count → length rows ≤ 64
 few-rows net rows sound e = let l = few-servers net.trees sound.trees in omega (arith, e, l)
-
--- cells before their first step have nothing staged
-pub calm-started : (net : NetParts) (started : List Started) → AreStarted net started → AreCalm (map (λ (s : Started). s.cell) started)
-calm-started net started are k cell e =
-    let s = found-map (λ (s : Started). s.cell) k started cell e in
-    let is = are.each k s.0 s.1 in
-    subst (λ (c : CellParts). c.held.core.staged ≡ []) s.2 (nothing s.0.cell.held.core.staged (sym is.1.fresh.opening.state.staged))
-  where
-    nothing : (changes : List Change) → is_some_there changes ≡ false → changes ≡ []
-    nothing [] q = refl
-    nothing (x ∷ changes) q = absurd (let t : true ≡ false = q in cc)

@@ -15,7 +15,7 @@ use Rattle.ev_numnode.specs.Links.{At, IsOneLane, IsNeighbour, IsSameLink}
 use Rattle.ev_numnode.specs.Cell.{CellParts, IsKept}
 use Rattle.ev_numnode.specs.Together.{AreTogether, IsLaneOf, cell_roots, root_links}
 use Rattle.ev_numnode.proofs.Hands.{names}
-use Rattle.ev_numnode.proofs.Places.{both-before, both-behind, found-name}
+use Rattle.ev_numnode.proofs.Places.{both-before, found-name}
 use Rattle.ev_numnode.proofs.Keeping.{laws_at, replayed}
 
 module _ {X Y : Type 0} (f : X → Y) where
@@ -60,9 +60,6 @@ names-kept cell kept =
 -- a neighbour now was one as the phase began
 pub neighbour-then : (cell : CellParts) (p u : ℕ) → IsKeptCell cell → IsNeighbour p u cell.held.links.items → IsNeighbour p u (root_links cell.root)
 neighbour-then cell p u k (y, e, q) = let x = both-before IsSameLink p (root_links cell.root) cell.held.links.items y k.links e in (x.0, x.1, sym x.2.neighbour ∙ q)
-
-pub neighbour-now : (cell : CellParts) (p u : ℕ) → IsKeptCell cell → IsNeighbour p u (root_links cell.root) → IsNeighbour p u cell.held.links.items
-neighbour-now cell p u k (x, e, q) = let y = both-behind IsSameLink p (root_links cell.root) cell.held.links.items x k.links e in (y.0, y.1, y.2.neighbour ∙ q)
 
 module _ (net : NetParts) (phase : ℕ) (cells : List CellParts) (together : AreTogether net phase (cell_roots cells)) where
   pub root-at : (k : ℕ) (cell : CellParts) → slice_get cells k ≡ Some cell → slice_get (cell_roots cells) k ≡ Some cell.root

@@ -1,7 +1,6 @@
 -- A server set on the tree of another phase, by what flows over it.
 use Rattle.std.proofs.Common.{◌≡◌, ◌≢◌, ◌⊎◌, inl, inr, ℕ, ◌+◌, ◌<◌, ◌≤◌, nat_lt, ◌==◌, ◌||◌, eqb-true, Bool, true, false, cond, List, [], ◌∷◌, map, refl, sym, ap, subst, ◌∙◌, arith}
 use Rattle.std.proofs.lemmas.Bool.Decides.{nat_tests}
-use Rattle.ev_sets.proofs.Numbers.{Is, Not, compare}
 use Rattle.ev_sets.specs.Sets.{Has}
 use Rattle.ev_constraint.specs.Constraint.{ConstraintParts}
 use Rattle.ev_wire.specs.declared.semantics.Semantics.{Semantics}
@@ -49,9 +48,6 @@ unlike e = grind (arith, e)
 above : (c i : ℕ) → 1 ≤ c → i ≡ 64 + c → nat_lt 64 i ≡ true
 above c i one e = let more : 64 < i = omega (arith, one, e) in grind (arith, nat_tests, more)
 
-not-above : (x : ℕ) → x ≤ 64 → nat_lt 64 x ≡ false
-not-above x low = grind (arith, nat_tests, low)
-
 -- who is among, by the test
 pub among : (i : ℕ) (xs : List ℕ) → is_among i xs ≡ true → Has i xs
 among i [] e = absurd (unlike e)
@@ -68,17 +64,6 @@ low-or-high i = go (nat_lt 64 i) refl
     go : (b : Bool) → nat_lt 64 i ≡ b → (i ≤ 64) ⊎ (64 < i)
     go true e = inr (grind (arith, nat_tests, e))
     go false e = inl (grind (arith, nat_tests, e))
-
--- a link is given or not
-pub find-link : (held : List HeldLink) (i : ℕ) → ((h : HeldLink) × Has h held × (h.link ≡ i)) ⊎ ((h : HeldLink) → Has h held → h.link ≢ i)
-find-link [] i = inr (λ h m. absurd m)
-find-link (x ∷ xs) i = elim (compare x.link i) [
-  | Is p v ↦ inl (x, inl refl, p)
-  | Not n v ↦ elim (find-link xs i) [
-    | inl r ↦ inl (r.0, inr r.1, r.2)
-    | inr none ↦ inr (λ h m e. elim m [ inl q ↦ n (ap (λ (z : HeldLink). z.link) (sym q) ∙ e) | inr k ↦ none h k e ])
-  ]
-]
 
 module _ (net : NetParts) (sound : IsSound net) (last phase : ℕ) (state : State real) (homes : List Home) where
   abbrev old : Net real

@@ -35,7 +35,7 @@ use Rattle.ev_numnode.proofs.Moving.{Sets, AreUnions, client_filters, client_adv
 use Rattle.ev_numnode.specs.declared.link.Link.{Link}
 use Rattle.ev_numnode.specs.Lanes.{AreLanesOf}
 use Rattle.ev_numnode.specs.Cell.{CellParts}
-use Rattle.ev_numnode.specs.Together.{AreTogether, AreDone, cell_roots, sight, sights}
+use Rattle.ev_numnode.specs.Together.{AreTogether, cell_roots}
 use Rattle.ev_numnode.specs.Relinking.{IsHomeOf, CanMove}
 use Rattle.ev_numnode.specs.Entered.{AreCalm, IsSameCell, AreSameCells, AreThrough, greatest_cell_clock}
 use Rattle.ev_numnode.proofs.Places.{found, set-found, below-found}
@@ -72,10 +72,6 @@ same-step first now n d z lt left here same = record {
 
 pub below-next : (k n : ℕ) → k < n + 1 → (k ≡ n → ⊥) → k < n
 below-next k n lt other = grind (arith, lt, other)
-
--- cells that are done have nothing staged
-pub calm-done : (cells : List CellParts) → AreDone (sights cells) → AreCalm cells
-calm-done cells done k cell e = let s = map-found sight k cells cell e in (done k (below-found k (sights cells) (sight cell) s)).calm (sight cell) s
 
 -- the greatest clock
 

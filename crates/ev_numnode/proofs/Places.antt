@@ -11,7 +11,7 @@ use Rattle.ev_lane.specs.declared.taking.LaneOut.{LaneOut}
 use Rattle.ev_lane.specs.Lane.{put_list, waiting_list, taken_list, rest_list, coming_list, misses, IsLane, SameIn, SameOut}
 use Rattle.ev_message.specs.declared.stamped.StampedLoad.{StampedLoad}
 use Rattle.ev_numnode.specs.declared.link.Link.{Link}
-use Rattle.ev_numnode.specs.Links.{Both, ComesNext, IsLooked, IsLookedAt, IsSameLink, IsUnmoved, IsItemTaken, IsRoomed, IsMissed, HasMissed, IsOneLane, IsSettledLane, IsNeighbour, IsNextAt, At}
+use Rattle.ev_numnode.specs.Links.{Both, ComesNext, IsLooked, IsLookedAt, IsSameLink, IsUnmoved, IsItemTaken, IsOneLane, IsSettledLane, IsNeighbour, IsNextAt, At}
 use Rattle.ev_numnode.proofs.Hands.{names}
 use Rattle.ev_numnode.proofs.Unmoved.{same-refl, unmoved-refl, all-unmoved}
 
@@ -30,9 +30,6 @@ pub set-unmoved : (n : ℕ) (xs : List Link) (d z : Link) → n < length xs → 
 set-unmoved n [] d z lt u = absurd (omega arith)
 set-unmoved zero (x ∷ xs) d z lt u = (u, all-unmoved xs)
 set-unmoved (suc n) (x ∷ xs) d z lt u = (unmoved-refl x, set-unmoved n xs d z (omega arith) u)
-
-pub set-missed : (n : ℕ) (xs : List Link) (d z : Link) → n < length xs → IsMissed (get_or xs n d) z → HasMissed n xs (set xs n z)
-set-missed n xs d z lt m x y p q = subst (λ (w : Link). IsMissed w y) (same_Some (get_or xs n d) x (sym (found xs n d lt) ∙ p)) (subst (λ (w : Link). IsMissed (get_or xs n d) w) (same_Some z y (sym (set-found xs n z lt) ∙ q)) m)
 
 pub has-name : (n : ℕ) (xs : List Link) (d : Link) → n < length xs → Has (get_or xs n d).neighbour (names xs)
 has-name n [] d lt = absurd (omega arith)
@@ -81,15 +78,6 @@ placed xs n x lt e = found xs n x lt ∙ ap (λ w. Some w) (sym e)
 
 pub read-found : {X : Type 0} (xs : List X) (n : ℕ) (x y : X) → n < length xs → x ≡ get_or xs n x → slice_get xs n ≡ Some y → x ≡ y
 read-found xs n x y lt e f = e ∙ same_Some (get_or xs n x) y (sym (found xs n x lt) ∙ f)
-
-pub missed-after : (n : ℕ) (xs ys zs : List Link) → Both IsRoomed xs ys → HasMissed n ys zs → HasMissed n xs zs
-missed-after n xs ys zs b h x z p q =
-    let y = both-behind IsRoomed n xs ys x b p in
-    let m = h y.0 z y.1 q in
-    record {
-      misses = m.misses ∙ ap (λ (l : LaneOut StampedLoad). misses l + 1) y.2.leave;
-      rest = ap (λ (l : LaneOut StampedLoad). rest_list l) (sym y.2.leave) ∙ m.rest;
-    }
 
 pub settled-at : {E : Type 0} (to : ℕ) (xs : List Link) (from : ℕ) (ys : List Link) (x y : Link) (r : Result (Unit {0}) E) → to < length xs → from < length ys → IsLane x.enter y.leave
     → OnOk r ((taken_list y.leave ++ rest_list y.leave ≡ put_list x.enter) × (waiting_list x.enter ≡ []) × (coming_list y.leave ≡ rest_list y.leave)) → OnOk r (At IsSettledLane to (set xs to x) from (set ys from y))

@@ -67,25 +67,6 @@ module _ (of : NetParts) (outs : ℕ → List (Message real)) where
       go (x ∷ []) e few ih = rw e (ap (λ z. l ∷ z) ih)
       go (x ∷ y ∷ xs) e few ih = absurd (omega (arith, few))
 
-  -- there are no more than links
-  pub sent-few : (links : List ℕ) → AtMostOne links → length (sent_by of outs links) ≤ length links
-  sent-few [] one = omega arith
-  sent-few (l ∷ links) one =
-      let here = one l (inl refl) in
-      let ih = sent-few links (λ v h. one v (inr h)) in
-      let sum = length-append (map (onto of l) (outs l)) (sent_by of outs links) in
-      let same = length-map (onto of l) (outs l) in
-      omega (arith, here, ih, sum, same)
-
-  -- what is sent goes to a link
-  pub sent-to : (links : List ℕ) (s : SendingParts) → Has s (sent_by of outs links) → Has s.to links
-  sent-to [] s h = h
-  sent-to (l ∷ links) s h = go (has-either s (map (onto of l) (outs l)) (sent_by of outs links) h) (sent-to links s)
-    where
-      go : Has s (map (onto of l) (outs l)) ⊎ Has s (sent_by of outs links) → (Has s (sent_by of outs links) → Has s.to links) → Has s.to (l ∷ links)
-      go (inl a) ih = let m = map-has (onto of l) s (outs l) a in inl (ap (λ z. z.to) m.2)
-      go (inr b) ih = inr (ih b)
-
   -- and is a message to it
   pub sent-of : (links : List ℕ) (s : SendingParts) → Has s (sent_by of outs links) → (m : Message real) × Has m (outs s.to) × (s.sent ≡ message_parts of m)
   sent-of [] s h = absurd h

@@ -1,6 +1,5 @@
 -- A look before a step changes nothing of it.
 use Rattle.std.proofs.Common.{◌≡◌, ℕ, ◌∷◌, ◌++◌, [], List, map, length, ◌<◌, Bool, true, false, Some, slice_get, sym, ap, subst, ◌∙◌}
-use Rattle.std.specs.Prelude.{Result, Ok, Err, OnErr}
 use Rattle.std.proofs.lemmas.Option.{same_Some}
 use Rattle.ev_run.specs.Machine.{Takes}
 use Rattle.ev_model.specs.Parts.{NetParts}
@@ -79,10 +78,6 @@ module _ (old mid new : ServerInHand) (before after : List EntryParts) (core : m
     publisher = subst (λ (p : Publisher). IsSamePublisher p new.publisher) publisher s.publisher;
     published = s.published ∙ ap (λ (p : Publisher). published p) publisher;
   }
-
-  pub still-err : {T E : Type 0} (r : Result T E) → OnErr r (IsStill mid new before after) → OnErr r (IsStill old new before after)
-  still-err (Ok x) s = tt
-  still-err (Err e) s = still-before s
 
   pub taking-before : (phase place : ℕ) (m : Said) → HasSeen place old.links.items mid.links.items → IsTakingFrom phase place m mid new before after → IsTakingFrom phase place m old new before after
   taking-before phase place m seen t = go (at-before t.link t.there)

@@ -10,14 +10,13 @@ use Rattle.ev_numnode.specs.declared.held.Root.{Root}
 use Rattle.ev_numnode.specs.declared.what.What.{What}
 use Rattle.ev_numnode.specs.declared.what.Turned.{Turned}
 use Rattle.ev_numnode.specs.declared.what.Turned.TheVariants.{Made, Stale, Idle}
-use Rattle.ev_numnode.specs.Links.{Both, At, IsOneLane, IsSameLink, IsUnmoved, HasMissed}
-use Rattle.ev_numnode.specs.Cell.{CellParts, IsServerInHand, IsKept, cell_parts}
+use Rattle.ev_numnode.specs.Links.{Both, IsSameLink, IsUnmoved, HasMissed}
+use Rattle.ev_numnode.specs.Cell.{IsServerInHand, IsKept, cell_parts}
 use Rattle.ev_numnode.specs.Turns.{IsStill, IsTaking, IsWornAt}
 use Rattle.ev_numnode.specs.Asked.{Answers, IsIdleStep}
-use Rattle.ev_numnode.specs.Together.{sight, root_links}
+use Rattle.ev_numnode.specs.Together.{sight}
 use Rattle.ev_numnode.proofs.Walks.{both-map}
 use Rattle.ev_numnode.proofs.Moved.{unmoved-put, unmoved-taken}
-use Rattle.ev_numnode.proofs.Places.{lane-at}
 use Rattle.ev_numnode.proofs.Keeping.{kept-turn, kept-still}
 
 -- where nothing was done nothing is seen
@@ -41,11 +40,6 @@ pub idle-is : (phase : ℕ) (what : What) (old new : ServerInHand) (before after
 idle-is phase what old new before after Made a e = absurd cc
 idle-is phase what old new before after Stale a e = absurd a
 idle-is phase what old new before after Idle a e = a
-
--- the two ends are still of one lane
-pub lane-now : (to from : ℕ) (one other : CellParts) → IsKept one.root.net.value one.root one.journal one.held → IsKept other.root.net.value other.root other.journal other.held → At IsOneLane to (root_links one.root) from (root_links other.root)
-    → At IsOneLane to one.held.links.items from other.held.links.items
-lane-now to from one other k l a = lane-at to from (root_links one.root) one.held.links.items (root_links other.root) other.held.links.items k.links l.links a
 
 module _ (net : NetParts) (root : Root) (journal : List EntryParts) (old : ServerInHand) (kept : IsKept net root journal old) (place : ℕ) (new : ServerInHand) (after : List EntryParts) where
   pub kept-taking : (r : Result Bool StepFault) → IfOk r (λ made. IsTaking root.phase place old new journal after made) → OnErr r (IsStill old new journal after) → IsServerInHand new → IsKept net root after new

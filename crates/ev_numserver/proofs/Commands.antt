@@ -1,5 +1,5 @@
 -- A client's next command as a step of the server.
-use Rattle.std.proofs.Common.{◌≡◌, ◌≢◌, inr, ℕ, zero, suc, max, ◌+◌, ◌^◌, ◌<◌, ◌≤◌, ◌==◌, nat_lt, cond, not, ◌&&◌, ◌||◌, Bool, true, false, List, [], ◌∷◌, ◌++◌, map, take, slice_get, length, IfSome, Option, Some, None, refl, sym, ap, subst, ◌∙◌, arith}
+use Rattle.std.proofs.Common.{◌≡◌, ◌≢◌, inr, ℕ, zero, suc, max, ◌+◌, ◌^◌, ◌<◌, ◌≤◌, ◌==◌, nat_lt, cond, not, ◌&&◌, ◌||◌, Bool, true, false, List, [], ◌∷◌, ◌++◌, map, take, slice_get, length, Option, Some, None, refl, sym, ap, subst, ◌∙◌, arith}
 use Rattle.std.specs.Int.{IsInRange}
 use Rattle.std.proofs.lemmas.Bool.Decides.{nat_tests}
 use Rattle.std.proofs.lemmas.Option.{same_Some}
@@ -26,15 +26,15 @@ use Rattle.ev_model.specs.Nets.{with_adverts}
 use Rattle.ev_model.proofs.Adding.{accepts-same}
 use Rattle.ev_session.specs.declared.planned.Planned.{Planned}
 use Rattle.ev_session.specs.declared.planned.Planned.TheVariants as plans
-use Rattle.ev_session.specs.Session.{SessionParts, session_parts, adverts_at, publishes_at, net_under}
+use Rattle.ev_session.specs.Session.{SessionParts, adverts_at, publishes_at, net_under}
 use Rattle.ev_session.specs.Plan.{plan_by, plan_in, next_plan}
 use Rattle.ev_session.specs.Turn.{filter_set_at, advert_set_at}
 use Rattle.ev_session.proofs.Listing.{get-map}
 use Rattle.ev_session.proofs.Turning.{filters-turn, adverts-turn}
 use Rattle.ev_numserver.specs.Clients.{bare, client_numbers, at_client, stepped}
 use Rattle.ev_numserver.specs.Ledger.{LedgerParts}
-use Rattle.ev_numserver.specs.Acting.{HasDone, planned_message, IsRouted}
-use Rattle.ev_numserver.specs.Core.{CoreParts, core_parts, IsServerState}
+use Rattle.ev_numserver.specs.Acting.{HasDone, planned_message}
+use Rattle.ev_numserver.specs.Core.{core_parts, IsServerState}
 use Rattle.ev_numserver.specs.Kept.{IsCore}
 use Rattle.ev_numserver.specs.Routed.{RoutesNext}
 use Rattle.ev_numserver.specs.Step.{IsServerStep, MakesStep}
@@ -241,13 +241,6 @@ committed net server clock client ledger sessions state stands = record {
     inboxes s (took t h e q) = subst (λ z. z.inbox ≡ deliveries_of (state.inbox z.client)) (sym q) (stands.inboxes t h)
     inboxes s (kept-on t h n q) = subst (λ z. z.inbox ≡ deliveries_of (state.inbox z.client)) (sym q) (stands.inboxes t h)
 
-plan-alike : (s t : SessionParts) → s.client ≡ t.client → s.semantics ≡ t.semantics → s.script ≡ t.script → s.taken ≡ t.taken → next_plan s ≡ next_plan t
-plan-alike s t c m r k =
-    ap (λ z. next_plan (session_parts z s.semantics s.script s.taken [] 0 false)) c
-    ∙ ap (λ z. next_plan (session_parts t.client z s.script s.taken [] 0 false)) m
-    ∙ ap (λ z. next_plan (session_parts t.client t.semantics z s.taken [] 0 false)) r
-    ∙ ap (λ z. next_plan (session_parts t.client t.semantics t.script z [] 0 false)) k
-
 module _ (server clock stamp client : ℕ) (old new : LedgerParts) (clients mid : List SessionParts) (route : List ℕ) (sent : List SendingParts)
     (kept : IsCore (core_parts server old (map bare clients) clock)) (p : Planned)
     (planned : (s : SessionParts) → Has s (map bare clients) → s.client ≡ client → next_plan s ≡ Some p)
@@ -340,12 +333,6 @@ module _ (server clock stamp client : ℕ) (old new : LedgerParts) (clients mid 
           let u = before t h in
           subst (λ z. advs new.control (64 + z.client) ≡ advert_set_at z z.taken) (sym q)
           (left.adverts (64 + t.client) (λ e. n (omega (arith, e))) ∙ ap (λ z. advs old.control (64 + z)) u.2.client ∙ kept.own_adverts u.0 u.1 (ap by_adverts (sym left.semantics) ∙ on) ∙ sym (adverts-own t u.0 u.2))
-
-  -- the plan stands through the act
-  pub plan-after : (s : SessionParts) → Has s mid → s.client ≡ client → next_plan s ≡ Some p
-  plan-after s m e =
-      let t = deed-own (planned_message old.control.semantics p) deed (bare s) (map-has bare mid s m) in
-      plan-alike s t.0 t.2.client t.2.semantics t.2.script t.2.taken ∙ planned t.0 t.1 (sym t.2.client ∙ e)
 
   -- the step
   module _ (lives : Has client (client_numbers (map bare clients))) (routes : RoutesNext (core_parts server old (map bare clients) clock) client route) where
@@ -450,17 +437,6 @@ module _ (server clock stamp client : ℕ) (old new : LedgerParts) (clients mid 
 pub numbers-bare : (sessions : List SessionParts) → client_numbers (map bare sessions) ≡ client_numbers sessions
 numbers-bare [] = refl
 numbers-bare (s ∷ sessions) = ap (λ z. s.client ∷ z) (numbers-bare sessions)
-
--- what holds of what is seen of a session, where it says nothing of room and plans
-pub of-bare : (clients mid : List SessionParts) → map bare mid ≡ map bare clients → (s : SessionParts) → Has s mid → (t : SessionParts) × Has t clients × (bare t ≡ bare s)
-of-bare clients mid e s m = let r = has-map bare clients (bare s) (subst (Has (bare s)) e (map-has bare mid s m)) in (r.0, r.1, sym r.2)
-
-pub command-routed : (core : CoreParts) (client : ℕ) (route : List ℕ) → RoutesNext core client route → (semantics : Semantics) (s : SessionParts) → Has s core.clients → s.client ≡ client → (p : Planned) → next_plan s ≡ Some p → IfSome (planned_message semantics p) (λ m. IsRouted m route)
-command-routed core client route r semantics s h e (plans.Subs out add) q = tt
-command-routed core client route r Subscription s h e (plans.Advs out add) q = tt
-command-routed core client route r Advertisement s h e (plans.Advs out add) q = tt
-command-routed core client route r semantics s h e (plans.Publish id n) q = (r s id n h e q).rising
-command-routed core client route r semantics s h e (plans.Refused o) q = tt
 
 -- what a plan says of sessions says the same of what is seen of them
 pub planned-bare : (client : ℕ) (p : Planned) (clients later : List SessionParts) → map bare later ≡ map bare clients → ((s : SessionParts) → Has s clients → s.client ≡ client → next_plan s ≡ Some p) → (s : SessionParts) → Has s (map bare later) → s.client ≡ client → next_plan s ≡ Some p

@@ -222,9 +222,6 @@ pub record IsMade (delivery : Delivery) (route : List ℕ) (ready : List Ready) 
   pub from : StayPlanned old new
   pub alike : map bare new ≡ map bare old
 
-pub made-none : (d : Delivery) (ss : List SessionParts) (ready : List Ready) → ready ≡ [] → IsMade d [] ready ss ss
-made-none d ss ready e = record { made = e; room = λ s m k. absurd k; from = λ s m. (s, m, refl, refl); alike = refl }
-
 pub made-skip : (d : Delivery) (route : List ℕ) (n x : ℕ) (ready : List Ready) (old new : List SessionParts) → slice_get route n ≡ Some x → x ≤ 64 → IsMade d (take n route) ready old new → IsMade d (take (n + 1) route) ready old new
 made-skip d route n x ready old new e l h =
     let low : nat_lt 64 x ≡ false = grind (arith, nat_tests) in

@@ -1,5 +1,5 @@
 -- Cores on other links.
-use Rattle.std.proofs.Common.{◌≡◌, ◌⊎◌, ◌↔◌, inl, inr, ℕ, zero, suc, ◌+◌, ◌<◌, ◌≤◌, nat_lt, Bool, true, List, [], ◌∷◌, ◌++◌, length, map, take, Some, slice_get, Result, IfOk, Vec, Global, refl, sym, ap, subst, ◌∙◌, arith}
+use Rattle.std.proofs.Common.{◌≡◌, ◌⊎◌, ◌↔◌, inl, inr, ℕ, zero, suc, ◌+◌, ◌<◌, ◌≤◌, nat_lt, Bool, true, List, [], ◌∷◌, ◌++◌, length, map, take, Some, slice_get, refl, sym, ap, subst, ◌∙◌, arith}
 use Rattle.std.proofs.lemmas.Bool.Decides.{nat_tests}
 use Rattle.std.proofs.lemmas.Option.{same_Some}
 use Rattle.ev_constraint.specs.Constraint.{ConstraintParts}
@@ -233,10 +233,6 @@ all-clients c ns n l = all-mapped (λ k. held_by c (64 + k)) ns n l
 pub put-begin : (xs : List HeldLink) (a : LedgerParts) → ArePut (take 0 xs) a a
 put-begin [] a = put-none a
 put-begin (x ∷ xs) a = put-none a
-
--- a list that was made is another one
-pub is-list : {E : Type 0} (r : Result (Vec ℕ Global) E) (xs ys : List ℕ) → xs ≡ ys → IfOk r (λ list. list.items ≡ xs) → IfOk r (λ list. list.items ≡ ys)
-is-list r xs ys e h = subst (λ z. IfOk r (λ list. list.items ≡ z)) e h
 
 -- once all is published, it suits the core as before
 pub published-suits : (core : CoreParts) (a b : LedgerParts) → b.net ≡ a.net → b.interfaces ≡ a.interfaces → b.control ≡ a.control → SuitsCore core a → SuitsCore core b

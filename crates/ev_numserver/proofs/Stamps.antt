@@ -1,5 +1,5 @@
 -- Stamps, and the one fault that they have.
-use Rattle.std.proofs.Common.{◌≡◌, ◌↔◌, ℕ, suc, max, ◌+◌, Ok, Err, IsErrOf, ap, sym, ◌∙◌, arith}
+use Rattle.std.proofs.Common.{◌≡◌, ◌↔◌, ℕ, suc, max, ◌+◌, Err, IsErrOf, ap, sym, ◌∙◌, arith}
 use Rattle.ev_numserver.specs.Step.{last_stamp}
 use Rattle.ev_numserver.specs.declared.stepped.StepFault.{StepFault}
 use Rattle.ev_numserver.specs.declared.stepped.StepFault.TheVariants.{StampsExhausted}
@@ -19,10 +19,3 @@ exhausted-of fault s told = (λ e. told.0 (ap Err (err-is e)), λ p. ap Err (err
 
 pub exhausted-none : {A : Type 0} (clock s : ℕ) (fault : StepFault) → IsErrOf {T = A} (Err fault) (StampsExhausted s) ↔ ((max clock 0 ≡ last_stamp) × (s ≡ last_stamp)) → IsErrOf {T = A} (Err fault) (StampsExhausted s) ↔ ((clock ≡ last_stamp) × (s ≡ last_stamp))
 exhausted-none clock s fault told = (λ e. let r = told.0 e in (sym (max-none clock) ∙ r.0, r.1), λ r. told.1 (max-none clock ∙ r.0, r.1))
-
-never-ok : {T : Type 0} (x : T) (s : ℕ) → IsErrOf {T = T} (Ok x) (StampsExhausted s) → ⊥
-never-ok x s e = cc
-
--- nor is there one in what is made of an answer
-pub exhausted-ok : {A B P : Type 0} (x : A) (y : B) (s : ℕ) → IsErrOf {T = A} (Ok x) (StampsExhausted s) ↔ P → IsErrOf {T = B} (Ok y) (StampsExhausted s) ↔ P
-exhausted-ok x y s told = (λ e. absurd (never-ok y s e), λ p. absurd (never-ok x s (told.1 p)))

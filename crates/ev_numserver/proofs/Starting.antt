@@ -74,9 +74,6 @@ pub record IsHome (semantics : Semantics) (server : ℕ) (clients : List ClientP
   pub numbered : client_numbers sessions ≡ numbers
   pub made : sessions ≡ sessions_of semantics server 1 clients
 
-pub home-none : (semantics : Semantics) (server : ℕ) (numbers : List ℕ) (sessions : List SessionParts) → numbers ≡ [] → sessions ≡ [] → IsHome semantics server [] numbers sessions
-home-none semantics server numbers sessions e f = record { numbered = ap client_numbers f ∙ sym e; made = f }
-
 pub home-skip : (semantics : Semantics) (server : ℕ) (clients : List ClientParts) (n : ℕ) (x : ClientParts) (numbers : List ℕ) (sessions : List SessionParts) → slice_get clients n ≡ Some x → (x.home ≡ server → ⊥)
     → IsHome semantics server (take n clients) numbers sessions → IsHome semantics server (take (n + 1) clients) numbers sessions
 home-skip semantics server clients n x numbers sessions e other h = record { numbered = h.numbered; made = rw (add-one, take-some clients n x e) (h.made ∙ sym same) }

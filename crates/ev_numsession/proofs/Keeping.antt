@@ -133,21 +133,6 @@ module _ (net : NetParts) (s : SessionParts) (steps : List (ℕ × NumberedComma
       subst (λ (z : Lists). IsMoved list_before (known_adverts net.clients) z (advert_set_at s (suc s.taken)) moved) kept.adverts_are
       (subst (λ (z : Lists). IsMoved list_before (known_adverts net.clients) (picked (known_adverts net.clients) ar.members) z moved) (sym e) m)
 
-  pub subscribe-there : (i : ℕ) → IsNextCommand net s (numbers.Subscribe i) → i < length (known_filters net.clients)
-  subscribe-there i n = get-within (known_filters net.clients) i n.means.0 n.means.1
-
-  pub unsubscribe-there : (i : ℕ) → IsNextCommand net s (numbers.Unsubscribe i) → i < length (known_filters net.clients)
-  unsubscribe-there i n = get-within (known_filters net.clients) i n.means.0 n.means.1
-
-  pub advertise-there : (i : ℕ) → IsNextCommand net s (numbers.Advertise i) → i < length (known_adverts net.clients)
-  advertise-there i n = get-within (known_adverts net.clients) i n.means.0 n.means.1
-
-  pub unadvertise-there : (i : ℕ) → IsNextCommand net s (numbers.Unadvertise i) → i < length (known_adverts net.clients)
-  unadvertise-there i n = get-within (known_adverts net.clients) i n.means.0 n.means.1
-
-  pub publish-there : (i : ℕ) → IsNextCommand net s (numbers.Publish i) → i < length (known_publications 1 net.clients)
-  publish-there i n = get-within (known_publications 1 net.clients) i (publication s.client (suc (publishes_at s s.taken)) n.step.0 n.means.0) n.means.1
-
   pub plans-subscribe : (i : ℕ) (moved : Moved) → IsNextCommand net s (numbers.Subscribe i)
       → ((x : List ConstraintParts) → slice_get (known_filters net.clients) i ≡ Some x → IsMoved list_before (known_filters net.clients) (picked (known_filters net.clients) fr.members)
       (union list_before (x ∷ []) (picked (known_filters net.clients) fr.members)) moved) → PlansNext net s (Filters moved)

@@ -1,6 +1,5 @@
 -- What entries put on links, told again turn by turn.
 use Rattle.std.proofs.Common.{◌≡◌, ℕ, zero, suc, ◌+◌, ◌<◌, Bool, List, [], ◌∷◌, ◌++◌, inl, inr, length, map, take, get_or, append-nil, refl, sym, ap, subst, ◌∙◌}
-use Rattle.std.proofs.Math.Seq.{take-length}
 use Rattle.std.proofs.lemmas.List.{take_more}
 use Rattle.ev_sets.specs.Sets.{Has}
 use Rattle.ev_tree.proofs.Servers.{server-in}
@@ -12,11 +11,11 @@ use Rattle.ev_model.specs.Parts.{NetParts, EntryParts}
 use Rattle.ev_model.specs.Meaning.{journal_of}
 use Rattle.ev_model.specs.Lists.{refused_ordinals}
 use Rattle.ev_model.specs.Nets.{home_of, of_clients, phased_net}
-use Rattle.ev_turns.specs.Network.{NetworkParts, network_parts, IsDrainedBy, IsLegal, refused_by}
+use Rattle.ev_turns.specs.Network.{NetworkParts, IsDrainedBy, IsLegal, refused_by}
 use Rattle.ev_turns.specs.Retold.{turn_of_entry}
 use Rattle.ev_turns.specs.Told.{told_of, told_from, told_by}
 use Rattle.ev_turns.specs.Turns.{IsTurn}
-use Rattle.ev_turns.proofs.Again.{IsRetoldTo, retold-all, retold-more, retold-none}
+use Rattle.ev_turns.proofs.Again.{IsRetoldTo, retold-more}
 use Rattle.ev_traffic.specs.declared.carried.Carried.{Carried}
 use Rattle.ev_traffic.specs.Tallied.{Carries}
 use Rattle.ev_traffic.specs.Told.{IsTold, told_from as run_told_from}
@@ -41,9 +40,6 @@ pub record IsCountedTo (count : ℕ) (net : NetParts) (journal : List EntryParts
   pub retold : IsRetoldTo count net journal made texts
   pub counted : Carries carried (take count journal) texts
 
-pub counted-none : (net : NetParts) (journal : List EntryParts) (network : NetworkParts) (carried : Carried) → network ≡ network_parts net [] → Carries carried [] [] → IsCountedTo 0 net journal network carried
-counted-none net journal network carried e c = record { texts = []; retold = retold-none net journal network [] e refl; counted = c }
-
 pub counted-more : (net : NetParts) (journal : List EntryParts) (legal : IsLegal net journal) (i : ℕ) (d : EntryParts) (less : i < length journal) (made : Bool) (old new : NetworkParts) (before after : Carried) (last : List Sent)
     → IsCountedTo i net journal old before → IsTurn made (turn_of_entry (get_or journal i d)) old new
     → ((front : List EntryParts) (entry : EntryParts) → new.journal ≡ front ++ entry ∷ [] → last ≡ told_of new.net (found_of real (phased_net new.net) (journal_of new.journal) (length front)) entry)
@@ -56,11 +52,6 @@ counted-more net journal legal i d less made old new before after last so turn t
       retold = retold-more net journal legal i d less made old new so.texts last (so.texts ++ last ∷ []) so.retold turn tells refl;
       counted = subst (λ z. Carries after z (so.texts ++ last ∷ [])) (sym (take_more journal i d less)) (adds (take i journal) so.texts (sym long) so.counted);
     }
-
-pub counted-all : (net : NetParts) (journal : List EntryParts) (count : ℕ) (network : NetworkParts) (carried : Carried) → count ≡ length journal → IsCountedTo count net journal network carried → Carries carried journal (told_by net journal)
-counted-all net journal count network carried e so =
-    subst (Carries carried journal) (retold-all net journal count network so.texts e so.retold)
-    (subst (λ z. Carries carried z so.texts) (ap (λ n. take n journal) e ∙ take-length journal) so.counted)
 
 -- the journal of a legal run is told by the texts of its messages
 module _ (net : NetParts) (laws : PhasedNetLaws real (phased_net net)) (journal : List EntryParts) (legal : IsLegal net journal) where

@@ -16,7 +16,7 @@ use Rattle.ev_script.specs.declared.form.Given.TheVariants.{Fit, Wide}
 use Rattle.ev_script.specs.declared.form.Part.{Part}
 use Rattle.ev_script.specs.declared.form.Part.TheVariants.{Whole, Beyond, Empty}
 use Rattle.ev_script.specs.Form.{CommandForm}
-use Rattle.ev_script.specs.Command.{is_beyond, is_empty, is_wide, wholes, fits, control_fault, publish_fault, fault_of_form, form_of, AnswersLine, IsCommandOf}
+use Rattle.ev_script.specs.Command.{is_beyond, is_empty, is_wide, wholes, fits, control_fault, publish_fault, fault_of_form, AnswersLine}
 
 pub some_whole : (parts : List Part) → 0 < length parts → list_any is_beyond parts ≡ false → list_any is_empty parts ≡ false → wholes parts ≡ [] → ⊥
 some_whole [] s b e n = omega (arith, s)
@@ -79,11 +79,6 @@ publish_none attributes w l t =
     go : (r : Option ℕ) → first_twice (fits attributes) ≡ r → ((i : ℕ) → first_twice (fits attributes) ≡ Some i → ⊥) → r ≡ None
     go (Some i) e k = absurd (k i e)
     go None e k = refl
-
-pub command_told : (version : ℕ) (line : List ℕ) (r : Result Command ScriptFault) (form : Option CommandForm) (c : Command) → form_of version line ≡ form → AnswersLine r form → r ≡ Ok c → IsCommandOf version line c
-command_told version line (Ok d) None c f a e = absurd a
-command_told version line (Ok d) (Some form) c f a e = let same : d ≡ c = cc in rw (← same) (form, f, a.0, a.1)
-command_told version line (Err e) form c f a h = absurd cc
 
 abbrev pub Told : ScriptFault → Option ScriptFault → Type 0
 Told faults.NoMemory fault = Unit {0}

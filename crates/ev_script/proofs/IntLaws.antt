@@ -139,9 +139,6 @@ small_pow i n l s = let p : 10 ^ i ≤ 10 ^ 18 = pow-le-pow_right {n = 10} (omeg
 pub small_given : (i : ℕ) (n : ℕ) → i ≤ 18 → n < 10 ^ i → n < 10 ^ 18
 small_given i n l s = small_pow i n (omega (arith, l)) s
 
-pub small_nineteen : (i : ℕ) (n : ℕ) → i ≤ 19 → n < 10 ^ i → n < 10 ^ 19
-small_nineteen i n l s = let p : 10 ^ i ≤ 10 ^ 19 = pow-le-pow_right {n = 10} (omega arith) {i = i} {j = 19} (omega (arith, l)) in omega (arith, s, p)
-
 pub no_int : (w ds : List ℕ) → ds ≡ without_leading_sign w → list_all is_digit ds ≡ false → None ≡ int_given w
 unfolding int_given
 no_int w ds d a =

@@ -19,10 +19,6 @@ pub record AreRead {P I : Type 0} (one : List Token → Option (P × List Token)
   pub beyond : has_beyond ≡ list_any is_beyond read
   pub empty : has_empty ≡ list_any is_empty read
 
-pub none_read : {P I : Type 0} (one : List Token → Option (P × List Token)) (keeps : Bool × List I → List I → Type 0) (inside : P → Option I) (is_beyond is_empty : P → Bool) (most : ℕ) (ts : List Token) (kept : Bool × List I) (has_beyond has_empty : Bool)
-    → keeps kept [] → has_beyond ≡ false → has_empty ≡ false → AreRead one keeps inside is_beyond is_empty most ts (parts_in one most [] ts) kept has_beyond has_empty
-none_read one keeps inside is_beyond is_empty most ts kept has_beyond has_empty k b e = record { read = []; rest = refl; kept = k; beyond = b; empty = e }
-
 long : {P : Type 0} (read : List P) (x : P) → 0 < length (read ++ x ∷ [])
 long [] x = omega arith
 long (y ∷ read) x = omega arith

@@ -9,13 +9,12 @@ use Rattle.ev_theory.specs.Real.{real}
 use Rattle.ev_model.specs.Parts.{NetParts}
 use Rattle.ev_model.specs.Nets.{phased_net}
 use Rattle.ev_numversions.specs.Ends.{IsSameViewer}
-use Rattle.ev_numnode.specs.declared.held.Root.{Root}
 use Rattle.ev_numnode.specs.Cell.{CellParts, IsCellOf}
 use Rattle.ev_numnode.specs.Entered.{AreEntered, AreSameCells, state_of}
-use Rattle.ev_numnode.specs.Together.{AreTogether, cell_roots}
+use Rattle.ev_numnode.specs.Together.{cell_roots}
 use Rattle.ev_course.specs.Course.{AreInHand, AreAtStart, StandBetween}
 use Rattle.ev_workers.specs.declared.crew.Eyes.{Eyes}
-use Rattle.ev_workers.specs.Crews.{AreEyesOf, AreInPlace, Pairwise}
+use Rattle.ev_workers.specs.Crews.{AreEyesOf, Pairwise}
 use Rattle.ev_siena.specs.Teams.{HaveStarted}
 
 -- nothing was done in the phase that the cells are in
@@ -49,14 +48,6 @@ started-here net last cells hand stood = record {
 pub at-once : (net : NetParts) (last phase : ℕ) (cells : List CellParts) → last ≡ phase → AreInHand net last cells → StandBetween net last phase cells → HaveStarted net last phase cells cells
 at-once net last phase cells e hand stood =
     subst (λ p. HaveStarted net last p cells cells) e (started-here net last cells hand (subst (λ p. StandBetween net last p cells) (sym e) stood))
-
--- a later phase is one above
-pub later-phase : (net : NetParts) (last phase : ℕ) (cells : List CellParts) → (last ≡ phase → ⊥) → StandBetween net last phase cells → last < phase
-later-phase net last phase cells n stood = at stood.phase
-  where
-    at : (last < phase) ⊎ ((last ≡ phase) × AreAtStart cells) → last < phase
-    at (inl lt) = lt
-    at (inr p) = absurd (n p.0)
 
 -- lists of one length whose members agree
 map-same : {X Y : Type 0} (f : X → Y) (old new : List X) → length new ≡ length old
@@ -116,13 +107,3 @@ on-both (Err e) P Q f p = tt
 pub none-of : (o : Option ℕ) (P : Type 0) → ((x : ℕ) → o ≡ Some x → ⊥) → IfNone o P → P
 none-of None P n p = p
 none-of (Some x) P n p = absurd (n x refl)
-
-roots-long : (xs : List CellParts) → length (cell_roots xs) ≡ length xs
-roots-long [] = refl
-roots-long (x ∷ xs) = ap suc (roots-long xs)
-
-pub long-roots : (new old : List CellParts) → cell_roots new ≡ cell_roots old → length new ≡ length old
-long-roots new old e = sym (roots-long new) ∙ ap (λ (l : List Root). length l) e ∙ roots-long old
-
-pub in-place : (net : NetParts) (phase : ℕ) (roots : List Root) → AreTogether net phase roots → AreInPlace net phase roots
-in-place net phase roots together k root e = (together.nets k root e, together.numbers k root e, together.phases k root e)

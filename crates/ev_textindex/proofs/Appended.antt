@@ -1,5 +1,5 @@
 -- What is appended.
-use Rattle.std.proofs.Common.{◌≡◌, ◌+◌, ◌∙◌, ap, refl, sym, List, [], ◌∷◌, ◌++◌, ℕ, Bool, append-nil}
+use Rattle.std.proofs.Common.{◌≡◌, ◌+◌, ◌∙◌, ap, refl, sym, List, [], ◌∷◌, ◌++◌, ℕ, append-nil}
 use Rattle.ev_index.specs.Pairs.{Appends, tally}
 
 pub appended : (old new ids : List ℕ) → new ≡ old ++ ids → Appends old new ids
@@ -8,12 +8,6 @@ appended old new ids h = record { tail = ids; whole = h; same = λ p. refl }
 pub nothing-appended : (old ids : List ℕ) → ids ≡ [] → Appends old old ids
 nothing-appended old [] h = appended old old [] (sym (append-nil old))
 nothing-appended old (id ∷ ids) h = cc
-
--- the old list with some of all these ids behind it, where these are left
-pub record Leaves (old new left all : List ℕ) : Type 0 where
-  pub tail : List ℕ
-  pub whole : new ≡ old ++ tail
-  pub same : (p : ℕ → Bool) → tally p tail + tally p left ≡ tally p all
 
 pub those-appended : (old new ids all : List ℕ) → Appends old new ids → ids ≡ all → Appends old new all
 those-appended old new ids all h e = record { tail = h.tail; whole = h.whole; same = λ p. h.same p ∙ ap (tally p) e }

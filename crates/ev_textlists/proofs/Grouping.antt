@@ -43,19 +43,9 @@ module _ (q : List ℕ → Bool) where
       let p : ids_with q (groups_pairs (take (i + 1) groups)) ≡ ids_with q (groups_pairs (take i groups)) ++ ids_with q (group_pairs g) = ap (λ (gs : List Group). ids_with q (groups_pairs gs)) t ∙ (ap (ids_with q) (pairs-append (take i groups) g) ∙ with-append (groups_pairs (take i groups)) (group_pairs g)) in
       (b ∙ ap (λ (z : List ℕ). old ++ z) (sym (with-under g.key.items g.ids.items))) ∙ (ap (λ (z : List ℕ). z ++ ids_with q (group_pairs g)) a ∙ (append_assoc first (ids_with q (groups_pairs (take i groups))) (ids_with q (group_pairs g)) ∙ ap (λ (z : List ℕ). first ++ z) (sym p)))
 
--- the marks of groups
-pub mark-at : (groups : List Group) (i : ℕ) (m : Mark) (g : Group) → i < length groups → get_or (marks_of groups) i m ≡ mark_of (get_or groups i g).key.items
-mark-at [] i m g l = absurd (omega (arith, l))
-mark-at (x ∷ groups) zero m g l = refl
-mark-at (x ∷ groups) (suc i) m g l = mark-at groups i m g (omega (arith, l))
-
 pub marks-long : (groups : List Group) → length (marks_of groups) ≡ length groups
 marks-long [] = refl
 marks-long (x ∷ groups) = ap suc (marks-long groups)
-
-pub marks-push : (groups : List Group) (g : Group) → marks_of (groups ++ g ∷ []) ≡ marks_of groups ++ mark_of g.key.items ∷ []
-marks-push [] g = refl
-marks-push (x ∷ groups) g = ap (λ (ms : List Mark). mark_of x.key.items ∷ ms) (marks-push groups g)
 
 pub marks-set : (groups : List Group) (i : ℕ) (g d : Group) → g.key.items ≡ (get_or groups i d).key.items → marks_of (set groups i g) ≡ marks_of groups
 marks-set [] i g d e = refl

@@ -8,13 +8,6 @@ use Rattle.ev_index.specs.Pairs.{IsIn}
 use Rattle.ev_bits.specs.Words.{bit}
 use Rattle.ev_textlists.specs.Marks.{first_mark, first_pair, end_size, last_mark, last_pair, slots, AreMarked}
 
-pub mark-within : (x : List ℕ) → first_mark x ≤ 8192
-mark-within [] = omega arith
-mark-within (a ∷ []) = omega arith
-mark-within (a ∷ b ∷ []) = omega arith
-mark-within (a ∷ b ∷ c ∷ []) = omega arith
-mark-within (a ∷ b ∷ c ∷ d ∷ x) = omega arith
-
 -- what is shorter is in each text
 short-in : (x : List ℕ) → IsIn 8192 (slots x)
 short-in [] = inl refl

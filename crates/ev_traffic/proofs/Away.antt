@@ -16,10 +16,6 @@ both-true true true e = (refl, refl)
 both-true true false e = absurd cc
 both-true false q e = absurd cc
 
-not-false : (p : Bool) → (p ≡ true → ⊥) → p ≡ false
-not-false true f = absurd (f refl)
-not-false false f = refl
-
 same-test : (p q : Bool) → (p ≡ true → q ≡ true) → (q ≡ true → p ≡ true) → p ≡ q
 same-test true q f g = sym (f refl)
 same-test false true f g = g refl

@@ -1,11 +1,8 @@
 -- The links of a net, one by one.
-use Rattle.std.proofs.Common.{◌≡◌, ℕ, zero, suc, ◌+◌, ◌-◌, ◌<◌, ◌≤◌, ◌&&◌, Bool, true, false, cond, nat_lt, List, [], ◌∷◌, ◌++◌, inl, inr, length, map, filter, drop, get_or, refl, sym, ap, ◌∙◌, arith, append_assoc, append-nil}
+use Rattle.std.proofs.Common.{◌≡◌, ℕ, zero, suc, ◌+◌, ◌-◌, ◌<◌, ◌&&◌, Bool, true, false, cond, nat_lt, List, [], ◌∷◌, ◌++◌, inl, inr, length, map, filter, drop, get_or, refl, sym, ap, ◌∙◌, arith, append_assoc}
 use Rattle.std.specs.List.{flat_map, range_with_len}
 use Rattle.ev_sets.specs.Sets.{Has}
-use Rattle.ev_tree.specs.Graph.{servers_to}
 use Rattle.ev_tree.specs.Tree.{Topology}
-use Rattle.ev_model.specs.Nets.{first_tree}
-use Rattle.ev_model.specs.Sound.{HasTrees}
 use Rattle.ev_traffic.specs.Links.{is_link, links_from}
 
 pub at-has : {X : Type 0} (xs : List X) (i : ℕ) (x : X) → i < length xs → x ≡ get_or xs i x → Has x xs
@@ -21,20 +18,8 @@ drop-next {X} xs i d l = let e : suc i ≡ i + 1 = omega arith in go xs i l ∙ 
     go (y ∷ ys) zero l = refl
     go (y ∷ ys) (suc j) l = go ys j (omega arith)
 
--- all trees have the servers of the first
-pub same-servers : (trees : List (ℕ × Topology)) → HasTrees trees → (tree : ℕ × Topology) → Has tree trees → tree.1.count ≡ (first_tree trees).count
-same-servers [] h tree i = absurd h
-same-servers (first ∷ later) h tree (inl e) = ap (λ z. z.1.count) e
-same-servers (first ∷ later) h tree (inr i) = h.same tree i
-
 range-next : (a n : ℕ) → a < n + 1 → range_with_len a (n + 1 - a) ≡ a ∷ range_with_len (a + 1) (n + 1 - (a + 1))
 range-next a n l = let e : n + 1 - a ≡ suc (n + 1 - (a + 1)) = omega (arith, l) in ap (range_with_len a) e
-
-range-done : (a n : ℕ) → n + 1 ≤ a → range_with_len a (n + 1 - a) ≡ []
-range-done a n l = let e : n + 1 - a ≡ 0 = omega (arith, l) in ap (range_with_len a) e
-
-pub all-range : (n : ℕ) → range_with_len 1 (n + 1 - 1) ≡ servers_to n
-all-range n = let e : n + 1 - 1 ≡ n = omega arith in ap (range_with_len 1) e
 
 module _ (trees : List (ℕ × Topology)) (n a : ℕ) where
   abbrev left : ℕ → List (ℕ × ℕ)
@@ -53,15 +38,9 @@ module _ (trees : List (ℕ × Topology)) (n a : ℕ) where
       ∙ (sym (one-more b links (nat_lt a b && is_link trees a b) (filter (λ b. nat_lt a b && is_link trees a b) (range_with_len (b + 1) (n + 1 - (b + 1)))))
       ∙ (ap (λ z. links ++ links_from trees z a) (sym (range-next b n l)) ∙ kept))
 
-  pub up-done : (b : ℕ) (links whole : List (ℕ × ℕ)) → n + 1 ≤ b → links ++ left b ≡ whole → links ≡ whole
-  up-done b links whole l kept = sym (append-nil links) ∙ (ap (λ z. links ++ links_from trees z a) (sym (range-done b n l)) ∙ kept)
-
 -- the links of a server more were put
 pub all-next : (f : ℕ → List (ℕ × ℕ)) (n a : ℕ) (links next whole : List (ℕ × ℕ)) → a < n + 1 → links ++ flat_map f (range_with_len a (n + 1 - a)) ≡ whole → next ≡ links ++ f a
     → next ++ flat_map f (range_with_len (a + 1) (n + 1 - (a + 1))) ≡ whole
 all-next f n a links next whole l kept is =
     ap (λ z. z ++ flat_map f (range_with_len (a + 1) (n + 1 - (a + 1)))) is
     ∙ (append_assoc links (f a) (flat_map f (range_with_len (a + 1) (n + 1 - (a + 1)))) ∙ (ap (λ z. links ++ flat_map f z) (sym (range-next a n l)) ∙ kept))
-
-pub all-done : (f : ℕ → List (ℕ × ℕ)) (n a : ℕ) (links whole : List (ℕ × ℕ)) → n + 1 ≤ a → links ++ flat_map f (range_with_len a (n + 1 - a)) ≡ whole → links ≡ whole
-all-done f n a links whole l kept = sym (append-nil links) ∙ (ap (λ z. links ++ flat_map f z) (sym (range-done a n l)) ∙ kept)

@@ -1,5 +1,5 @@
 -- The ordinals of a client's accepted publications whose phases pass a test.
-use Rattle.std.proofs.Common.{◌≡◌, ℕ, zero, suc, ◌+◌, ◌<◌, ◌≤◌, Bool, true, false, cond, ◌&&◌, List, [], ◌∷◌, inl, inr, length, take, slice_get, Some, refl, sym, ap, subst, ◌∙◌, arith}
+use Rattle.std.proofs.Common.{◌≡◌, ℕ, zero, suc, ◌+◌, ◌<◌, Bool, true, false, cond, ◌&&◌, List, [], ◌∷◌, inl, inr, length, take, slice_get, Some, refl, sym, ap, subst, ◌∙◌, arith}
 use Rattle.std.proofs.lemmas.Option.{same_Some}
 use Rattle.ev_sets.specs.Sets.{Has}
 use Rattle.ev_sets.specs.Numbers.{sum_over, count}
@@ -31,10 +31,6 @@ module _ (th : Theory) (net : Net th) (passes : ℕ → Bool) where
       go true true e n later phases ih = omega (arith, ih, ap count e)
       go true false e n later phases ih = omega (arith, ih, ap count e)
       go false b e n later phases ih = ih
-
-  next-high : (before : ℕ) (b : Bool) → before ≤ cond b (suc before) before
-  next-high before true = omega arith
-  next-high before false = omega arith
 
   -- a publish that is accepted is a publish
   accepted-publish : (adverts : List th.Advert) (k : Command th) → is_accepted th net adverts k ≡ true → (n : th.Notice) × (k ≡ Publish n) × (accepts th net adverts n ≡ true)

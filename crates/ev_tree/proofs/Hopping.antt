@@ -15,13 +15,6 @@ use Rattle.ev_tree.proofs.Forest.{In, Hopped, hopped, level}
 use Rattle.ev_tree.proofs.Servers.{hops-of, in-server}
 use Rattle.ev_tree.proofs.Steps.{edge-in, ends-joined}
 
-pub own-hops : (n : ℕ) (labels : List ℕ) (rows : List (List ℕ)) → n ≤ 64 → ((x : ℕ) → x < 65 → get_or labels x 0 ≡ x) → Hopped n [] (λ x. get_or labels x 0) (entry rows)
-own-hops n labels rows few own = record {
-  apart = λ a e. absurd cc;
-  near = λ b x i j e m. absurd (m (sym (own x (omega (arith, j.1))) ∙ e ∙ own b (omega (arith, i.1))));
-  one_side = λ a b x e i f. absurd cc;
-}
-
 -- edge i of a tree joins two parts
 pub parts-differ : (n : ℕ) (edges : List (ℕ × ℕ)) (i : ℕ) (labels : List ℕ) → IsTree n edges → AreWithin n edges → i < length edges → IsPartition n (take i edges) labels
     → get_or labels (get_or edges i (0, 0)).0 0 ≡ get_or labels (get_or edges i (0, 0)).1 0 → ⊥

@@ -34,11 +34,6 @@ path-more links a b c path p h n = record {
   distinct = distinct-more path c p.distinct n;
 }
 
--- the end of a way stands in it
-end-in : (links : ℕ → List ℕ) (a x : ℕ) (way : List ℕ) → IsWay links a way x → Has x (a ∷ way)
-end-in links a x [] w = inl (sym w)
-end-in links a x (b ∷ way) w = inr (end-in links b x way w.1)
-
 -- what never repeats never turns back
 pub no-turn : (links : ℕ → List ℕ) (prior a x : ℕ) (way : List ℕ) → (Has prior way → ⊥) → IsDistinct (a ∷ way) → NeverTurnsBack prior a way
 no-turn links prior a x [] n d = tt

@@ -1,21 +1,11 @@
 -- One edge more: the labels stay those of a forest.
-use Rattle.std.proofs.Common.{◌≡◌, ℕ, zero, suc, ◌+◌, ◌<◌, ◌≤◌, ◌==◌, cond, List, [], ◌∷◌, ◌++◌, ◌⊎◌, inl, inr, length, take, get_or, slice_get, Option, Some, None, IfSome, IfNone, ◌≢◌, ◌↔◌, refl, sym, ap, subst, ◌∙◌, arith}
+use Rattle.std.proofs.Common.{◌≡◌, ℕ, zero, suc, ◌+◌, ◌<◌, ◌≤◌, ◌==◌, cond, List, [], ◌∷◌, ◌++◌, ◌⊎◌, inl, inr, length, take, get_or, slice_get, Option, Some, None, IfSome, IfNone, ◌≢◌, ◌↔◌, refl, sym, ap, subst, arith}
 use Rattle.std.proofs.lemmas.List.{take_more}
 use Rattle.std.proofs.lemmas.Option.{same_Some}
 use Rattle.ev_tree.specs.Graph.{AreJoined, AreWithin, IsEdgeWithin, IsForest, IsTree, IsApart}
 use Rattle.ev_tree.specs.Labels.{IsPartition}
-use Rattle.ev_tree.proofs.Joined.{joined-same}
 use Rattle.ev_tree.proofs.Forest.{In, level, labelled}
 use Rattle.ev_tree.proofs.Verdict.{apart-same}
-
-pub own-labels : (n : ℕ) (labels : List ℕ) → n ≤ 64 → ((x : ℕ) → x < 65 → get_or labels x 0 ≡ x) → IsPartition n [] labels
-own-labels n labels few own = record {
-  forest = λ i edge at p. absurd cc;
-  labelled = record {
-    joined = λ x y i j e. joined-same [] x y (sym (own x (omega (arith, i.1))) ∙ e ∙ own y (omega (arith, j.1)));
-    ends = λ x y e. absurd cc;
-  };
-}
 
 -- a place in a list with one more at its end
 snoc-get : {X : Type 0} (xs : List X) (x : X) (i : ℕ) (y : X) → slice_get (xs ++ x ∷ []) i ≡ Some y → ((slice_get xs i ≡ Some y) × (take i (xs ++ x ∷ []) ≡ take i xs)) ⊎ ((x ≡ y) × (take i (xs ++ x ∷ []) ≡ xs))

@@ -1,7 +1,7 @@
 -- What a reader's answer tells of the input.
-use Rattle.std.proofs.Common.{◌≡◌, ◌⊎◌, inl, inr, ℕ, ◌+◌, ◌≤◌, List, ◌∷◌, length, refl, sym, ap, subst, ◌∙◌, arith, map, [], Result, Ok, Err}
+use Rattle.std.proofs.Common.{◌≡◌, ◌⊎◌, inl, inr, ℕ, ◌+◌, ◌≤◌, List, length, refl, sym, ap, subst, ◌∙◌, arith, map, [], Result, Ok, Err}
 use Rattle.std.specs.Prelude.{IfOk, IsOk}
-use Rattle.ev_model.specs.Parts.{ClientParts, NetParts}
+use Rattle.ev_model.specs.Parts.{NetParts}
 use Rattle.ev_input.specs.Lines.{lines}
 use Rattle.ev_input.specs.Net.{IsBadAt, IsNetOf}
 use Rattle.ev_input.specs.Places.{document_of}
@@ -9,22 +9,17 @@ use Rattle.ev_input.specs.Rules.{version_number}
 use Rattle.ev_input.specs.Net.{client_of}
 use Rattle.ev_input.specs.declared.fault.Fault.{Fault}
 use Rattle.std.specs.Prelude.{codes}
-use Rattle.ev_cut.specs.Cut.{IsCutAt, IsNoLine, first_number}
+use Rattle.ev_cut.specs.Cut.{IsNoLine, first_number}
 use Rattle.ev_watch.specs.Cut.{IsParted}
-use Rattle.ev_watch.specs.Parts.{PatternParts, WatchingParts}
-use Rattle.ev_watch.specs.Reading.{AnswersWatch, ReadsDocument, ReadsPatterns}
-use Rattle.ev_watch.specs.Rules.{end_rule, line_rule, nothing, read_from}
+use Rattle.ev_watch.specs.Parts.{PatternParts}
+use Rattle.ev_watch.specs.Reading.{AnswersWatch, ReadsDocument}
+use Rattle.ev_watch.specs.Rules.{end_rule}
 use Rattle.ev_watch.specs.Watch.{IsBadDocument, IsBadPattern, IsWatchOf, patterns_in}
 use Rattle.ev_watch.specs.declared.fault.PatternFault.{PatternFault}
 use Rattle.ev_watch.specs.declared.fault.PatternFault.TheVariants as faults
 use Rattle.ev_watch.specs.declared.fault.PatternKind.{PatternKind}
 use Rattle.ev_cut.proofs.Parting.{same_document}
 use Rattle.ev_watch.proofs.Parting.{one_part, part_short}
-
--- a line that is taken leaves the rest to read
-pub next_read : (version : ℕ) (clients : List ClientParts) (n : ℕ) (s t : WatchingParts) (ls rest : List (List ℕ)) (l : List ℕ) → ls ≡ l ∷ rest → line_rule version clients s l ≡ Ok t
-    → read_from version clients n s ls ≡ read_from version clients (n + 1) t rest
-next_read version clients n s t ls rest l e f = rw (e, f) refl
 
 -- one answer is not two
 never : {A E : Type 0} (r : Result A E) (x : A) (e : E) → r ≡ Ok x → r ≡ Err e → ⊥
@@ -141,13 +136,6 @@ module _ {W : Type 0} (n : W → NetParts) (p : W → List PatternParts) (bytes 
   refused_first d l (faults.Bad line kind) a h = absurd h
   refused_first d l (faults.Document line kind) a h = record { document = d; later = l; parted = a; bad = h }
 
-  -- patterns that are refused
-  pub refused_then : {X : Type 0} (view : X → List PatternParts) (d : List ℕ) (l : List (List ℕ)) (net : NetParts) (e : PatternFault) → IsParted bytes d l → IsNetOf d net
-      → ReadsPatterns view (Err e) (patterns_in net d l) → AnswersWatch n p bytes (Err e)
-  refused_then view d l net faults.NoMemory a w h = tt
-  refused_then view d l net (faults.Bad line kind) a w h = record { document = d; later = l; parted = a; net = net; well_formed = w; bad = h }
-  refused_then view d l net (faults.Document line kind) a w h = absurd h
-
 no_patterns : (net : NetParts) (d : List ℕ) → patterns_in net d [] ≡ Ok []
 unfolding end_rule
 no_patterns net d = refl
@@ -160,15 +148,4 @@ all_read bytes net patterns none w e = record {
   parted = inr (none, refl, refl);
   well_formed = w;
   read = no_patterns net bytes ∙ ap Ok (sym e);
-}
-
--- an input in two parts
-pub parts_read : (bytes before after : List ℕ) (net : NetParts) (patterns : List PatternParts) (number : ℕ) → IsCutAt (codes "patterns") bytes before after → IsNetOf before net
-    → number ≡ first_number before → read_from net.version net.clients number nothing (lines after) ≡ Ok patterns → IsWatchOf bytes net patterns
-parts_read bytes before after net patterns number c w n h = record {
-  document = before;
-  later = lines after;
-  parted = inl (after, c, refl);
-  well_formed = w;
-  read = ap (λ z. read_from net.version net.clients z nothing (lines after)) (sym n) ∙ h;
 }

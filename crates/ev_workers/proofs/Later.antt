@@ -1,23 +1,18 @@
 -- What a worker's hands keep from one try to the next.
-use Rattle.std.specs.Prelude.{Err, IsErrOf, IfNone}
-use Rattle.std.proofs.Common.{Option, None, ◌≡◌, ℕ, List, Some, refl, sym, ap, subst, ◌∙◌}
+use Rattle.std.specs.Prelude.{Err, IsErrOf}
+use Rattle.std.proofs.Common.{◌≡◌, refl, sym, ap, subst, ◌∙◌}
 use Rattle.std.proofs.lemmas.Option.{same_Some}
 use mathlib.Core.List.{IsPrefix}
 use Rattle.ev_turnlock.specs.declared.lock.Pass.{Pass}
 use Rattle.ev_turnlock.specs.Passes.{IsSamePass, has_in_hand, seen_by}
-use Rattle.ev_model.specs.Parts.{EntryParts}
 use Rattle.ev_numversions.specs.declared.viewer.Viewer.{Viewer}
 use Rattle.ev_numversions.specs.Ends.{IsSameViewer}
-use Rattle.ev_numnode.specs.declared.held.Root.{Root}
 use Rattle.ev_outside.specs.declared.gate.Worker.{Worker}
-use Rattle.ev_outside.specs.declared.gate.Worker.TheVariants.{Commands}
 use Rattle.ev_numserver.specs.declared.stepped.StepFault.{StepFault}
-use Rattle.ev_numserver.specs.declared.stepped.StepFault.TheVariants.{NoMemory, StampsExhausted}
 use Rattle.ev_workers.specs.declared.ended.Ended.{Ended}
 use Rattle.ev_workers.specs.declared.hands.Hands.{Hands}
 use Rattle.ev_workers.specs.Work.{Keeps, EndsWith}
 use Rattle.ev_workers.specs.Hands.{CellLock, AreHands, AreLater, lock_root}
-use Rattle.ev_workers.specs.Journals.{IsWornBy}
 use Rattle.ev_workers.proofs.Lists.{prefix-of, prefix-along}
 
 pub same-pass : {I R : Type 0} (p q r : Pass I R) → IsSamePass p q → IsSamePass q r → IsSamePass p r
@@ -36,10 +31,6 @@ later-along a b c p q = record {
 pub later-same : (a : Hands) → AreLater a a
 later-same a = record { same = (refl, refl, refl); seen = prefix-of (seen_by a.pass) (seen_by a.pass) refl; viewer = record { book = refl; width = refl } }
 
--- a cell in hand was worn out, and its lock has it again
-pub worn-put : (s : ℕ) (lock : CellLock) (old new : Root) (journal seen : List EntryParts) → IsWornBy s new journal → new ≡ old → old ≡ lock_root lock → seen ≡ journal → IsWornBy s (lock_root lock) seen
-worn-put s lock old new journal seen worn root found put = subst (λ z. IsWornBy s z seen) (root ∙ found) (subst (IsWornBy s new) (sym put) worn)
-
 -- a fault is the same one, whatever it stands in the place of
 pub same-fault : {T U : Type 0} (e f : StepFault) → IsErrOf {T = T} (Err e) f → IsErrOf {T = U} (Err e) f
 same-fault {T} {U} e f r = let q : e ≡ f = cc in ap (λ z. Err z) q
@@ -55,25 +46,6 @@ keeps worker lock given now back first later last p v ends = record {
   ends = λ root e.
       subst (λ z. EndsWith worker root (seen_by z) back.fault) (sym p) (subst (λ z. EndsWith worker z (seen_by now.pass) back.fault) (same_Some (lock_root lock) root (sym first.own.1 ∙ e)) ends);
 }
-
--- a worker for commands ends by its fault
-pub ends-fault : {T : Type 0} (root : Root) (seen : List EntryParts) (fault : StepFault) → ((s : ℕ) → IsErrOf {T = T} (Err fault) (StampsExhausted s) → IsWornBy s root seen) → EndsWith Commands root seen (Some fault)
-ends-fault root seen NoMemory worn = tt
-ends-fault root seen (StampsExhausted s) worn = worn s refl
-
--- hands after the cell was taken, turned and put back
-pub turned-later : (old new : Hands) (taken : Pass EntryParts Root) (journal after : List EntryParts) → IsSamePass old.pass taken → IsSamePass taken new.pass → IsPrefix (seen_by old.pass) journal → IsPrefix journal after → seen_by new.pass ≡ after
-    → IsSameViewer old.viewer new.viewer → AreLater old new
-turned-later old new taken journal after a b p q e v = record {
-  same = same-pass old.pass taken new.pass a b;
-  seen = subst (IsPrefix (seen_by old.pass)) (sym e) (prefix-along (seen_by old.pass) journal after p q);
-  viewer = v;
-}
-
--- what is said of nothing, where there is nothing
-pub none-gives : {A P : Type 0} (o : Option A) → o ≡ None → IfNone o P → P
-none-gives None e p = p
-none-gives (Some x) e p = absurd cc
 
 -- what hands keep that come after others, the others keep
 pub keeps-later : (worker : Worker) (first then : Hands) (back : Ended) → AreLater first then → Keeps worker then.pass then.viewer back → Keeps worker first.pass first.viewer back

@@ -69,11 +69,6 @@ module _ (locks others : List CellLock) (lock : CellLock) (n first second : ℕ)
       let b : thread_at n (length others) Commands ≡ first = sym (f ∙ ap (λ k. thread_at k (length others) Commands) e) in
       subst (λ z. P z back) (ap (λ s. with_one s (at_lock lock Links) (with_one (thread_at n (length others) Commands) (at_lock lock Commands) rows)) a ∙ ap (λ s. with_one second (at_lock lock Links) (with_one s (at_lock lock Commands) rows)) b) p
 
-pub long-set : {V : Type 0} (rows : List V) (place : ℕ) (v : V) → length (set rows place v) ≡ length rows
-long-set [] place v = refl
-long-set (r ∷ rows) zero v = refl
-long-set (r ∷ rows) (suc place) v = ap suc (long-set rows place v)
-
 module _ {V : Type 0} (f : V → ℕ × ℕ) where
   -- room for fewer
   pub room-less : (rows : List V) (more less : ℕ) → less ≤ more → HaveRoom more (map f rows) → HaveRoom less (map f rows)

@@ -114,20 +114,11 @@ constraint_send = let a = name_send in let b = value_send in search (sendable, c
 pub constraint_sync : IsSync Constraint.the_field.row
 constraint_sync = let a = name_sync in let b = value_sync in search (sendable, crosses) depth 20
 
-pub filter_send : IsSend Filter.the_field.row
-filter_send = let a = constraint_send in let b = constraint_sync in search (sendable, crosses) depth 20
-
 pub filter_sync : IsSync Filter.the_field.row
 filter_sync = let a = constraint_send in let b = constraint_sync in search (sendable, crosses) depth 20
 
-pub advert_send : IsSend Advert.the_field.row
-advert_send = let a = constraint_send in let b = constraint_sync in search (sendable, crosses) depth 20
-
 pub advert_sync : IsSync Advert.the_field.row
 advert_sync = let a = constraint_send in let b = constraint_sync in search (sendable, crosses) depth 20
-
-pub notice_send : IsSend Notice.the_field.row
-notice_send = let a = name_send in let b = value_send in let c = name_sync in let d = value_sync in search (sendable, crosses) depth 20
 
 pub notice_sync : IsSync Notice.the_field.row
 notice_sync = let a = name_send in let b = value_send in let c = name_sync in let d = value_sync in search (sendable, crosses) depth 20
@@ -141,62 +132,32 @@ row_send = search (sendable, crosses) depth 20
 pub row_sync : IsSync Row.the_field.row
 row_sync = search (sendable, crosses) depth 20
 
-pub number_row_send : IsSend NumRow.the_field.row
-number_row_send = search (sendable, crosses) depth 20
-
 pub number_row_sync : IsSync NumRow.the_field.row
 number_row_sync = search (sendable, crosses) depth 20
-
-pub numbers_send : IsSend NumIndex.the_field.row
-numbers_send = let a = number_row_send in search (sendable, crosses) depth 20
 
 pub numbers_sync : IsSync NumIndex.the_field.row
 numbers_sync = let a = number_row_sync in search (sendable, crosses) depth 20
 
-pub key_send : IsSend TextKey.the_field.row
-key_send = search (sendable, crosses) depth 20
-
 pub key_sync : IsSync TextKey.the_field.row
 key_sync = search (sendable, crosses) depth 20
-
-pub text_order_send : IsSend TextOrder.the_row
-text_order_send = let a = key_send in search (sendable, crosses) depth 20
 
 pub text_order_sync : IsSync TextOrder.the_row
 text_order_sync = let a = key_sync in search (sendable, crosses) depth 20
 
-pub text_orders_send : IsSend TextOrders.the_field.row
-text_orders_send = let a = text_order_send in search (sendable, crosses) depth 20
-
 pub text_orders_sync : IsSync TextOrders.the_field.row
 text_orders_sync = let a = text_order_sync in search (sendable, crosses) depth 20
-
-pub marked_send : IsSend Marked.the_field.row
-marked_send = search (sendable, crosses, maps.BTreeMap-send) depth 20
 
 pub marked_sync : IsSync Marked.the_field.row
 marked_sync = search (sendable, crosses, maps.BTreeMap-sync) depth 20
 
-pub patterns_send : IsSend Patterns.the_field.row
-patterns_send = let a = marked_send in search (sendable, crosses) depth 20
-
 pub patterns_sync : IsSync Patterns.the_field.row
 patterns_sync = let a = marked_sync in search (sendable, crosses) depth 20
-
-pub texts_send : IsSend Texts.the_field.row
-texts_send = let a = text_orders_send in let b = patterns_send in search ours depth 20
 
 pub texts_sync : IsSync Texts.the_field.row
 texts_sync = let a = text_orders_sync in let b = patterns_sync in search ours depth 20
 
-pub pairs_send : IsSend Pairs.the_field.row
-pairs_send = let a = numbers_send in let b = texts_send in search (sendable, crosses) depth 20
-
 pub pairs_sync : IsSync Pairs.the_field.row
 pairs_sync = let a = numbers_sync in let b = texts_sync in search (sendable, crosses) depth 20
-
-pub index_send : IsSend Index.the_field.row
-index_send = let a = pairs_send in search (ours, maps.BTreeMap-send) depth 20
 
 pub index_sync : IsSync Index.the_field.row
 index_sync = let a = pairs_sync in search (ours, maps.BTreeMap-sync) depth 20
@@ -269,9 +230,6 @@ viewer_send = let c = version_sync in let a = front_send in search (ours, reader
 
 pub publisher_send : IsSend Publisher.the_field.row
 publisher_send = let a = front_send in let b = version_send in let c = version_sync in let d = step_send in let e = change_send in search (ours, writer_send) depth 20
-
-pub command_send : IsSend Command.the_field.row
-command_send = let a = filter_send in let b = advert_send in let c = notice_send in search (sendable, crosses) depth 20
 
 pub command_sync : IsSync Command.the_field.row
 command_sync = let a = filter_sync in let b = advert_sync in let c = notice_sync in search (sendable, crosses) depth 20
