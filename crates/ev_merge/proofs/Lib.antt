@@ -1,4 +1,5 @@
 pub mod Lists
 pub mod Joined
 pub mod Sorted
+pub mod Placed
 pub mod Runs

@@ -13,10 +13,11 @@ use Rattle.ev_phases.specs.Trees.{JournalEntry, entry_on, entry_off, entries_on}
 use Rattle.ev_theory.specs.Real.{real}
 use Rattle.ev_model.specs.Parts.{EntryParts}
 use Rattle.ev_model.specs.Meaning.{entry_of, journal_of}
-use Rattle.ev_merge.specs.Merging.{IsJournalOf, AreServerJournals, journal_at, entries_in}
+use Rattle.ev_merge.specs.Merging.{IsJournalOf, AreServerJournals, journal_at, entries_in, merged_of}
 use Rattle.ev_merge.proofs.Lists.{Later}
 use Rattle.ev_merge.proofs.Joined.{joined, is_of}
 use Rattle.ev_merge.proofs.Sorted.{stamp_of, IsSooner, merged-order, merged-parts}
+use Rattle.ev_merge.proofs.Placed.{merged_of-order, merged_of-parts}
 
 module _ (net : Net real) where
   abbrev m : Machine
@@ -58,6 +59,10 @@ module _ (net : Net real) where
       → IsNonDecreasingBy stamp_of ys → IsStableByKey stamp_of nat_cmp xs ys → IsMerge m (λ server. entries_in net (journal_at lists server)) (entries_in net ys)
   merge-sorted lists are xs ys is rising stable =
       merge-seen lists ys (merged-order lists are xs ys is rising stable) (merged-parts lists are xs ys is rising stable)
+
+  -- of journals one after the other, put in by stamp
+  pub merge-placed : (lists : List (List EntryParts)) → AreServerJournals lists → IsMerge m (λ server. entries_in net (journal_at lists server)) (entries_in net (merged_of lists))
+  merge-placed lists are = merge-seen lists (merged_of lists) (merged_of-order lists are) (merged_of-parts lists are)
 
   -- a journal is one in the runs, and the other way round
   pub journal-seen : (server : ℕ) (es : List EntryParts) → IsJournalOf server es → IsJournal m server (entries_in net es)

@@ -57,18 +57,8 @@ in-order (e ∷ es) u r = (sooner, in-order es u.1 (λ x. rest x (ties_with x e)
 server-is : (server : ℕ) (e : EntryParts) → is_of server e ≡ true → e.server ≡ server
 server-is server e h = grind (arith, nat_tests)
 
-module _ (xs ys : List EntryParts) (apart : Later IsRanked xs) (rising : IsNonDecreasingBy stamp_of ys) (stable : IsStableByKey stamp_of nat_cmp xs ys) where
-  pub ordered : Later IsSooner ys
-  ordered =
-      in-order ys (up ys rising)
-      (λ e. subst (Later IsRanked) (sym (stable e)) (later-filter IsRanked IsRanked (ties_with e) (λ x y a b r. r) xs apart))
-
-  to : (e : EntryParts) → Has e ys → Has e xs
-  to e m = (filter-Has (ties_with e) e xs (subst (Has e) (stable e) (Has-filter (ties_with e) e ys m (tied e e refl)))).0
-
-  from : (e : EntryParts) → Has e xs → Has e ys
-  from e m = (filter-Has (ties_with e) e ys (subst (Has e) (sym (stable e)) (Has-filter (ties_with e) e xs m (tied e e refl)))).0
-
+-- what is in order has each server's entries as what stands by server with the same members
+module _ (xs ys : List EntryParts) (apart : Later IsRanked xs) (ordered : Later IsSooner ys) (to : (e : EntryParts) → Has e ys → Has e xs) (from : (e : EntryParts) → Has e xs → Has e ys) where
   pub same-parts : (server : ℕ) → filter (is_of server) ys ≡ filter (is_of server) xs
   same-parts server = one-list stamp_of (filter (is_of server) ys) (filter (is_of server) xs)
       (later-filter IsSooner (λ e f. e.stamp < f.stamp) (is_of server) sooner ys ordered)
@@ -84,6 +74,21 @@ module _ (xs ys : List EntryParts) (apart : Later IsRanked xs) (rising : IsNonDe
       lower e f p q (inl l) = absurd (omega (arith, server-is server e p, server-is server f q, l))
       lower e f p q (inr l) = l.1
 
+module _ (xs ys : List EntryParts) (apart : Later IsRanked xs) (rising : IsNonDecreasingBy stamp_of ys) (stable : IsStableByKey stamp_of nat_cmp xs ys) where
+  ordered : Later IsSooner ys
+  ordered =
+      in-order ys (up ys rising)
+      (λ e. subst (Later IsRanked) (sym (stable e)) (later-filter IsRanked IsRanked (ties_with e) (λ x y a b r. r) xs apart))
+
+  to : (e : EntryParts) → Has e ys → Has e xs
+  to e m = (filter-Has (ties_with e) e xs (subst (Has e) (stable e) (Has-filter (ties_with e) e ys m (tied e e refl)))).0
+
+  from : (e : EntryParts) → Has e xs → Has e ys
+  from e m = (filter-Has (ties_with e) e ys (subst (Has e) (sym (stable e)) (Has-filter (ties_with e) e xs m (tied e e refl)))).0
+
+  sorted-parts : (server : ℕ) → filter (is_of server) ys ≡ filter (is_of server) xs
+  sorted-parts = same-parts xs ys apart ordered to from
+
 -- of journals one after the other, sorted
 module _ (lists : List (List EntryParts)) (are : AreServerJournals lists) (xs ys : List EntryParts) (is : xs ≡ joined lists) (rising : IsNonDecreasingBy stamp_of ys) (stable : IsStableByKey stamp_of nat_cmp xs ys) where
   apart-here : Later IsRanked xs
@@ -93,4 +98,4 @@ module _ (lists : List (List EntryParts)) (are : AreServerJournals lists) (xs ys
   merged-order = ordered xs ys apart-here rising stable
 
   pub merged-parts : (server : ℕ) → filter (is_of server) ys ≡ journal_at lists server
-  merged-parts server = same-parts xs ys apart-here rising stable server ∙ ap (filter (is_of server)) is ∙ parts lists are server
+  merged-parts server = sorted-parts xs ys apart-here rising stable server ∙ ap (filter (is_of server)) is ∙ parts lists are server

@@ -1,5 +1,6 @@
 -- The journals of servers 1, 2, .., and one list of all their entries.
-use Rattle.std.specs.Prelude.{◌≡◌, ℕ, zero, suc, ◌<◌, List, [], ◌∷◌, slice_index_or}
+use Rattle.std.specs.Prelude.{◌≡◌, ℕ, zero, suc, ◌<◌, cond, leb, List, [], ◌∷◌, slice_index_or}
+use Rattle.std.specs.List.{flat_map}
 use Rattle.ev_sets.specs.Sets.{Has}
 use Rattle.ev_run.specs.Journals.{IsMerge}
 use Rattle.ev_routing.specs.Net.{Net}
@@ -36,3 +37,17 @@ entries_in net entries = entries_on real net (journal_of entries)
 abbrev pub IsMergeOf : List (List EntryParts) → List EntryParts → Type 0
 IsMergeOf journals merged =
     (net : Net real) → IsMerge (routing_machine real net) (λ server. entries_in net (journal_at journals server)) (entries_in net merged)
+
+-- an entry put in among others by its stamp, before those of equal stamps
+abbrev pub placed : EntryParts → List EntryParts → List EntryParts
+placed entry [] = entry ∷ []
+placed entry (other ∷ others) = cond (leb entry.stamp other.stamp) (entry ∷ other ∷ others) (other ∷ placed entry others)
+
+-- entries by stamp; those of equal stamps stay in their order
+abbrev pub by_stamp : List EntryParts → List EntryParts
+by_stamp [] = []
+by_stamp (entry ∷ entries) = placed entry (by_stamp entries)
+
+-- the entries of journals of servers 1, 2, .. as one list, by stamp and then by server
+unfoldable pub merged_of : List (List EntryParts) → List EntryParts
+merged_of journals = by_stamp (flat_map (λ journal. journal) journals)
