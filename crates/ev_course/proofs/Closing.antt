@@ -189,5 +189,5 @@ module _ (net : NetParts) (last next : ℕ) (cells : List CellParts) (sound : Is
       legal = subst (λ m. IsRunTo real (phased_net net) (opening_moment real (phased_net net)) (journal_of merged) m) (sym at-end) run.legal;
       drained = subst (λ (m : Moment real (phased_net net)). IsDrained real (net_at real (phased_net net) m.phase) (at_phase real (phased_net net) m.phase m.state)) (sym at-end)
           (drained real real_laws run (phases_of net) (phases-low net sound) stood.between.quiet (through-on (phases_of net) none));
-      ends = record { sound = sound; phase = last; cores = cores };
+      ends = record { sound = sound; phase = last; cores_are = cores };
     }

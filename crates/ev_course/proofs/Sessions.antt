@@ -1,5 +1,5 @@
 -- The session of a client at its home, where the cores are those at the end of a journal.
-use Rattle.std.proofs.Common.{◌≡◌, ℕ, suc, ◌-◌, List, [], ◌∷◌, length, map, Some, slice_get, refl, ap, ◌∙◌}
+use Rattle.std.proofs.Common.{◌≡◌, ℕ, suc, ◌-◌, List, Some, slice_get, refl, ap, ◌∙◌, arith}
 use Rattle.ev_sets.specs.Sets.{Has}
 use Rattle.ev_wire.specs.declared.semantics.Semantics.{Semantics}
 use Rattle.ev_wire.specs.declared.semantics.Semantics.TheVariants.{Subscription, Advertisement}
@@ -10,11 +10,11 @@ use Rattle.ev_model.specs.Nets.{home_of, with_adverts}
 use Rattle.ev_session.specs.Session.{SessionParts}
 use Rattle.ev_numserver.specs.Clients.{bare}
 use Rattle.ev_numserver.specs.Core.{CoreParts}
-use Rattle.ev_turns.specs.Network.{network_parts, moment_by}
+use Rattle.ev_turns.specs.Network.{network_parts, moment_by, received_by}
 use Rattle.ev_turns.specs.Sessions.{IsSessionOf}
-use Rattle.ev_numnet.proofs.Commanding.{taken_there, script_there, home_place}
-use Rattle.ev_numnode.specs.Cell.{CellParts}
-use Rattle.ev_numnode.proofs.Gathered.{map-found}
+use Rattle.ev_numnet.specs.Inboxes.{HaveInboxes}
+use Rattle.ev_numnet.specs.Stepping.{peers}
+use Rattle.ev_numnet.proofs.Commanding.{lives_there, taken_there, script_there, home_place}
 use Rattle.ev_course.specs.Course.{IsEndOf}
 
 one-semantics : (a b : Semantics) → with_adverts a ≡ by_adverts b → b ≡ a
@@ -23,22 +23,25 @@ one-semantics Advertisement Advertisement e = refl
 one-semantics Subscription Advertisement e = absurd cc
 one-semantics Advertisement Subscription e = absurd cc
 
-pub session-at : (net : NetParts) (cells : List CellParts) (journal : List EntryParts) → IsEndOf net cells journal → (client : ℕ) (core : CoreParts)
-    → slice_get (map (λ (c : CellParts). c.held.core) cells) (home_of net client - 1) ≡ Some core
-    → (s : SessionParts) → Has (bare s) core.clients → s.client ≡ client → s.semantics ≡ core.control.semantics → IsSessionOf (network_parts net journal) client s
-session-at net cells journal end client core at s h e semantics = record {
-  semantics = semantics ∙ one-semantics net.semantics core.control.semantics (end.cores.states (home_of net client - 1) core at).control.adverts;
-  script = script_there net end.sound end.phase (moment_by net journal).state (map (λ (c : CellParts). c.held.core) cells) end.cores client core at (bare s) h e;
-  taken = taken_there net end.sound end.phase (moment_by net journal).state (map (λ (c : CellParts). c.held.core) cells) end.cores client core at (bare s) h e;
-  inbox = (end.cores.states (home_of net client - 1) core at).inboxes (bare s) h
-      ∙ ap (λ z. deliveries_of (((moment_by net journal).state.state (suc (home_of net client - 1))).inbox z)) e
-      ∙ ap (λ z. deliveries_of (((moment_by net journal).state.state z).inbox client)) (home_place net end.sound end.phase (moment_by net journal).state (map (λ (c : CellParts). c.held.core) cells) end.cores client);
-}
+module _ (net : NetParts) (cores : List CoreParts) (journal : List EntryParts) (end : IsEndOf net cores journal) where
+  pub session-at : (client : ℕ) (core : CoreParts) → slice_get cores (home_of net client - 1) ≡ Some core
+      → (s : SessionParts) → Has (bare s) core.clients → s.client ≡ client → s.semantics ≡ core.control.semantics → IsSessionOf (network_parts net journal) client s
+  session-at client core at s h e semantics = record {
+    semantics = semantics ∙ one-semantics net.semantics core.control.semantics (end.cores_are.states (home_of net client - 1) core at).control.adverts;
+    script = script_there net end.sound end.phase (moment_by net journal).state cores end.cores_are client core at (bare s) h e;
+    taken = taken_there net end.sound end.phase (moment_by net journal).state cores end.cores_are client core at (bare s) h e;
+    inbox = (end.cores_are.states (home_of net client - 1) core at).inboxes (bare s) h
+        ∙ ap (λ z. deliveries_of (((moment_by net journal).state.state (suc (home_of net client - 1))).inbox z)) e
+        ∙ ap (λ z. deliveries_of (((moment_by net journal).state.state z).inbox client)) (home_place net end.sound end.phase (moment_by net journal).state cores end.cores_are client);
+  }
 
-pub as-many : (cells : List CellParts) → length (map (λ (c : CellParts). c.held.core) cells) ≡ length cells
-as-many [] = refl
-as-many (c ∷ cells) = ap suc (as-many cells)
-
-pub core-at : (cells : List CellParts) (home : ℕ) (cell : CellParts) → slice_get cells (home - 1) ≡ Some cell
-    → slice_get (map (λ (c : CellParts). c.held.core) cells) (home - 1) ≡ Some cell.held.core
-core-at cells home cell at = map-found (λ (c : CellParts). c.held.core) (home - 1) cells cell at
+  -- no inbox is handed on yet
+  pub have-all : HaveInboxes peers net (received_by net journal) 0 cores
+  have-all = record {
+    all = end.cores_are.all;
+    lives = λ client core l m at. lives_there net end.sound end.phase (moment_by net journal).state cores end.cores_are client (omega (arith, l), m) core at;
+    inbox = λ client core s l m at h e.
+        (end.cores_are.states (home_of net client - 1) core at).inboxes s h
+        ∙ ap (λ z. deliveries_of (((moment_by net journal).state.state (suc (home_of net client - 1))).inbox z)) e
+        ∙ ap (λ z. deliveries_of (((moment_by net journal).state.state z).inbox client)) (home_place net end.sound end.phase (moment_by net journal).state cores end.cores_are client);
+  }

@@ -9,13 +9,14 @@ use Rattle.ev_model.specs.Nets.{phased_net, of_clients}
 use Rattle.ev_model.specs.Sound.{IsSound}
 use Rattle.ev_merge.specs.Merging.{IsMergeOf, journals_in}
 use Rattle.ev_turns.specs.Network.{IsLegal, IsDrainedBy, moment_by, refused_by, received_by}
+use Rattle.ev_numserver.specs.Core.{CoreParts}
 use Rattle.ev_numnet.specs.Kept.{AreServers}
 use Rattle.ev_numnode.specs.Cell.{CellParts, IsKept, machine_in}
 use Rattle.ev_numnode.specs.Coming.{HaveCommand}
 use Rattle.ev_numnode.specs.Entered.{StandFor, IsEntered, state_of}
 use Rattle.ev_numnode.specs.Together.{AreTogether, AreBegun, IsFinished, cell_roots}
 use Rattle.ev_numnode.specs.InHand.{AreAllInHand}
-use Rattle.ev_course.specs.declared.ran.Ran.{Ran}
+use Rattle.ev_merge.specs.declared.ran.Ran.{Ran}
 
 -- the journals of all servers
 abbrev pub journals_by : List CellParts → List (List EntryParts)
@@ -25,7 +26,7 @@ journals_by cells = map (λ cell. cell.journal) cells
 pub record IsAtStart (cell : CellParts) : Type 0 where
   pub core : cell.root.core.value ≡ cell.held.core
   pub links : cell.root.links.value ≡ cell.held.links
-  pub before : cell.root.before.value.items ≡ cell.journal
+  pub before : cell.root.before.value.entries ≡ cell.journal
   pub entries : cell.root.entries ≡ length cell.journal
 
 abbrev pub AreAtStart : List CellParts → Type 0
@@ -70,21 +71,25 @@ pub record IsPhaseDone (net : NetParts) (last phase : ℕ) (old started now : Li
   pub kept : AreKept now
   pub finished : (begun : ℕ → Cell (machine_in net phase)) → AreBegun net phase now begun → IsFinished net phase now begun
 
--- the cells' cores are those of the servers at the end of a journal, on the tree of some phase
-pub record IsEndOf (net : NetParts) (cells : List CellParts) (journal : List EntryParts) : Type 0 where
+-- the cores of cells
+abbrev pub cores_of : List CellParts → List CoreParts
+cores_of cells = map (λ cell. cell.held.core) cells
+
+-- cores are those of the servers at the end of a journal, on the tree of some phase
+pub record IsEndOf (net : NetParts) (cores : List CoreParts) (journal : List EntryParts) : Type 0 where
   pub sound : IsSound net
   pub phase : ℕ
-  pub cores : AreServers net phase (moment_by net journal).state (map (λ cell. cell.held.core) cells)
+  pub cores_are : AreServers net phase (moment_by net journal).state cores
 
 -- THE WHOLE RUN: the merge of all journals is a legal run of the net, and at its end all commands are taken, all links are empty and nothing is staged
 pub record IsWholeMerge (net : NetParts) (cells : List CellParts) (merged : List EntryParts) : Type 0 where
   pub merge : IsMergeOf (journals_by cells) merged
   pub legal : IsLegal net merged
   pub drained : IsDrainedBy net merged
-  pub ends : IsEndOf net cells merged
+  pub ends : IsEndOf net (cores_of cells) merged
 
 -- what a whole run left: its journal, by stamp and then by server, and what each client has by its end
 pub record IsRanBy (net : NetParts) (cells : List CellParts) (ran : Ran) : Type 0 where
-  pub whole : IsWholeMerge net cells ran.journal.items
-  pub refused : ran.refused.items ≡ of_clients net (refused_by net ran.journal.items)
-  pub received : ran.received.items ≡ of_clients net (received_by net ran.journal.items)
+  pub whole : IsWholeMerge net cells ran.journal.entries
+  pub refused : ran.refused.items ≡ of_clients net (refused_by net ran.journal.entries)
+  pub received : ran.received.items ≡ of_clients net (received_by net ran.journal.entries)

@@ -1,114 +1,128 @@
 //! What a run over cells leaves.
-ghost use Rattle.std.specs.Prelude.{◌≡◌, ◌≤◌, ℕ, length, map, IfOk};
-ghost use Rattle.ev_model.specs.Nets.{home_of, phases_of, of_clients};
-ghost use Rattle.ev_model.specs.Sound.{IsSound};
-ghost use Rattle.ev_turns.specs.Network.{network_parts, refused_by, received_by};
+ghost use Rattle.std.specs.Prelude.{◌≡◌, ◌≤◌, ℕ, [], length, map, vec_capacity, IfOk};
+ghost use Rattle.ev_wire.specs.MessageText.{Each};
+ghost use Rattle.ev_model.specs.Nets.{phases_of, of_clients};
+ghost use Rattle.ev_turns.specs.Network.{network_parts, refused_by};
 ghost use Rattle.ev_turns.specs.Sessions.{IsSessionOf};
 ghost use Rattle.ev_numnode.specs.Entered.{AreThrough};
-ghost use Rattle.ev_course.specs.Course.{StandBetween, AreInHand, IsWholeMerge, IsEndOf, IsRanBy, journals_by};
+ghost use Rattle.ev_numnode.specs.Together.{keepings};
+ghost use Rattle.ev_course.specs.Course.{StandBetween, AreInHand, IsEndOf, IsRanBy, cores_of, journals_by};
 
+use crate::inboxes::{home, take_inboxes};
 use crate::law::whole_run;
+use ev_journal::Journal;
 use ev_memory::NoMemory;
-use ev_merge::merge;
-use ev_model::{Delivery, Entry, Net};
+use ev_merge::{Ran, Record};
+use ev_model::Net;
 use ev_numnode::Cell;
+use ev_numserver::Core;
 use ev_numsession::Session;
 use ev_wire::Lists;
 use std::alloc::Global;
+use std::sync::Wait;
 
-/// What a run leaves.
-#[derive(Drop)]
-pub struct Ran {
-    /// What the servers did, by stamp and then by server.
-    pub journal: Vec<Entry>,
-    /// Of each client the ordinals of its refused publishes.
-    pub refused: Vec<Lists<u32>>,
-    /// And what was delivered to it.
-    pub received: Vec<Lists<Delivery>>,
+/// What cells are taken apart into: the core and the journal of each.
+struct Parts<'a> {
+    cores: Vec<Core<'a>>,
+    journals: Vec<Journal>,
 }
 
-// An equal journal.
-fn copied(alloc: Global, journal: &[Entry]) -> Result<Vec<Entry>, NoMemory>
-    ensures { IfOk result (λ copy. copy.items ≡ journal.now) }
-{
-    let mut copy = Vec::with_capacity(alloc, journal.len())?;
-    for entry in journal {
-        copy.push(entry.copy(alloc)?)?;
+/// Ends the cells.
+pub fn end_all<R: Wait>(rt: &R, mut cells: Vec<Cell<'_>>) {
+    while let Some(cell) = cells.pop() {
+        cell.end(rt);
     }
-    Ok(copy)
+    cells.destroy_empty();
 }
 
-// Equal deliveries.
-fn copied_deliveries(alloc: Global, deliveries: &[Delivery]) -> Result<Vec<Delivery>, NoMemory>
-    ensures { IfOk result (λ copy. copy.items ≡ deliveries.now) }
+/// Takes the cells apart, for whose parts there is room.
+fn take_apart<'a, R: Wait>(rt: &R, mut cells: Vec<Cell<'a>>, parts: &mut Parts<'a>)
+    requires empty { (parts.old.cores.items ≡ []) × (parts.old.journals.items ≡ []) }
+    requires room { (length cells.items ≤ vec_capacity parts.old.cores) × (length cells.items ≤ vec_capacity parts.old.journals) }
+    ensures cores { parts.new.cores.items ≡ cores_of cells.entry.items }
+    ensures journals { map (λ journal. journal.entries) parts.new.journals.items ≡ journals_by cells.entry.items }
+    ensures kept { map (λ journal. journal.kept) parts.new.journals.items ≡ keepings cells.entry.items }
 {
-    let mut copy = Vec::with_capacity(alloc, deliveries.len())?;
-    for delivery in deliveries {
-        copy.push(delivery.copy(alloc)?)?;
+    while !cells.is_empty() {
+        let (core, journal) = cells.remove(0).into_parts(rt);
+        parts.cores.push_reserved(core);
+        parts.journals.push_reserved(journal);
     }
-    Ok(copy)
+    cells.destroy_empty();
 }
 
-// Equal journals of all cells.
-fn journals(alloc: Global, cells: &[Cell<'_>]) -> Result<Vec<Vec<Entry>>, NoMemory>
-    ensures { IfOk result (λ copies. map (λ journal. journal.items) copies.items ≡ journals_by cells.now) }
-{
-    let mut copies = Vec::with_capacity(alloc, cells.len())?;
-    for cell in cells {
-        copies.push(copied(alloc, cell.journal())?)?;
+impl<'a> Parts<'a> {
+    /// Room for the parts of so many cells.
+    fn make(alloc: Global, count: usize) -> Result<Parts<'a>, NoMemory>
+        ensures empty { IfOk result (λ parts. (parts.cores.items ≡ []) × (parts.journals.items ≡ [])) }
+        ensures room { IfOk result (λ parts. (count ≤ vec_capacity parts.cores) × (count ≤ vec_capacity parts.journals)) }
+    {
+        let cores = Vec::with_capacity(alloc, count)?;
+        let journals = Vec::with_capacity(alloc, count)?;
+        Ok(Parts { cores, journals })
     }
-    Ok(copies)
+
+    /// The parts of these cells. Where it finds no memory it ends them.
+    fn of<R: Wait>(alloc: Global, rt: &R, cells: Vec<Cell<'a>>) -> Result<Parts<'a>, NoMemory>
+        ensures cores { IfOk result (λ parts. parts.cores.items ≡ cores_of cells.entry.items) }
+        ensures journals { IfOk result (λ parts. map (λ journal. journal.entries) parts.journals.items ≡ journals_by cells.entry.items) }
+        ensures kept { IfOk result (λ parts. map (λ journal. journal.kept) parts.journals.items ≡ keepings cells.entry.items) }
+    {
+        match Parts::make(alloc, cells.len()) {
+            Ok(mut parts) => {
+                take_apart(rt, cells, &mut parts);
+                Ok(parts)
+            }
+            Err(fault) => {
+                end_all(rt, cells);
+                Err(fault)
+            }
+        }
+    }
 }
 
-// The end of a run: its net, its cells, and the journal of all of them.
+/// The end of a run: its net, the cores of its servers, and the journal of all of them.
 #[derive(Drop)]
 struct End<'e, 'a> {
     net: &'e Net,
-    cells: &'e [Cell<'a>],
-    journal: &'e [Entry],
+    cores: &'e [Core<'a>],
+    journal: &'e Record,
 }
 
-// The server of a client.
-fn home(net: &Net, client: u32) -> u32
-    requires { (1 ≤ client) × (client ≤ length net.now.clients) }
-    ensures { result ≡ home_of net.now client }
-{
-    net.clients[client as usize - 1].home
-}
-
-// The session of a client at its home.
+/// The session of a client at its home.
 fn session<'e, 'a>(end: &End<'e, 'a>, client: u32) -> &'e Session<'a>
-    requires end { IsEndOf end.now.net.now end.now.cells.now end.now.journal.now }
+    requires end { IsEndOf end.now.net.now end.now.cores.now end.now.journal.now.entries }
     requires client { (1 ≤ client) × (client ≤ length end.now.net.now.clients) }
-    ensures { IsSessionOf (network_parts end.now.net.now end.now.journal.now) client result.now.session }
+    ensures { IsSessionOf (network_parts end.now.net.now end.now.journal.now.entries) client result.now.session }
 {
-    let cells = end.cells;
+    let cores = end.cores;
     let home = home(end.net, client);
-    cells[home as usize - 1].core().session(client)
+    cores[home as usize - 1].session(client)
 }
 
-// How many clients the net has.
+/// How many clients the net has.
 fn clients(end: &End<'_, '_>) -> u32
-    requires { IsEndOf end.now.net.now end.now.cells.now end.now.journal.now }
+    requires { IsEndOf end.now.net.now end.now.cores.now end.now.journal.now.entries }
     ensures { result ≡ length end.now.net.now.clients }
 {
     let net = end.net;
     net.clients.len() as u32
 }
 
-// The ordinals of a client's refused publishes.
+/// The ordinals of a client's refused publishes.
 fn refused_of(alloc: Global, end: &End<'_, '_>, client: u32) -> Result<Lists<u32>, NoMemory>
-    requires end { IsEndOf end.now.net.now end.now.cells.now end.now.journal.now }
+    requires end { IsEndOf end.now.net.now end.now.cores.now end.now.journal.now.entries }
     requires client { (1 ≤ client) × (client ≤ length end.now.net.now.clients) }
-    ensures { IfOk result (λ list. list ≡ refused_by end.now.net.now end.now.journal.now client) }
+    ensures { IfOk result (λ list. list ≡ refused_by end.now.net.now end.now.journal.now.entries client) }
 {
     Ok(Lists::of(session(end, client).refused().to_vec(alloc)?))
 }
 
-// Of each client the ordinals of its refused publishes.
+/// Of each client the ordinals of its refused publishes.
 fn refused(alloc: Global, end: &End<'_, '_>) -> Result<Vec<Lists<u32>>, NoMemory>
-    requires { IsEndOf end.now.net.now end.now.cells.now end.now.journal.now }
-    ensures { IfOk result (λ lists. lists.items ≡ of_clients end.now.net.now (refused_by end.now.net.now end.now.journal.now)) }
+    requires { IsEndOf end.now.net.now end.now.cores.now end.now.journal.now.entries }
+    ensures { IfOk result (λ lists. lists.items
+        ≡ of_clients end.now.net.now (refused_by end.now.net.now end.now.journal.now.entries)) }
 {
     let mut lists = Vec::new(alloc);
     for place in 0..clients(end) {
@@ -117,45 +131,35 @@ fn refused(alloc: Global, end: &End<'_, '_>) -> Result<Vec<Lists<u32>>, NoMemory
     Ok(lists)
 }
 
-// What was delivered to each client.
-fn received(alloc: Global, end: &End<'_, '_>) -> Result<Vec<Lists<Delivery>>, NoMemory>
-    requires { IsEndOf end.now.net.now end.now.cells.now end.now.journal.now }
-    ensures { IfOk result (λ lists. lists.items ≡ of_clients end.now.net.now (received_by end.now.net.now end.now.journal.now)) }
-{
-    let mut lists = Vec::new(alloc);
-    for place in 0..clients(end) {
-        let deliveries = copied_deliveries(alloc, session(end, place + 1).received())?;
-        lists.push(Lists::of(deliveries))?;
-    }
-    Ok(lists)
-}
-
-// The merge of all journals.
-fn merged(alloc: Global, net: &Net, cells: &[Cell<'_>]) -> Result<Vec<Entry>, NoMemory>
-    requires stand { (last next : ℕ) × StandBetween net.now last next cells.now × AreInHand net.now last cells.now }
-    requires through { AreThrough (phases_of net.now) cells.now }
-    ensures { IfOk result (λ journal. IsWholeMerge net.now cells.now journal.items) }
+/// What a run leaves whose cells stand between two phases with no command left: what the servers did, by stamp and then by
+/// server, and what each client has. It takes the cells apart, and may wait for a viewer that is inside a match. Where the cells
+/// let their entries pass nothing is merged.
+pub fn collect<R: Wait>(
+    alloc: Global,
+    rt: &R,
+    net: &Net,
+    cells: Vec<Cell<'_>>,
+    keeps: bool,
+) -> Result<Ran, NoMemory>
+    requires stand { (last next : ℕ) × StandBetween net.now last next cells.items × AreInHand net.now last cells.items }
+    requires through { AreThrough (phases_of net.now) cells.items }
+    requires keeps { Each (λ keep. keep ≡ keeps) (keepings cells.items) }
+    ensures ran { IfOk result (IsRanBy net.now cells.entry.items) }
+    ensures kept { IfOk result (λ ran. ran.journal.kept ≡ keeps) }
 {
     whole_run();
-    let _ = net;
-    merge(alloc, journals(alloc, cells)?)
-}
-
-/// What a run leaves whose cells stand between two phases with no command left: the merge of all journals, by stamp and
-/// then by server, and what each client has.
-pub fn collect(alloc: Global, net: &Net, cells: &[Cell<'_>]) -> Result<Ran, NoMemory>
-    requires stand { (last next : ℕ) × StandBetween net.now last next cells.now × AreInHand net.now last cells.now }
-    requires through { AreThrough (phases_of net.now) cells.now }
-    ensures { IfOk result (IsRanBy net.now cells.now) }
-{
-    let journal = merged(alloc, net, cells)?;
+    let Parts {
+        mut cores,
+        journals,
+    } = Parts::of(alloc, rt, cells)?;
+    let journal = Record::merged(alloc, journals, keeps)?;
     let end = End {
         net,
-        cells,
+        cores: &cores,
         journal: &journal,
     };
     let refused = refused(alloc, &end)?;
-    let received = received(alloc, &end)?;
+    let received = take_inboxes(alloc, net, &mut cores)?;
     Ok(Ran {
         journal,
         refused,

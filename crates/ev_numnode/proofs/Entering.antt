@@ -61,7 +61,7 @@ raised old new clock held le low core links publisher handed = record {
 }
 
 pub entered : (net : NetParts) (root after : Root) (journal : List EntryParts) (old new : ServerInHand) (clock : ℕ) → IsKept net root journal old → old.core.clock ≤ clock → clock < 2 ^ 62
-    → is_one_tree real (phased_net net) root.phase after.phase ≡ true → root.phase ≤ after.phase → HasNoneBelow after.phase old.core.clients → after.net ≡ root.net → after.server ≡ root.server → after.entries ≡ length journal → after.before.value.items ≡ journal → after.core.value ≡ new.core → after.links.value ≡ new.links → after.viewer ≡ root.viewer
+    → is_one_tree real (phased_net net) root.phase after.phase ≡ true → root.phase ≤ after.phase → HasNoneBelow after.phase old.core.clients → after.net ≡ root.net → after.server ≡ root.server → after.entries ≡ length journal → after.before.value.entries ≡ journal → after.core.value ≡ new.core → after.links.value ≡ new.links → after.viewer ≡ root.viewer
     → new.core ≡ record old.core { clock = clock } → new.links ≡ old.links → new.publisher ≡ old.publisher → new.handed ≡ old.handed → IsKept net after journal new
 entered net root after journal old new clock kept le low tree later none net_same server entries before core_is links_is viewer core links publisher handed = record {
   net_is = ap (λ z. z.value) net_same ∙ kept.net_is;

@@ -90,7 +90,7 @@ module _ (net : NetParts) (core : CoreParts) (links : List Link) (stands : IsSer
     taken = λ client k c h lt e. absurd (omega (arith, lt));
   })
 
-  pub kept-fresh : (root : Root) (held : ServerInHand) (journal : List EntryParts) → IsSound net → root.net.value ≡ net → core.net ≡ net → IsWideFor core (forwarding_of held.publisher) → core.server ≡ root.server → root.phase ≡ 0 → root.entries ≡ 0 → root.before.value.items ≡ [] → root.core.value ≡ core → root.links.value.items ≡ links
+  pub kept-fresh : (root : Root) (held : ServerInHand) (journal : List EntryParts) → IsSound net → root.net.value ≡ net → core.net ≡ net → IsWideFor core (forwarding_of held.publisher) → core.server ≡ root.server → root.phase ≡ 0 → root.entries ≡ 0 → root.before.value.entries ≡ [] → root.core.value ≡ core → root.links.value.items ≡ links
       → held.core ≡ core → held.links.items ≡ links → staged held.publisher ≡ [] → published held.publisher ≡ [] → held.handed.items ≡ [] → IsViewerOf held.publisher root.viewer.value → names links ≡ links_of (topology_at net 0) root.server → journal ≡ [] → IsKept net root journal held
   kept-fresh root held journal sound net_is run wide server phase entries before core_is links_is core_held links_held none-staged none-published none-handed viewer named none = record {
     net_is = net_is;

@@ -9,6 +9,7 @@ pub mod Routes
 pub mod Published
 pub mod Sending
 pub mod Changes
+pub mod Choosing
 pub mod Shown
 pub mod Going
 pub mod Replays

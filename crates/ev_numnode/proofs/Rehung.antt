@@ -103,7 +103,7 @@ module _ (net : NetParts) (root after : Root) (journal : List EntryParts) (old m
   clients-same : new.core.clients ≡ old.core.clients
   clients-same = ap (λ (z : CoreParts). z.clients) core ∙ put.core.clients
 
-  pub kept-moved : after.net ≡ root.net → after.server ≡ root.server → after.entries ≡ length journal → after.before.value.items ≡ journal → after.core.value ≡ new.core → after.links.value ≡ new.links → after.viewer ≡ root.viewer
+  pub kept-moved : after.net ≡ root.net → after.server ≡ root.server → after.entries ≡ length journal → after.before.value.entries ≡ journal → after.core.value ≡ new.core → after.links.value ≡ new.links → after.viewer ≡ root.viewer
       → new.publisher ≡ mid.publisher → new.handed ≡ mid.handed → IsKept net after journal new
   kept-moved net_same server entries before core_is links_is viewer publisher handed = record {
     net_is = ap (λ z. z.value) net_same ∙ kept.net_is;

@@ -45,7 +45,7 @@ module _ {X : Type 0} where
   within (y ∷ xs) x zero e = omega arith
   within (y ∷ xs) x (suc q) e = let lt = within xs x q e in omega arith
 
-  each-end : (P : X → Type 0) (xs : List X) (x : X) → Each P xs → P x → Each P (xs ++ x ∷ [])
+  pub each-end : (P : X → Type 0) (xs : List X) (x : X) → Each P xs → P x → Each P (xs ++ x ∷ [])
   each-end P [] x e p = (p, tt)
   each-end P (y ∷ xs) x e p = (e.0, each-end P xs x e.1 p)
 

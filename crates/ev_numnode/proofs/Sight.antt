@@ -1,5 +1,5 @@
 -- What is taken after a look is what was seen.
-use Rattle.std.proofs.Common.{[], ◌∙◌}
+use Rattle.std.proofs.Common.{◌∙◌}
 use Rattle.ev_lane.specs.declared.taking.LaneOut.{LaneOut}
 use Rattle.ev_lane.specs.Lane.{SameOut}
 

@@ -67,6 +67,12 @@ AnswersAhead phase what ahead old new before after Stale = (made : IsMadeStep ph
     × RoutesMatched old.core made.input (matched_in ahead) × (IsUpToDate old.publisher ahead → ⊥)
 AnswersAhead phase what ahead old new before after Idle = IsStill old new before after × IsIdleStep phase what old new
 
+-- what a step is that is made by it: stale where the match had not seen all that is published
+abbrev pub turned_by : Choice → Turned
+turned_by Other = Made
+turned_by Outdated = Stale
+turned_by (Agreed route) = Made
+
 -- what comes of a match ahead for matched numbers: it is of others, or out of date, or this is its route, which is that of what is published
 abbrev pub IsChoice : Publisher → Ahead → List ℕ → Choice → Type 0
 IsChoice publisher ahead numbers Other = matched_in ahead ≡ numbers → ⊥

@@ -37,8 +37,9 @@ pub record HasEntered (old : Root) (phase : ℕ) (cell : CellParts) : Type 0 whe
   pub net : cell.root.net ≡ old.net
   pub server : cell.root.server ≡ old.server
   pub phase_is : cell.root.phase ≡ phase
+  pub keeps : cell.root.keeps ≡ old.keeps
   pub entries : cell.root.entries ≡ length cell.journal
-  pub before : cell.root.before.value.items ≡ cell.journal
+  pub before : cell.root.before.value.entries ≡ cell.journal
   pub core : cell.root.core.value ≡ cell.held.core
   pub links : cell.root.links.value ≡ cell.held.links
   pub viewer : cell.root.viewer ≡ old.viewer
@@ -99,7 +100,7 @@ pub record IsKept (net : NetParts) (root : Root) (journal : List EntryParts) (he
   pub replays : (begun : Cell (machine_in net root.phase)) → IsCellOf net root.phase root.core.value root.links.value.items begun
       → IsReplayed net root journal begun held
   pub entries : root.entries ≤ length journal
-  pub before : take root.entries journal ≡ root.before.value.items
+  pub before : take root.entries journal ≡ root.before.value.entries
   pub links : Both IsSameLink root.links.value.items held.links.items
   pub publisher : IsViewerOf held.publisher root.viewer.value
   pub now : IsServerInHand held

@@ -9,10 +9,11 @@ use Rattle.ev_model.specs.Nets.{phased_net}
 use Rattle.ev_numnode.specs.Cell.{CellParts, IsCellOf, HasEntered, HasNoneBelow, machine_in}
 use Rattle.ev_numnode.specs.Together.{AreTogether, AreBegun, cell_roots}
 
--- a cell with the net, the server, the publisher and the journal of an old one
+-- a cell with the net, the server, the publisher and the journal of an old one, which keeps its entries or lets them pass as before
 pub record IsSameCell (old new : CellParts) : Type 0 where
   pub net : new.root.net ≡ old.root.net
   pub server : new.root.server ≡ old.root.server
+  pub keeps : new.root.keeps ≡ old.root.keeps
   pub viewer : new.root.viewer ≡ old.root.viewer
   pub journal : new.journal ≡ old.journal
 

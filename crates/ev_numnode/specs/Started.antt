@@ -18,7 +18,7 @@ pub record IsFreshCell (net : NetParts) (server : ℕ) (links : List Link) (cell
   pub server_is : cell.root.server ≡ server
   pub phase : cell.root.phase ≡ 0
   pub entries : cell.root.entries ≡ 0
-  pub before : cell.root.before.value.items ≡ []
+  pub before : cell.root.before.value.entries ≡ []
   pub core : cell.root.core.value ≡ cell.held.core
   pub lanes : cell.root.links.value ≡ cell.held.links
   pub links_are : cell.held.links.items ≡ links

@@ -1,5 +1,5 @@
 -- The cells of all servers of a net.
-use Rattle.std.specs.Prelude.{◌≡◌, ◌⊎◌, ◌<◌, ℕ, zero, suc, List, [], map, length, drop, Some, slice_get, slice_index_or}
+use Rattle.std.specs.Prelude.{◌≡◌, ◌⊎◌, ◌<◌, ℕ, zero, suc, Bool, List, [], map, length, drop, Some, slice_get, slice_index_or}
 use mathlib.Core.List.{IsPrefix}
 use Rattle.ev_sets.specs.Sets.{Has}
 use Rattle.ev_run.specs.Machine.{Entry}
@@ -26,6 +26,10 @@ root_links root = root.links.value.items
 
 abbrev pub cell_roots : List CellParts → List Root
 cell_roots cells = map (λ cell. cell.root) cells
+
+-- of each cell whether its journal keeps its entries
+abbrev pub keepings : List CellParts → List Bool
+keepings cells = map (λ root. root.keeps) (cell_roots cells)
 
 -- THE CELLS OF ALL SERVERS of a net, by server, in one phase, with both ends of each of their lanes among them
 pub record AreTogether (net : NetParts) (phase : ℕ) (roots : List Root) : Type 0 where

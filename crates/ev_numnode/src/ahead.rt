@@ -8,13 +8,13 @@ ghost use Rattle.ev_numnode.specs.Asked.{IsWorn, SuitsHeld};
 ghost use Rattle.ev_numnode.specs.Ahead.{AnswersAhead, IsTakingAhead};
 
 use crate::asked::{is_of_phase, version_asked};
-use crate::choice::{Choice, choose_next, choose_of};
+use crate::choice::{choose_next, choose_of};
 use crate::held::ServerInHand;
 use crate::link::place_in;
 use crate::taking::{look_at, next_at};
 use crate::turn::{take_seen, turn_command};
 use crate::what::{Turned, What};
-use ev_model::Entry;
+use ev_journal::Journal;
 use ev_numserver::StepFault;
 use ev_numversions::{Ahead, Viewer};
 use std::alloc::Global;
@@ -24,7 +24,7 @@ use std::sync::Wait;
 fn command_ahead(
     alloc: Global,
     held: &mut ServerInHand<'_>,
-    journal: &mut Vec<Entry>,
+    journal: &mut Journal,
     server: u32,
     phase: u32,
     client: u32,
@@ -37,8 +37,9 @@ fn command_ahead(
     requires suits { SuitsHeld (What.Command client) held.old }
     requires viewer { IsViewerOf held.old.publisher viewer.old }
     requires ahead { IsAheadOf held.old.publisher ahead.now }
-    ensures answers { IfOk result (AnswersAhead phase (What.Command client) ahead.now held.old held.new journal.old.items journal.new.items) }
-    ensures still { OnErr result (IsStill held.old held.new journal.old.items journal.new.items) }
+    ensures answers { IfOk result (AnswersAhead phase (What.Command client) ahead.now held.old held.new journal.old.entries journal.new.entries) }
+    ensures still { OnErr result (IsStill held.old held.new journal.old.entries journal.new.entries) }
+    ensures kept { journal.new.kept ≡ journal.old.kept }
     ensures worn { (s : ℕ) → IsErrOf result (StepFault.StampsExhausted s) → IsWorn (What.Command client) s held.old held.new }
     ensures held { IsServerInHand held.new }
     ensures same { IsSameViewer viewer.old viewer.new }
@@ -46,20 +47,9 @@ fn command_ahead(
     if !is_of_phase(&held.core, phase, client) {
         return Ok(Turned::Idle);
     }
-    match choose_next(&held.core, &held.publisher, viewer, ahead, client) {
-        Choice::Agreed(route) => {
-            turn_command(alloc, held, journal, server, client, Some(route))?;
-            Ok(Turned::Made)
-        }
-        Choice::Other => {
-            turn_command(alloc, held, journal, server, client, None)?;
-            Ok(Turned::Made)
-        }
-        Choice::Outdated => {
-            turn_command(alloc, held, journal, server, client, None)?;
-            Ok(Turned::Stale)
-        }
-    }
+    let choice = choose_next(&held.core, &held.publisher, viewer, ahead, client);
+    turn_command(alloc, held, journal, server, client, choice.route())?;
+    Ok(choice.turned())
 }
 
 /// A taking from a neighbour.
@@ -67,7 +57,7 @@ fn take_ahead<R: Wait>(
     rt: &R,
     alloc: Global,
     held: &mut ServerInHand<'_>,
-    journal: &mut Vec<Entry>,
+    journal: &mut Journal,
     server: u32,
     phase: u32,
     from: u32,
@@ -80,8 +70,9 @@ fn take_ahead<R: Wait>(
     requires suits { SuitsHeld (What.Take from) held.old }
     requires viewer { IsViewerOf held.old.publisher viewer.old }
     requires ahead { IsAheadOf held.old.publisher ahead.now }
-    ensures answers { IfOk result (AnswersAhead phase (What.Take from) ahead.now held.old held.new journal.old.items journal.new.items) }
-    ensures still { OnErr result (IsStill held.old held.new journal.old.items journal.new.items) }
+    ensures answers { IfOk result (AnswersAhead phase (What.Take from) ahead.now held.old held.new journal.old.entries journal.new.entries) }
+    ensures still { OnErr result (IsStill held.old held.new journal.old.entries journal.new.entries) }
+    ensures kept { journal.new.kept ≡ journal.old.kept }
     ensures worn { (s : ℕ) → IsErrOf result (StepFault.StampsExhausted s) → IsWorn (What.Take from) s held.old held.new }
     ensures held { IsServerInHand held.new }
     ensures same { IsSameViewer viewer.old viewer.new }
@@ -98,7 +89,7 @@ fn take_place_ahead<R: Wait>(
     rt: &R,
     alloc: Global,
     held: &mut ServerInHand<'_>,
-    journal: &mut Vec<Entry>,
+    journal: &mut Journal,
     server: u32,
     place: usize,
     viewer: &mut Viewer,
@@ -110,8 +101,9 @@ fn take_place_ahead<R: Wait>(
     requires stands { IsSomeServer held.old.core }
     requires viewer { IsViewerOf held.old.publisher viewer.old }
     requires ahead { IsAheadOf held.old.publisher ahead.now }
-    ensures taken { (phase : ℕ) → IfOk result (IsTakingAhead phase place ahead.now held.old held.new journal.old.items journal.new.items) }
-    ensures still { OnErr result (IsStill held.old held.new journal.old.items journal.new.items) }
+    ensures taken { (phase : ℕ) → IfOk result (IsTakingAhead phase place ahead.now held.old held.new journal.old.entries journal.new.entries) }
+    ensures still { OnErr result (IsStill held.old held.new journal.old.entries journal.new.entries) }
+    ensures kept { journal.new.kept ≡ journal.old.kept }
     ensures worn { (s : ℕ) → IsErrOf result (StepFault.StampsExhausted s) → IsWornAt place held.old.core.clock s held.new.links.items }
     ensures held { IsServerInHand held.new }
     ensures same { IsSameViewer viewer.old viewer.new }
@@ -120,20 +112,9 @@ fn take_place_ahead<R: Wait>(
         return Ok(Turned::Idle);
     }
     let next = next_at(&held.links, place);
-    match choose_of(&held.core, &held.publisher, viewer, ahead, next.load()) {
-        Choice::Agreed(route) => {
-            take_seen(rt, alloc, held, journal, server, place, Some(route))?;
-            Ok(Turned::Made)
-        }
-        Choice::Other => {
-            take_seen(rt, alloc, held, journal, server, place, None)?;
-            Ok(Turned::Made)
-        }
-        Choice::Outdated => {
-            take_seen(rt, alloc, held, journal, server, place, None)?;
-            Ok(Turned::Stale)
-        }
-    }
+    let choice = choose_of(&held.core, &held.publisher, viewer, ahead, next.load());
+    take_seen(rt, alloc, held, journal, server, place, choice.route())?;
+    Ok(choice.turned())
 }
 
 /// One step that is asked for, with a match ahead.
@@ -141,7 +122,7 @@ pub(crate) fn turn_held_ahead<R: Wait>(
     rt: &R,
     alloc: Global,
     held: &mut ServerInHand<'_>,
-    journal: &mut Vec<Entry>,
+    journal: &mut Journal,
     server: u32,
     phase: u32,
     what: What,
@@ -154,8 +135,9 @@ pub(crate) fn turn_held_ahead<R: Wait>(
     requires suits { SuitsHeld what held.old }
     requires viewer { IsViewerOf held.old.publisher viewer.old }
     requires ahead { IsAheadOf held.old.publisher ahead.now }
-    ensures answers { IfOk result (AnswersAhead phase what ahead.now held.old held.new journal.old.items journal.new.items) }
-    ensures still { OnErr result (IsStill held.old held.new journal.old.items journal.new.items) }
+    ensures answers { IfOk result (AnswersAhead phase what ahead.now held.old held.new journal.old.entries journal.new.entries) }
+    ensures still { OnErr result (IsStill held.old held.new journal.old.entries journal.new.entries) }
+    ensures kept { journal.new.kept ≡ journal.old.kept }
     ensures worn { (s : ℕ) → IsErrOf result (StepFault.StampsExhausted s) → IsWorn what s held.old held.new }
     ensures held { IsServerInHand held.new }
     ensures same { IsSameViewer viewer.old viewer.new }

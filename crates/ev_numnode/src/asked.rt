@@ -11,7 +11,7 @@ use crate::held::ServerInHand;
 use crate::link::place_in;
 use crate::turn::{turn_command, turn_take, turn_version};
 use crate::what::{Turned, What};
-use ev_model::Entry;
+use ev_journal::Journal;
 use ev_numserver::{Core, StepFault};
 use std::alloc::Global;
 use std::sync::Wait;
@@ -32,7 +32,7 @@ pub(crate) fn is_of_phase(core: &Core<'_>, phase: u32, client: u32) -> bool
 pub(crate) fn command_asked(
     alloc: Global,
     held: &mut ServerInHand<'_>,
-    journal: &mut Vec<Entry>,
+    journal: &mut Journal,
     server: u32,
     phase: u32,
     client: u32,
@@ -41,8 +41,9 @@ pub(crate) fn command_asked(
     requires held { IsServerInHand held.old }
     requires stands { IsSomeServer held.old.core }
     requires suits { SuitsHeld (What.Command client) held.old }
-    ensures answers { IfOk result (Answers phase (What.Command client) held.old held.new journal.old.items journal.new.items) }
-    ensures still { OnErr result (IsStill held.old held.new journal.old.items journal.new.items) }
+    ensures answers { IfOk result (Answers phase (What.Command client) held.old held.new journal.old.entries journal.new.entries) }
+    ensures still { OnErr result (IsStill held.old held.new journal.old.entries journal.new.entries) }
+    ensures kept { journal.new.kept ≡ journal.old.kept }
     ensures worn { (s : ℕ) → IsErrOf result (StepFault.StampsExhausted s) → IsWorn (What.Command client) s held.old held.new }
     ensures held { IsServerInHand held.new }
 {
@@ -58,7 +59,7 @@ fn take_asked<R: Wait>(
     rt: &R,
     alloc: Global,
     held: &mut ServerInHand<'_>,
-    journal: &mut Vec<Entry>,
+    journal: &mut Journal,
     server: u32,
     phase: u32,
     from: u32,
@@ -67,8 +68,9 @@ fn take_asked<R: Wait>(
     requires held { IsServerInHand held.old }
     requires stands { IsSomeServer held.old.core }
     requires suits { SuitsHeld (What.Take from) held.old }
-    ensures answers { IfOk result (Answers phase (What.Take from) held.old held.new journal.old.items journal.new.items) }
-    ensures still { OnErr result (IsStill held.old held.new journal.old.items journal.new.items) }
+    ensures answers { IfOk result (Answers phase (What.Take from) held.old held.new journal.old.entries journal.new.entries) }
+    ensures still { OnErr result (IsStill held.old held.new journal.old.entries journal.new.entries) }
+    ensures kept { journal.new.kept ≡ journal.old.kept }
     ensures worn { (s : ℕ) → IsErrOf result (StepFault.StampsExhausted s) → IsWorn (What.Take from) s held.old held.new }
     ensures held { IsServerInHand held.new }
 {
@@ -87,15 +89,16 @@ pub(crate) fn version_asked<R: Wait>(
     rt: &R,
     alloc: Global,
     held: &mut ServerInHand<'_>,
-    journal: &mut Vec<Entry>,
+    journal: &mut Journal,
     server: u32,
     phase: u32,
 ) -> Result<Turned, StepFault>
     requires server { held.old.core.server ≡ server }
     requires held { IsServerInHand held.old }
     requires stands { IsSomeServer held.old.core }
-    ensures answers { IfOk result (Answers phase What.Version held.old held.new journal.old.items journal.new.items) }
-    ensures still { OnErr result (IsStill held.old held.new journal.old.items journal.new.items) }
+    ensures answers { IfOk result (Answers phase What.Version held.old held.new journal.old.entries journal.new.entries) }
+    ensures still { OnErr result (IsStill held.old held.new journal.old.entries journal.new.entries) }
+    ensures kept { journal.new.kept ≡ journal.old.kept }
     ensures worn { (s : ℕ) → IsErrOf result (StepFault.StampsExhausted s) → IsWorn What.Version s held.old held.new }
     ensures held { IsServerInHand held.new }
 {
@@ -113,7 +116,7 @@ pub(crate) fn turn_held<R: Wait>(
     rt: &R,
     alloc: Global,
     held: &mut ServerInHand<'_>,
-    journal: &mut Vec<Entry>,
+    journal: &mut Journal,
     server: u32,
     phase: u32,
     what: What,
@@ -122,8 +125,9 @@ pub(crate) fn turn_held<R: Wait>(
     requires held { IsServerInHand held.old }
     requires stands { IsSomeServer held.old.core }
     requires suits { SuitsHeld what held.old }
-    ensures answers { IfOk result (Answers phase what held.old held.new journal.old.items journal.new.items) }
-    ensures still { OnErr result (IsStill held.old held.new journal.old.items journal.new.items) }
+    ensures answers { IfOk result (Answers phase what held.old held.new journal.old.entries journal.new.entries) }
+    ensures still { OnErr result (IsStill held.old held.new journal.old.entries journal.new.entries) }
+    ensures kept { journal.new.kept ≡ journal.old.kept }
     ensures worn { (s : ℕ) → IsErrOf result (StepFault.StampsExhausted s) → IsWorn what s held.old held.new }
     ensures held { IsServerInHand held.new }
 {

@@ -11,6 +11,7 @@ use crate::naming::{are_neighbours, lives_at};
 use crate::phases::{is_through, trees_come};
 use crate::rehanging::put_on;
 use crate::what::{Turned, What};
+use ev_journal::Journal;
 use ev_memory::NoMemory;
 use ev_model::{Entry, Net};
 use ev_numheld::HeldLink;
@@ -32,17 +33,18 @@ pub struct Cell<'a> {
     pub(crate) tables: &'a Tables<'a>,
     pub(crate) root: Root<'a>,
     pub(crate) held: ServerInHand<'a>,
-    pub(crate) journal: Vec<Entry>,
+    pub(crate) journal: Journal,
 }
 
 impl<'a> Model for Cell<'a> {
+    ghost use Rattle.std.specs.Prelude.{◌≡◌};
     ghost use Rattle.ev_numnode.specs.Cell.{CellParts, IsKept, cell_parts};
 
     ghost Value = { CellParts };
 
-    ghost view = { λ c. cell_parts c.root c.journal.items c.held };
+    ghost view = { λ c. cell_parts c.root c.journal.entries c.held };
 
-    ghost invariant = { λ c. IsKept c.tables.now c.root c.journal.items c.held };
+    ghost invariant = { λ c. IsKept c.tables.now c.root c.journal.entries c.held × (c.journal.kept ≡ c.root.keeps) };
 }
 
 impl<'a> Standing for Cell<'a> {
@@ -88,6 +90,7 @@ impl<'a> Cell<'a> {
         links: Vec<Link>,
         publisher: Publisher,
         viewer: &Viewer,
+        keeps: bool,
     ) -> Cell<'a>
         requires sound { IsSound tables.now }
         requires server { core.server ≡ server }
@@ -100,13 +103,15 @@ impl<'a> Cell<'a> {
         requires wide { IsWideFor core (forwarding_of publisher) }
         requires viewer { IsViewerOf publisher viewer.now }
         ensures fresh { IsFreshCell tables.now server links.items result }
+        ensures keeps { result.root.keeps ≡ keeps }
         ensures viewer { result.root.viewer.value ≡ viewer.now }
     {
-        let journal = Vec::new(alloc);
+        let journal = Journal::new(alloc, keeps);
         let root = Root {
             net: Snapshot::of(tables.net()),
             server,
             phase: 0,
+            keeps,
             entries: 0,
             before: Snapshot::of(&journal),
             core: Snapshot::of(&core),
@@ -130,20 +135,30 @@ impl<'a> Cell<'a> {
 
     /// Ends the cell with its publisher. It may wait for a viewer that is inside a match.
     pub fn end<R: Wait>(self, rt: &R) {
+        let _parts = self.into_parts(rt);
+    }
+
+    /// Its core and its journal, where nothing else is wanted any more. It ends the publisher as [`Cell::end`] does.
+    pub fn into_parts<R: Wait>(self, rt: &R) -> (Core<'a>, Journal)
+        ensures core { result.0 ≡ self.entry.held.core }
+        ensures journal { result.1.entries ≡ self.entry.journal }
+        ensures kept { result.1.kept ≡ self.entry.root.keeps }
+    {
         let Cell {
             alloc: _,
             tables: _,
             root: _root,
             held,
-            journal: _journal,
+            journal,
         } = self;
         let ServerInHand {
-            core: _core,
+            core,
             links: _links,
             publisher,
             handed: _handed,
         } = held;
         publisher.end(rt);
+        (core, journal)
     }
 
     /// What the type keeps: the entries since the cell entered its phase, replayed from what it had in hand then, lead
@@ -169,8 +184,9 @@ impl<'a> Cell<'a> {
     }
 
     /// Its journal.
-    pub fn journal(&self) -> &[Entry]
-        ensures { result.now ≡ self.now.journal }
+    pub fn journal(&self) -> &Journal
+        ensures entries { result.now.entries ≡ self.now.journal }
+        ensures kept { result.now.kept ≡ self.now.root.keeps }
     {
         &self.journal
     }

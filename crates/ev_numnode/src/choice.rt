@@ -8,6 +8,7 @@ ghost use Rattle.ev_numnode.specs.Cell.{IsPublishedBy};
 ghost use Rattle.ev_numnode.specs.Ahead.{IsChoice, IsChoiceNext, IsChoiceOf};
 
 use crate::desk::publication_in;
+use crate::what::Turned;
 use ev_bits::Row;
 use ev_forwarding::Route;
 use ev_message::Load;
@@ -15,6 +16,7 @@ use ev_numserver::Core;
 use ev_numversions::{Ahead, Publisher, Viewer, agree};
 
 /// What comes of it.
+#[derive(Drop)]
 pub(crate) enum Choice<'a> {
     /// The match is of other numbers.
     Other,
@@ -22,6 +24,31 @@ pub(crate) enum Choice<'a> {
     Outdated,
     /// Its route is that of what is published.
     Agreed(&'a Route),
+}
+
+impl<'a> Choice<'a> {
+    ghost use Rattle.std.specs.Prelude.{◌≡◌, IfSome};
+    ghost use Rattle.ev_numnode.specs.Ahead.{turned_by};
+
+    /// The route that is known by it, if one is.
+    pub(crate) fn route(&self) -> Option<&'a Route>
+        ensures { IfSome result (λ route. self.now ≡ Choice.Agreed route) }
+    {
+        match self {
+            Choice::Agreed(route) => Some(route),
+            _ => None,
+        }
+    }
+
+    /// What a step is that is made by it.
+    pub(crate) fn turned(&self) -> Turned
+        ensures { result ≡ turned_by self.now }
+    {
+        match self {
+            Choice::Outdated => Turned::Stale,
+            _ => Turned::Made,
+        }
+    }
 }
 
 /// For matched numbers.

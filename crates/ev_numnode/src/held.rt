@@ -1,7 +1,8 @@
 //! What a cell has in hand, and what stays while a phase lasts.
 use crate::link::Link;
 use ev_forwarding::Change;
-use ev_model::{Entry, Net};
+use ev_journal::Journal;
+use ev_model::Net;
 use ev_numserver::Core;
 use ev_numversions::{Publisher, Viewer};
 use std::snapshot::Snapshot;
@@ -15,16 +16,17 @@ pub struct ServerInHand<'a> {
     pub(crate) handed: Vec<Change>,
 }
 
-/// What stays of a cell while a phase lasts: its net, its server, the phase, the entries that were in its journal when it
-/// entered the phase, how many these are, and the core and the lanes that it had in hand then. Its publisher is named by one of its viewers.
-/// But for the numbers it has no bytes.
+/// What stays of a cell while a phase lasts: its net, its server, the phase, whether its journal keeps its entries, those that it
+/// had when it entered the phase, how many these are, and the core and the lanes that it had in hand then. Its publisher is named
+/// by one of its viewers. But for the numbers it has no bytes.
 #[derive(Drop)]
 pub struct Root<'a> {
     pub(crate) net: Snapshot<Net>,
     pub(crate) server: u32,
     pub(crate) phase: u32,
-    pub(crate) entries: usize,
-    pub(crate) before: Snapshot<Vec<Entry>>,
+    pub(crate) keeps: bool,
+    pub(crate) entries: u64,
+    pub(crate) before: Snapshot<Journal>,
     pub(crate) core: Snapshot<Core<'a>>,
     pub(crate) links: Snapshot<Vec<Link>>,
     pub(crate) viewer: Snapshot<Viewer>,

@@ -33,19 +33,21 @@ pub struct Started<'a> {
     pub links: Viewer,
 }
 
-/// The cells of all servers of a net before their first step, by server, in phase 0. Where it finds no memory it ends those
-/// that it has made.
+/// The cells of all servers of a net before their first step, by server, in phase 0, whose journals keep their entries or let
+/// them pass. Where it finds no memory it ends those that it has made.
 pub fn start<'a, R: Wait>(
     alloc: Global,
     rt: &R,
     tables: &'a Tables<'a>,
+    keeps: bool,
 ) -> Result<Vec<Started<'a>>, NoMemory>
     requires { IsSound tables.now }
-    ensures { IfOk result (λ started. AreStarted tables.now started.items) }
+    ensures started { IfOk result (λ started. AreStarted tables.now started.items) }
+    ensures keeps { IfOk result (λ started. Each (λ s. s.cell.root.keeps ≡ keeps) started.items) }
 {
     let rows = lanes_of(alloc, tables.net().tree(0))?;
     let mut started = Vec::with_capacity(alloc, rows.len())?;
-    match fill(alloc, rt, tables, rows, &mut started) {
+    match fill(alloc, rt, tables, keeps, rows, &mut started) {
         Ok(()) => Ok(started),
         Err(fault) => {
             end_all(rt, started);
@@ -59,6 +61,7 @@ fn fill<'a, R: Wait>(
     alloc: Global,
     rt: &R,
     tables: &'a Tables<'a>,
+    keeps: bool,
     mut rows: Vec<Vec<Link>>,
     started: &mut Vec<Started<'a>>,
 ) -> Result<(), NoMemory>
@@ -68,11 +71,12 @@ fn fill<'a, R: Wait>(
     requires empty { started.old.items ≡ [] }
     requires room { length rows.items ≤ vec_capacity started.old }
     ensures started { OnOk result (AreStarted tables.now started.new.items) }
+    ensures keeps { OnOk result (Each (λ s. s.cell.root.keeps ≡ keeps) started.new.items) }
 {
     for place in 0..rows.len() {
         let links = replace(&mut rows[place], Vec::new(alloc));
         let server = place as u32 + 1;
-        started.push_reserved(start_one(alloc, rt, tables, server, links)?);
+        started.push_reserved(start_one(alloc, rt, tables, server, links, keeps)?);
     }
     Ok(())
 }
@@ -84,18 +88,22 @@ fn start_one<'a, R: Wait>(
     tables: &'a Tables<'a>,
     server: u32,
     links: Vec<Link>,
+    keeps: bool,
 ) -> Result<Started<'a>, NoMemory>
     requires sound { IsSound tables.now }
     requires among { Has server (servers_in tables.now) }
     requires names { map (λ link. link.neighbour) links.items ≡ links_of (topology_at tables.now 0) server }
     requires new { Each IsNew links.items }
-    ensures { IfOk result (IsStarted tables.now server links.items) }
+    ensures started { IfOk result (IsStarted tables.now server links.items) }
+    ensures keeps { IfOk result (λ started. started.cell.root.keeps ≡ keeps) }
 {
     let core = Core::start(alloc, tables, server)?;
     let (publisher, mut viewers) = publisher_for(alloc, rt, &core)?;
     let for_links = viewers.remove(1);
     let commands = viewers.remove(0);
-    let cell = Cell::fresh(alloc, tables, server, core, links, publisher, &commands);
+    let cell = Cell::fresh(
+        alloc, tables, server, core, links, publisher, &commands, keeps,
+    );
     Ok(Started {
         cell,
         commands,

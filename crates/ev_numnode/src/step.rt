@@ -1,5 +1,5 @@
 //! The parts of a turn: room is made first, then the step, and what follows takes no memory.
-ghost use Rattle.std.specs.Prelude.{◌≡◌, ◌<◌, ◌≤◌, ◌^◌, [], ◌∷◌, ◌++◌, length, map, IfOk, OnOk, vec_len, vec_capacity};
+ghost use Rattle.std.specs.Prelude.{◌≡◌, ◌<◌, ◌≤◌, ◌^◌, [], ◌∷◌, ◌++◌, true, length, map, IfOk, OnOk, vec_capacity};
 ghost use Rattle.ev_lane.specs.Lane.{put_list, spare};
 ghost use Rattle.ev_sets.specs.Numbers.{IsDistinct};
 ghost use Rattle.ev_model.specs.Parts.{NetParts};
@@ -8,6 +8,7 @@ ghost use Rattle.ev_wire.specs.MessageText.{Each};
 ghost use Rattle.ev_numnode.specs.Links.{Both, IsRoomed, IsGiven, AreInOrder, AreOfNet};
 
 use crate::link::{Link, hand_all, room_all};
+use ev_journal::Journal;
 use ev_memory::NoMemory;
 use ev_message::Sending;
 use ev_model::{Act, Entry};
@@ -18,16 +19,17 @@ use std::alloc::Global;
 pub(crate) fn make_room(
     alloc: Global,
     links: &mut Vec<Link>,
-    journal: &mut Vec<Entry>,
+    journal: &mut Journal,
 ) -> Result<Vec<u32>, NoMemory>
     ensures roomed { Both IsRoomed links.old.items links.new.items }
-    ensures journal { journal.new.items ≡ journal.old.items }
+    ensures journal { journal.new.entries ≡ journal.old.entries }
+    ensures kept { journal.new.kept ≡ journal.old.kept }
     ensures spare { OnOk result (Each (λ link. 0 < spare link.enter) links.new.items) }
-    ensures entry { OnOk result (vec_len journal.new < vec_capacity journal.new) }
+    ensures entry { OnOk result (journal.new.room ≡ true) }
     ensures outs { IfOk result (λ outs. (outs.items ≡ []) × (length links.old.items ≤ vec_capacity outs)) }
 {
     room_all(links)?;
-    journal.reserve(1)?;
+    journal.make_room()?;
     Ok(Vec::with_capacity(alloc, links.len())?)
 }
 
@@ -46,7 +48,7 @@ fn receivers(mut outs: Vec<u32>, sent: &[Sending<'_>]) -> Vec<u32>
 /// Puts what a step sends on its lanes, and enters it in the journal. There is room for both, so it takes no memory.
 pub(crate) fn enter(
     links: &mut Vec<Link>,
-    journal: &mut Vec<Entry>,
+    journal: &mut Journal,
     server: u32,
     act: Act,
     step: Step<'_>,
@@ -58,16 +60,17 @@ pub(crate) fn enter(
     requires net { (net : NetParts) × AreOfNet net step.sent.items }
     requires distinct { IsDistinct (map (λ link. link.neighbour) links.old.items) }
     requires order { AreInOrder (map (λ s. s.to) step.sent.items) (map (λ link. link.neighbour) links.old.items) }
-    requires entry { vec_len journal.old < vec_capacity journal.old }
+    requires entry { journal.old.room ≡ true }
     requires outs { (outs.items ≡ []) × (length links.old.items ≤ vec_capacity outs) }
     ensures given { (net : NetParts) → AreOfNet net step.entry.sent.items
         → Both (IsGiven net step.entry.stamp step.entry.sent.items) links.old.items links.new.items }
-    ensures entry { journal.new.items ≡ journal.old.items ++ entry_parts step.entry.stamp server act (map (λ s. s.to) step.entry.sent.items) ∷ [] }
+    ensures entry { journal.new.entries ≡ journal.old.entries ++ entry_parts step.entry.stamp server act (map (λ s. s.to) step.entry.sent.items) ∷ [] }
+    ensures kept { journal.new.kept ≡ journal.old.kept }
 {
     let Step { stamp, sent } = step;
     let outs = receivers(outs, &sent);
     hand_all(links, sent, stamp);
-    journal.push_reserved(Entry {
+    journal.push(Entry {
         stamp,
         server,
         act,

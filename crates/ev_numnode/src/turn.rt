@@ -22,8 +22,9 @@ use crate::step::{enter, make_room};
 use crate::taking::{look_at, next_at, take_at};
 use crate::version::{are_touched, hand_over};
 use ev_forwarding::Route;
+use ev_journal::Journal;
 use ev_memory::NoMemory;
-use ev_model::{Act, Entry};
+use ev_model::Act;
 use ev_numserver::{Core, Step, StepFault};
 use std::alloc::Global;
 use std::sync::Wait;
@@ -36,7 +37,7 @@ const LAST_STAMP: u64 = (1 << 62) - 1;
 pub(crate) fn turn_command(
     alloc: Global,
     held: &mut ServerInHand<'_>,
-    journal: &mut Vec<Entry>,
+    journal: &mut Journal,
     server: u32,
     client: u32,
     known: Option<&Route>,
@@ -48,8 +49,9 @@ pub(crate) fn turn_command(
     requires left { (s : SessionParts) → Has s held.old.core.clients → s.client ≡ client → s.taken < length s.script }
     requires known { IfSome known (λ r. RoutesNext held.old.core client r.now) }
     ensures made { (phase : ℕ) → HasCommand held.old.core client phase
-        → OnOk result (IsCellTurn phase (Does (NextCommand client)) (acts.Command client) held.old held.new journal.old.items journal.new.items) }
-    ensures still { OnErr result (IsStill held.old held.new journal.old.items journal.new.items) }
+        → OnOk result (IsCellTurn phase (Does (NextCommand client)) (acts.Command client) held.old held.new journal.old.entries journal.new.entries) }
+    ensures still { OnErr result (IsStill held.old held.new journal.old.entries journal.new.entries) }
+    ensures kept { journal.new.kept ≡ journal.old.kept }
     ensures worn { (s : ℕ) → IsErrOf result (StepFault.StampsExhausted s) → (held.old.core.clock ≡ last_stamp) × (s ≡ last_stamp) }
     ensures held { IsServerInHand held.new }
 {
@@ -71,7 +73,7 @@ pub(crate) fn turn_take<R: Wait>(
     rt: &R,
     alloc: Global,
     held: &mut ServerInHand<'_>,
-    journal: &mut Vec<Entry>,
+    journal: &mut Journal,
     server: u32,
     place: usize,
 ) -> Result<bool, StepFault>
@@ -79,8 +81,9 @@ pub(crate) fn turn_take<R: Wait>(
     requires place { place < length held.old.links.items }
     requires held { IsServerInHand held.old }
     requires stands { IsSomeServer held.old.core }
-    ensures made { (phase : ℕ) → IfOk result (λ made. IsTaking phase place held.old held.new journal.old.items journal.new.items made) }
-    ensures still { OnErr result (IsStill held.old held.new journal.old.items journal.new.items) }
+    ensures made { (phase : ℕ) → IfOk result (λ made. IsTaking phase place held.old held.new journal.old.entries journal.new.entries made) }
+    ensures still { OnErr result (IsStill held.old held.new journal.old.entries journal.new.entries) }
+    ensures kept { journal.new.kept ≡ journal.old.kept }
     ensures worn { (s : ℕ) → IsErrOf result (StepFault.StampsExhausted s) → IsWornAt place held.old.core.clock s held.new.links.items }
     ensures held { IsServerInHand held.new }
 {
@@ -98,7 +101,7 @@ pub(crate) fn take_seen<R: Wait>(
     rt: &R,
     alloc: Global,
     held: &mut ServerInHand<'_>,
-    journal: &mut Vec<Entry>,
+    journal: &mut Journal,
     server: u32,
     place: usize,
     known: Option<&Route>,
@@ -110,8 +113,9 @@ pub(crate) fn take_seen<R: Wait>(
     requires stands { IsSomeServer held.old.core }
     requires known { IfSome known (λ r. (item : ItemParts) → IsNextAt place item held.old.links.items
         → RoutesMessage held.old.core (meaning held.old.core.net item.load) r.now) }
-    ensures made { (phase : ℕ) → OnOk result (IsTakingNext phase place held.old held.new journal.old.items journal.new.items) }
-    ensures still { OnErr result (IsStill held.old held.new journal.old.items journal.new.items) }
+    ensures made { (phase : ℕ) → OnOk result (IsTakingNext phase place held.old held.new journal.old.entries journal.new.entries) }
+    ensures still { OnErr result (IsStill held.old held.new journal.old.entries journal.new.entries) }
+    ensures kept { journal.new.kept ≡ journal.old.kept }
     ensures worn { (s : ℕ) → IsErrOf result (StepFault.StampsExhausted s) → IsWornAt place held.old.core.clock s held.new.links.items }
     ensures held { IsServerInHand held.new }
 {
@@ -165,14 +169,15 @@ pub(crate) fn turn_version<R: Wait>(
     rt: &R,
     alloc: Global,
     held: &mut ServerInHand<'_>,
-    journal: &mut Vec<Entry>,
+    journal: &mut Journal,
     server: u32,
 ) -> Result<bool, StepFault>
     requires server { held.old.core.server ≡ server }
     requires held { IsServerInHand held.old }
     requires stands { IsSomeServer held.old.core }
-    ensures made { (phase : ℕ) → IfOk result (λ made. IsVersionTurn phase held.old held.new journal.old.items journal.new.items made) }
-    ensures still { OnErr result (IsStill held.old held.new journal.old.items journal.new.items) }
+    ensures made { (phase : ℕ) → IfOk result (λ made. IsVersionTurn phase held.old held.new journal.old.entries journal.new.entries made) }
+    ensures still { OnErr result (IsStill held.old held.new journal.old.entries journal.new.entries) }
+    ensures kept { journal.new.kept ≡ journal.old.kept }
     ensures worn { (s : ℕ) → IsErrOf result (StepFault.StampsExhausted s) → (held.old.core.clock ≡ last_stamp) × (s ≡ last_stamp) }
     ensures held { IsServerInHand held.new }
 {

@@ -1,5 +1,5 @@
 //! Runs over many phases.
-use crate::tried::{free, is_written};
+use crate::tried::{free, in_threads, is_written};
 use ev_decimal::push_labelled;
 use ev_memory::NoMemory;
 use ev_rows::Failure;
@@ -9,6 +9,9 @@ use std::thread::Threads;
 
 /// What comes before the servers of a document.
 const HEAD: &[u8] = b"siena 1\nsemantics subscription\nservers ";
+
+/// In so many threads at most.
+const MOST_THREADS: usize = 8;
 
 /// What the client of the first server takes, and then the script of the one of the last server, who begins a phase and
 /// publishes in it again and again.
@@ -37,24 +40,23 @@ fn document(alloc: Global, servers: u64, phases: u32) -> Result<Vec<u8>, NoMemor
     Ok(text)
 }
 
-/// Prints how many of so many runs over many phases write what the walk does.
+/// Prints how many of the runs over many phases, in one thread up to eight, write what the walk does.
 fn print_runs<R: Print + Threads + Wait + Sync>(
     rt: &R,
     alloc: Global,
     servers: u64,
     phases: u32,
-    runs: u32,
 ) -> Result<(), Failure> {
     let document = document(alloc, servers, phases)?;
     let walked = free(rt, alloc, "walk", &document)?;
     let mut same = 0u32;
-    for _ in 0..runs {
-        if is_written(&free(rt, alloc, "run", &document)?, &walked.text) {
+    for threads in 1..MOST_THREADS + 1 {
+        if is_written(&in_threads(rt, alloc, &document, threads)?, &walked.text) {
             same = same.saturating_add(1);
         }
     }
     println!(rt;
-        "Runs of {servers} servers over {phases} phases that write what the walk does: {same} of {runs}"
+        "Runs of {servers} servers over {phases} phases, in one thread up to {MOST_THREADS}, that write what the walk does: {same}"
     )?;
     Ok(())
 }
@@ -64,6 +66,6 @@ pub fn print_phases<R: Print + Threads + Wait + Sync>(
     rt: &R,
     alloc: Global,
 ) -> Result<(), Failure> {
-    print_runs(rt, alloc, 2, 4_000, 3)?;
-    print_runs(rt, alloc, 64, 100, 3)
+    print_runs(rt, alloc, 2, 1_500)?;
+    print_runs(rt, alloc, 64, 100)
 }

@@ -1,15 +1,21 @@
 //! One call of the program over devices in memory.
 use crate::row::Row;
 use ev_outside::{Gate, MemorySink, MemorySource, NoGate, Word};
-use ev_quiet::fault_text;
+use ev_quiet::{Shown, fault_text, net, printed_run};
 use ev_rows::Failure;
-use ev_siena::siena;
+use ev_siena::{run_net, siena};
 use std::alloc::Global;
 use std::sync::Wait;
 use std::thread::Threads;
 
 /// Room for what is written.
 const ROOM: usize = 4_000_000;
+
+/// Deliveries in the order received, with no trace.
+const PLAIN: Shown = Shown {
+    sorted: false,
+    trace: false,
+};
 
 /// What a call told and wrote.
 #[derive(Drop)]
@@ -54,6 +60,27 @@ pub fn free<R: Threads + Wait + Sync>(
     document: &[u8],
 ) -> Result<Tried, Failure> {
     held(rt, alloc, line, document, &NoGate)
+}
+
+/// Runs a document in so many threads, with nobody held.
+pub fn in_threads<R: Threads + Wait + Sync>(
+    rt: &R,
+    alloc: Global,
+    document: &[u8],
+    threads: usize,
+) -> Result<Tried, Failure> {
+    let Ok(net) = net(alloc, document) else {
+        return Err(Failure::Refused);
+    };
+    let ran = run_net(alloc, rt, &net, &NoGate, threads, false)?;
+    let printed = printed_run(alloc, net, ran, PLAIN)?;
+    let mut sink = MemorySink::make(alloc, 4096, Vec::new(alloc), ROOM)?;
+    let mut fault = Vec::new(alloc);
+    if printed.write(&mut sink).is_err() {
+        fault.extend_from_slice(b"not written")?;
+    }
+    let text = sink.bytes().to_vec(alloc)?;
+    Ok(Tried { fault, text })
 }
 
 /// The bytes as text, where they are one.

@@ -47,7 +47,7 @@ fn is_worn<R: Wait>(rt: &R, cell: &mut Cell<'_>) -> bool {
         return false;
     }
     match cell.turn(rt, What::Command(1)) {
-        Err(StepFault::StampsExhausted(stamp)) => stamp == last && cell.journal().is_empty(),
+        Err(StepFault::StampsExhausted(stamp)) => stamp == last && cell.journal().len() == 0,
         _ => false,
     }
 }
@@ -75,7 +75,7 @@ fn a_cell_without_a_stamp_left_is_worn(rt: HostRuntime) -> Result<(), Fail> {
     let alloc = rt.alloc();
     let net = net(alloc)?;
     let tables = Tables::of(alloc, &net)?;
-    let started = start(alloc, &rt, &tables)?;
+    let started = start(alloc, &rt, &tables, true)?;
     let worn = end_all(&rt, started);
     assert_eq!(rt; worn, 1);
     Ok(())

@@ -1,5 +1,5 @@
 -- Cells that stand before a phase enter it.
-use Rattle.std.proofs.Common.{◌≡◌, ◌⊎◌, inl, inr, ℕ, zero, suc, ◌<◌, cond, List, [], ◌∷◌, ◌++◌, length, map, take, drop, Option, Some, None, Result, Ok, Err, slice_get, refl, sym, ap, subst, ◌∙◌, arith, eq-eqb}
+use Rattle.std.proofs.Common.{◌≡◌, ◌⊎◌, inl, inr, ℕ, zero, suc, ◌<◌, cond, List, [], ◌∷◌, ◌++◌, length, map, take, drop, Option, Some, None, Result, Ok, Err, slice_get, refl, sym, ap, ap₂, subst, ◌∙◌, arith, eq-eqb}
 use Rattle.std.specs.Prelude.{OnOk, IfNone}
 use Rattle.std.proofs.lemmas.List.{take-append-le, take_all}
 use Rattle.ev_phases.specs.Trees.{at_phase}
@@ -11,7 +11,7 @@ use Rattle.ev_model.specs.Nets.{phased_net}
 use Rattle.ev_numversions.specs.Ends.{IsSameViewer}
 use Rattle.ev_numnode.specs.Cell.{CellParts, IsCellOf}
 use Rattle.ev_numnode.specs.Entered.{AreEntered, AreSameCells, state_of}
-use Rattle.ev_numnode.specs.Together.{cell_roots}
+use Rattle.ev_numnode.specs.Together.{cell_roots, keepings}
 use Rattle.ev_course.specs.Course.{AreInHand, AreAtStart, StandBetween}
 use Rattle.ev_workers.specs.declared.crew.Eyes.{Eyes}
 use Rattle.ev_workers.specs.Crews.{AreEyesOf, Pairwise}
@@ -36,6 +36,7 @@ started-here net last cells hand stood = record {
   starts = starts;
   together = hand.together;
   viewers = refl;
+  keeps = refl;
 }
   where
     starts : AreAtStart cells
@@ -58,6 +59,13 @@ map-same f (x ∷ old) [] e same = absurd (omega (arith, e))
 map-same f (x ∷ old) (y ∷ new) e same =
     ap (λ z. z ∷ map f new) (same 0 x y refl refl) ∙ ap (λ l. f x ∷ l) (map-same f old new (omega (arith, e)) (λ k a b p q. same (suc k) a b p q))
 
+keeps-same : (old new : List CellParts) → length new ≡ length old
+    → ((k : ℕ) (a b : CellParts) → slice_get old k ≡ Some a → slice_get new k ≡ Some b → b.root.keeps ≡ a.root.keeps) → keepings new ≡ keepings old
+keeps-same [] [] e same = refl
+keeps-same [] (y ∷ new) e same = absurd (omega (arith, e))
+keeps-same (x ∷ old) [] e same = absurd (omega (arith, e))
+keeps-same (x ∷ old) (y ∷ new) e same = ap₂ (λ k ks. k ∷ ks) (same 0 x y refl refl) (keeps-same old new (omega (arith, e)) (λ k a b p q. same (suc k) a b p q))
+
 there : {X : Type 0} (old new : List X) → length new ≡ length old → (k : ℕ) (b : X) → slice_get new k ≡ Some b → (a : X) × (slice_get old k ≡ Some a)
 there [] [] e k b p = absurd cc
 there [] (y ∷ new) e k b p = absurd (omega (arith, e))
@@ -77,6 +85,7 @@ on-entering net last phase old new stood same entered = record {
       record { core = h.core; links = h.links; before = h.before; entries = h.entries };
   together = entered.together;
   viewers = map-same (λ (c : CellParts). c.root.viewer.value) old new same.long (λ k a b p q. ap (λ v. v.value) (same.each k a b p q).viewer);
+  keeps = keeps-same old new same.long (λ k a b p q. (same.each k a b p q).keeps);
 }
 
 heads : {X : Type 0} {x y : X} {xs ys : List X} → x ∷ xs ≡ y ∷ ys → x ≡ y

@@ -1,21 +1,18 @@
 -- Cells and their viewers, put apart one by one.
-use Rattle.std.proofs.Common.{◌≡◌, ℕ, suc, ◌<◌, List, [], ◌∷◌, ◌++◌, length, map, take, drop, Some, slice_get, slice_index_or, refl, sym, ap, subst, ◌∙◌, arith}
+use Rattle.std.proofs.Common.{◌≡◌, ℕ, suc, Bool, List, [], ◌∷◌, ◌++◌, length, map, Some, slice_get, refl, sym, ap, subst, ◌∙◌, arith}
 use Rattle.std.proofs.lemmas.List.{map-append}
 use Rattle.ev_model.specs.Parts.{NetParts}
+use Rattle.ev_wire.specs.MessageText.{Each}
 use Rattle.ev_model.specs.Nets.{first_tree}
 use Rattle.ev_numnode.specs.declared.starting.Started.{Started}
 use Rattle.ev_numnode.specs.Cell.{CellParts}
 use Rattle.ev_numnode.specs.Started.{AreStarted}
-use Rattle.ev_numnode.specs.Together.{AreTogether, cell_roots}
+use Rattle.ev_numnode.specs.Together.{AreTogether, cell_roots, keepings}
 use Rattle.ev_course.specs.Course.{AreKept, StandBetween}
 use Rattle.ev_model.specs.Sound.{IsSound}
 use Rattle.ev_workers.specs.declared.crew.Eyes.{Eyes}
 use Rattle.ev_workers.specs.Crews.{AreEyesOf, Pairwise}
 use Rattle.ev_siena.specs.Teams.{HasEyes, HaveEyes, IsTeam}
-
-pub first-out : {X : Type 0} (old new : List X) (x : X) → 0 < length old → x ≡ slice_index_or old 0 x → new ≡ take 0 old ++ drop 1 old → old ≡ x ∷ new
-first-out [] new x lt e f = absurd (omega (arith, lt))
-first-out (y ∷ old) new x lt e f = ap (λ z. z ∷ old) (sym e) ∙ ap (λ l. x ∷ l) (sym f)
 
 pub pair-more : {A B : Type 0} (R : A → B → Type 0) (xs : List A) (ys : List B) (x : A) (y : B) → Pairwise R xs ys → R x y → Pairwise R (xs ++ x ∷ []) (ys ++ y ∷ [])
 pair-more R [] [] x y p r = (r, tt)
@@ -35,6 +32,11 @@ started-eyes net started are = each started (λ k s e. let i = (are.each k s e).
     each : (started : List Started) → ((k : ℕ) (s : Started) → slice_get started k ≡ Some s → HasEyes s) → HaveEyes started
     each [] f = tt
     each (s ∷ started) f = (f 0 s refl, each started (λ k t e. f (suc k) t e))
+
+-- the cells keep the entries of their journals as they were started
+pub started-keep : (keeps : Bool) (started : List Started) → Each (λ s. s.cell.root.keeps ≡ keeps) started → Each (λ keep. keep ≡ keeps) (keepings (map (λ s. s.cell) started))
+started-keep keeps [] each = tt
+started-keep keeps (s ∷ started) each = (each.0, started-keep keeps started each.1)
 
 pub team-first : (net : NetParts) (started : List Started) (cells : List CellParts) (eyes : List Eyes) → IsSound net → AreStarted net started → cells ≡ map (λ s. s.cell) started
     → StandBetween net 0 0 (map (λ s. s.cell) started) → AreKept cells → Pairwise AreEyesOf (cell_roots cells) eyes → IsTeam net 0 cells eyes

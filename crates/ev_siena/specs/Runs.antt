@@ -2,14 +2,14 @@
 use Rattle.std.specs.Prelude.{◌≡◌}
 use Rattle.ev_model.specs.Parts.{NetParts}
 use Rattle.ev_turns.specs.Network.{IsLegal, IsDrainedBy, refused_by, received_by}
-use Rattle.ev_course.specs.declared.ran.Ran.{Ran}
+use Rattle.ev_merge.specs.declared.ran.Ran.{Ran}
 use Rattle.ev_quiet.specs.Runs.{IsByStamp}
 use Rattle.ev_model.specs.Nets.{of_clients}
 
 -- THE RUN WITH THREADS: its journal, in the order of stamps and servers, is a legal run of the net with a drained end, and each client has what it has by then
 pub record IsThreaded (net : NetParts) (ran : Ran) : Type 0 where
-  pub legal : IsLegal net ran.journal.items
-  pub drained : IsDrainedBy net ran.journal.items
-  pub order : IsByStamp ran.journal.items
-  pub refused : ran.refused.items ≡ of_clients net (refused_by net ran.journal.items)
-  pub received : ran.received.items ≡ of_clients net (received_by net ran.journal.items)
+  pub legal : IsLegal net ran.journal.entries
+  pub drained : IsDrainedBy net ran.journal.entries
+  pub order : IsByStamp ran.journal.entries
+  pub refused : ran.refused.items ≡ of_clients net (refused_by net ran.journal.entries)
+  pub received : ran.received.items ≡ of_clients net (received_by net ran.journal.entries)

@@ -5,7 +5,7 @@ use Rattle.ev_numversions.specs.Ends.{IsSameViewer}
 use Rattle.ev_numnode.specs.declared.starting.Started.{Started}
 use Rattle.ev_numnode.specs.Cell.{CellParts}
 use Rattle.ev_numnode.specs.Entered.{IsEntered, state_of}
-use Rattle.ev_numnode.specs.Together.{AreTogether, cell_roots}
+use Rattle.ev_numnode.specs.Together.{AreTogether, cell_roots, keepings}
 use Rattle.ev_course.specs.Course.{AreInHand, AreAtStart, StandBetween, journals_by}
 use Rattle.ev_workers.specs.declared.crew.Eyes.{Eyes}
 use Rattle.ev_workers.specs.Crews.{AreEyesOf, Pairwise}
@@ -37,6 +37,7 @@ pub record HaveStarted (net : NetParts) (last phase : ℕ) (old new : List CellP
   pub starts : AreAtStart new
   pub together : AreTogether net phase (cell_roots new)
   pub viewers : map (λ cell. cell.root.viewer.value) new ≡ map (λ cell. cell.root.viewer.value) old
+  pub keeps : keepings new ≡ keepings old
 
 -- cells that stood before a phase entered it, and workers may have made turns of it since
 pub record AreUnderWay (net : NetParts) (last phase : ℕ) (old started now : List CellParts) : Type 0 where

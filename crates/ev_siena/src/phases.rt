@@ -8,7 +8,7 @@ ghost use Rattle.ev_course.specs.Course.{AreInHand, AreKept, StandBetween};
 ghost use Rattle.ev_numnode.specs.Cell.{CellParts, machine_in};
 ghost use Rattle.ev_numnode.specs.Coming.{HaveCommand};
 ghost use Rattle.ev_numnode.specs.Entered.{AreThrough};
-ghost use Rattle.ev_numnode.specs.Together.{AreBegun, AreTogether, IsFinished, cell_roots};
+ghost use Rattle.ev_numnode.specs.Together.{AreBegun, AreTogether, IsFinished, cell_roots, keepings};
 ghost use Rattle.ev_siena.specs.Teams.{AreBetweenPhases, AreUnderWay, HaveStarted, IsTeam};
 
 use crate::team::tell_all;
@@ -68,6 +68,7 @@ fn one_phase<'a, R: Threads + Wait + Sync, G: Gate + Sync>(
     rt: &R,
     tables: &'a Tables<'a>,
     gate: &G,
+    threads: usize,
     cells: &mut Vec<Cell<'a>>,
     eyes: &mut Vec<Eyes>,
     last: u32,
@@ -76,12 +77,13 @@ fn one_phase<'a, R: Threads + Wait + Sync, G: Gate + Sync>(
     requires team { IsTeam tables.now last cells.old.items eyes.old.items }
     requires through { AreThrough phase cells.old.items }
     requires command { HaveCommand cells.old.items phase }
-    ensures { OnOk result (IsTeam tables.now phase cells.new.items eyes.new.items) }
+    ensures team { OnOk result (IsTeam tables.now phase cells.new.items eyes.new.items) }
+    ensures keeps { OnOk result (keepings cells.new.items ≡ keepings cells.old.items) }
 {
     stand_later();
     phase_done();
     enter(alloc, rt, tables, cells, last, phase)?;
-    run_phase(alloc, rt, tables, gate, phase, cells, eyes)?;
+    run_phase(alloc, rt, tables, gate, threads, phase, cells, eyes)?;
     end_phase(rt, cells)
 }
 
@@ -91,19 +93,23 @@ pub(crate) fn run_phases<'a, R: Threads + Wait + Sync, G: Gate + Sync>(
     rt: &R,
     tables: &'a Tables<'a>,
     gate: &G,
+    threads: usize,
     cells: &mut Vec<Cell<'a>>,
     eyes: &mut Vec<Eyes>,
 ) -> Result<(), NoMemory>
     requires { IsTeam tables.now 0 cells.old.items eyes.old.items }
     ensures between { OnOk result ((last : ℕ) × AreBetweenPhases tables.now last cells.new.items) }
     ensures through { OnOk result (AreThrough (phases_of tables.now) cells.new.items) }
+    ensures keeps { OnOk result (keepings cells.new.items ≡ keepings cells.old.items) }
 {
     let mut last = 0;
     for _ in rt.forever() {
         let Some(phase) = next_phase(cells) else {
             return Ok(());
         };
-        one_phase(alloc, rt, tables, gate, cells, eyes, last, phase)?;
+        one_phase(
+            alloc, rt, tables, gate, threads, cells, eyes, last, phase,
+        )?;
         last = phase;
     }
     unreachable!()

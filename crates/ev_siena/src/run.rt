@@ -1,37 +1,19 @@
 //! The run of a net with two workers a server.
-ghost use Rattle.std.specs.Prelude.{ℕ, IfOk};
+ghost use Rattle.std.specs.Prelude.{◌≡◌, IfOk};
 ghost use Rattle.ev_model.specs.Sound.{IsSound};
 ghost use Rattle.ev_siena.specs.Runs.{IsThreaded};
-ghost use Rattle.ev_siena.specs.Teams.{IsTeam};
 
 use crate::phases::run_phases;
 use crate::team::Team;
-use ev_course::{Ran, collect};
+use ev_course::{collect, end_all};
 use ev_memory::NoMemory;
+use ev_merge::Ran;
 use ev_model::Net;
-use ev_numnode::Cell;
 use ev_outside::Gate;
 use ev_tables::Tables;
-use ev_workers::Eyes;
 use std::alloc::Global;
 use std::sync::Wait;
 use std::thread::Threads;
-
-/// The run of cells that are in hand before their first step.
-fn ran<'a, R: Threads + Wait + Sync, G: Gate + Sync>(
-    alloc: Global,
-    rt: &R,
-    tables: &'a Tables<'a>,
-    gate: &G,
-    cells: &mut Vec<Cell<'a>>,
-    eyes: &mut Vec<Eyes>,
-) -> Result<Ran, NoMemory>
-    requires { IsTeam tables.now 0 cells.old.items eyes.old.items }
-    ensures { IfOk result (IsThreaded tables.now) }
-{
-    run_phases(alloc, rt, tables, gate, cells, eyes)?;
-    collect(alloc, tables.net(), cells)
-}
 
 /// The run of a net over its tables.
 fn run_over<'a, R: Threads + Wait + Sync, G: Gate + Sync>(
@@ -39,30 +21,42 @@ fn run_over<'a, R: Threads + Wait + Sync, G: Gate + Sync>(
     rt: &R,
     tables: &'a Tables<'a>,
     gate: &G,
+    threads: usize,
+    keeps: bool,
 ) -> Result<Ran, NoMemory>
     requires { IsSound tables.now }
-    ensures { IfOk result (IsThreaded tables.now) }
+    ensures run { IfOk result (IsThreaded tables.now) }
+    ensures kept { IfOk result (λ ran. ran.journal.kept ≡ keeps) }
 {
     let Team {
         mut cells,
         mut eyes,
-    } = Team::make(alloc, rt, tables)?;
-    let answer = ran(alloc, rt, tables, gate, &mut cells, &mut eyes);
-    Team { cells, eyes }.end(rt);
-    answer
+    } = Team::make(alloc, rt, tables, keeps)?;
+    match run_phases(alloc, rt, tables, gate, threads, &mut cells, &mut eyes) {
+        Ok(()) => collect(alloc, rt, tables.net(), cells, keeps),
+        Err(fault) => {
+            end_all(rt, cells);
+            Err(fault)
+        }
+    }
 }
 
-/// The run of a net, phase by phase, with two workers a server, each in a thread where one can be had. The servers' journals are
-/// merged by stamp and then by server. Its one refusal is want of memory, and it returns where its workers do.
+/// The run of a net, phase by phase, with two workers a server, in as many threads as are wanted where these can be had: one at
+/// least, this one, and 64 or one a worker at most. What the servers did is the entries of their journals by stamp and then by
+/// server, which are kept where that is wanted, and else pass. Its one refusal is want of memory, and it returns where its
+/// workers do.
 pub fn run_net<R: Threads + Wait + Sync, G: Gate + Sync>(
     alloc: Global,
     rt: &R,
     net: &Net,
     gate: &G,
+    threads: usize,
+    keeps: bool,
 ) -> Result<Ran, NoMemory>
     requires { IsSound net.now }
-    ensures { IfOk result (IsThreaded net.now) }
+    ensures run { IfOk result (IsThreaded net.now) }
+    ensures kept { IfOk result (λ ran. ran.journal.kept ≡ keeps) }
 {
     let tables = Tables::of(alloc, net)?;
-    run_over(alloc, rt, &tables, gate)
+    run_over(alloc, rt, &tables, gate, threads, keeps)
 }

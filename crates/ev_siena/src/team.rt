@@ -50,23 +50,27 @@ pub(crate) fn tell_all(cells: &[Cell<'_>])
 
 impl<'a> Team<'a> {
     ghost use Rattle.std.specs.Prelude.{◌≡◌, IfOk};
+    ghost use Rattle.ev_wire.specs.MessageText.{Each};
     ghost use Rattle.ev_model.specs.Sound.{IsSound};
+    ghost use Rattle.ev_numnode.specs.Together.{keepings};
     ghost use Rattle.ev_siena.specs.Teams.{IsTeam};
 
-    /// The team of the tables' net before its first step.
+    /// The team of the tables' net before its first step, whose cells keep the entries of their journals or let them pass.
     pub(crate) fn make<R: Wait>(
         alloc: Global,
         rt: &R,
         tables: &'a Tables<'a>,
+        keeps: bool,
     ) -> Result<Team<'a>, NoMemory>
         requires { IsSound tables.now }
-        ensures { IfOk result (λ team. IsTeam tables.now 0 team.cells.items team.eyes.items) }
+        ensures team { IfOk result (λ team. IsTeam tables.now 0 team.cells.items team.eyes.items) }
+        ensures keeps { IfOk result (λ team. Each (λ keep. keep ≡ keeps) (keepings team.cells.items)) }
     {
         opens();
         let count = tables.net().tree(0).servers() as usize;
         let mut eyes = Vec::with_capacity(alloc, count)?;
         let mut cells = Vec::with_capacity(alloc, count)?;
-        match start(alloc, rt, tables) {
+        match start(alloc, rt, tables, keeps) {
             Ok(started) => {
                 part(started, &mut cells, &mut eyes);
                 tell_all(&cells);
@@ -77,17 +81,5 @@ impl<'a> Team<'a> {
                 Err(fault)
             }
         }
-    }
-
-    /// Ends the cells.
-    pub(crate) fn end<R: Wait>(self, rt: &R) {
-        let Team {
-            mut cells,
-            eyes: _eyes,
-        } = self;
-        while let Some(cell) = cells.pop() {
-            cell.end(rt);
-        }
-        cells.destroy_empty();
     }
 }

@@ -7,16 +7,17 @@ ghost use Rattle.ev_quiet.specs.Answers.{IsPrintedOf};
 ghost use Rattle.ev_siena.specs.Wishes.{query_of};
 
 use crate::run::run_net;
-use ev_course::Ran as Threaded;
 use ev_input::{Fault, InputFault};
-use ev_journal::Journal;
 use ev_memory::NoMemory;
 use ev_model::Net;
 use ev_outside::Gate;
-use ev_quiet::{Printed, Ran, Schedule, Shown, net, printed_run, promise};
+use ev_quiet::{Printed, Schedule, Shown, net, printed_run, promise};
 use std::alloc::Global;
 use std::sync::Wait;
 use std::thread::Threads;
+
+/// So many threads a run of the program has at most: more of them gain nothing on four processors.
+const THREADS: usize = 4;
 
 /// The run of a net.
 fn shown<R: Threads + Wait + Sync, G: Gate + Sync>(
@@ -29,16 +30,7 @@ fn shown<R: Threads + Wait + Sync, G: Gate + Sync>(
     requires { IsSound net }
     ensures { IfOk result (λ p. IsShown Schedule.Threads shown net p.text p.journal) }
 {
-    let Threaded {
-        journal,
-        refused,
-        received,
-    } = run_net(alloc, rt, &net, gate)?;
-    let ran = Ran {
-        journal: Journal::of(journal),
-        refused,
-        received,
-    };
+    let ran = run_net(alloc, rt, &net, gate, THREADS, shown.trace)?;
     printed_run(alloc, net, ran, shown)
 }
 

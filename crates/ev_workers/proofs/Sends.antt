@@ -70,6 +70,7 @@ use Rattle.ev_tree.specs.contracts.tree.Tree as Tree
 use Rattle.ev_model.specs.contracts.client.Client as Client
 use Rattle.ev_model.specs.contracts.net.Net as Net
 use Rattle.ev_model.specs.contracts.entry.Entry as Entry
+use Rattle.ev_journal.specs.contracts.journal.Journal as Journal
 use Rattle.ev_lane.specs.contracts.putting.LaneIn as LaneIn
 use Rattle.ev_lane.specs.contracts.taking.LaneOut as LaneOut
 use Rattle.ev_numversions.specs.contracts.history.Front as Front
@@ -270,6 +271,9 @@ net_sync = let a = tree_sync in let b = client_sync in search (sendable, crosses
 pub entry_send : IsSend Entry.the_field.row
 entry_send = search (sendable, crosses) depth 20
 
+pub journal_send : IsSend Journal.the_field.row
+journal_send = let a = entry_send in search (sendable, crosses) depth 20
+
 pub catalogue_sync : (κ : NamedLft) → IsSync (Catalogue.the_field κ).row
 catalogue_sync κ =
     let a = net_sync in let b = sub_sync in let c = ad_sync in let d = publication_sync in let e = numbered_sync in let f = matcher_sync in
@@ -345,7 +349,7 @@ pub root_send : (κ : NamedLft) → IsSend (Root.the_field κ).row
 root_send κ = search (sendable, crosses) depth 20
 
 pub cell_send : (κ : NamedLft) → IsSend (Cell.the_field κ).row
-cell_send κ = let a = held_send κ in let b = root_send κ in let c = entry_send in let d = tables_row_sync κ in search ours depth 20
+cell_send κ = let a = held_send κ in let b = root_send κ in let c = journal_send in let d = tables_row_sync κ in search ours depth 20
 
 pub cell_row_send : (κ : NamedLft) → IsSend (Cell.the_row κ)
 cell_row_send κ = let a = cell_send κ in search (sendable, crosses) depth 20

@@ -20,24 +20,26 @@ use std::alloc::Global;
 use std::sync::Wait;
 use std::thread::Threads;
 
-// So many threads there are at most.
-const MOST: usize = 4;
+// So many threads can be told apart.
+const MOST: usize = 64;
 
-/// The threads for so many servers: one a worker, up to a bound.
-fn threads_for(servers: usize) -> usize
-    ensures { (0 < result) × (result ≤ 4) }
+/// The threads for so many servers: one a worker, up to as many as are wanted.
+fn threads_for(servers: usize, wanted: usize) -> usize
+    ensures { (0 < result) × (result ≤ 64) }
 {
-    servers.saturating_mul(2).clamp(1, MOST)
+    servers.saturating_mul(2).min(wanted).clamp(1, MOST)
 }
 
-/// The workers of all servers in the phase that the cells are in: two at each cell, in threads of a scope. Where no thread can
-/// be had a worker is run here. After the joins all cells are back, with their roots as before and journals that went on, whatever
-/// a worker met; and where none met want of memory, each has the commands of the phase, or a pass saw that no stamp is left.
+/// The workers of all servers in the phase that the cells are in: two at each cell, in as many threads of a scope as are wanted
+/// (one at least, this one; 64 or one a worker at most). Where no thread can be had a worker is run here. After the joins all
+/// cells are back, with their roots as before and journals that went on, whatever a worker met; and where none met want of
+/// memory, each has the commands of the phase, or a pass saw that no stamp is left.
 pub fn run_phase<'a, R: Threads + Wait + Sync, G: Gate + Sync>(
     alloc: Global,
     rt: &R,
     tables: &Tables<'a>,
     gate: &G,
+    threads: usize,
     phase: u32,
     cells: &mut Vec<Cell<'a>>,
     eyes: &mut Vec<Eyes>,
@@ -51,7 +53,7 @@ pub fn run_phase<'a, R: Threads + Wait + Sync, G: Gate + Sync>(
     ensures eyes { Pairwise AreEyesOf (cell_roots cells.new.items) eyes.new.items }
 {
     let count = cells.len();
-    let threads = threads_for(count);
+    let threads = threads_for(count, threads);
     let pace = Pace::new(threads);
     let mut spares = Vec::with_capacity(alloc, count)?;
     let mut done = Vec::with_capacity(alloc, count)?;

@@ -9,5 +9,5 @@ loop-place-preserved c =
     grind (
       arith,
       common_steps,
-      map-range_with_len_more (refused_by c.args.end.now.net.now c.args.end.now.journal.now) 1 c.loop-place.place (c.loop-place.place + 1) (omega arith),
+      map-range_with_len_more (refused_by c.args.end.now.net.now c.args.end.now.journal.now.entries) 1 c.loop-place.place (c.loop-place.place + 1) (omega arith),
     )

@@ -2,14 +2,13 @@ use Rattle.std.proofs.Common.{◌≡◌, arith, refl, sym, ap, subst, ◌∙◌}
 use Rattle.std.proofs.lemmas.Grind.{common_steps}
 use Rattle.ev_message.specs.declared.stamped.StampedLoad.{StampedLoad}
 use Rattle.ev_message.specs.Message.{IsLoad, meaning}
-use Rattle.ev_numserver.specs.Routed.{RoutesMessage}
-use Rattle.ev_numversions.specs.Ends.{matched_in}
 use Rattle.ev_numnode.specs.Acted.{Said}
-use Rattle.ev_numnode.specs.Ahead.{CarriesMatched}
+use Rattle.ev_numnode.specs.Ahead.{IsTakingAhead}
 use Rattle.ev_numnode.specs.Links.{IsNextAt}
 use Rattle.ev_numnode.proofs.Shown.{same-one}
 use Rattle.ev_numnode.proofs.Sooner.{looked-some, looked-seen, looked-none, still-before, taking-before}
 use Rattle.ev_numnode.proofs.Turning.{still, held-still, long-left, on_err, one-next}
+use Rattle.ev_numnode.proofs.Choosing.{known-of, taking-by}
 use Rattle.ev_numnode.proofs.ahead.take_place_ahead.Goals as goal
 
 pub returns-then-not-look_at-clause-taken : goal.returns-then-not-look_at-clause-taken
@@ -37,84 +36,26 @@ take_seen-requires-clause-seen g c = looked-some c.args.place _ _ c.look_at.resu
 pub take_seen-requires-clause-held : goal.take_seen-requires-clause-held
 take_seen-requires-clause-held g c = held-still c.args.held.now _ c.requires.held refl c.look_at.ensures.unmoved c.requires.held.shown c.requires.held.handed
 
-pub returns-in_err-take_seen-in-Agreed-clause-still : goal.returns-in_err-take_seen-in-Agreed-clause-still
-returns-in_err-take_seen-in-Agreed-clause-still g c = on_err _ (still-before c.args.held.now _ _ _ _ refl c.look_at.ensures.unmoved refl c.in_err-take_seen-in-Agreed.ensures.still)
+pub returns-in_err-take_seen-clause-still : goal.returns-in_err-take_seen-clause-still
+returns-in_err-take_seen-clause-still g c = on_err _ (still-before c.args.held.now _ _ _ _ refl c.look_at.ensures.unmoved refl c.in_err-take_seen.ensures.still)
 
-pub returns-in_err-take_seen-in-Agreed-clause-worn : goal.returns-in_err-take_seen-in-Agreed-clause-worn
-returns-in_err-take_seen-in-Agreed-clause-worn g c s e = c.in_err-take_seen-in-Agreed.ensures.worn s (grind (arith, common_steps, e, c.from_residual.ensures.1))
+pub returns-in_err-take_seen-clause-worn : goal.returns-in_err-take_seen-clause-worn
+returns-in_err-take_seen-clause-worn g c s e = c.in_err-take_seen.ensures.worn s (grind (arith, common_steps, e, c.from_residual.ensures.1))
 
 pub take_seen-requires-clause-known : goal.take_seen-requires-clause-known
-take_seen-requires-clause-known g c item next =
+take_seen-requires-clause-known g c =
     let n : IsNextAt c.args.place c.next_at-next.result.now c.look_at.new.links.items = subst (IsNextAt c.args.place c.next_at-next.result.now) c.deref.ensures.value c.next_at-next.ensures in
-    let one = one-next c.args.place c.look_at.new.links.items c.next_at-next.result.now item n next in
-    subst (λ l. RoutesMessage c.args.held.now.core (meaning c.args.held.now.core.net l) c.in-Agreed.route.now) (c.load.ensures ∙ ap (λ (z : StampedLoad). z.load) one) c.in-Agreed.ensures.choice.1
+    known-of c.args.held.now.publisher c.args.ahead.now c.args.held.now.core c.load.result.now c.choose_of-choice.result c.route.result (λ item. IsNextAt c.args.place item c.look_at.new.links.items) c.choose_of-choice.ensures.choice c.route.ensures
+    (λ item next. c.load.ensures ∙ ap (λ (z : StampedLoad). z.load) (one-next c.args.place c.look_at.new.links.items c.next_at-next.result.now item n next))
 
-pub returns-in_ok-take_seen-in-Agreed-clause-taken : goal.returns-in_ok-take_seen-in-Agreed-clause-taken
-returns-in_ok-take_seen-in-Agreed-clause-taken g c phase =
-    let t = c.in_ok-take_seen-in-Agreed.ensures.made phase in
-    let n : IsNextAt c.args.place c.next_at-next.result.now c.look_at.new.links.items = subst (IsNextAt c.args.place c.next_at-next.result.now) c.deref.ensures.value c.next_at-next.ensures in
-    let one : c.next_at-next.result.now ≡ t.said_next.item = one-next c.args.place c.look_at.new.links.items c.next_at-next.result.now t.said_next.item n t.said_next.next in
-    let load = ap (λ (z : StampedLoad). z.load) one in
-    let says : meaning c.args.held.now.core.net c.load.result.now ≡ t.message.message = ap (meaning c.args.held.now.core.net) (c.load.ensures ∙ load) ∙ ap (λ (m : Said). m.message) (sym t.said_next.told) in (
-      t.message,
-      taking-before c.args.held.now _ _ _ _ refl c.look_at.ensures.unmoved refl phase c.args.place t.message
-          (looked-seen c.args.place _ _ c.look_at.result c.look_at.ensures.looked c.if-not-look_at.false) t.taking,
-      λ carries. c.in-Agreed.ensures.choice.0,
-    )
-
-pub take_seen-requires-in-Other-clause-place : goal.take_seen-requires-in-Other-clause-place
-take_seen-requires-in-Other-clause-place g c = let n = long-left c.args.held.now c.requires.held c.look_at.new.links.items c.look_at.ensures.unmoved in let p = c.requires.place in omega (arith, n, p)
-
-pub take_seen-requires-in-Other-clause-seen : goal.take_seen-requires-in-Other-clause-seen
-take_seen-requires-in-Other-clause-seen g c = looked-some c.args.place _ _ c.look_at.result c.look_at.ensures.looked c.if-not-look_at.false
-
-pub take_seen-requires-in-Other-clause-held : goal.take_seen-requires-in-Other-clause-held
-take_seen-requires-in-Other-clause-held g c = held-still c.args.held.now _ c.requires.held refl c.look_at.ensures.unmoved c.requires.held.shown c.requires.held.handed
-
-pub returns-in_err-take_seen-in-Other-clause-still : goal.returns-in_err-take_seen-in-Other-clause-still
-returns-in_err-take_seen-in-Other-clause-still g c = on_err _ (still-before c.args.held.now _ _ _ _ refl c.look_at.ensures.unmoved refl c.in_err-take_seen-in-Other.ensures.still)
-
-pub returns-in_err-take_seen-in-Other-clause-worn : goal.returns-in_err-take_seen-in-Other-clause-worn
-returns-in_err-take_seen-in-Other-clause-worn g c s e = c.in_err-take_seen-in-Other.ensures.worn s (grind (arith, common_steps, e, c.from_residual-in_err-take_seen-in-Other.ensures.1))
-
-pub returns-in_ok-take_seen-in-Other-clause-taken : goal.returns-in_ok-take_seen-in-Other-clause-taken
-returns-in_ok-take_seen-in-Other-clause-taken g c phase =
-    let t = c.in_ok-take_seen-in-Other.ensures.made phase in
+pub returns-clause-taken : goal.returns-clause-taken
+returns-clause-taken g c phase =
+    let t = c.in_ok-take_seen.ensures.made phase in
     let n : IsNextAt c.args.place c.next_at-next.result.now c.look_at.new.links.items = subst (IsNextAt c.args.place c.next_at-next.result.now) c.deref.ensures.value c.next_at-next.ensures in
     let one : c.next_at-next.result.now ≡ t.said_next.item = one-next c.args.place c.look_at.new.links.items c.next_at-next.result.now t.said_next.item n t.said_next.next in
-    let load = ap (λ (z : StampedLoad). z.load) one in
-    let says : meaning c.args.held.now.core.net c.load.result.now ≡ t.message.message = ap (meaning c.args.held.now.core.net) (c.load.ensures ∙ load) ∙ ap (λ (m : Said). m.message) (sym t.said_next.told) in (
-      t.message,
-      taking-before c.args.held.now _ _ _ _ refl c.look_at.ensures.unmoved refl phase c.args.place t.message
-          (looked-seen c.args.place _ _ c.look_at.result c.look_at.ensures.looked c.if-not-look_at.false) t.taking,
-      λ carries. absurd (c.in-Other.ensures.choice (subst (IsLoad c.args.held.now.core.net) (sym (c.load.ensures ∙ load)) t.said_next.load) (subst (λ z. CarriesMatched c.args.held.now.core.net z (matched_in c.args.ahead.now)) (sym says) carries)),
-    )
-
-pub take_seen-requires-in-Outdated-clause-place : goal.take_seen-requires-in-Outdated-clause-place
-take_seen-requires-in-Outdated-clause-place g c = let n = long-left c.args.held.now c.requires.held c.look_at.new.links.items c.look_at.ensures.unmoved in let p = c.requires.place in omega (arith, n, p)
-
-pub take_seen-requires-in-Outdated-clause-seen : goal.take_seen-requires-in-Outdated-clause-seen
-take_seen-requires-in-Outdated-clause-seen g c = looked-some c.args.place _ _ c.look_at.result c.look_at.ensures.looked c.if-not-look_at.false
-
-pub take_seen-requires-in-Outdated-clause-held : goal.take_seen-requires-in-Outdated-clause-held
-take_seen-requires-in-Outdated-clause-held g c = held-still c.args.held.now _ c.requires.held refl c.look_at.ensures.unmoved c.requires.held.shown c.requires.held.handed
-
-pub returns-in_err-take_seen-in-Outdated-clause-still : goal.returns-in_err-take_seen-in-Outdated-clause-still
-returns-in_err-take_seen-in-Outdated-clause-still g c = on_err _ (still-before c.args.held.now _ _ _ _ refl c.look_at.ensures.unmoved refl c.in_err-take_seen-in-Outdated.ensures.still)
-
-pub returns-in_err-take_seen-in-Outdated-clause-worn : goal.returns-in_err-take_seen-in-Outdated-clause-worn
-returns-in_err-take_seen-in-Outdated-clause-worn g c s e = c.in_err-take_seen-in-Outdated.ensures.worn s (grind (arith, common_steps, e, c.from_residual-in_err-take_seen-in-Outdated.ensures.1))
-
-pub returns-in_ok-take_seen-in-Outdated-clause-taken : goal.returns-in_ok-take_seen-in-Outdated-clause-taken
-returns-in_ok-take_seen-in-Outdated-clause-taken g c phase =
-    let t = c.in_ok-take_seen-in-Outdated.ensures.made phase in
-    let n : IsNextAt c.args.place c.next_at-next.result.now c.look_at.new.links.items = subst (IsNextAt c.args.place c.next_at-next.result.now) c.deref.ensures.value c.next_at-next.ensures in
-    let one : c.next_at-next.result.now ≡ t.said_next.item = one-next c.args.place c.look_at.new.links.items c.next_at-next.result.now t.said_next.item n t.said_next.next in
-    let load = ap (λ (z : StampedLoad). z.load) one in
-    let says : meaning c.args.held.now.core.net c.load.result.now ≡ t.message.message = ap (meaning c.args.held.now.core.net) (c.load.ensures ∙ load) ∙ ap (λ (m : Said). m.message) (sym t.said_next.told) in (
-      t.message,
-      taking-before c.args.held.now _ _ _ _ refl c.look_at.ensures.unmoved refl phase c.args.place t.message
-          (looked-seen c.args.place _ _ c.look_at.result c.look_at.ensures.looked c.if-not-look_at.false) t.taking,
-      subst (λ z. CarriesMatched c.args.held.now.core.net z (matched_in c.args.ahead.now)) says c.in-Outdated.ensures.choice.0,
-      c.in-Outdated.ensures.choice.1,
-    )
+    let load = c.load.ensures ∙ ap (λ (z : StampedLoad). z.load) one in
+    let says : meaning c.args.held.now.core.net c.load.result.now ≡ t.message.message = ap (meaning c.args.held.now.core.net) load ∙ ap (λ (m : Said). m.message) (sym t.said_next.told) in
+    subst (IsTakingAhead phase c.args.place c.args.ahead.now c.args.held.now c.take_seen.new.held c.args.journal.now.entries c.take_seen.new.journal.entries) (sym c.turned.ensures)
+    (taking-by phase c.args.ahead.now c.args.held.now c.take_seen.new.held c.args.journal.now.entries c.take_seen.new.journal.entries c.args.place c.load.result.now c.choose_of-choice.result c.choose_of-choice.ensures.choice
+    (subst (IsLoad c.args.held.now.core.net) (sym load) t.said_next.load) t.message says
+    (taking-before c.args.held.now _ _ _ _ refl c.look_at.ensures.unmoved refl phase c.args.place t.message (looked-seen c.args.place _ _ c.look_at.result c.look_at.ensures.looked c.if-not-look_at.false) t.taking))

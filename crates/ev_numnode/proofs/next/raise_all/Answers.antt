@@ -37,7 +37,7 @@ loop-k-preserved c =
     let Raises : ℕ → ℕ → CellParts → CellParts → Type 0 = λ n j a b. j < n → HasRaised c.args.phase c.args.clock a b in
     record {
       same = same-step c.args.cells.now c.loop-k.cells c.loop-k.k c.index-cells-k.result c.enter_phase.new.self within (c.loop-k.invariant.left c.loop-k.k (omega arith))
-          (record { net = c.enter_phase.ensures.entered.net; server = c.enter_phase.ensures.entered.server; viewer = c.enter_phase.ensures.entered.viewer; journal = c.enter_phase.ensures.journal }) c.loop-k.invariant.same;
+          (record { net = c.enter_phase.ensures.entered.net; server = c.enter_phase.ensures.entered.server; keeps = c.enter_phase.ensures.entered.keeps; viewer = c.enter_phase.ensures.entered.viewer; journal = c.enter_phase.ensures.journal }) c.loop-k.invariant.same;
       raised = λ j a b less ea eb.
           set-step (Raises c.loop-k.k) (Raises (c.loop-k.k + 1)) c.args.cells.now c.loop-k.cells c.loop-k.k c.index-cells-k.result c.enter_phase.new.self within (c.loop-k.invariant.left c.loop-k.k (omega arith))
           (λ now. record { entered = c.enter_phase.ensures.entered; core = c.enter_phase.ensures.core; lanes = c.enter_phase.ensures.lanes })

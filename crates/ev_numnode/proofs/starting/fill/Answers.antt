@@ -1,6 +1,7 @@
 use Rattle.std.proofs.Common.{◌≡◌, ◌≤◌, length, map, Some, slice_get, sym, ap, subst, ◌∙◌, arith, add-one}
 use Rattle.std.proofs.lemmas.List.{length-map}
-use Rattle.ev_numnode.proofs.Rows.{long-set}
+use Rattle.ev_wire.specs.MessageText.{Each}
+use Rattle.ev_numnode.proofs.Rows.{long-set, each-end}
 use Rattle.ev_numnode.proofs.Trees.{counts}
 use Rattle.ev_numnode.proofs.Filled.{one-more, all-started, row-server, row-is, rest-set}
 use Rattle.ev_numnode.proofs.starting.fill.Goals as goal
@@ -37,7 +38,9 @@ loop-place-preserved g c =
     row-is (λ r. r.items) c.loop-place.rows.items c.args.rows.items c.loop-place.place c.index_mut.result.now (omega (arith, v)) (omega (arith, v, l)) c.loop-place.invariant.rest
     ∙ ap (λ r. Some r.items) (sym c.index_mut.ensures.value ∙ sym c.replace-links.ensures.value) in
     record {
-      made = one-more c.args.tables.now (map (λ r. r.items) c.args.rows.items) c.loop-place.place c.loop-place.started.items c.push_reserved.new.self.items c.in_ok-start_one.field-0 c.replace-links.result.items c.push_reserved.ensures.items at c.in_ok-start_one.ensures c.loop-place.invariant.made;
+      keeps = subst (λ l. Each (λ s. s.cell.root.keeps ≡ c.args.keeps) l) (sym c.push_reserved.ensures.items)
+          (each-end (λ s. s.cell.root.keeps ≡ c.args.keeps) c.loop-place.started.items c.in_ok-start_one.field-0 c.loop-place.invariant.keeps c.in_ok-start_one.ensures.keeps);
+      made = one-more c.args.tables.now (map (λ r. r.items) c.args.rows.items) c.loop-place.place c.loop-place.started.items c.push_reserved.new.self.items c.in_ok-start_one.field-0 c.replace-links.result.items c.push_reserved.ensures.items at c.in_ok-start_one.ensures.started c.loop-place.invariant.made;
       rest = rest-set (λ r. r.items) c.loop-place.rows.items c.args.rows.items c.loop-place.place _ c.loop-place.invariant.rest;
       long = long-set c.loop-place.rows.items c.loop-place.place _ ∙ c.loop-place.invariant.long;
       room = subst (λ n. length c.args.rows.items ≤ n) (sym c.push_reserved.ensures.capacity) c.loop-place.invariant.room;
@@ -48,5 +51,6 @@ returns g c =
     let n = length-map c.args.rows.items (λ r. r.items) in
     let v = c.len-place-end.ensures in
     record {
+      keeps = c.loop-place.invariant.keeps;
       started = all-started c.args.tables.now (map (λ r. r.items) c.args.rows.items) c.loop-place.place c.loop-place.started.items (c.requires.lanes.long ∙ counts c.args.tables.now.trees c.requires.sound.trees 0) c.requires.lanes.ends (omega (arith, n, v)) c.loop-place.invariant.made;
     }

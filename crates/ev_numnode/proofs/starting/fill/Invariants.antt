@@ -1,10 +1,12 @@
 use Rattle.std.proofs.Common.{◌≡◌, ◌≤◌, ℕ, List, length, map, vec_capacity, Some, slice_get}
+use Rattle.ev_wire.specs.MessageText.{Each}
 use Rattle.ev_numnode.specs.declared.link.Link.{Link}
 use Rattle.ev_numnode.proofs.Filled.{AreSoFar}
 use Rattle.ev_numnode.proofs.starting.fill.Given as goal
 
 abbrev pub invariant-loop-place : goal.invariant-loop-place
 invariant-loop-place g l = record {
+  keeps : Each (λ s. s.cell.root.keeps ≡ l.keeps) l.started.items;
   made : AreSoFar l.tables (map (λ r. r.items) l.initial.rows.items) l.place l.started.items;
   rest : (k : ℕ) (r : List Link) → l.place ≤ k → slice_get (map (λ r. r.items) l.initial.rows.items) k ≡ Some r → slice_get (map (λ r. r.items) l.rows.items) k ≡ Some r;
   long : length l.rows.items ≡ length l.initial.rows.items;

@@ -10,8 +10,8 @@ first-stays [] d = refl
 first-stays (x ∷ []) d = refl
 first-stays (x ∷ y ∷ xs) d = refl
 
-pub returns : goal.returns
-returns g c =
+pub returns-clause-started : goal.returns-clause-started
+returns-clause-started g c =
     let n = c.in_ok-publisher.ensures.count in
     let v = c.in_ok-publisher.ensures.viewers in
     let l : IsViewerOf c.in_ok-publisher.publisher c.remove-for_links.result = subst (IsViewerOf c.in_ok-publisher.publisher) (sym c.remove-for_links.ensures.value) (v 1 c.remove-for_links.result (omega (arith, n))).0 in

@@ -158,15 +158,15 @@ returns-clause-made g c phase =
     (subst (λ t. MakesStep (Takes c.index.result.now.neighbour (meaning net c.load-2.result.now)) t c.args.held.now.core c.take_load.new.core c.in_ok-step.step.stamp c.in_ok-step.step.sent.items) c.stamp.ensures.stamp c.in_ok-step.ensures.step) in
     let given = c.enter.ensures.given net (sends-of c.args.held.now.core c.take_load.new.core c.requires.stands _ _ _ c.in_ok-step.step.sent.items step) in
     let load : IsLoad net c.next_at-next.result.now.load = subst (IsLoad net) c.load.ensures (subst (λ (n : NetParts). IsLoad n c.load.result.now) c.tables.ensures (c.is_of.ensures.0 c.if-not-is_of.false)) in
-    let turn = took phase c.index.result.now.neighbour (acts.Take c.index.result.now.neighbour) c.args.held.now _ c.make_room.new.links.items c.take_at.new.links.items c.next_at-next.result.now c.args.journal.now.items c.enter.new.journal.items c.in_ok-step.step.stamp c.in_ok-step.step.sent.items
+    let turn = took phase c.index.result.now.neighbour (acts.Take c.index.result.now.neighbour) c.args.held.now _ c.make_room.new.links.items c.take_at.new.links.items c.next_at-next.result.now c.args.journal.now.entries c.enter.new.journal.entries c.in_ok-step.step.stamp c.in_ok-step.step.sent.items
     refl step u tk given
     (c.enter.ensures.entry ∙ ap (λ z. z ++ entry_parts c.in_ok-step.step.stamp c.args.server (acts.Take c.index.result.now.neighbour) (map (λ s. s.to) c.in_ok-step.step.sent.items) ∷ []) c.make_room.ensures.journal
-    ∙ ap (λ z. c.args.journal.now.items ++ entry_parts c.in_ok-step.step.stamp z (acts.Take c.index.result.now.neighbour) (map (λ s. s.to) c.in_ok-step.step.sent.items) ∷ []) (sym c.requires.server))
+    ∙ ap (λ z. c.args.journal.now.entries ++ entry_parts c.in_ok-step.step.stamp z (acts.Take c.index.result.now.neighbour) (map (λ s. s.to) c.in_ok-step.step.sent.items) ∷ []) (sym c.requires.server))
     (same-one _) in
     record {
       message = said net c.next_at-next.result.now;
       said_next = record { item = c.next_at-next.result.now; next = next-before c.args.place c.args.held.now.links.items c.make_room.new.links.items c.next_at-next.result.now c.make_room.ensures.roomed n; told = refl; load = load };
-      taking = taking-from phase c.args.place c.index.result.now.neighbour f.link _ c.args.held.now _ c.args.journal.now.items c.enter.new.journal.items f.found f.name turn
+      taking = taking-from phase c.args.place c.index.result.now.neighbour f.link _ c.args.held.now _ c.args.journal.now.entries c.enter.new.journal.entries f.found f.name turn
           (has-seen c.args.place _ c.next_at-next.result.now net c.in_ok-step.step.stamp c.in_ok-step.step.sent.items c.args.held.now.links.items c.make_room.new.links.items c.take_at.new.links.items c.enter.new.links.items c.make_room.ensures.roomed tk given);
     }
 

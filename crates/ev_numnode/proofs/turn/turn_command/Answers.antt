@@ -42,10 +42,10 @@ enter-requires-clause-outs c =
 
 pub returns-clause-made : goal.returns-clause-made
 returns-clause-made c phase due =
-    did phase (NextCommand c.args.client) (acts.Command c.args.client) c.args.held.now _ c.make_room.new.links.items c.args.journal.now.items c.enter.new.journal.items c.in_ok-step.step.stamp c.in_ok-step.step.sent.items refl due
+    did phase (NextCommand c.args.client) (acts.Command c.args.client) c.args.held.now _ c.make_room.new.links.items c.args.journal.now.entries c.enter.new.journal.entries c.in_ok-step.step.stamp c.in_ok-step.step.sent.items refl due
     c.in_ok-step.ensures.step (unmoved-roomed _ _ c.make_room.ensures.roomed) (c.enter.ensures.given c.args.held.now.core.net (sends-of c.args.held.now.core c.take_command.new.core c.requires.stands (Does (NextCommand c.args.client)) 0 _ c.in_ok-step.step.sent.items c.in_ok-step.ensures.step))
     (c.enter.ensures.entry ∙ ap (λ z. z ++ entry_parts c.in_ok-step.step.stamp c.args.server (acts.Command c.args.client) (map (λ s. s.to) c.in_ok-step.step.sent.items) ∷ []) c.make_room.ensures.journal
-    ∙ ap (λ z. c.args.journal.now.items ++ entry_parts c.in_ok-step.step.stamp z (acts.Command c.args.client) (map (λ s. s.to) c.in_ok-step.step.sent.items) ∷ []) (sym c.requires.server))
+    ∙ ap (λ z. c.args.journal.now.entries ++ entry_parts c.in_ok-step.step.stamp z (acts.Command c.args.client) (map (λ s. s.to) c.in_ok-step.step.sent.items) ∷ []) (sym c.requires.server))
     (same-one _)
 
 pub returns-clause-held : goal.returns-clause-held

@@ -55,10 +55,10 @@ pub returns-clause-made : goal.returns-clause-made
 returns-clause-made g c phase =
     let u = subst (λ l. Both IsUnmoved c.args.held.now.links.items l.items) (sym c.publish.ensures.links) (unmoved-roomed _ _ c.make_room.ensures.roomed) in
     let step = subst (λ n. MakesStep (Does Version) 0 c.args.held.now.core c.publish.new.held.core n []) (sym c.silent-step.ensures.0) c.in_ok-stamp.ensures.step in (
-      did phase Version acts.Version c.args.held.now _ c.publish.new.held.links.items c.args.journal.now.items c.enter.new.journal.items c.silent-step.result.stamp c.silent-step.result.sent.items refl tt
+      did phase Version acts.Version c.args.held.now _ c.publish.new.held.links.items c.args.journal.now.entries c.enter.new.journal.entries c.silent-step.result.stamp c.silent-step.result.sent.items refl tt
           (subst (λ s. MakesStep (Does Version) 0 c.args.held.now.core c.publish.new.held.core c.silent-step.result.stamp s) (sym c.silent-step.ensures.1) step) u (c.enter.ensures.given c.args.held.now.core.net (λ s h. absurd (subst (Has s) c.silent-step.ensures.1 h)))
           (c.enter.ensures.entry ∙ ap (λ z. z ++ entry_parts c.silent-step.result.stamp c.args.server acts.Version (map (λ s. s.to) c.silent-step.result.sent.items) ∷ []) c.make_room.ensures.journal
-          ∙ ap (λ z. c.args.journal.now.items ++ entry_parts c.silent-step.result.stamp z acts.Version (map (λ s. s.to) c.silent-step.result.sent.items) ∷ []) (sym c.requires.server))
+          ∙ ap (λ z. c.args.journal.now.entries ++ entry_parts c.silent-step.result.stamp z acts.Version (map (λ s. s.to) c.silent-step.result.sent.items) ∷ []) (sym c.requires.server))
           c.publish.ensures.publisher,
       λ e. let t = c.is_calm.ensures.1 e in let q : true ≡ false = sym t ∙ c.if-is_calm.false in absurd cc,
     )

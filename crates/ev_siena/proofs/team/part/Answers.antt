@@ -6,7 +6,8 @@ use Rattle.ev_numnode.specs.Together.{cell_roots}
 use Rattle.ev_workers.specs.declared.crew.Eyes.{Eyes}
 use Rattle.ev_workers.specs.Crews.{AreEyesOf, Pairwise}
 use Rattle.ev_siena.specs.Teams.{HaveEyes}
-use Rattle.ev_siena.proofs.Parting.{first-out, eyes-more}
+use Rattle.ev_course.proofs.Parts.{first-out}
+use Rattle.ev_siena.proofs.Parting.{eyes-more}
 use Rattle.ev_siena.proofs.team.part.Goals as goal
 
 pub loop-started-preserved : goal.loop-started-preserved

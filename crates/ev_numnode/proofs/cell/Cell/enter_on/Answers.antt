@@ -1,4 +1,5 @@
 use Rattle.std.proofs.Common.{refl, sym, ap, subst, ◌∙◌}
+use Rattle.ev_journal.specs.Journal.{JournalParts}
 use Rattle.ev_numnode.specs.Cell.{CellParts}
 use Rattle.ev_numheld.specs.Held.{held_in, AreHeldIn}
 use Rattle.ev_numnode.specs.Relinking.{CanMove}
@@ -7,18 +8,20 @@ use Rattle.ev_numnode.proofs.Rehung.{kept-moved}
 use Rattle.ev_numnode.proofs.cell.Cell.enter_on.Goals as goal
 
 pub put_on-requires-clause-stands : goal.put_on-requires-clause-stands
-put_on-requires-clause-stands g c = some-server c.self.inside.tables.now c.self.inside.root c.self.inside.journal.items c.self.inside.held c.self.invariant
+put_on-requires-clause-stands g c = some-server c.self.inside.tables.now c.self.inside.root c.self.inside.journal.entries c.self.inside.held c.self.invariant.0
 
 pub invariant_of-self : goal.invariant_of-self
-invariant_of-self g c =
-    kept-still c.self.inside.tables.now c.self.inside.root c.self.inside.journal.items c.self.inside.held c.self.invariant c.put_on.new.held c.self.inside.journal.items (c.in_err-put_on.ensures.still c.self.inside.journal.items) c.put_on.ensures.held
+invariant_of-self g c = (
+  kept-still c.self.inside.tables.now c.self.inside.root c.self.inside.journal.entries c.self.inside.held c.self.invariant.0 c.put_on.new.held c.self.inside.journal.entries (c.in_err-put_on.ensures.still c.self.inside.journal.entries) c.put_on.ensures.held,
+  c.self.invariant.1,
+)
 
 pub invariant_of-self-2 : goal.invariant_of-self-2
-invariant_of-self-2 g c =
-    kept-moved c.self.inside.tables.now c.self.inside.root _ c.self.inside.journal.items c.self.inside.held c.put_on.new.held _ c.args.clock (held_in c.args.given.now) c.args.links.items c.self.invariant
-    (subst (λ (z : CellParts). CanMove c.args.phase c.args.clock (held_in c.args.given.now) c.args.links.items z) (sym c.self.view_is) c.requires.can) c.requires.low c.put_on.ensures.held c.in_ok-put_on.ensures.put c.raise.ensures refl
-    refl refl (c.len-self-inside.ensures ∙ c.self.inside.journal.ok.0) (ap (λ l. l.items) c.of.ensures) c.of-2.ensures c.of-3.ensures refl refl refl
+invariant_of-self-2 g c = (
+  kept-moved c.self.inside.tables.now c.self.inside.root _ c.self.inside.journal.entries c.self.inside.held c.put_on.new.held _ c.args.clock (held_in c.args.given.now) c.args.links.items c.self.invariant.0 (subst (λ (z : CellParts). CanMove c.args.phase c.args.clock (held_in c.args.given.now) c.args.links.items z) (sym c.self.view_is) c.requires.can) c.requires.low c.put_on.ensures.held c.in_ok-put_on.ensures.put c.raise.ensures refl refl refl c.len-self-inside.ensures (ap (λ (j : JournalParts). j.entries) c.of.ensures) c.of-2.ensures c.of-3.ensures refl refl refl,
+  c.self.invariant.1,
+)
 
 pub put_on-requires-clause-net : goal.put_on-requires-clause-net
 put_on-requires-clause-net g c =
-    subst (λ n. AreHeldIn n c.args.given.now) (c.self.invariant.net_is ∙ sym c.self.invariant.run) (subst (λ (z : CellParts). AreHeldIn z.root.net.value c.args.given.now) (sym c.self.view_is) c.requires.net)
+    subst (λ n. AreHeldIn n c.args.given.now) (c.self.invariant.0.net_is ∙ sym c.self.invariant.0.run) (subst (λ (z : CellParts). AreHeldIn z.root.net.value c.args.given.now) (sym c.self.view_is) c.requires.net)

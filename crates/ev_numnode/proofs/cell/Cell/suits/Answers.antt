@@ -8,7 +8,7 @@ use Rattle.ev_numnode.proofs.cell.Cell.suits.Goals as goal
 
 pub are_neighbours-requires-clause-server : goal.are_neighbours-requires-clause-server
 are_neighbours-requires-clause-server c =
-    subst (λ (n : NetParts). IsServer (topology_at n c.self.inside.root.phase) c.self.inside.root.server) (sym c.net-in-Take.ensures) (server-known c.self.inside.tables.now c.self.inside.root c.self.inside.journal.items c.self.inside.held c.self.invariant)
+    subst (λ (n : NetParts). IsServer (topology_at n c.self.inside.root.phase) c.self.inside.root.server) (sym c.net-in-Take.ensures) (server-known c.self.inside.tables.now c.self.inside.root c.self.inside.journal.entries c.self.inside.held c.self.invariant.0)
 
 pub are_neighbours-requires-clause-sound : goal.are_neighbours-requires-clause-sound
-are_neighbours-requires-clause-sound c = subst IsSound (sym c.net-in-Take.ensures) c.self.invariant.sound
+are_neighbours-requires-clause-sound c = subst IsSound (sym c.net-in-Take.ensures) c.self.invariant.0.sound
