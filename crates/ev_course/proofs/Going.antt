@@ -135,7 +135,7 @@ module _ (net : NetParts) (last phase : ℕ) (old started now : List CellParts) 
   journal-before k cell e =
       let f = then-cell k cell e in
       let b = found-map (λ (c : CellParts). c.journal) k old f.0.journal (ap (λ l. slice_get l k) (sym done.journals) ∙ map-found (λ (c : CellParts). c.journal) k started f.0 f.1) in
-      (b.0, b.1, (done.kept k cell e).before ∙ ap (λ (r : Root). r.before.value.items) (sym f.2) ∙ (done.starts k f.0 f.1).before ∙ sym b.2)
+      (b.0, b.1, (done.kept k cell e).before ∙ ap (λ (r : Root). r.before.value.entries) (sym f.2) ∙ (done.starts k f.0 f.1).before ∙ sym b.2)
 
   journal-now : (k : ℕ) (cell before : CellParts) → slice_get now k ≡ Some cell → take cell.root.entries cell.journal ≡ before.journal
       → journal_of cell.journal ≡ journal_of before.journal ++ entries_off real (phased_net net) phase (phase_entries net phase cell)
