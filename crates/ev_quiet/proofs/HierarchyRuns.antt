@@ -6,7 +6,7 @@ use Rattle.ev_model.specs.Nets.{of_clients}
 use Rattle.ev_hierturns.specs.Network.{NetworkParts, network_parts, IsLegal, refused_by, received_by}
 use Rattle.ev_hierturns.specs.Walked.{IsWalked}
 use Rattle.ev_report.specs.Deliveries.{deliveries_text}
-use Rattle.ev_quiet.specs.declared.ran.Ran.{Ran}
+use Rattle.ev_merge.specs.declared.ran.Ran.{Ran}
 use Rattle.ev_quiet.specs.declared.words.Shown.{Shown}
 use Rattle.ev_quiet.specs.Hierarchy.{hierarchy_trace}
 use Rattle.ev_quiet.specs.HierarchyRan.{IsHierarchyRan, IsHierarchyShown, IsHierarchyWalk}

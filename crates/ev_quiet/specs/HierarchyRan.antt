@@ -4,7 +4,7 @@ use Rattle.ev_model.specs.Parts.{NetParts, EntryParts}
 use Rattle.ev_model.specs.Nets.{of_clients}
 use Rattle.ev_hierturns.specs.Network.{IsLegal, IsDrainedBy, journal_in, refused_by, received_by}
 use Rattle.ev_hierturns.specs.Walked.{walk_after}
-use Rattle.ev_quiet.specs.declared.ran.Ran.{Ran}
+use Rattle.ev_merge.specs.declared.ran.Ran.{Ran}
 use Rattle.ev_quiet.specs.declared.words.Shown.{Shown}
 use Rattle.ev_quiet.specs.Hierarchy.{hierarchy_text}
 

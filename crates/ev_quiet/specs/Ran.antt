@@ -2,7 +2,7 @@
 use Rattle.std.specs.Prelude.{◌≡◌, ℕ, List}
 use Rattle.ev_model.specs.Parts.{NetParts, EntryParts}
 use Rattle.ev_turns.specs.Network.{NetworkParts, IsLegal, IsDrainedBy}
-use Rattle.ev_quiet.specs.declared.ran.Ran.{Ran}
+use Rattle.ev_merge.specs.declared.ran.Ran.{Ran}
 use Rattle.ev_quiet.specs.declared.words.Schedule.{Schedule}
 use Rattle.ev_quiet.specs.declared.words.Shown.{Shown}
 use Rattle.ev_quiet.specs.Printed.{run_text}

@@ -22,6 +22,7 @@ use ev_decimal::push_number;
 use ev_input::law::net_is_sound;
 use ev_journal::Journal;
 use ev_memory::NoMemory;
+use ev_merge::Record;
 use ev_outside::{Source, read_all};
 use std::alloc::Global;
 
@@ -54,7 +55,7 @@ fn confirmed(alloc: Global, audited: Audited) -> Result<Printed, NoMemory>
         deliveries,
     } = audited;
     let text = counts_text(alloc, journal.len() as u64, owed, deliveries)?;
-    Printed::make(alloc, Body::Nothing, text, Journal::of(journal))
+    Printed::make(alloc, Body::Nothing, text, Record::of(Journal::of(journal)))
 }
 
 // The answer to an input of at most 268,435,456 bytes.

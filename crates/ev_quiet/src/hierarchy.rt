@@ -12,14 +12,14 @@ ghost use Rattle.ev_quiet.specs.HierarchyRan.{IsHierarchyRan, IsHierarchyShown};
 
 use crate::hierarchy_law::hierarchy_promise;
 use crate::printed::Printed;
-use crate::ran::{Ran, clients};
+use crate::ran::clients;
 use crate::reading::net;
 use crate::text::printed_lists;
 use crate::words::{Query, Shown};
 use ev_hier::{HierNetwork, retell};
 use ev_input::{Fault, InputFault};
-use ev_journal::Journal;
 use ev_memory::NoMemory;
+use ev_merge::{Ran, Record};
 use ev_model::{Entry, Net};
 use ev_numnet::{Keeping, Kept, Passed};
 use ev_report::trace_text;
@@ -57,7 +57,7 @@ fn walked_over<K: Keeping>(alloc: Global, tables: &Tables<'_>) -> Result<Ran, No
     let refused = refused(alloc, &network, clients(tables.net()))?;
     let (journal, received) = network.into_parts()?;
     Ok(Ran {
-        journal,
+        journal: Record::of(journal),
         refused,
         received,
     })
@@ -112,7 +112,7 @@ fn trace_where(
     alloc: Global,
     wanted: bool,
     net: &Net,
-    journal: &Journal,
+    journal: &Record,
 ) -> Result<Vec<u8>, NoMemory>
     requires sound { IsSound net.now }
     requires kept { wanted ≡ true → journal.now.kept ≡ true }

@@ -29,7 +29,6 @@ mod words;
 pub use audits::printed_is_confirmed;
 pub use law::promise;
 pub use printed::Printed;
-pub use ran::Ran;
 pub use reading::{document, net};
 pub use standard::{Over, quiet_with_devices};
 pub use status::{Status, fault_text};

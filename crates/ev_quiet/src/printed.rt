@@ -13,7 +13,7 @@ ghost use Rattle.ev_quiet.specs.Answers.{IsPrintedOf};
 use crate::body::Body;
 use crate::hierarchy::hierarchy;
 use crate::law::promise;
-use crate::ran::{Ran, make_run};
+use crate::ran::make_run;
 use crate::reading::net;
 use crate::text::printed_run;
 use crate::traffic::traffic;
@@ -21,8 +21,8 @@ use crate::words::{Query, Schedule, Shown};
 use ev_flood::must_may;
 use ev_format::law::text_is_read;
 use ev_input::{Fault, InputFault};
-use ev_journal::Journal;
 use ev_memory::NoMemory;
+use ev_merge::{Ran, Record};
 use ev_model::Net;
 use ev_numnet::{Kept, Passed};
 use ev_outside::{Failed, Pending, Sink};
@@ -37,7 +37,7 @@ use std::marker::Model;
 pub struct Printed {
     body: Body,
     rest: Vec<u8>,
-    journal: Journal,
+    journal: Record,
     pending: Pending,
 }
 
@@ -62,7 +62,7 @@ impl Printed {
         alloc: Global,
         body: Body,
         rest: Vec<u8>,
-        journal: Journal,
+        journal: Record,
     ) -> Result<Printed, NoMemory>
         ensures { IfOk result (λ p. p ≡ printed_parts body rest.items journal.entries) }
     {
@@ -78,11 +78,11 @@ impl Printed {
     pub fn alone(alloc: Global, text: Vec<u8>) -> Result<Printed, NoMemory>
         ensures { IfOk result (λ p. p ≡ printed_parts Body.Nothing text.items []) }
     {
-        Printed::make(alloc, Body::Nothing, text, Journal::new(alloc, false))
+        Printed::make(alloc, Body::Nothing, text, Record::empty(alloc))
     }
 
     /// Writes the text, and hands on the journal. It takes no memory.
-    pub fn write<K: Sink>(self, sink: &mut K) -> Result<Journal, Failed>
+    pub fn write<K: Sink>(self, sink: &mut K) -> Result<Record, Failed>
         ensures journal { IfOk result (λ journal. journal.entries ≡ self.journal) }
         ensures ok { OnOk result (K.taken sink.new ≡ K.taken sink.old ++ self.text) }
         ensures sure { OnOk result (K.faults sink.new ≡ K.faults sink.old) }
@@ -167,7 +167,7 @@ fn flood(alloc: Global, bytes: &[u8]) -> Result<Printed, InputFault>
         alloc,
         Body::Flooded(flooded),
         Vec::new(alloc),
-        Journal::new(alloc, false),
+        Record::empty(alloc),
     )?)
 }
 
@@ -198,7 +198,7 @@ fn format(alloc: Global, bytes: &[u8]) -> Result<Printed, InputFault>
         alloc,
         Body::Formatted(net),
         Vec::new(alloc),
-        Journal::new(alloc, false),
+        Record::empty(alloc),
     )?)
 }
 

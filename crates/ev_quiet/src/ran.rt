@@ -1,4 +1,4 @@
-//! Runs of a network, and what they leave.
+//! Runs of a network.
 ghost use Rattle.std.specs.Prelude.{◌≡◌, ◌≤◌, ℕ, true, [], length, IfOk, IsErrOf};
 ghost use Rattle.ev_model.specs.Sound.{IsSound};
 ghost use Rattle.ev_turns.specs.Network.{IsLegal, refused_by};
@@ -10,25 +10,14 @@ ghost use Rattle.ev_model.specs.Nets.{of_clients};
 
 use crate::words::Schedule;
 use ev_input::{Fault, InputFault};
-use ev_journal::Journal;
 use ev_memory::NoMemory;
-use ev_model::{Delivery, Net, Turn};
+use ev_merge::{Ran, Record};
+use ev_model::{Net, Turn};
 use ev_numnet::{Keeping, Network};
 use ev_tables::Tables;
 use ev_turns::ReplayFault;
 use ev_wire::Lists;
 use std::alloc::Global;
-
-/// What a run leaves.
-#[derive(Drop)]
-pub struct Ran {
-    /// What the servers did.
-    pub journal: Journal,
-    /// Of each client the ordinals of its refused publishes.
-    pub refused: Vec<Lists<u32>>,
-    /// And what was delivered to it.
-    pub received: Vec<Lists<Delivery>>,
-}
 
 // The turns that come before the walk.
 fn turns_first(net: &Net, schedule: Schedule) -> &[(u32, Turn)]
@@ -129,7 +118,7 @@ fn run_over<K: Keeping>(
     let refused = refused(alloc, &network, clients(tables.net()))?;
     let (journal, received) = network.into_parts()?;
     Ok(Ran {
-        journal,
+        journal: Record::of(journal),
         refused,
         received,
     })

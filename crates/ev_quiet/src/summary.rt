@@ -8,8 +8,8 @@ ghost use Rattle.ev_model.specs.Sound.{IsSound, publishes};
 ghost use Rattle.ev_quiet.specs.Printed.{total, messages_in, summary_of};
 ghost use Rattle.ev_quiet.specs.Ran.{IsCollected};
 
-use crate::ran::Ran;
 use ev_memory::NoMemory;
+use ev_merge::Ran;
 use ev_model::{Client, Command, Entry, Net};
 use ev_report::{summary_text, total};
 use ev_wire::Lists;
@@ -77,7 +77,8 @@ pub fn run_summary(alloc: Global, net: &Net, ran: &Ran) -> Result<Vec<u8>, NoMem
 {
     let refused = total(&ran.refused)?;
     let received = total(&ran.received)?;
-    let messages = messages(ran.journal.entries())?;
+    let journal = ran.journal.entries();
+    let messages = messages(journal)?;
     let accepted = all_publishes(&net.clients).saturating_sub(refused);
-    summary_text(alloc, accepted, received, ran.journal.len(), messages)
+    summary_text(alloc, accepted, received, journal.len() as u64, messages)
 }

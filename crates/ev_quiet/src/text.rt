@@ -11,10 +11,9 @@ ghost use Rattle.ev_quiet.specs.Ran.{IsCollected};
 use crate::body::Body;
 use crate::given::Given;
 use crate::printed::Printed;
-use crate::ran::Ran;
 use crate::words::Shown;
-use ev_journal::Journal;
 use ev_memory::NoMemory;
+use ev_merge::{Ran, Record};
 use ev_model::{Entry, Net};
 use ev_numnet::retell;
 use ev_report::trace_text;
@@ -47,7 +46,7 @@ fn trace_where(
     alloc: Global,
     wanted: bool,
     net: &Net,
-    journal: &Journal,
+    journal: &Record,
 ) -> Result<Vec<u8>, NoMemory>
     requires sound { IsSound net.now }
     requires kept { wanted ≡ true → journal.now.kept ≡ true }

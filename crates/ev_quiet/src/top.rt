@@ -12,7 +12,7 @@ use crate::printed::Printed;
 use crate::status::Status;
 use crate::unanswered::Unanswered;
 use crate::words::{Wanted, read_words};
-use ev_journal::Journal;
+use ev_merge::Record;
 use ev_outside::{Sink, Source, Word};
 use std::alloc::Global;
 
@@ -23,7 +23,7 @@ pub struct Outcome {
     /// How it ended.
     pub status: Status,
     /// The journal.
-    pub journal: Journal,
+    pub journal: Record,
 }
 
 impl Outcome {
@@ -40,7 +40,7 @@ impl Outcome {
     {
         Outcome {
             status,
-            journal: Journal::new(alloc, false),
+            journal: Record::empty(alloc),
         }
     }
 

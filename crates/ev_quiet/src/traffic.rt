@@ -11,11 +11,12 @@ ghost use Rattle.ev_quiet.specs.Traffic.{IsTrafficOf};
 
 use crate::body::Body;
 use crate::printed::Printed;
-use crate::ran::{Ran, walked};
+use crate::ran::walked;
 use crate::reading::net;
 use crate::words::Query;
 use ev_input::{Fault, InputFault};
 use ev_memory::NoMemory;
+use ev_merge::Ran;
 use ev_model::{Entry, Net};
 use ev_numnet::{Kept, Network, Passed};
 use ev_schedule::turn_of;
