@@ -2,25 +2,23 @@
 ghost use Rattle.std.specs.Prelude.{◌≡◌, ℕ, List, true, length, IfOk};
 ghost use Rattle.ev_model.specs.Nets.{of_clients};
 ghost use Rattle.ev_model.specs.Sound.{IsSound};
-ghost use Rattle.ev_hierturns.specs.Network.{IsLegal, refused_by};
-ghost use Rattle.ev_hierturns.specs.Told.{told_by};
-ghost use Rattle.ev_report.specs.Trace.{trace_text};
+ghost use Rattle.ev_hierturns.specs.Network.{refused_by};
 ghost use Rattle.ev_input.specs.Net.{IsNetOf};
-ghost use Rattle.ev_quiet.specs.Hierarchy.{hierarchy_trace, IsHierarchyOf};
+ghost use Rattle.ev_quiet.specs.Hierarchy.{IsHierarchyOf};
 ghost use Rattle.ev_quiet.specs.Promise.{AreOfNotices};
 ghost use Rattle.ev_quiet.specs.HierarchyRan.{IsHierarchyRan, IsHierarchyShown};
 
 use crate::hierarchy_law::hierarchy_promise;
 use crate::printed::Printed;
 use crate::ran::clients;
-use crate::text::printed_lists;
+use crate::telling::Hierarchy;
+use crate::text::{printed_lists, trace_where};
 use crate::words::Shown;
-use ev_hier::{HierNetwork, retell};
+use ev_hier::HierNetwork;
 use ev_memory::NoMemory;
 use ev_merge::{Ran, Record};
-use ev_model::{Entry, Net};
+use ev_model::Net;
 use ev_numnet::{Keeping, Kept, Passed};
-use ev_report::trace_text;
 use ev_tables::Tables;
 use ev_wire::Lists;
 use std::alloc::Global;
@@ -84,53 +82,13 @@ fn made(alloc: Global, net: &Net, kept: bool) -> Result<Ran, NoMemory>
     }
 }
 
-// The trace of a hierarchy's journal with its messages, by the tables of its run.
-#[tactic(auto, using(crate::proofs::Told::told_below_length))]
-fn trace_over(alloc: Global, tables: &Tables<'_>, journal: &[Entry]) -> Result<Vec<u8>, NoMemory>
-    requires sound { IsSound tables.now }
-    requires legal { IsLegal tables.now journal.now }
-    ensures { IfOk result (λ text. text.items ≡ trace_text tables.now journal.now (told_by tables.now journal.now)) }
-{
-    let told = retell(alloc, tables, journal)?;
-    trace_text(alloc, tables.net(), journal, &told)
-}
-
-// The trace of a hierarchy's journal with its messages.
-fn trace(alloc: Global, net: &Net, journal: &[Entry]) -> Result<Vec<u8>, NoMemory>
-    requires sound { IsSound net.now }
-    requires legal { IsLegal net.now journal.now }
-    ensures { IfOk result (λ text. text.items ≡ trace_text net.now journal.now (told_by net.now journal.now)) }
-{
-    let tables = Tables::of(alloc, net)?;
-    trace_over(alloc, &tables, journal)
-}
-
-// The same where it is wanted.
-fn trace_where(
-    alloc: Global,
-    wanted: bool,
-    net: &Net,
-    journal: &Record,
-) -> Result<Vec<u8>, NoMemory>
-    requires sound { IsSound net.now }
-    requires kept { wanted ≡ true → journal.now.kept ≡ true }
-    requires legal { IsLegal net.now journal.now.entries }
-    ensures { IfOk result (λ text. text.items ≡ hierarchy_trace wanted net.now journal.now.entries) }
-{
-    if wanted {
-        trace(alloc, net, journal.entries())
-    } else {
-        Ok(Vec::new(alloc))
-    }
-}
-
 // What is printed of the walk of a net's hierarchy.
 fn shown(alloc: Global, net: Net, shown: Shown) -> Result<Printed, NoMemory>
     requires sound { IsSound net }
     ensures { IfOk result (λ p. IsHierarchyShown shown net p.text p.journal) }
 {
     let ran = made(alloc, &net, shown.trace)?;
-    let trace = trace_where(alloc, shown.trace, &net, &ran.journal)?;
+    let trace = trace_where::<Hierarchy>(alloc, shown.trace, &net, &ran.journal)?;
     printed_lists(alloc, net, ran, shown.sorted, trace)
 }
 
