@@ -8,12 +8,11 @@ use Rattle.ev_input.specs.declared.fault.Fault.TheVariants.{BadTurn}
 use Rattle.ev_input.specs.declared.fault.InputFault.{InputFault}
 use Rattle.ev_input.specs.declared.fault.InputFault.TheVariants as inputs
 use Rattle.ev_input.specs.Net.{IsNetOf, IsBadAt}
-use Rattle.ev_quiet.specs.declared.words.Schedule.{Schedule}
-use Rattle.ev_quiet.specs.declared.words.Shown.{Shown}
 use Rattle.ev_quiet.specs.declared.words.Query.{Query}
 use Rattle.ev_quiet.specs.declared.words.Query.TheVariants.{Run, Hierarchy, Flood, Check, Format, Traffic}
 use Rattle.ev_quiet.specs.Runs.{turns_first}
-use Rattle.ev_quiet.specs.Faults.{ArePermitted, StopsAtLine, MustBeRefused, CanBeDone}
+use Rattle.ev_quiet.specs.Faults.{ArePermitted, StopsAtLine, IsAtFault, MustBeRefused, CanBeDone}
+use Rattle.ev_quiet.specs.Ran.{turns_for}
 use Rattle.ev_turns.proofs.Stopping.{never-stops, one-line}
 
 -- where one holds of an answer, so does what follows
@@ -93,17 +92,47 @@ never-refused (Ok x) net turns bad permitted = inl refl
 never-refused (Err (inputs.Bad l k)) net turns bad permitted = absurd (never-stops net [] turns permitted.0 l permitted.1 (bad l k refl).1)
 never-refused (Err inputs.NoMemory) net turns bad permitted = inr refl
 
--- what is answered of the run of a document with a net
-pub run-refused : {T : Type 0} (r : Result T InputFault) (input : List ℕ) (net : NetParts) (schedule : Schedule) (shown : Shown) (line : ℕ) (kind : Fault) → IsNetOf input net
-    → (IsBadAt input line kind → ⊥)
-    → IfOk r (λ x. ArePermitted net (turns_first schedule net))
-    → ((l : ℕ) (k : Fault) → IsErrOf r (inputs.Bad l k) → (k ≡ BadTurn) × StopsAtLine net [] (turns_first schedule net) l)
-    → MustBeRefused (Run schedule shown) input line kind → Refused r line kind
-run-refused r input net schedule shown line kind of good permitted bad (inl b) = absurd (good b)
-run-refused r input net schedule shown line kind of good permitted bad (inr m) =
-    subst (λ z. Refused r line z) (sym m.0) (stops-there r net (turns_first schedule net) line permitted bad (m.1.1 net of))
+-- a document that is at fault is so whatever is wanted of it
+pub net-at-fault : (query : Query) (input : List ℕ) (line : ℕ) (kind : Fault) → IsBadAt input line kind → IsAtFault query input line kind
+net-at-fault (Run schedule shown) input line kind b = inl b
+net-at-fault (Hierarchy shown) input line kind b = b
+net-at-fault Flood input line kind b = b
+net-at-fault Check input line kind b = b
+net-at-fault Format input line kind b = b
+net-at-fault (Traffic graph) input line kind b = b
 
-pub run-done : {T : Type 0} (r : Result T InputFault) (input : List ℕ) (net : NetParts) (schedule : Schedule) (shown : Shown) → IsNetOf input net
-    → ((l : ℕ) (k : Fault) → IsErrOf r (inputs.Bad l k) → (k ≡ BadTurn) × StopsAtLine net [] (turns_first schedule net) l)
-    → CanBeDone (Run schedule shown) input → Ended r
-run-done r input net schedule shown of bad d = never-refused r net (turns_first schedule net) bad (d.1 net of)
+-- what is answered of a document with a net
+module _ {T : Type 0} (r : Result T InputFault) (input : List ℕ) (net : NetParts) (of : IsNetOf input net) where
+  pub turn-at-fault : (query : Query) (line : ℕ) (kind : Fault) → (kind ≡ BadTurn) × StopsAtLine net [] (turns_for query net) line → IsAtFault query input line kind
+  turn-at-fault (Run schedule shown) line kind s = inr (s.0, (net, of, s.1))
+  turn-at-fault (Hierarchy shown) line kind s = absurd s.1
+  turn-at-fault Flood line kind s = absurd s.1
+  turn-at-fault Check line kind s = absurd s.1
+  turn-at-fault Format line kind s = absurd s.1
+  turn-at-fault (Traffic graph) line kind s = absurd s.1
+
+  pub net-refused : (query : Query) (line : ℕ) (kind : Fault) → (IsBadAt input line kind → ⊥)
+      → IfOk r (λ x. ArePermitted net (turns_for query net))
+      → ((l : ℕ) (k : Fault) → IsErrOf r (inputs.Bad l k) → (k ≡ BadTurn) × StopsAtLine net [] (turns_for query net) l)
+      → MustBeRefused query input line kind → Refused r line kind
+  net-refused (Run schedule shown) line kind good permitted bad (inl b) = absurd (good b)
+  net-refused (Run schedule shown) line kind good permitted bad (inr m) =
+      subst (λ z. Refused r line z) (sym m.0) (stops-there r net (turns_first schedule net) line permitted bad (m.1.1 net of))
+  net-refused (Hierarchy shown) line kind good permitted bad m = absurd (good m)
+  net-refused Flood line kind good permitted bad m = absurd (good m)
+  net-refused Check line kind good permitted bad m = absurd (good m)
+  net-refused Format line kind good permitted bad m = absurd (good m)
+  net-refused (Traffic graph) line kind good permitted bad m = absurd (good m)
+
+  permitted-by : (query : Query) → CanBeDone query input → ArePermitted net (turns_for query net)
+  permitted-by (Run schedule shown) d = d.1 net of
+  permitted-by (Hierarchy shown) d = ([], refl)
+  permitted-by Flood d = ([], refl)
+  permitted-by Check d = ([], refl)
+  permitted-by Format d = ([], refl)
+  permitted-by (Traffic graph) d = ([], refl)
+
+  pub net-done : (query : Query)
+      → ((l : ℕ) (k : Fault) → IsErrOf r (inputs.Bad l k) → (k ≡ BadTurn) × StopsAtLine net [] (turns_for query net) l)
+      → CanBeDone query input → Ended r
+  net-done query bad d = never-refused r net (turns_for query net) bad (permitted-by query d)

@@ -7,7 +7,6 @@ pub mod Hierarchies
 pub mod HierarchyClients
 pub mod HierarchyRuns
 pub mod Schedules
-pub mod Told
 pub mod Ended
 pub mod Sources
 pub mod Heard

@@ -1,5 +1,5 @@
 -- What is printed of the walk of a document's hierarchy, with server 1 at the top.
-use Rattle.std.specs.Prelude.{◌≡◌, ℕ, Bool, true, false, List, [], ◌++◌}
+use Rattle.std.specs.Prelude.{◌≡◌, ℕ, Bool, List, [], ◌++◌}
 use Rattle.ev_model.specs.Parts.{NetParts, EntryParts}
 use Rattle.ev_hierturns.specs.Network.{journal_in, refused_by, received_by}
 use Rattle.ev_hierturns.specs.Walked.{walk_after}
@@ -8,6 +8,7 @@ use Rattle.ev_hierturns.specs.Promise.{HierarchyPromise}
 use Rattle.ev_input.specs.Net.{IsNetOf}
 use Rattle.ev_report.specs.Trace.{trace_text}
 use Rattle.ev_quiet.specs.declared.words.Shown.{Shown}
+use Rattle.ev_quiet.specs.Printed.{where_wanted}
 use Rattle.ev_quiet.specs.Promise.{ClientLists, ClientPromise, lists_text}
 
 -- what a journal of a hierarchy gives the clients
@@ -16,8 +17,7 @@ hierarchy_lists net journal = record { refused = refused_by net journal; receive
 
 -- its trace with its messages, where it is wanted
 abbrev pub hierarchy_trace : Bool → NetParts → List EntryParts → List ℕ
-hierarchy_trace true net journal = trace_text net journal (told_by net journal)
-hierarchy_trace false net journal = []
+hierarchy_trace wanted net journal = where_wanted wanted (trace_text net journal (told_by net journal))
 
 -- THE TEXT OF A RUN OF A HIERARCHY: what each client received, and the trace where it is wanted
 abbrev pub hierarchy_text : Shown → NetParts → List EntryParts → List ℕ

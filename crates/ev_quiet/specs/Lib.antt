@@ -7,6 +7,7 @@ pub mod Promise
 pub mod Network
 pub mod Headline
 pub mod Traffic
+pub mod Told
 pub mod Hierarchy
 pub mod Faults
 pub mod Ran

@@ -19,10 +19,14 @@ use Rattle.ev_quiet.specs.declared.words.Schedule.TheVariants.{Walk}
 use Rattle.ev_quiet.specs.declared.words.Shown.{Shown}
 use Rattle.ev_quiet.specs.Runs.{GoesBy, refused_in, received_in}
 
+-- a text where it is wanted
+abbrev pub where_wanted : Bool → List ℕ → List ℕ
+where_wanted true text = text
+where_wanted false text = []
+
 -- the trace of a journal with its messages, where it is wanted
 abbrev pub trace_of : Bool → NetParts → List EntryParts → List ℕ
-trace_of true net journal = trace_text net journal (told_by net journal)
-trace_of false net journal = []
+trace_of wanted net journal = where_wanted wanted (trace_text net journal (told_by net journal))
 
 -- THE TEXT OF A RUN: what each client received, and the trace where it is wanted
 abbrev pub run_text : Shown → NetParts → List EntryParts → List ℕ

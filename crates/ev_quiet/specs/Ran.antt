@@ -1,13 +1,25 @@
 -- How the code makes a run; no promise to a caller speaks of it.
-use Rattle.std.specs.Prelude.{◌≡◌, ℕ, List}
+use Rattle.std.specs.Prelude.{◌≡◌, ℕ, List, []}
+use Rattle.ev_model.specs.declared.turn.Turn.{Turn}
 use Rattle.ev_model.specs.Parts.{NetParts, EntryParts}
 use Rattle.ev_turns.specs.Network.{NetworkParts, IsLegal, IsDrainedBy}
 use Rattle.ev_merge.specs.declared.ran.Ran.{Ran}
 use Rattle.ev_quiet.specs.declared.words.Schedule.{Schedule}
+use Rattle.ev_quiet.specs.declared.words.Query.{Query}
+use Rattle.ev_quiet.specs.declared.words.Query.TheVariants.{Run, Hierarchy, Flood, Check, Format, Traffic}
 use Rattle.ev_quiet.specs.declared.words.Shown.{Shown}
 use Rattle.ev_quiet.specs.Printed.{run_text}
 use Rattle.ev_quiet.specs.Runs.{turns_first, GoesBy, refused_in, received_in}
 use Rattle.ev_quiet.specs.Faults.{ArePermitted}
+
+-- the turns that must be permitted for what is wanted of a net
+abbrev pub turns_for : Query → NetParts → List (ℕ × Turn)
+turns_for (Run schedule shown) net = turns_first schedule net
+turns_for (Hierarchy shown) net = []
+turns_for Flood net = []
+turns_for Check net = []
+turns_for Format net = []
+turns_for (Traffic graph) net = []
 
 -- a network of the net went by the schedule, whose turns were permitted, and is drained
 pub record IsRunThrough (schedule : Schedule) (net : NetParts) (network : NetworkParts) : Type 0 where

@@ -1,28 +1,24 @@
 //! The walk of a document's hierarchy, with server 1 at the top.
-ghost use Rattle.std.specs.Prelude.{◌≡◌, ◌⊎◌, ℕ, true, length, IfOk, IsOk, IsErrOf};
+ghost use Rattle.std.specs.Prelude.{◌≡◌, ℕ, List, true, length, IfOk};
 ghost use Rattle.ev_model.specs.Nets.{of_clients};
 ghost use Rattle.ev_model.specs.Sound.{IsSound};
-ghost use Rattle.ev_hierturns.specs.Network.{IsLegal, refused_by};
-ghost use Rattle.ev_hierturns.specs.Told.{told_by};
-ghost use Rattle.ev_report.specs.Trace.{trace_text};
-ghost use Rattle.ev_quiet.specs.Answers.{IsPrintedOf};
-ghost use Rattle.ev_quiet.specs.Faults.{IsAtFault, MustBeRefused, CanBeDone};
-ghost use Rattle.ev_quiet.specs.Hierarchy.{hierarchy_trace};
+ghost use Rattle.ev_hierturns.specs.Network.{refused_by};
+ghost use Rattle.ev_input.specs.Net.{IsNetOf};
+ghost use Rattle.ev_quiet.specs.Hierarchy.{IsHierarchyOf};
+ghost use Rattle.ev_quiet.specs.Promise.{AreOfNotices};
 ghost use Rattle.ev_quiet.specs.HierarchyRan.{IsHierarchyRan, IsHierarchyShown};
 
 use crate::hierarchy_law::hierarchy_promise;
 use crate::printed::Printed;
 use crate::ran::clients;
-use crate::reading::net;
-use crate::text::printed_lists;
-use crate::words::{Query, Shown};
-use ev_hier::{HierNetwork, retell};
-use ev_input::{Fault, InputFault};
+use crate::telling::Hierarchy;
+use crate::text::{printed_lists, trace_where};
+use crate::words::Shown;
+use ev_hier::HierNetwork;
 use ev_memory::NoMemory;
 use ev_merge::{Ran, Record};
-use ev_model::{Entry, Net};
+use ev_model::Net;
 use ev_numnet::{Keeping, Kept, Passed};
-use ev_report::trace_text;
 use ev_tables::Tables;
 use ev_wire::Lists;
 use std::alloc::Global;
@@ -86,65 +82,22 @@ fn made(alloc: Global, net: &Net, kept: bool) -> Result<Ran, NoMemory>
     }
 }
 
-// The trace of a hierarchy's journal with its messages, by the tables of its run.
-#[tactic(auto, using(crate::proofs::Told::told_below_length))]
-fn trace_over(alloc: Global, tables: &Tables<'_>, journal: &[Entry]) -> Result<Vec<u8>, NoMemory>
-    requires sound { IsSound tables.now }
-    requires legal { IsLegal tables.now journal.now }
-    ensures { IfOk result (λ text. text.items ≡ trace_text tables.now journal.now (told_by tables.now journal.now)) }
-{
-    let told = retell(alloc, tables, journal)?;
-    trace_text(alloc, tables.net(), journal, &told)
-}
-
-// The trace of a hierarchy's journal with its messages.
-fn trace(alloc: Global, net: &Net, journal: &[Entry]) -> Result<Vec<u8>, NoMemory>
-    requires sound { IsSound net.now }
-    requires legal { IsLegal net.now journal.now }
-    ensures { IfOk result (λ text. text.items ≡ trace_text net.now journal.now (told_by net.now journal.now)) }
-{
-    let tables = Tables::of(alloc, net)?;
-    trace_over(alloc, &tables, journal)
-}
-
-// The same where it is wanted.
-fn trace_where(
-    alloc: Global,
-    wanted: bool,
-    net: &Net,
-    journal: &Record,
-) -> Result<Vec<u8>, NoMemory>
-    requires sound { IsSound net.now }
-    requires kept { wanted ≡ true → journal.now.kept ≡ true }
-    requires legal { IsLegal net.now journal.now.entries }
-    ensures { IfOk result (λ text. text.items ≡ hierarchy_trace wanted net.now journal.now.entries) }
-{
-    if wanted {
-        trace(alloc, net, journal.entries())
-    } else {
-        Ok(Vec::new(alloc))
-    }
-}
-
 // What is printed of the walk of a net's hierarchy.
-fn of_net(alloc: Global, net: Net, shown: Shown) -> Result<Printed, NoMemory>
+fn shown(alloc: Global, net: Net, shown: Shown) -> Result<Printed, NoMemory>
     requires sound { IsSound net }
     ensures { IfOk result (λ p. IsHierarchyShown shown net p.text p.journal) }
 {
     let ran = made(alloc, &net, shown.trace)?;
-    let trace = trace_where(alloc, shown.trace, &net, &ran.journal)?;
+    let trace = trace_where::<Hierarchy>(alloc, shown.trace, &net, &ran.journal)?;
     printed_lists(alloc, net, ran, shown.sorted, trace)
 }
 
-/// What each client of a document receives in the walk of its hierarchy, on the tree of phase 0.
-pub fn hierarchy(alloc: Global, bytes: &[u8], shown: Shown) -> Result<Printed, InputFault>
-    ensures printed { IfOk result (λ p. IsPrintedOf (Query.Hierarchy shown) bytes.now p.text p.journal) }
-    ensures bad { (line : ℕ) (kind : Fault) → IsErrOf result (InputFault.Bad line kind) → IsAtFault (Query.Hierarchy shown) bytes.now line kind }
-    ensures refused { (line : ℕ) (kind : Fault) → MustBeRefused (Query.Hierarchy shown) bytes.now line kind
-        → IsErrOf result (InputFault.Bad line kind) ⊎ IsErrOf result InputFault.NoMemory }
-    ensures done { CanBeDone (Query.Hierarchy shown) bytes.now → IsOk result ⊎ IsErrOf result InputFault.NoMemory }
+/// What each client of a document's net receives in the walk of its hierarchy, on the tree of phase 0.
+pub fn hierarchy(alloc: Global, net: Net, options: Shown) -> Result<Printed, NoMemory>
+    requires sound { IsSound net }
+    requires notices { AreOfNotices net.clients }
+    ensures { IfOk result (λ p. (input : List ℕ) → IsNetOf input net → IsHierarchyOf options input p.text p.journal) }
 {
     hierarchy_promise();
-    let net = net(alloc, bytes)?;
-    Ok(of_net(alloc, net, shown)?)
+    shown(alloc, net, options)
 }

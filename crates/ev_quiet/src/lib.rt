@@ -20,6 +20,7 @@ mod sentences;
 mod standard;
 mod status;
 mod summary;
+mod telling;
 mod text;
 mod top;
 mod traffic;

@@ -1,12 +1,15 @@
 //! What is printed of a document.
-ghost use Rattle.std.specs.Prelude.{◌≡◌, ◌⊎◌, ◌++◌, ℕ, true, [], IfOk, IsOk, IsErrOf};
+ghost use Rattle.std.specs.Prelude.{◌≡◌, ◌⊎◌, ◌++◌, ℕ, List, true, [], IfOk, IsOk, IsErrOf};
 ghost use Rattle.ev_outside.specs.Cause.{Rose};
 ghost use Rattle.ev_outside.specs.Whole.{TookPart};
 ghost use Rattle.ev_model.specs.Sound.{IsSound};
+ghost use Rattle.ev_input.specs.Net.{IsNetOf};
 ghost use Rattle.ev_input.specs.declared.fault.Fault.TheVariants.{BadTurn};
+ghost use Rattle.ev_quiet.specs.Headline.{Headline};
+ghost use Rattle.ev_quiet.specs.Promise.{AreOfNotices};
 ghost use Rattle.ev_quiet.specs.Runs.{turns_first};
 ghost use Rattle.ev_quiet.specs.Words.{is_quiet, IsQuietQuery};
-ghost use Rattle.ev_quiet.specs.Ran.{IsRan, IsShown};
+ghost use Rattle.ev_quiet.specs.Ran.{IsRan, IsShown, turns_for};
 ghost use Rattle.ev_quiet.specs.Faults.{ArePermitted, StopsAtLine, IsAtFault, MustBeRefused, CanBeDone};
 ghost use Rattle.ev_quiet.specs.Answers.{IsPrintedOf};
 
@@ -133,73 +136,76 @@ fn shown(alloc: Global, net: Net, schedule: Schedule, shown: Shown) -> Result<Pr
     Ok(printed_run(alloc, net, ran, shown)?)
 }
 
-// The run of a document.
-fn run(
-    alloc: Global,
-    bytes: &[u8],
-    schedule: Schedule,
-    options: Shown,
-) -> Result<Printed, InputFault>
-    requires { is_quiet schedule ≡ true }
-    ensures printed { IfOk result (λ p. IsPrintedOf (Query.Run schedule options) bytes.now p.text p.journal) }
-    ensures bad { (line : ℕ) (kind : Fault) → IsErrOf result (InputFault.Bad line kind) → IsAtFault (Query.Run schedule options) bytes.now line kind }
-    ensures refused { (line : ℕ) (kind : Fault) → MustBeRefused (Query.Run schedule options) bytes.now line kind
-        → IsErrOf result (InputFault.Bad line kind) ⊎ IsErrOf result InputFault.NoMemory }
-    ensures done { CanBeDone (Query.Run schedule options) bytes.now → IsOk result ⊎ IsErrOf result InputFault.NoMemory }
+// What each client of a document's net receives in a run.
+fn run(alloc: Global, net: Net, schedule: Schedule, options: Shown) -> Result<Printed, InputFault>
+    requires quiet { is_quiet schedule ≡ true }
+    requires sound { IsSound net }
+    requires notices { AreOfNotices net.clients }
+    ensures printed { IfOk result (λ p. (input : List ℕ) → IsNetOf input net → Headline schedule options input p.text p.journal) }
+    ensures permitted { IfOk result (λ p. ArePermitted net (turns_first schedule net)) }
+    ensures bad { (line : ℕ) (kind : Fault) → IsErrOf result (InputFault.Bad line kind)
+        → (kind ≡ BadTurn) × StopsAtLine net [] (turns_first schedule net) line }
 {
     promise();
-    let net = net(alloc, bytes)?;
     shown(alloc, net, schedule, options)
 }
 
-// What flooding brings by a document.
-fn flood(alloc: Global, bytes: &[u8]) -> Result<Printed, InputFault>
-    ensures printed { IfOk result (λ p. IsPrintedOf Query.Flood bytes.now p.text p.journal) }
-    ensures bad { (line : ℕ) (kind : Fault) → IsErrOf result (InputFault.Bad line kind) → IsAtFault Query.Flood bytes.now line kind }
-    ensures refused { (line : ℕ) (kind : Fault) → MustBeRefused Query.Flood bytes.now line kind
-        → IsErrOf result (InputFault.Bad line kind) ⊎ IsErrOf result InputFault.NoMemory }
-    ensures done { CanBeDone Query.Flood bytes.now → IsOk result ⊎ IsErrOf result InputFault.NoMemory }
+// What flooding brings by a document's net.
+fn flood(alloc: Global, net: Net) -> Result<Printed, NoMemory>
+    requires { IsSound net }
+    ensures { IfOk result (λ p. (input : List ℕ) → IsNetOf input net → IsPrintedOf Query.Flood input p.text p.journal) }
 {
-    let net = net(alloc, bytes)?;
     let owed = must_may(alloc, &net)?;
     let flooded = Flooded::make(alloc, net, owed)?;
-    Ok(Printed::make(
+    Printed::make(
         alloc,
         Body::Flooded(flooded),
         Vec::new(alloc),
         Record::empty(alloc),
-    )?)
+    )
 }
 
-// How much a document has.
-fn check(alloc: Global, bytes: &[u8]) -> Result<Printed, InputFault>
-    ensures printed { IfOk result (λ p. IsPrintedOf Query.Check bytes.now p.text p.journal) }
-    ensures bad { (line : ℕ) (kind : Fault) → IsErrOf result (InputFault.Bad line kind) → IsAtFault Query.Check bytes.now line kind }
-    ensures refused { (line : ℕ) (kind : Fault) → MustBeRefused Query.Check bytes.now line kind
-        → IsErrOf result (InputFault.Bad line kind) ⊎ IsErrOf result InputFault.NoMemory }
-    ensures done { CanBeDone Query.Check bytes.now → IsOk result ⊎ IsErrOf result InputFault.NoMemory }
+// How much a document's net has.
+fn check(alloc: Global, net: &Net) -> Result<Printed, NoMemory>
+    requires { IsSound net.now }
+    ensures { IfOk result (λ p. (input : List ℕ) → IsNetOf input net.now → IsPrintedOf Query.Check input p.text p.journal) }
 {
-    let net = net(alloc, bytes)?;
-    let text = check_text(alloc, &net)?;
-    Ok(Printed::alone(alloc, text)?)
+    let text = check_text(alloc, net)?;
+    Printed::alone(alloc, text)
 }
 
-// The canonical text of a document.
-fn format(alloc: Global, bytes: &[u8]) -> Result<Printed, InputFault>
-    ensures printed { IfOk result (λ p. IsPrintedOf Query.Format bytes.now p.text p.journal) }
-    ensures bad { (line : ℕ) (kind : Fault) → IsErrOf result (InputFault.Bad line kind) → IsAtFault Query.Format bytes.now line kind }
-    ensures refused { (line : ℕ) (kind : Fault) → MustBeRefused Query.Format bytes.now line kind
-        → IsErrOf result (InputFault.Bad line kind) ⊎ IsErrOf result InputFault.NoMemory }
-    ensures done { CanBeDone Query.Format bytes.now → IsOk result ⊎ IsErrOf result InputFault.NoMemory }
+// The canonical text of a document's net.
+fn format(alloc: Global, net: Net) -> Result<Printed, NoMemory>
+    requires { IsSound net }
+    ensures { IfOk result (λ p. (input : List ℕ) → IsNetOf input net → IsPrintedOf Query.Format input p.text p.journal) }
 {
     text_is_read();
-    let net = net(alloc, bytes)?;
-    Ok(Printed::make(
+    Printed::make(
         alloc,
         Body::Formatted(net),
         Vec::new(alloc),
         Record::empty(alloc),
-    )?)
+    )
+}
+
+// What is wanted of a document's net; only the turns of a schedule can be at fault.
+fn of_net(alloc: Global, query: Query, net: Net) -> Result<Printed, InputFault>
+    requires quiet { IsQuietQuery query }
+    requires sound { IsSound net }
+    requires notices { AreOfNotices net.clients }
+    ensures printed { IfOk result (λ p. (input : List ℕ) → IsNetOf input net → IsPrintedOf query input p.text p.journal) }
+    ensures permitted { IfOk result (λ p. ArePermitted net (turns_for query net)) }
+    ensures bad { (line : ℕ) (kind : Fault) → IsErrOf result (InputFault.Bad line kind)
+        → (kind ≡ BadTurn) × StopsAtLine net [] (turns_for query net) line }
+{
+    match query {
+        Query::Run(schedule, shown) => run(alloc, net, schedule, shown),
+        Query::Hierarchy(shown) => Ok(hierarchy(alloc, net, shown)?),
+        Query::Flood => Ok(flood(alloc, net)?),
+        Query::Check => Ok(check(alloc, &net)?),
+        Query::Format => Ok(format(alloc, net)?),
+        Query::Traffic { graph } => Ok(traffic(alloc, net, graph)?),
+    }
 }
 
 /// What is wanted of a document, or its fault.
@@ -211,12 +217,6 @@ pub fn of_document(alloc: Global, query: Query, bytes: &[u8]) -> Result<Printed,
         → IsErrOf result (InputFault.Bad line kind) ⊎ IsErrOf result InputFault.NoMemory }
     ensures done { CanBeDone query bytes.now → IsOk result ⊎ IsErrOf result InputFault.NoMemory }
 {
-    match query {
-        Query::Run(schedule, shown) => run(alloc, bytes, schedule, shown),
-        Query::Hierarchy(shown) => hierarchy(alloc, bytes, shown),
-        Query::Flood => flood(alloc, bytes),
-        Query::Check => check(alloc, bytes),
-        Query::Format => format(alloc, bytes),
-        Query::Traffic { graph } => traffic(alloc, bytes, graph),
-    }
+    let net = net(alloc, bytes)?;
+    of_net(alloc, query, net)
 }

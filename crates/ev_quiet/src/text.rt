@@ -1,48 +1,49 @@
 //! Texts of runs.
 ghost use Rattle.std.specs.Prelude.{◌≡◌, ◌++◌, true, length, IfOk};
 ghost use Rattle.ev_model.specs.Sound.{IsSound};
-ghost use Rattle.ev_turns.specs.Network.{IsLegal};
-ghost use Rattle.ev_turns.specs.Told.{told_by};
 ghost use Rattle.ev_report.specs.Deliveries.{deliveries_text};
 ghost use Rattle.ev_report.specs.Trace.{trace_text};
-ghost use Rattle.ev_quiet.specs.Printed.{trace_of, run_text};
+ghost use Rattle.ev_quiet.specs.Printed.{run_text, where_wanted};
 ghost use Rattle.ev_quiet.specs.Ran.{IsCollected};
 
 use crate::body::Body;
 use crate::given::Given;
 use crate::printed::Printed;
+use crate::telling::{Peers, Telling};
 use crate::words::Shown;
 use ev_memory::NoMemory;
 use ev_merge::{Ran, Record};
 use ev_model::{Entry, Net};
-use ev_numnet::retell;
 use ev_report::trace_text;
 use ev_tables::Tables;
 use std::alloc::Global;
 
 // The trace of a journal with its messages, by the tables of its run.
-#[tactic(auto, using(crate::proofs::Told::told_length))]
-fn trace_over(alloc: Global, tables: &Tables<'_>, journal: &[Entry]) -> Result<Vec<u8>, NoMemory>
+fn trace_over<T: Telling>(
+    alloc: Global,
+    tables: &Tables<'_>,
+    journal: &[Entry],
+) -> Result<Vec<u8>, NoMemory>
     requires sound { IsSound tables.now }
-    requires legal { IsLegal tables.now journal.now }
-    ensures { IfOk result (λ text. text.items ≡ trace_text tables.now journal.now (told_by tables.now journal.now)) }
+    requires legal { T.legal tables.now journal.now }
+    ensures { IfOk result (λ text. text.items ≡ trace_text tables.now journal.now (T.told_by tables.now journal.now)) }
 {
-    let told = retell(alloc, tables, journal)?;
+    let told = T::retell(alloc, tables, journal)?;
     trace_text(alloc, tables.net(), journal, &told)
 }
 
 // The trace of a journal with its messages.
-fn trace(alloc: Global, net: &Net, journal: &[Entry]) -> Result<Vec<u8>, NoMemory>
+fn trace<T: Telling>(alloc: Global, net: &Net, journal: &[Entry]) -> Result<Vec<u8>, NoMemory>
     requires sound { IsSound net.now }
-    requires legal { IsLegal net.now journal.now }
-    ensures { IfOk result (λ text. text.items ≡ trace_text net.now journal.now (told_by net.now journal.now)) }
+    requires legal { T.legal net.now journal.now }
+    ensures { IfOk result (λ text. text.items ≡ trace_text net.now journal.now (T.told_by net.now journal.now)) }
 {
     let tables = Tables::of(alloc, net)?;
-    trace_over(alloc, &tables, journal)
+    trace_over::<T>(alloc, &tables, journal)
 }
 
-// The same where it is wanted.
-fn trace_where(
+/// The trace of a journal with its messages, where it is wanted.
+pub fn trace_where<T: Telling>(
     alloc: Global,
     wanted: bool,
     net: &Net,
@@ -50,11 +51,12 @@ fn trace_where(
 ) -> Result<Vec<u8>, NoMemory>
     requires sound { IsSound net.now }
     requires kept { wanted ≡ true → journal.now.kept ≡ true }
-    requires legal { IsLegal net.now journal.now.entries }
-    ensures { IfOk result (λ text. text.items ≡ trace_of wanted net.now journal.now.entries) }
+    requires legal { T.legal net.now journal.now.entries }
+    ensures { IfOk result (λ text. text.items ≡
+        where_wanted wanted (trace_text net.now journal.now.entries (T.told_by net.now journal.now.entries))) }
 {
     if wanted {
-        trace(alloc, net, journal.entries())
+        trace::<T>(alloc, net, journal.entries())
     } else {
         Ok(Vec::new(alloc))
     }
@@ -90,6 +92,6 @@ pub fn printed_run(alloc: Global, net: Net, ran: Ran, shown: Shown) -> Result<Pr
     ensures text { IfOk result (λ p. p.text ≡ run_text shown net ran.journal.entries) }
     ensures journal { IfOk result (λ p. p.journal ≡ ran.journal.entries) }
 {
-    let trace = trace_where(alloc, shown.trace, &net, &ran.journal)?;
+    let trace = trace_where::<Peers>(alloc, shown.trace, &net, &ran.journal)?;
     printed_lists(alloc, net, ran, shown.sorted, trace)
 }

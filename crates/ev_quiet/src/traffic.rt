@@ -1,20 +1,15 @@
 //! What the links of a document carry in its walk.
-ghost use Rattle.std.specs.Prelude.{◌⊎◌, ℕ, List, IfOk, IsOk, IsErrOf};
+ghost use Rattle.std.specs.Prelude.{ℕ, List, IfOk};
 ghost use Rattle.ev_model.specs.Sound.{IsSound};
 ghost use Rattle.ev_turns.specs.Network.{IsLegal};
 ghost use Rattle.ev_turns.specs.Told.{told_by};
 ghost use Rattle.ev_input.specs.Net.{IsNetOf};
 ghost use Rattle.ev_traffic.specs.Tallied.{Carries};
-ghost use Rattle.ev_quiet.specs.Answers.{IsPrintedOf};
-ghost use Rattle.ev_quiet.specs.Faults.{IsAtFault, MustBeRefused, CanBeDone};
 ghost use Rattle.ev_quiet.specs.Traffic.{IsTrafficOf};
 
 use crate::body::Body;
 use crate::printed::Printed;
 use crate::ran::walked;
-use crate::reading::net;
-use crate::words::Query;
-use ev_input::{Fault, InputFault};
 use ev_memory::NoMemory;
 use ev_merge::Ran;
 use ev_model::{Entry, Net};
@@ -51,9 +46,9 @@ fn carried(alloc: Global, net: &Net, journal: &[Entry]) -> Result<Carried, NoMem
     carried_over(alloc, &tables, journal)
 }
 
-// What is printed of a net's walk.
-fn of_net(alloc: Global, net: Net, graph: bool) -> Result<Printed, NoMemory>
-    requires sound { IsSound net }
+/// What each link of a document's net carries in its walk, beside what plain flooding would have put there.
+pub fn traffic(alloc: Global, net: Net, graph: bool) -> Result<Printed, NoMemory>
+    requires { IsSound net }
     ensures { IfOk result (λ p. (input : List ℕ) → IsNetOf input net → IsTrafficOf graph input p.text p.journal) }
 {
     beside_flooding();
@@ -66,16 +61,4 @@ fn of_net(alloc: Global, net: Net, graph: bool) -> Result<Printed, NoMemory>
     let carried = carried(alloc, &net, journal.entries())?;
     let traffic = Traffic::make(alloc, net, &refused, carried, graph)?;
     Printed::make(alloc, Body::Carried(traffic), Vec::new(alloc), journal)
-}
-
-/// What each link of a document carries in its walk, beside what plain flooding would have put there.
-pub fn traffic(alloc: Global, bytes: &[u8], graph: bool) -> Result<Printed, InputFault>
-    ensures printed { IfOk result (λ p. IsPrintedOf (Query.Traffic graph) bytes.now p.text p.journal) }
-    ensures bad { (line : ℕ) (kind : Fault) → IsErrOf result (InputFault.Bad line kind) → IsAtFault (Query.Traffic graph) bytes.now line kind }
-    ensures refused { (line : ℕ) (kind : Fault) → MustBeRefused (Query.Traffic graph) bytes.now line kind
-        → IsErrOf result (InputFault.Bad line kind) ⊎ IsErrOf result InputFault.NoMemory }
-    ensures done { CanBeDone (Query.Traffic graph) bytes.now → IsOk result ⊎ IsErrOf result InputFault.NoMemory }
-{
-    let net = net(alloc, bytes)?;
-    Ok(of_net(alloc, net, graph)?)
 }

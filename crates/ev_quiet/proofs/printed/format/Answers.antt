@@ -1,21 +1,28 @@
-use Rattle.std.proofs.Common.{◌≡◌, Err, arith}
-use Rattle.std.proofs.lemmas.Grind.{common_steps}
-use Rattle.ev_quiet.specs.declared.words.Query.TheVariants.{Format}
-use Rattle.ev_quiet.proofs.Ended.{no-refusal, without-net, done-without-net}
+use Rattle.std.proofs.Common.{◌≡◌, ℕ, List, [], ◌++◌, refl, sym, ap, ◌∙◌, subst, append-nil}
+use Rattle.ev_model.specs.Parts.{NetParts, EntryParts}
+use Rattle.ev_format.specs.DocumentText.{as_written, document_text}
+use Rattle.ev_format.specs.Limits.{FitsDocument}
+use Rattle.ev_input.specs.Net.{IsNetOf}
+use Rattle.ev_merge.specs.Record.{RecordParts}
+use Rattle.ev_quiet.specs.declared.body.Body.TheVariants as bodies
+use Rattle.ev_quiet.specs.Printed.{IsFormatOf}
+use Rattle.ev_quiet.specs.Showing.{PrintedParts, printed_parts}
+use Rattle.ev_quiet.proofs.Ended.{if-ok}
 use Rattle.ev_quiet.proofs.printed.format.Goals as goal
 
-pub returns-in_err-net-clause-bad : goal.returns-in_err-net-clause-bad
-returns-in_err-net-clause-bad c = λ line kind e. c.in_err-net.ensures.bad line kind (grind (arith, common_steps, e, c.from_residual.ensures.1))
+formatted : (net : NetParts) (p : PrintedParts) (rest : List ℕ) (journal : List EntryParts) → p ≡ printed_parts (bodies.Formatted net) rest journal → rest ≡ [] → journal ≡ []
+    → (input : List ℕ) → IsNetOf input net → (FitsDocument net → IsNetOf (document_text net) (as_written net))
+    → (FitsDocument net → (other : NetParts) → IsNetOf (document_text net) other → document_text other ≡ document_text net)
+    → IsFormatOf input p.text × (p.journal ≡ [])
+formatted net p rest journal e none empty input of read again =
+    let same : p.text ≡ document_text net = ap (λ (z : PrintedParts). z.text) e ∙ (ap (λ l. document_text net ++ l) none ∙ append-nil (document_text net)) in (
+      subst (IsFormatOf input) (sym same) (record { net = net; well_formed = of; printed = refl; read = read; again = again }),
+      ap (λ (z : PrintedParts). z.journal) e ∙ empty,
+    )
 
-pub returns-in_err-net-clause-refused : goal.returns-in_err-net-clause-refused
-returns-in_err-net-clause-refused c = λ line kind m.
-    let s : c.from_residual.result ≡ Err c.in_err-net.field-0.0 = grind (arith, common_steps, c.from_residual.ensures.1) in
-    without-net c.args.bytes.now c.in_err-net.field-0.0 c.from_residual.result s c.in_err-net.ensures.given c.in_err-net.ensures.refused Format line kind m
-
-pub returns-in_err-net-clause-done : goal.returns-in_err-net-clause-done
-returns-in_err-net-clause-done c = λ d.
-    let s : c.from_residual.result ≡ Err c.in_err-net.field-0.0 = grind (arith, common_steps, c.from_residual.ensures.1) in
-    done-without-net c.args.bytes.now c.in_err-net.field-0.0 c.from_residual.result s c.in_err-net.ensures.given Format d
-
-pub returns-clause-refused : goal.returns-clause-refused
-returns-clause-refused c = λ line kind m. absurd (no-refusal c.in_ok-net.net line kind (c.in_ok-net.ensures.refused line kind m))
+pub returns : goal.returns
+returns c =
+    let net = c.args.net in
+    if-ok c.make.result (λ p. p ≡ printed_parts (bodies.Formatted net) c.new.result.items c.empty.result.entries) _
+    (λ p e input of. formatted net p c.new.result.items c.empty.result.entries e c.new.ensures.items (ap (λ (r : RecordParts). r.entries) c.empty.ensures) input of
+    (c.text_is_read.ensures.read input net of) (λ fits other is. c.text_is_read.ensures.again input net other of fits is)) c.make.ensures

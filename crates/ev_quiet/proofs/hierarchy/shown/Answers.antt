@@ -1,5 +1,5 @@
 use Rattle.ev_quiet.proofs.HierarchyRuns.{received-all, refused-all, shown-where}
-use Rattle.ev_quiet.proofs.hierarchy.of_net.Goals as goal
+use Rattle.ev_quiet.proofs.hierarchy.shown.Goals as goal
 
 pub printed_lists-requires-clause-refused : goal.printed_lists-requires-clause-refused
 printed_lists-requires-clause-refused c = refused-all c.args.net c.in_ok-ran.ran c.in_ok-ran.ensures.ran
