@@ -107,9 +107,7 @@ pub(crate) fn run_phases<'a, R: Threads + Wait + Sync, G: Gate + Sync>(
         let Some(phase) = next_phase(cells) else {
             return Ok(());
         };
-        one_phase(
-            alloc, rt, tables, gate, threads, cells, eyes, last, phase,
-        )?;
+        one_phase(alloc, rt, tables, gate, threads, cells, eyes, last, phase)?;
         last = phase;
     }
     unreachable!()

@@ -1,7 +1,5 @@
-use Rattle.std.proofs.Common.{◌≡◌, sym, subst, ◌∙◌}
+use Rattle.std.proofs.Common.{subst}
 use Rattle.std.specs.Prelude.{Result, Ok, Err, IfOk}
-use Rattle.ev_wire.specs.MessageText.{Each}
-use Rattle.ev_numnode.specs.Together.{keepings}
 use Rattle.ev_course.specs.Course.{IsRanBy, journals_by}
 use Rattle.ev_siena.specs.Runs.{IsThreaded}
 use Rattle.ev_siena.proofs.Ordered.{by-stamp}
