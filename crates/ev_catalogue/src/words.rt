@@ -1,13 +1,11 @@
 //! A word for each filter, by the bytes of the texts that it asks for.
 ghost use Rattle.std.specs.Prelude.{◌≡◌, ℕ, ◌<◌, ◌^◌, ◌∷◌, [], map, bit_or, IfOk};
-ghost use Rattle.std.specs.List.{list_any};
 ghost use Rattle.ev_constraint.specs.Constraint.{form_of};
 ghost use Rattle.ev_pool.specs.Signature.{place_from, marks_from, marks};
-ghost use Rattle.ev_cover.specs.Signatures.{is_void};
 ghost use Rattle.ev_catalogue.specs.Words.{asked, byte_signs, text_signs, all_text_signs, text_word};
 
 use ev_constraint::{Constraint, Normal, Op};
-use ev_cover::Sub;
+use ev_cover::{Sub, some_void};
 use ev_memory::NoMemory;
 use ev_values::Name;
 use std::alloc::Global;
@@ -79,23 +77,6 @@ fn asked_marks(constraints: &[Constraint]) -> u64
         marks = with_asked(marks, constraint);
     }
     marks
-}
-
-// Whether a constraint lets no value pass.
-fn is_void(constraint: &Constraint) -> bool
-    ensures { result ≡ is_void constraint.now }
-{
-    match constraint.normal() {
-        Normal::Empty => true,
-        _ => false,
-    }
-}
-
-// Whether one of these constraints lets no value pass.
-fn some_void(constraints: &[Constraint]) -> bool
-    ensures { result ≡ list_any is_void constraints.now }
-{
-    constraints.iter().any(|constraint| is_void(constraint))
 }
 
 // The word of a filter.

@@ -4,14 +4,15 @@ ghost use Rattle.std.specs.List.{flat_map};
 ghost use Rattle.std.specs.Fmt.{signed_decimal};
 ghost use Rattle.std.specs.Option.{option_copied};
 ghost use Rattle.ev_outside.specs.Pending.{outlet, Went};
-ghost use Rattle.ev_wire.specs.ValueText.{escape, kind_word, op_word, string_text, value_text};
+ghost use Rattle.ev_wire.specs.ValueText.{escape, string_text, value_text};
 ghost use Rattle.ev_wire.specs.NoticeText.{attribute_text, later, notice_text};
 ghost use Rattle.ev_wire.specs.FilterText.{constraint_text, constraints_text, test_text};
 
 use crate::line::put_number;
 use ev_constraint::{Constraint, Op};
 use ev_outside::{Pending, Sink};
-use ev_values::{Kind, Name, Text, Value};
+use ev_values::{Name, Text, Value};
+use ev_wire::{kind_word, op_word};
 use itoa::Buffer;
 
 // An int in decimal.
@@ -64,36 +65,6 @@ fn put_value<K: Sink>(out: &mut Pending, sink: &mut K, value: &Value)
         Value::Int(n) => put_int(out, sink, *n),
         Value::Str(text) => put_text(out, sink, text),
         Value::Time(seconds) => put_number(out, sink, *seconds),
-    }
-}
-
-// The word of a kind.
-fn kind_word(kind: Kind) -> &'static [u8]
-    ensures { result.now ≡ kind_word kind }
-{
-    match kind {
-        Kind::Bool => b"bool",
-        Kind::Int => b"int",
-        Kind::Str => b"str",
-        Kind::Time => b"time",
-    }
-}
-
-// The word of an operator.
-fn op_word(op: Op) -> &'static [u8]
-    ensures { result.now ≡ op_word op }
-{
-    match op {
-        Op::Any => b"any",
-        Op::Eq => b"=",
-        Op::Ne => b"!=",
-        Op::Lt => b"<",
-        Op::Le => b"<=",
-        Op::Gt => b">",
-        Op::Ge => b">=",
-        Op::Prefix => b"prefix",
-        Op::Suffix => b"suffix",
-        Op::Contains => b"contains",
     }
 }
 

@@ -44,16 +44,11 @@ fn next_from<T: Drop, R: Wait>(
         × (length (received consumer.old) < 2 ^ 63)) }
     ensures known { IfSome result (λ x. IsPrefix (known_items consumer.old) (x ∷ known_items consumer.new)) }
 {
-    for _ in rt.forever() {
-        if !consumer.is_empty() {
-            return Some(consumer.pop_known());
-        }
-        if mark.shared.compare_exchange::<Look>(seat, 0, had, had) == had {
-            return None;
-        }
-        thread::yield_now();
+    if see_from(rt, consumer, mark, seat, had) {
+        Some(consumer.pop_known())
+    } else {
+        None
     }
-    unreachable!()
 }
 
 // Whether the ring has a next item. If not, the mark shows that it had them all.

@@ -11,7 +11,7 @@ ghost use Rattle.ev_script.specs.Reading.{Cuts, Nexts, Quotes, TakesFront};
 use crate::token::Token;
 use ev_constraint::Op;
 use ev_memory::NoMemory;
-use ev_values::{Text, TextFault};
+use ev_values::{Text, TextFault, is_open_byte};
 use ev_wire::{op_named, unescape};
 use std::alloc::Global;
 
@@ -39,16 +39,6 @@ fn is_word_byte(b: u8) -> bool
     WORD_MAP[b as usize] != b','
 }
 
-fn is_open(b: u8) -> bool
-    ensures { result ≡ is_open_byte b }
-{
-    match b {
-        b'\t' | b'\n' => true,
-        0..=31 | 127 => false,
-        _ => true,
-    }
-}
-
 fn is_utf8(bytes: &[u8]) -> bool
     ensures { result ≡ is_utf8 bytes.now }
 {
@@ -61,7 +51,7 @@ fn is_utf8(bytes: &[u8]) -> bool
 fn all_open(bytes: &[u8]) -> bool
     ensures { result ≡ list_all is_open_byte bytes.now }
 {
-    bytes.iter().all(|b| is_open(*b))
+    bytes.iter().all(|b| is_open_byte(*b))
 }
 
 fn is_string(bytes: &[u8]) -> bool

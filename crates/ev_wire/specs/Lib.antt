@@ -12,4 +12,3 @@ pub mod Filters
 pub mod Changes
 pub mod Messages
 pub mod SentText
-pub mod Shared

@@ -1,18 +1,15 @@
 -- The text of a message on its way, written or not.
 use Rattle.std.specs.Prelude.{ℕ, List}
 use Rattle.ev_wire.specs.declared.sent_text.Source.{Source}
-use Rattle.ev_wire.specs.declared.sent_text.Source.TheVariants.{Written, Told, Published}
+use Rattle.ev_wire.specs.declared.sent_text.Source.TheVariants.{Written, Told}
 use Rattle.ev_wire.specs.MessageText.{message_text, IsMessageText}
-use Rattle.ev_wire.specs.Shared.{publication_text}
 
 -- its bytes, or those that would be written
 abbrev pub text_in : Source → List ℕ
 text_in (Written bytes) = bytes
 text_in (Told message) = message_text message
-text_in (Published publication) = publication_text publication
 
 -- a message that is kept in place of its text has one
 abbrev pub IsSource : Source → Type 0
 IsSource (Written bytes) = Unit {0}
 IsSource (Told message) = IsMessageText (message_text message) message
-IsSource (Published publication) = Unit {0}

@@ -3,7 +3,7 @@ ghost use Rattle.std.specs.Prelude.{◌≡◌};
 ghost use Rattle.ev_wire.specs.declared.fault.WireFault.TheVariants as faults;
 
 use ev_memory::NoMemory;
-use std::alloc::{AllocError, AllocFailed};
+use std::alloc::AllocFailed;
 
 /// Why bytes are not read.
 #[derive(Clone, Copy, Debug, PartialEq, Eq)]
@@ -12,14 +12,6 @@ pub enum WireFault {
     Outside,
     /// Memory ran out.
     NoMemory,
-}
-
-impl From<AllocError> for WireFault {
-    ghost from_gives = { λ _ e. e ≡ faults.NoMemory };
-
-    fn from(_: AllocError) -> Self {
-        WireFault::NoMemory
-    }
 }
 
 impl<T: Drop> From<AllocFailed<T>> for WireFault {

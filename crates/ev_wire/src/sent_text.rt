@@ -2,15 +2,11 @@
 ghost use Rattle.std.specs.Prelude.{◌≡◌, ◌++◌, List, ℕ, IfOk, OnOk, IsErrOf};
 ghost use Rattle.ev_wire.specs.declared.message.Message.{Message};
 ghost use Rattle.ev_wire.specs.MessageText.{Each, IsMessageText, IsSendable, IsSoundMessage};
-ghost use Rattle.ev_wire.specs.Shared.{publication_text};
-ghost use Rattle.ev_wire.specs.SentText.{text_in};
 
 use crate::bytes::Bytes;
-use crate::fault::WireFault;
 use crate::listed::Listed;
 use crate::message::Message;
-use crate::shared_notice::SharedNotice;
-use crate::wire::{push_message, read_message};
+use crate::wire::push_message;
 use ev_memory::NoMemory;
 use std::alloc::Global;
 use std::marker::Model;
@@ -22,8 +18,6 @@ pub(crate) enum Source {
     Written(Bytes),
     /// The message that it tells.
     Told(Message),
-    /// The publication that it tells, which has other owners.
-    Published(SharedNotice),
 }
 
 /// The text of a message on its way. It need not be written: where the message itself is at hand, who takes it reads
@@ -94,15 +88,6 @@ impl SentText {
         }
     }
 
-    /// The text of the message of a publication. It takes no memory.
-    pub fn of_publication(publication: SharedNotice) -> SentText
-        ensures { result ≡ publication_text publication }
-    {
-        SentText {
-            source: Source::Published(publication),
-        }
-    }
-
     /// Puts the bytes at the end.
     pub fn push(&self, out: &mut Vec<u8>) -> Result<(), NoMemory>
         ensures { OnOk result (out.new.items ≡ out.old.items ++ self.now) }
@@ -113,19 +98,6 @@ impl SentText {
                 Ok(())
             }
             Source::Told(message) => push_message(out, message),
-            Source::Published(publication) => publication.push_message(out),
-        }
-    }
-
-    /// The message whose text it is; `Outside` where it is the text of no message. Only of bytes it is read.
-    pub fn message(&self, alloc: Global) -> Result<Message, WireFault>
-        ensures found { IfOk result (λ m. IsMessageText self.now m) }
-        ensures outside { IsErrOf result WireFault.Outside → (m : Message) → IsMessageText self.now m → ⊥ }
-    {
-        match &self.source {
-            Source::Written(bytes) => read_message(alloc, bytes.as_slice()),
-            Source::Told(message) => Ok(message.copy(alloc)?),
-            Source::Published(publication) => Ok(publication.message(alloc)?),
         }
     }
 
@@ -136,7 +108,6 @@ impl SentText {
         let source = match &self.source {
             Source::Written(bytes) => Source::Written(bytes.copy(alloc)?),
             Source::Told(message) => Source::Told(message.copy(alloc)?),
-            Source::Published(publication) => Source::Published(publication.share(alloc)?),
         };
         Ok(SentText { source })
     }
