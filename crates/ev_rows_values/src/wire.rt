@@ -1,10 +1,9 @@
 //! Wire texts that are written, read again, and refused.
 use crate::long::{marks, members};
-use ev_notice::Notice;
 use ev_rows::{RowFault, first_word, number, spelled, truth};
 use ev_wire::{
-    Command, Delivery, Id, Sent, SentText, SharedText, WireFault, read_advert, read_filter,
-    read_message, read_notice, write_advert, write_filter, write_message, write_notice,
+    Delivery, Id, Sent, SentText, SharedText, WireFault, read_advert, read_filter, read_message,
+    read_notice, write_advert, write_filter, write_message, write_notice,
 };
 use std::alloc::Global;
 
@@ -112,32 +111,24 @@ fn sent_of(alloc: Global, delivery: &Delivery) -> Result<Sent, RowFault> {
     })
 }
 
-/// The bytes of a copy of what is sent.
+/// The bytes of what is sent.
 fn pushed(alloc: Global, sent: &Sent) -> Result<Vec<u8>, RowFault> {
     let mut bytes = Vec::new(alloc);
-    sent.copy(alloc)?.bytes.push(&mut bytes)?;
+    sent.bytes.push(&mut bytes)?;
     Ok(bytes)
 }
 
-/// The bytes of a copy of a delivery, as a copy of what is sent of it.
+/// The bytes of a copy of a delivery, as what is sent of it.
 fn carried(alloc: Global, bytes: Vec<u8>) -> Result<Vec<u8>, RowFault> {
     let delivery = delivered(alloc, bytes)?;
     pushed(alloc, &sent_of(alloc, &delivery)?)
 }
 
-/// The text of a copy of a command that publishes a notice.
-fn published(alloc: Global, notice: Notice) -> Result<Vec<u8>, RowFault> {
-    match Command::Publish(notice).copy(alloc)? {
-        Command::Publish(notice) => Ok(write_notice(alloc, &notice)?),
-        _ => Err(RowFault::Form),
-    }
-}
-
-/// The text of a notice that was copied as a delivery, as what is sent, and as a command.
+/// The text of a notice that was carried as a copy of a delivery, and as what is sent of it.
 pub fn copied(alloc: Global, rest: &str) -> Result<Vec<u8>, RowFault> {
     let bytes = carried(alloc, Vec::from_slice(alloc, rest.as_bytes())?)?;
     match read_notice(alloc, bytes.as_slice()) {
-        Ok(notice) => published(alloc, notice),
+        Ok(notice) => Ok(write_notice(alloc, &notice)?),
         Err(fault) => refused(alloc, fault),
     }
 }

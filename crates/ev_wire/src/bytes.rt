@@ -1,8 +1,6 @@
 //! Bytes of a text.
-ghost use Rattle.std.specs.Prelude.{◌≡◌, IfOk};
+ghost use Rattle.std.specs.Prelude.{◌≡◌};
 
-use ev_memory::NoMemory;
-use std::alloc::Global;
 use std::marker::Model;
 
 /// Bytes of a text; contracts see the list.
@@ -39,13 +37,5 @@ impl Bytes {
         ensures { result.items ≡ self }
     {
         self.bytes
-    }
-
-    /// Equal bytes.
-    pub fn copy(&self, alloc: Global) -> Result<Bytes, NoMemory>
-        ensures { IfOk result (λ b. b ≡ self.now) }
-    {
-        let bytes = self.bytes.to_vec(alloc)?;
-        Ok(Bytes { bytes })
     }
 }

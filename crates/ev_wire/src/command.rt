@@ -1,9 +1,5 @@
 //! What a client asks of its server.
-ghost use Rattle.std.specs.Prelude.{◌≡◌, IfOk};
-
-use ev_memory::NoMemory;
 use ev_notice::{Advert, Filter, Notice};
-use std::alloc::Global;
 
 /// A client's command.
 #[derive(Drop)]
@@ -18,19 +14,4 @@ pub enum Command {
     Unadvertise(Advert),
     /// Publishes a notice.
     Publish(Notice),
-}
-
-impl Command {
-    /// An equal command.
-    pub fn copy(&self, alloc: Global) -> Result<Command, NoMemory>
-        ensures { IfOk result (λ c. c ≡ self.now) }
-    {
-        Ok(match self {
-            Command::Subscribe(filter) => Command::Subscribe(filter.copy(alloc)?),
-            Command::Unsubscribe(filter) => Command::Unsubscribe(filter.copy(alloc)?),
-            Command::Advertise(advert) => Command::Advertise(advert.copy(alloc)?),
-            Command::Unadvertise(advert) => Command::Unadvertise(advert.copy(alloc)?),
-            Command::Publish(notice) => Command::Publish(notice.copy(alloc)?),
-        })
-    }
 }

@@ -40,10 +40,6 @@ pub trait Listed: Drop {
     fn stands_before(&self, other: &Self) -> bool
         ensures { result ≡ order self.now other.now };
 
-    /// An equal list.
-    fn copied(&self, alloc: Global) -> Result<Self, NoMemory>
-        ensures { IfOk result (λ x. x ≡ self.now) };
-
     /// Does nothing; its contract tells that the list is well formed.
     fn settle(&self)
         ensures { IsSound self.now };
@@ -76,10 +72,6 @@ impl Listed for Filter {
         self < other
     }
 
-    fn copied(&self, alloc: Global) -> Result<Filter, NoMemory> {
-        self.copy(alloc)
-    }
-
     fn settle(&self) {
         settle_names(self.constraints());
     }
@@ -110,10 +102,6 @@ impl Listed for Advert {
     #[tactic(auto, unfolding(ev_notice::specs::Before::list_before))]
     fn stands_before(&self, other: &Advert) -> bool {
         self < other
-    }
-
-    fn copied(&self, alloc: Global) -> Result<Advert, NoMemory> {
-        self.copy(alloc)
     }
 
     fn settle(&self) {

@@ -1,8 +1,5 @@
 //! Lists of filters and of advertisements.
-use crate::listed::Listed;
-use ev_memory::NoMemory;
 use ev_notice::{Advert, Filter};
-use std::alloc::Global;
 use std::marker::Model;
 
 /// A list; contracts see it.
@@ -26,7 +23,7 @@ impl<L> Model for Lists<L> {
 }
 
 impl<L> Lists<L> {
-    ghost use Rattle.std.specs.Prelude.{◌≡◌, IfOk};
+    ghost use Rattle.std.specs.Prelude.{◌≡◌};
 
     /// The list of these.
     pub fn of(lists: Vec<L>) -> Self
@@ -47,20 +44,5 @@ impl<L> Lists<L> {
         ensures { result.items ≡ self }
     {
         self.lists
-    }
-}
-
-impl<L: Listed> Lists<L> {
-    ghost use Rattle.std.specs.Prelude.{◌≡◌, IfOk};
-
-    /// An equal list.
-    pub fn copy(&self, alloc: Global) -> Result<Self, NoMemory>
-        ensures { IfOk result (λ l. l ≡ self.now) }
-    {
-        let mut lists = Vec::with_capacity(alloc, self.lists.len())?;
-        for list in &self.lists {
-            lists.push(list.copied(alloc)?)?;
-        }
-        Ok(Lists { lists })
     }
 }

@@ -100,15 +100,4 @@ impl SentText {
             Source::Told(message) => push_message(out, message),
         }
     }
-
-    /// An equal text, which shares the filters and the notice of a message at hand.
-    pub fn copy(&self, alloc: Global) -> Result<SentText, NoMemory>
-        ensures { IfOk result (λ text. text ≡ self.now) }
-    {
-        let source = match &self.source {
-            Source::Written(bytes) => Source::Written(bytes.copy(alloc)?),
-            Source::Told(message) => Source::Told(message.copy(alloc)?),
-        };
-        Ok(SentText { source })
-    }
 }
