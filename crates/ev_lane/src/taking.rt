@@ -25,32 +25,6 @@ pub struct LaneOut<T: Drop> {
     ghost counts: { (taken + deque_len rest ≡ length (received consumer)) × (length (received consumer) ≤ 2 ^ 63) },
 }
 
-// The next item of the ring, or `None` where the mark shows that it had them all.
-fn next_from<T: Drop, R: Wait>(
-    rt: &R,
-    consumer: &mut Consumer<T, Global, Bounded>,
-    mark: &Mark,
-    seat: &mut MarkSeat,
-    had: u64,
-) -> Option<T>
-    requires seat { (seat.old.table_id ≡ mark.now.shared.table_id) × (seat.old.table_id.words ≡ 1) × (seat.old.me.1 ≡ []) × (seat.old.me.0.puts ≡ false) }
-    requires had { had ≡ length (received consumer.old) }
-    ensures same { SameConsumer consumer.old consumer.new }
-    ensures seat { (seat.new.table_id ≡ seat.old.table_id) × (seat.new.me.1 ≡ []) × (seat.new.me.0.puts ≡ false) }
-    ensures next { MatchOption result
-        ((known_items consumer.old ≡ []) × (received consumer.new ≡ received consumer.old) × (seat.new.me.0.misses ≡ seat.old.me.0.misses + 1)
-        × (seat.new.me.0.count ≡ length (received consumer.new)))
-        (λ x. (received consumer.new ≡ received consumer.old ++ x ∷ []) × (seat.new.me.0.misses ≡ seat.old.me.0.misses)
-        × (length (received consumer.old) < 2 ^ 63)) }
-    ensures known { IfSome result (λ x. IsPrefix (known_items consumer.old) (x ∷ known_items consumer.new)) }
-{
-    if see_from(rt, consumer, mark, seat, had) {
-        Some(consumer.pop_known())
-    } else {
-        None
-    }
-}
-
 // Whether the ring has a next item. If not, the mark shows that it had them all.
 fn see_from<T: Drop, R: Wait>(
     rt: &R,
@@ -169,13 +143,10 @@ impl<T: Drop> LaneOut<T> {
             self.taken += 1;
             return Some(x);
         }
-        let x = next_from(
-            rt,
-            &mut self.consumer,
-            &self.mark,
-            &mut self.seat,
-            self.taken,
-        )?;
+        if !self.is_ready(rt) {
+            return None;
+        }
+        let x = self.consumer.pop_known();
         self.taken += 1;
         Some(x)
     }
