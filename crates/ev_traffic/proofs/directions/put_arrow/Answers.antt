@@ -1,6 +1,6 @@
 use Rattle.ev_outside.proofs.Outlets.{went-then}
 use Rattle.ev_traffic.specs.Text.{direction_arrow}
-use Rattle.ev_traffic.proofs.graph.put_direction.Goals as goal
+use Rattle.ev_traffic.proofs.directions.put_arrow.Goals as goal
 
 pub returns : goal.returns
 unfolding direction_arrow
