@@ -1,7 +1,7 @@
 use Rattle.std.specs.Prelude.{codes}
 use Rattle.ev_outside.proofs.Outlets.{went-then}
 use Rattle.ev_wire.specs.NoticeText.{attribute_text}
-use Rattle.ev_format.proofs.value.put_attribute.Goals as goal
+use Rattle.ev_format.proofs.value.Tuple2NameValuePart.put.Goals as goal
 
 pub returns : goal.returns
 unfolding attribute_text

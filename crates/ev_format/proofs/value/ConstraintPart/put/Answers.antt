@@ -1,7 +1,7 @@
 use Rattle.std.specs.Prelude.{codes}
 use Rattle.ev_outside.proofs.Outlets.{went-then}
 use Rattle.ev_wire.specs.FilterText.{constraint_text}
-use Rattle.ev_format.proofs.value.put_constraint.Goals as goal
+use Rattle.ev_format.proofs.value.ConstraintPart.put.Goals as goal
 
 pub returns : goal.returns
 unfolding constraint_text
