@@ -3,10 +3,10 @@ use Rattle.std.proofs.lemmas.Option.{slice_get-get_or}
 use Rattle.ev_routing.proofs.Listing.{get-has}
 use Rattle.ev_catalogue.specs.declared.numbered.NumberedCommand.{NumberedCommand}
 use Rattle.ev_catalogue.specs.declared.numbered.NumberedCommand.TheVariants as numbers
-use Rattle.ev_flood.proofs.filters.leave_lasting.Goals as goal
+use Rattle.ev_flood.proofs.filters.go_through_phase.Goals as goal
 
-pub lasting_step-requires-clause-number : goal.lasting_step-requires-clause-number
-lasting_step-requires-clause-number c =
+pub phase_step-requires-clause-number : goal.phase_step-requires-clause-number
+phase_step-requires-clause-number c =
     let none : ℕ × NumberedCommand = (0, numbers.Subscribe 0) in
     let steps = c.args.steps.now in
     let i = c.loop-command.command-index in
