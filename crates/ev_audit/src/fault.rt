@@ -1,9 +1,6 @@
 //! Why an input claims nothing.
-ghost use Rattle.std.specs.Prelude.{◌≡◌};
-ghost use Rattle.ev_audit.specs.declared.fault.ClaimFault.TheVariants as faults;
 
 use ev_input::Fault;
-use std::alloc::{AllocError, AllocFailed};
 
 /// Why an input claims nothing. Lines are numbered from 1 through the whole input. The end counts as the line behind the last; that of the document part is
 /// the line `output`.
@@ -20,20 +17,4 @@ pub enum ClaimFault {
     Form(u32),
     /// Memory ran out.
     NoMemory,
-}
-
-impl From<AllocError> for ClaimFault {
-    ghost from_gives = { λ _ e. e ≡ faults.NoMemory };
-
-    fn from(_: AllocError) -> Self {
-        ClaimFault::NoMemory
-    }
-}
-
-impl<T: Drop> From<AllocFailed<T>> for ClaimFault {
-    ghost from_gives = { λ _ e. e ≡ faults.NoMemory };
-
-    fn from(_: AllocFailed<T>) -> Self {
-        ClaimFault::NoMemory
-    }
 }

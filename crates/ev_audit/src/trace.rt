@@ -1,8 +1,8 @@
 //! The turns that a trace shows.
-ghost use Rattle.std.specs.Prelude.{◌≡◌, ◌≤◌, ◌+◌, [], Ok, Err, IfOk, IsOk, MatchResult, length};
+ghost use Rattle.std.specs.Prelude.{◌≡◌, ◌≤◌, ◌+◌, Ok, Err, IfOk, IsOk, MatchResult, length};
 ghost use Rattle.ev_model.specs.Sound.{IsSound};
 ghost use Rattle.ev_audit.specs.Output.{output_lines};
-ghost use Rattle.ev_audit.specs.Trace.{shown_by, trace_behind, trace_line, turns_from, with_line};
+ghost use Rattle.ev_audit.specs.Trace.{shown_by, trace_behind, trace_line, with_line};
 ghost use Rattle.ev_audit.specs.Reading.{ReadsAs, Steps};
 
 use crate::fault::ClaimFault;
@@ -44,33 +44,11 @@ fn take_line(
     match shown {
         None => Err(ClaimFault::Form(n)),
         Some(TraceLine::Message) => Ok(()),
-        Some(TraceLine::Entry(turn)) => {
-            turns.push((n, turn))?;
-            Ok(())
-        }
+        Some(TraceLine::Entry(turn)) => match turns.push((n, turn)) {
+            Ok(()) => Ok(()),
+            Err(_) => Err(ClaimFault::NoMemory),
+        },
     }
-}
-
-// The turns of the lines behind the first of a trace, of which the first has this number, and the number of the end.
-fn turns_behind(
-    alloc: Global,
-    net: &Net,
-    first: u32,
-    lines: &[u8],
-) -> Result<(Vec<(u32, Turn)>, u32), ClaimFault>
-    requires sound { IsSound net.now }
-    requires bound { first + length lines.now ≤ 268435458 }
-    ensures { ReadsAs (λ p. (p.0.items, p.1)) result (turns_from net.now first [] (output_lines lines.now)) }
-{
-    let mut turns = Vec::new(alloc);
-    let mut number = first;
-    let mut rest = lines;
-    'lines: while let Some((line, after)) = next_line(rest) {
-        take_line(&mut turns, number, trace_line(net, line))?;
-        number += 1;
-        rest = after;
-    }
-    Ok((turns, number))
 }
 
 /// The turns that an output shows, each with its line, and the number of its end; its first line has this number.
@@ -84,6 +62,12 @@ pub fn shown_turns(
     requires bound { first + length output.now ≤ 268435458 }
     ensures { ReadsAs (λ p. (p.0.items, p.1)) result (shown_by net.now first (output_lines output.now)) }
 {
-    let (number, lines) = behind_head(first, output)?;
-    turns_behind(alloc, net, number, lines)
+    let (mut number, mut rest) = behind_head(first, output)?;
+    let mut turns = Vec::new(alloc);
+    'lines: while let Some((line, after)) = next_line(rest) {
+        take_line(&mut turns, number, trace_line(net, line))?;
+        number += 1;
+        rest = after;
+    }
+    Ok((turns, number))
 }

@@ -92,52 +92,42 @@ fn go_through(filters: &[Sub], row: &mut Row, steps: &[(u32, NumberedCommand)])
     }
 }
 
-// Withdraws by one command.
-fn lasting_step(filters: &[Sub], row: &mut Row, command: NumberedCommand)
+// One command of a phase: what it takes away is not there at every moment of it, and what it adds is there at some.
+fn phase_step(filters: &[Sub], every: &mut Row, ever: &mut Row, command: NumberedCommand)
     requires number { IsNumber (length filters.now) command }
-    requires width { row.old.width ≡ length filters.now }
-    ensures width { row.new.width ≡ row.old.width }
-    ensures members { row.new.members ≡ lasting_step filters.now row.old.members command }
+    requires every_width { every.old.width ≡ length filters.now }
+    requires ever_width { ever.old.width ≡ length filters.now }
+    ensures every_width { every.new.width ≡ every.old.width }
+    ensures ever_width { ever.new.width ≡ ever.old.width }
+    ensures every { every.new.members ≡ lasting_step filters.now every.old.members command }
+    ensures ever { ever.new.members ≡ adding_step filters.now ever.old.members command }
 {
-    if let NumberedCommand::Unsubscribe(i) = command {
-        withdraw(filters, row, i);
+    match command {
+        NumberedCommand::Subscribe(i) => {
+            ever.insert(i);
+        }
+        NumberedCommand::Unsubscribe(i) => withdraw(filters, every, i),
+        _ => {}
     }
 }
 
-// Leaves those that no command takes away.
-fn leave_lasting(filters: &[Sub], row: &mut Row, steps: &[(u32, NumberedCommand)])
+// The commands of a phase: leaves those that none takes away, and puts in those that they add.
+fn go_through_phase(
+    filters: &[Sub],
+    every: &mut Row,
+    ever: &mut Row,
+    steps: &[(u32, NumberedCommand)],
+)
     requires numbers { AreNumbers (length filters.now) steps.now }
-    requires width { row.old.width ≡ length filters.now }
-    ensures width { row.new.width ≡ row.old.width }
-    ensures members { row.new.members ≡ numbers_lasting filters.now row.old.members steps.now }
+    requires every_width { every.old.width ≡ length filters.now }
+    requires ever_width { ever.old.width ≡ length filters.now }
+    ensures every_width { every.new.width ≡ every.old.width }
+    ensures ever_width { ever.new.width ≡ ever.old.width }
+    ensures every { every.new.members ≡ numbers_lasting filters.now every.old.members steps.now }
+    ensures ever { ever.new.members ≡ numbers_added filters.now ever.old.members steps.now }
 {
     for (_, command) in steps {
-        lasting_step(filters, row, *command);
-    }
-}
-
-// Adds by one command.
-fn adding_step(filters: &[Sub], row: &mut Row, command: NumberedCommand)
-    requires number { IsNumber (length filters.now) command }
-    requires width { row.old.width ≡ length filters.now }
-    ensures width { row.new.width ≡ row.old.width }
-    ensures members { row.new.members ≡ adding_step filters.now row.old.members command }
-{
-    let _ = filters;
-    if let NumberedCommand::Subscribe(i) = command {
-        row.insert(i);
-    }
-}
-
-// Puts in those that commands add.
-fn add(filters: &[Sub], row: &mut Row, steps: &[(u32, NumberedCommand)])
-    requires numbers { AreNumbers (length filters.now) steps.now }
-    requires width { row.old.width ≡ length filters.now }
-    ensures width { row.new.width ≡ row.old.width }
-    ensures members { row.new.members ≡ numbers_added filters.now row.old.members steps.now }
-{
-    for (_, command) in steps {
-        adding_step(filters, row, *command);
+        phase_step(filters, every, ever, *command);
     }
 }
 
@@ -205,8 +195,7 @@ impl ClientFilters {
         self.go_on(filters, steps, below(steps, u64::from(phase)));
         let within = within(steps, phase);
         self.every.copy_from(&self.now);
-        leave_lasting(filters, &mut self.every, within);
         self.ever.copy_from(&self.now);
-        add(filters, &mut self.ever, within);
+        go_through_phase(filters, &mut self.every, &mut self.ever, within);
     }
 }

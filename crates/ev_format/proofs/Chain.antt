@@ -2,10 +2,7 @@
 use Rattle.std.proofs.Common.{◌≡◌, ℕ, zero, suc, ◌+◌, ◌-◌, ◌<◌, ◌≤◌, Bool, true, false, cond, List, [], ◌∷◌, ◌++◌, length, map, filter, nat_lt, take, drop, get_or, refl, sym, ap, subst, ◌∙◌, arith, append_assoc, append-nil}
 use Rattle.std.specs.List.{flat_map}
 use Rattle.ev_tree.specs.Tree.{Topology, links_of, servers_of}
-use Rattle.ev_constraint.specs.Constraint.{ConstraintParts}
-use Rattle.ev_notice.specs.Notice.{Attribute}
-use Rattle.ev_wire.specs.FilterText.{constraint_text, constraints_text}
-use Rattle.ev_wire.specs.NoticeText.{attribute_text, later, notice_text}
+use Rattle.ev_wire.specs.NoticeText.{joined, later}
 use Rattle.std.specs.Prelude.{codes, ◌==◌}
 use Rattle.ev_wire.specs.declared.command.Command.{Command}
 use Rattle.ev_spelling.specs.CommandText.{command_text}
@@ -70,25 +67,13 @@ take_all (x ∷ xs) = ap (λ z. x ∷ z) (take_all xs)
 take_rest : {X : Type 0} (x : X) (xs : List X) → take (length (x ∷ xs) - 1) xs ≡ xs
 take_rest x xs = let e : length (x ∷ xs) - 1 ≡ length xs = omega arith in ap (λ n. take n xs) e ∙ take_all xs
 
-pub first_constraint : (xs : List ConstraintParts) (d : ConstraintParts) → 0 < length xs → constraint_text (get_or xs 0 d) ++ later constraint_text (take (length xs - 1) (drop 1 xs)) ≡ constraints_text xs
-unfolding constraints_text
-first_constraint [] d l = absurd (omega arith)
-first_constraint (x ∷ xs) d l = ap (λ z. constraint_text x ++ later constraint_text z) (take_rest x xs)
+pub first_part : {A : Type 0} (text : A → List ℕ) (xs : List A) (d : A) → 0 < length xs → text (get_or xs 0 d) ++ later text (take (length xs - 1) (drop 1 xs)) ≡ joined text xs
+first_part text [] d l = absurd (omega arith)
+first_part text (x ∷ xs) d l = ap (λ z. text x ++ later text z) (take_rest x xs)
 
-pub no_constraint : (xs : List ConstraintParts) → length xs < 1 → [] ≡ constraints_text xs
-unfolding constraints_text
-no_constraint [] l = refl
-no_constraint (x ∷ xs) l = absurd (omega arith)
-
-pub first_attribute : (xs : List Attribute) (d : Attribute) → 0 < length xs → attribute_text (get_or xs 0 d) ++ later attribute_text (take (length xs - 1) (drop 1 xs)) ≡ notice_text xs
-unfolding notice_text
-first_attribute [] d l = absurd (omega arith)
-first_attribute (x ∷ xs) d l = ap (λ z. attribute_text x ++ later attribute_text z) (take_rest x xs)
-
-pub no_attribute : (xs : List Attribute) → length xs < 1 → [] ≡ notice_text xs
-unfolding notice_text
-no_attribute [] l = refl
-no_attribute (x ∷ xs) l = absurd (omega arith)
+pub no_part : {A : Type 0} (text : A → List ℕ) (xs : List A) → length xs < 1 → [] ≡ joined text xs
+no_part text [] l = refl
+no_part text (x ∷ xs) l = absurd (omega arith)
 
 pub schedule_text : (clients : List ClientParts) (ts : List (ℕ × Turn)) → (b : Bool) → b ≡ false → b ≡ (length ts == 0) → codes "schedule\n" ++ flat_map (λ turn. ended (turn_line clients turn.1)) ts ≡ flat_map ended (schedule_lines clients ts)
 schedule_text clients [] b n e = absurd (let f : false ≡ true = sym n ∙ e in cc)

@@ -5,7 +5,7 @@ ghost use Rattle.ev_wire.specs.FilterText.{constraints_text};
 ghost use Rattle.ev_spelling.specs.CommandText.{command_text};
 ghost use Rattle.ev_format.specs.DocumentText.{ended};
 
-use crate::value::{put_attributes, put_constraints};
+use crate::value::put_parts;
 use ev_constraint::Constraint;
 use ev_outside::{Pending, Sink};
 use ev_wire::Command;
@@ -16,7 +16,7 @@ fn put_control<K: Sink>(out: &mut Pending, sink: &mut K, verb: &[u8], constraint
         (verb.now ++ constraints_text constraints.now) }
 {
     out.put(sink, verb);
-    put_constraints(out, sink, constraints)
+    put_parts(out, sink, constraints)
 }
 
 // A command.
@@ -39,7 +39,7 @@ fn put_text<K: Sink>(out: &mut Pending, sink: &mut K, command: &Command)
         }
         Command::Publish(notice) => {
             out.put(sink, b"publish ");
-            put_attributes(out, sink, notice.attributes())
+            put_parts(out, sink, notice.attributes())
         }
     }
 }

@@ -5,8 +5,8 @@ ghost use Rattle.std.specs.Fmt.{signed_decimal};
 ghost use Rattle.std.specs.Option.{option_copied};
 ghost use Rattle.ev_outside.specs.Pending.{outlet, Went};
 ghost use Rattle.ev_wire.specs.ValueText.{escape, string_text, value_text};
-ghost use Rattle.ev_wire.specs.NoticeText.{attribute_text, later, notice_text};
-ghost use Rattle.ev_wire.specs.FilterText.{constraint_text, constraints_text, test_text};
+ghost use Rattle.ev_wire.specs.NoticeText.{attribute_text, joined, later};
+ghost use Rattle.ev_wire.specs.FilterText.{constraint_text, test_text};
 
 use crate::line::put_number;
 use ev_constraint::{Constraint, Op};
@@ -83,76 +83,64 @@ fn put_test<K: Sink>(out: &mut Pending, sink: &mut K, op: Op, operand: Option<&V
     }
 }
 
-// A constraint.
-fn put_constraint<K: Sink>(out: &mut Pending, sink: &mut K, constraint: &Constraint)
-    ensures { Went (outlet (K.taken sink.old) (K.faults sink.old) out.old) (outlet (K.taken sink.new) (K.faults sink.new) out.new)
-        (constraint_text constraint.now) }
-{
-    out.put(sink, constraint.name().bytes());
-    out.put(sink, b" ");
-    out.put(sink, kind_word(constraint.kind()));
-    out.put(sink, b" ");
-    put_test(out, sink, constraint.op(), constraint.operand())
+/// What stands between the semicolons of a command: a constraint or an attribute.
+pub(crate) trait Part {
+    ghost use Rattle.std.specs.Prelude.{ℕ, List};
+    ghost use Rattle.ev_outside.specs.Pending.{outlet, Went};
+
+    /// Its text.
+    ghost text: { Self → List ℕ };
+
+    /// Puts its text.
+    fn put<K: Sink>(&self, out: &mut Pending, sink: &mut K)
+        ensures { Went (outlet (K.taken sink.old) (K.faults sink.old) out.old) (outlet (K.taken sink.new) (K.faults sink.new) out.new) (text self.now) };
 }
 
-// Constraints, each behind `; `.
-fn put_later_constraints<K: Sink>(out: &mut Pending, sink: &mut K, constraints: &[Constraint])
+impl Part for Constraint {
+    ghost text = { constraint_text };
+
+    fn put<K: Sink>(&self, out: &mut Pending, sink: &mut K) {
+        out.put(sink, self.name().bytes());
+        out.put(sink, b" ");
+        out.put(sink, kind_word(self.kind()));
+        out.put(sink, b" ");
+        put_test(out, sink, self.op(), self.operand())
+    }
+}
+
+impl Part for (Name, Value) {
+    ghost text = { attribute_text };
+
+    fn put<K: Sink>(&self, out: &mut Pending, sink: &mut K) {
+        let (name, value) = self;
+        out.put(sink, name.bytes());
+        out.put(sink, b" ");
+        out.put(sink, kind_word(value.kind()));
+        out.put(sink, b" ");
+        put_value(out, sink, value)
+    }
+}
+
+// Parts, each behind `; `.
+fn put_later<P: Part, K: Sink>(out: &mut Pending, sink: &mut K, parts: &[P])
     ensures { Went (outlet (K.taken sink.old) (K.faults sink.old) out.old) (outlet (K.taken sink.new) (K.faults sink.new) out.new)
-        (later constraint_text constraints.now) }
+        (later P.text parts.now) }
 {
-    for constraint in constraints {
+    for part in parts {
         out.put(sink, b"; ");
-        put_constraint(out, sink, constraint);
+        part.put(out, sink);
     }
 }
 
-/// The constraints of a filter or an advertisement.
-pub(crate) fn put_constraints<K: Sink>(out: &mut Pending, sink: &mut K, constraints: &[Constraint])
+/// The constraints of a filter or an advertisement, or the attributes of a notice.
+pub(crate) fn put_parts<P: Part, K: Sink>(out: &mut Pending, sink: &mut K, parts: &[P])
     ensures { Went (outlet (K.taken sink.old) (K.faults sink.old) out.old) (outlet (K.taken sink.new) (K.faults sink.new) out.new)
-        (constraints_text constraints.now) }
+        (joined P.text parts.now) }
 {
-    match constraints {
+    match parts {
         [first, later @ ..] => {
-            put_constraint(out, sink, first);
-            put_later_constraints(out, sink, later)
-        }
-        [] => {}
-    }
-}
-
-// An attribute.
-fn put_attribute<K: Sink>(out: &mut Pending, sink: &mut K, attribute: &(Name, Value))
-    ensures { Went (outlet (K.taken sink.old) (K.faults sink.old) out.old) (outlet (K.taken sink.new) (K.faults sink.new) out.new)
-        (attribute_text attribute.now) }
-{
-    let (name, value) = attribute;
-    out.put(sink, name.bytes());
-    out.put(sink, b" ");
-    out.put(sink, kind_word(value.kind()));
-    out.put(sink, b" ");
-    put_value(out, sink, value)
-}
-
-// Attributes, each behind `; `.
-fn put_later_attributes<K: Sink>(out: &mut Pending, sink: &mut K, attributes: &[(Name, Value)])
-    ensures { Went (outlet (K.taken sink.old) (K.faults sink.old) out.old) (outlet (K.taken sink.new) (K.faults sink.new) out.new)
-        (later attribute_text attributes.now) }
-{
-    for attribute in attributes {
-        out.put(sink, b"; ");
-        put_attribute(out, sink, attribute);
-    }
-}
-
-/// The attributes of a notice.
-pub(crate) fn put_attributes<K: Sink>(out: &mut Pending, sink: &mut K, attributes: &[(Name, Value)])
-    ensures { Went (outlet (K.taken sink.old) (K.faults sink.old) out.old) (outlet (K.taken sink.new) (K.faults sink.new) out.new)
-        (notice_text attributes.now) }
-{
-    match attributes {
-        [first, later @ ..] => {
-            put_attribute(out, sink, first);
-            put_later_attributes(out, sink, later)
+            first.put(out, sink);
+            put_later(out, sink, later)
         }
         [] => {}
     }

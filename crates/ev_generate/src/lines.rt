@@ -130,16 +130,12 @@ pub(crate) fn push_publish(out: &mut Vec<u8>, draws: &mut Draws) -> Result<(), N
     ensures state { OnOk result (draws.new.state ≡ after 6 draws.old.state) }
 {
     let first = draws.below(8);
-    let one = draws.below(100);
-    let two = draws.below(100);
-    let three = draws.below(100);
-    let letters = [draws.letter(), draws.letter()];
     out.extend_from_slice(b"publish ")?;
-    push_attribute(out, first, one)?;
-    push_attribute(out, first + 1, two)?;
-    push_attribute(out, first + 2, three)?;
+    push_attribute(out, first, draws.below(100))?;
+    push_attribute(out, first + 1, draws.below(100))?;
+    push_attribute(out, first + 2, draws.below(100))?;
     out.extend_from_slice(b"t str \"")?;
-    out.extend_from_slice(&letters)?;
+    out.extend_from_slice(&[draws.letter(), draws.letter()])?;
     out.extend_from_slice(b"\"\n")?;
     Ok(())
 }

@@ -5,7 +5,6 @@ ghost use Rattle.ev_input.specs.Net.{Places};
 
 use ev_memory;
 use ev_memory::NoMemory;
-use std::alloc::{AllocError, AllocFailed};
 
 /// What is at fault with a line, with the end of the document or with its bytes. On a line the faults are tested in the
 /// order that the rule of its kind of line has.
@@ -84,22 +83,6 @@ impl InputFault {
             InputFault::Bad { line: _, kind } => InputFault::Bad { line, kind },
             InputFault::NoMemory => InputFault::NoMemory,
         }
-    }
-}
-
-impl From<AllocError> for InputFault {
-    ghost from_gives = { λ _ e. e ≡ inputs.NoMemory };
-
-    fn from(_: AllocError) -> Self {
-        InputFault::NoMemory
-    }
-}
-
-impl<T: Drop> From<AllocFailed<T>> for InputFault {
-    ghost from_gives = { λ _ e. e ≡ inputs.NoMemory };
-
-    fn from(_: AllocFailed<T>) -> Self {
-        InputFault::NoMemory
     }
 }
 

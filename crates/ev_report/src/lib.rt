@@ -1,6 +1,7 @@
 //! The texts that are printed: written once into one vector, or put line by line on their way to a sink.
 #![tactic(auto)]
 
+mod commands;
 mod counting;
 mod deliveries;
 mod flooded;
@@ -13,6 +14,7 @@ mod summary;
 mod trace;
 mod writing;
 
+pub use commands::{CommandCounts, count_commands};
 pub use counting::total;
 pub use deliveries::push_delivery;
 pub use flooded::Flooded;

@@ -1,16 +1,13 @@
 //! Texts of one line.
-ghost use Rattle.std.specs.Prelude.{◌≡◌, ◌++◌, ℕ, ◌+◌, ◌≤◌, ◌<◌, ◌^◌, IfOk, OnOk};
-ghost use Rattle.ev_sets.specs.Numbers.{sum_over};
-ghost use Rattle.ev_routing.specs.Clients.{is_publish};
-ghost use Rattle.ev_theory.specs.Real.{real};
-ghost use Rattle.ev_model.specs.Meaning.{command_of};
+ghost use Rattle.std.specs.Prelude.{◌≡◌, ◌++◌, ◌≤◌, ◌<◌, ◌^◌, IfOk, OnOk};
 ghost use Rattle.ev_model.specs.Nets.{first_tree};
-ghost use Rattle.ev_model.specs.Sound.{IsSound, publishes, controls};
+ghost use Rattle.ev_model.specs.Sound.{IsSound};
 ghost use Rattle.ev_report.specs.Summary.{counts_text, check_text, summary_text};
 
+use crate::commands::count_commands;
 use ev_decimal::push_labelled;
 use ev_memory::NoMemory;
-use ev_model::{Client, Command, Net};
+use ev_model::Net;
 use std::alloc::Global;
 
 // The line of how much a run did.
@@ -46,63 +43,6 @@ pub fn summary_text(
     let mut out = Vec::new(alloc);
     push_summary(&mut out, publications, deliveries, entries, messages)?;
     Ok(out)
-}
-
-// Whether it is a publish.
-fn is_publish(command: &Command) -> bool
-    ensures { result ≡ is_publish real (command_of command.now) }
-{
-    matches!(command, Command::Publish(_))
-}
-
-// How many publishes a client has.
-fn publishes(client: &Client) -> u64
-    ensures { result ≡ publishes client.now }
-{
-    let mut count = 0;
-    for (_, command) in &client.script {
-        if is_publish(command) {
-            count += 1;
-        }
-    }
-    count
-}
-
-// How many other commands a client has.
-fn controls(client: &Client) -> u64
-    ensures { result ≡ controls client.now }
-{
-    let mut count = 0;
-    for (_, command) in &client.script {
-        if !is_publish(command) {
-            count += 1;
-        }
-    }
-    count
-}
-
-// How many publishes the clients have, of whom the caller knows that they have at most 100,000.
-fn all_publishes(clients: &[Client]) -> u64
-    requires { sum_over publishes clients.now ≤ 100000 }
-    ensures { result ≡ sum_over publishes clients.now }
-{
-    let mut count = 0;
-    for client in clients {
-        count += publishes(client);
-    }
-    count
-}
-
-// How many other commands the clients have, of whom the caller knows that they have at most 4,096.
-fn all_controls(clients: &[Client]) -> u64
-    requires { sum_over controls clients.now ≤ 4096 }
-    ensures { result ≡ sum_over controls clients.now }
-{
-    let mut count = 0;
-    for client in clients {
-        count += controls(client);
-    }
-    count
 }
 
 // How many servers a net has: those of its first tree.
@@ -143,14 +83,15 @@ pub fn check_text(alloc: Global, net: &Net) -> Result<Vec<u8>, NoMemory>
     ensures { IfOk result (λ text. text.items ≡ check_text net.now) }
 {
     let mut out = Vec::new(alloc);
+    let commands = count_commands(&net.clients);
     push_counts(
         &mut out,
         u64::from(net.version),
         u64::from(servers(net)),
         net.clients.len() as u64,
         u64::from(net.phases()),
-        all_controls(&net.clients),
-        all_publishes(&net.clients),
+        commands.controls,
+        commands.publishes,
     )?;
     Ok(out)
 }

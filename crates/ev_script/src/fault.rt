@@ -3,7 +3,6 @@ ghost use Rattle.std.specs.Prelude.{◌≡◌};
 ghost use Rattle.ev_script.specs.declared.fault.ScriptFault.TheVariants as faults;
 
 use ev_memory::NoMemory;
-use std::alloc::{AllocError, AllocFailed};
 
 /// Why a command line gives no command. The faults are tested over the whole line in this order.
 #[derive(Clone, Copy, Debug, PartialEq, Eq)]
@@ -20,22 +19,6 @@ pub enum ScriptFault {
     Repeat,
     /// Memory ran out.
     NoMemory,
-}
-
-impl From<AllocError> for ScriptFault {
-    ghost from_gives = { λ _ e. e ≡ faults.NoMemory };
-
-    fn from(_: AllocError) -> Self {
-        ScriptFault::NoMemory
-    }
-}
-
-impl<T: Drop> From<AllocFailed<T>> for ScriptFault {
-    ghost from_gives = { λ _ e. e ≡ faults.NoMemory };
-
-    fn from(_: AllocFailed<T>) -> Self {
-        ScriptFault::NoMemory
-    }
 }
 
 impl From<NoMemory> for ScriptFault {

@@ -12,7 +12,7 @@ use Rattle.ev_phases.specs.Trees.{Tree, tree_after, tree_at, net_at}
 use Rattle.ev_theory.specs.Real.{real}
 use Rattle.ev_model.specs.Parts.{ClientParts, NetParts}
 use Rattle.ev_model.specs.Meaning.{phased_command}
-use Rattle.ev_model.specs.Nets.{client_at, first_tree, later_trees, of_clients, phased_net, phased_tree, topology_at, tree_of, home_of, script_of, home_in, script_in}
+use Rattle.ev_model.specs.Nets.{first_tree, later_trees, of_clients, phased_net, phased_tree, topology_at, tree_of, home_of, script_of, home_in, script_in}
 use Rattle.ev_model.specs.Sound.{IsSound, IsAmong, HasTrees}
 use Rattle.ev_traffic.specs.Flood.{accepted_phases, flood_on, flooded_by, floods_over, is_flooded, refused_of}
 use Rattle.ev_traffic.specs.Going.{client_flood}

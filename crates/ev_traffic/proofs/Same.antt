@@ -14,7 +14,7 @@ use Rattle.ev_model.proofs.SoundNets.{few-servers}
 use Rattle.ev_traffic.specs.declared.loads.Direction.{Direction}
 use Rattle.ev_traffic.specs.Links.{is_link, links_from, links_in}
 use Rattle.ev_traffic.proofs.Away.{both-true}
-use Rattle.ev_traffic.specs.Text.{Loads, client_nodes, direction_arrow, direction_line, direction_of, in_all, link_arrows, link_lines, server_node, total_line, traffic_printed}
+use Rattle.ev_traffic.specs.Text.{Loads, client_nodes, direction_arrow, direction_line, direction_of, in_all, link_printed, server_node, total_line, traffic_printed}
 
 pub has-flat : {X Y : Type 0} (f : X → List Y) (y : Y) (xs : List X) → Has y (flat_map f xs) → (x : X) × Has x xs × Has y (f x)
 has-flat f y [] h = absurd h
@@ -70,10 +70,10 @@ module _ (net : NetParts) (sound : IsSound net) (x y : Loads) (agree : Agree x y
   pub same-printed : (graph : Bool) → traffic_printed graph net x ≡ traffic_printed graph net y
   same-printed true =
       ap (λ z. codes "digraph traffic {\n" ++ flat_map server_node (servers_in net) ++ client_nodes 1 net.clients ++ z ++ codes "}\n")
-      (flat-same (link_arrows x) (link_arrows y) (links_in net) (λ link h. both direction_arrow link h))
+      (flat-same (link_printed true x) (link_printed true y) (links_in net) (λ link h. both direction_arrow link h))
   same-printed false =
       ap (λ z. z ++ total_line (in_all x.notices (links_in net)) (in_all x.flood (links_in net)) (in_all x.messages (links_in net)))
-      (flat-same (link_lines x) (link_lines y) (links_in net) (λ link h. both direction_line link h))
-      ∙ (ap (λ z. flat_map (link_lines y) (links_in net) ++ total_line z (in_all x.flood (links_in net)) (in_all x.messages (links_in net))) (sums x.notices y.notices agree.notices)
-      ∙ (ap (λ z. flat_map (link_lines y) (links_in net) ++ total_line (in_all y.notices (links_in net)) z (in_all x.messages (links_in net))) (sums x.flood y.flood agree.flood)
-      ∙ ap (λ z. flat_map (link_lines y) (links_in net) ++ total_line (in_all y.notices (links_in net)) (in_all y.flood (links_in net)) z) (sums x.messages y.messages agree.messages)))
+      (flat-same (link_printed false x) (link_printed false y) (links_in net) (λ link h. both direction_line link h))
+      ∙ (ap (λ z. flat_map (link_printed false y) (links_in net) ++ total_line z (in_all x.flood (links_in net)) (in_all x.messages (links_in net))) (sums x.notices y.notices agree.notices)
+      ∙ (ap (λ z. flat_map (link_printed false y) (links_in net) ++ total_line (in_all y.notices (links_in net)) z (in_all x.messages (links_in net))) (sums x.flood y.flood agree.flood)
+      ∙ ap (λ z. flat_map (link_printed false y) (links_in net) ++ total_line (in_all y.notices (links_in net)) (in_all y.flood (links_in net)) z) (sums x.messages y.messages agree.messages)))

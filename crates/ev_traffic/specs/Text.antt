@@ -33,10 +33,6 @@ direction_line d =
     labelled (codes "link ") d.from ++ labelled (codes " ") d.to ++ labelled (codes " notices ") d.notices ++ labelled (codes " flood ") d.flood
     ++ labelled (codes " messages ") d.messages ++ codes "\n"
 
--- both directions of a link
-abbrev pub link_lines : Loads → ℕ × ℕ → List ℕ
-link_lines loads link = direction_line (direction_of loads link.0 link.1) ++ direction_line (direction_of loads link.1 link.0)
-
 -- the sum of a quantity over both directions of each link
 abbrev pub in_all : (ℕ → ℕ → ℕ) → List (ℕ × ℕ) → ℕ
 in_all quantity links = sum_over (λ link. quantity link.0 link.1 + quantity link.1 link.0) links
@@ -45,12 +41,6 @@ in_all quantity links = sum_over (λ link. quantity link.0 link.1 + quantity lin
 unfoldable pub total_line : ℕ → ℕ → ℕ → List ℕ
 total_line notices flood messages =
     labelled (codes "traffic notices ") notices ++ labelled (codes " flood ") flood ++ labelled (codes " messages ") messages ++ codes "\n"
-
--- THE TEXT OF THE TRAFFIC: each link in both directions, and the sums
-abbrev pub traffic_text : NetParts → Loads → List ℕ
-traffic_text net loads =
-    flat_map (link_lines loads) (links_in net)
-    ++ total_line (in_all loads.notices (links_in net)) (in_all loads.flood (links_in net)) (in_all loads.messages (links_in net))
 
 -- how wide a direction is drawn, from 1 to 9, by the share of flooding's notifications that it carried
 abbrev pub width : ℕ → ℕ → ℕ
@@ -78,14 +68,25 @@ direction_arrow d =
     labelled (codes "  ") d.from ++ labelled (codes " -> ") d.to ++ labelled (codes " [label=\"") d.notices ++ labelled (codes " of ") d.flood
     ++ labelled (codes ", ") d.messages ++ labelled (codes "\", penwidth=") (width d.notices d.flood) ++ codes "];\n"
 
+-- a direction, as an arrow of the graph or as a line of the text
+abbrev pub direction_printed : Bool → Direction → List ℕ
+direction_printed true d = direction_arrow d
+direction_printed false d = direction_line d
+
 -- both directions of a link
-abbrev pub link_arrows : Loads → ℕ × ℕ → List ℕ
-link_arrows loads link = direction_arrow (direction_of loads link.0 link.1) ++ direction_arrow (direction_of loads link.1 link.0)
+abbrev pub link_printed : Bool → Loads → ℕ × ℕ → List ℕ
+link_printed graph loads link = direction_printed graph (direction_of loads link.0 link.1) ++ direction_printed graph (direction_of loads link.1 link.0)
+
+-- THE TEXT OF THE TRAFFIC: each link in both directions, and the sums
+abbrev pub traffic_text : NetParts → Loads → List ℕ
+traffic_text net loads =
+    flat_map (link_printed false loads) (links_in net)
+    ++ total_line (in_all loads.notices (links_in net)) (in_all loads.flood (links_in net)) (in_all loads.messages (links_in net))
 
 -- THE GRAPH OF THE TRAFFIC: its servers, its clients, and an arrow for each direction of each link
 abbrev pub traffic_graph : NetParts → Loads → List ℕ
 traffic_graph net loads =
-    codes "digraph traffic {\n" ++ flat_map server_node (servers_in net) ++ client_nodes 1 net.clients ++ flat_map (link_arrows loads) (links_in net)
+    codes "digraph traffic {\n" ++ flat_map server_node (servers_in net) ++ client_nodes 1 net.clients ++ flat_map (link_printed true loads) (links_in net)
     ++ codes "}\n"
 
 -- WHAT THE WORD `traffic` PRINTS: the text, or the graph

@@ -1,13 +1,14 @@
 //! The graph of the traffic, on its way to a sink. No call takes memory.
-ghost use Rattle.std.specs.Prelude.{◌≡◌, ◌++◌, ◌≤◌, ◌<◌, ◌^◌, codes};
+ghost use Rattle.std.specs.Prelude.{◌≡◌, ◌++◌, ◌≤◌, codes, true};
 ghost use Rattle.std.specs.List.{flat_map};
 ghost use Rattle.ev_outside.specs.Pending.{outlet, Went};
 ghost use Rattle.ev_tree.specs.Graph.{servers_to};
-ghost use Rattle.ev_traffic.specs.Text.{client_node, client_nodes, direction_arrow, link_arrows, server_node, width};
+ghost use Rattle.ev_traffic.specs.Text.{client_node, client_nodes, link_printed, server_node};
 ghost use Rattle.ev_traffic.specs.Printed.{loads_by};
 
+use crate::directions::put_links;
 use crate::line::put_labelled;
-use crate::loads::{Direction, LoadCounts};
+use crate::loads::LoadCounts;
 use ev_model::Client;
 use ev_outside::{Pending, Sink};
 
@@ -55,51 +56,6 @@ fn put_clients<K: Sink>(out: &mut Pending, sink: &mut K, clients: &[Client])
     }
 }
 
-// How wide a direction is drawn.
-fn width(direction: &Direction) -> u64
-    requires { direction.now.notices < 2 ^ 32 }
-    ensures { result ≡ width direction.now.notices direction.now.flood }
-{
-    if direction.flood == 0 {
-        return 1;
-    }
-    1 + 8 * direction.notices / direction.flood
-}
-
-// The arrow of a direction.
-fn put_direction<K: Sink>(out: &mut Pending, sink: &mut K, direction: Direction)
-    requires { direction.notices < 2 ^ 32 }
-    ensures { Went (outlet (K.taken sink.old) (K.faults sink.old) out.old) (outlet (K.taken sink.new) (K.faults sink.new) out.new)
-        (direction_arrow direction) }
-{
-    put_labelled(out, sink, b"  ", direction.from);
-    put_labelled(out, sink, b" -> ", direction.to);
-    put_labelled(out, sink, b" [label=\"", direction.notices);
-    put_labelled(out, sink, b" of ", direction.flood);
-    put_labelled(out, sink, b", ", direction.messages);
-    put_labelled(out, sink, b"\", penwidth=", width(&direction));
-    out.put(sink, b"];\n")
-}
-
-// The arrows of a link.
-fn put_link<K: Sink>(out: &mut Pending, sink: &mut K, loads: &LoadCounts, link: (u32, u32))
-    ensures { Went (outlet (K.taken sink.old) (K.faults sink.old) out.old) (outlet (K.taken sink.new) (K.faults sink.new) out.new)
-        (link_arrows (loads_by loads.now) link) }
-{
-    put_direction(out, sink, loads.direction(link.0, link.1));
-    put_direction(out, sink, loads.direction(link.1, link.0))
-}
-
-// The arrows of links, in their order.
-fn put_links<K: Sink>(out: &mut Pending, sink: &mut K, loads: &LoadCounts, links: &[(u32, u32)])
-    ensures { Went (outlet (K.taken sink.old) (K.faults sink.old) out.old) (outlet (K.taken sink.new) (K.faults sink.new) out.new)
-        (flat_map (link_arrows (loads_by loads.now)) links.now) }
-{
-    for link in links {
-        put_link(out, sink, loads, *link);
-    }
-}
-
 /// The nodes of servers and clients, and the arrows of links.
 pub(crate) fn put_graph<K: Sink>(
     out: &mut Pending,
@@ -112,11 +68,11 @@ pub(crate) fn put_graph<K: Sink>(
     requires { servers ≤ 64 }
     ensures { Went (outlet (K.taken sink.old) (K.faults sink.old) out.old) (outlet (K.taken sink.new) (K.faults sink.new) out.new)
         (codes "digraph traffic {\n" ++ flat_map server_node (servers_to servers) ++ client_nodes 1 clients.now
-        ++ flat_map (link_arrows (loads_by loads.now)) links.now ++ codes "}\n") }
+        ++ flat_map (link_printed true (loads_by loads.now)) links.now ++ codes "}\n") }
 {
     out.put(sink, b"digraph traffic {\n");
     put_servers(out, sink, servers);
     put_clients(out, sink, clients);
-    put_links(out, sink, loads, links);
+    put_links(out, sink, true, loads, links);
     out.put(sink, b"}\n")
 }

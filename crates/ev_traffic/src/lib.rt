@@ -4,6 +4,7 @@
 
 mod carried;
 mod counts;
+mod directions;
 mod flood;
 mod graph;
 pub mod law;

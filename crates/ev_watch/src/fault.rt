@@ -5,7 +5,6 @@ ghost use Rattle.ev_watch.specs.Reading.{Places};
 
 use ev_input::Fault;
 use ev_memory::NoMemory;
-use std::alloc::{AllocError, AllocFailed};
 
 /// What is at fault with a line behind the line `patterns`, or with the end. The faults are tested in this order.
 #[derive(Clone, Copy, Debug, PartialEq, Eq)]
@@ -67,22 +66,6 @@ impl PatternFault {
             PatternFault::Document { line, kind } => PatternFault::Document { line, kind },
             PatternFault::NoMemory => PatternFault::NoMemory,
         }
-    }
-}
-
-impl From<AllocError> for PatternFault {
-    ghost from_gives = { λ _ e. e ≡ faults.NoMemory };
-
-    fn from(_: AllocError) -> Self {
-        PatternFault::NoMemory
-    }
-}
-
-impl<T: Drop> From<AllocFailed<T>> for PatternFault {
-    ghost from_gives = { λ _ e. e ≡ faults.NoMemory };
-
-    fn from(_: AllocFailed<T>) -> Self {
-        PatternFault::NoMemory
     }
 }
 

@@ -2,6 +2,7 @@ use Rattle.std.proofs.Common.{sym, subst}
 use Rattle.ev_outside.specs.Pending.{outlet, Went}
 use Rattle.ev_outside.proofs.Outlets.{went-then}
 use Rattle.ev_spelling.specs.CommandText.{command_text}
+use Rattle.ev_wire.specs.NoticeText.{notice_text}
 use Rattle.ev_format.proofs.command.put_text.Goals as goal
 
 pub returns-in-Subscribe : goal.returns-in-Subscribe
@@ -33,8 +34,8 @@ returns-in-Unadvertise g c =
     (rw c.constraints-in-Unadvertise.ensures.same at c.put_control-in-Unadvertise.ensures)
 
 pub returns-in-Publish : goal.returns-in-Publish
-unfolding command_text
+unfolding command_text notice_text
 returns-in-Publish g c =
-    let new = outlet (g.K.Sink.taken c.put_attributes.new.sink) (g.K.Sink.faults c.put_attributes.new.sink) c.put_attributes.new.out in
+    let new = outlet (g.K.Sink.taken c.put_parts.new.sink) (g.K.Sink.faults c.put_parts.new.sink) c.put_parts.new.out in
     subst (λ x. Went (outlet (g.K.Sink.taken c.args.sink.now) (g.K.Sink.faults c.args.sink.now) c.args.out.now) new (command_text x)) (sym c.in-Publish.is)
-    (went-then _ _ _ _ _ c.put.ensures (rw c.attributes.ensures.same at c.put_attributes.ensures))
+    (went-then _ _ _ _ _ c.put.ensures (rw c.attributes.ensures.same at c.put_parts.ensures))

@@ -1,4 +1,4 @@
-use Rattle.std.proofs.Common.{◌≡◌, ◌+◌, ◌≤◌, ap, sym, arith, get_or}
+use Rattle.std.proofs.Common.{ap, arith, get_or}
 use Rattle.ev_sets.specs.Numbers.{count}
 use Rattle.ev_model.specs.Nets.{topology_at}
 use Rattle.ev_traffic.specs.Flood.{is_flooded}
