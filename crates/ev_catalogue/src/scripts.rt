@@ -1,7 +1,7 @@
 //! Scripts by numbers.
 ghost use Rattle.std.specs.Prelude.{◌≡◌, ◌<◌, ◌≤◌, ◌+◌, ◌^◌, ◌∷◌, ◌++◌, ℕ, suc, List, [], length, slice_get, Some, IfOk, OnOk};
 ghost use Rattle.std.specs.List.{flat_map};
-ghost use Rattle.ev_sets.specs.Sets.{Has};
+ghost use Rattle.ev_sets.specs.Sets.{Has, IsRising};
 ghost use Rattle.ev_catalogue.specs.Known.{PublicationParts, publication, publishes_after, published_by, script_publications, known_publications};
 ghost use Rattle.ev_catalogue.specs.Known.{filters_in, adverts_in, script_filters, script_adverts};
 ghost use Rattle.ev_catalogue.specs.Numbered.{Means, AreNumbered, AllNumbered};
@@ -14,8 +14,22 @@ use ev_memory::NoMemory;
 use ev_model::{Client, Command, Id};
 use ev_notice::{Advert, Filter, Notice};
 use ev_order::find;
+use ev_pool::Cover;
 use ev_wire::Lists;
 use std::alloc::Global;
+
+// The number of an item that is there.
+fn number_of<T: Cover>(items: &[T], item: &T) -> u32
+    requires rising { IsRising T.order items.now }
+    requires few { length items.now < 2 ^ 32 }
+    requires there { Has item.now items.now }
+    ensures { slice_get items.now result ≡ Some item.now }
+{
+    match find(items, item) {
+        Some(i) => i,
+        None => unreachable!(),
+    }
+}
 
 // The number of a filter that is there.
 fn filter_number(alloc: Global, filters: &[Sub], filter: &Filter) -> Result<u32, NoMemory>
@@ -23,11 +37,7 @@ fn filter_number(alloc: Global, filters: &[Sub], filter: &Filter) -> Result<u32,
     requires there { Has filter.now filters.now }
     ensures { IfOk result (λ i. slice_get filters.now i ≡ Some filter.now) }
 {
-    let sub = Sub(filter.copy(alloc)?);
-    match find(filters, &sub) {
-        Some(i) => Ok(i),
-        None => unreachable!(),
-    }
+    Ok(number_of(filters, &Sub(filter.copy(alloc)?)))
 }
 
 // The number of an advertisement that is there.
@@ -36,11 +46,7 @@ fn advert_number(alloc: Global, adverts: &[Ad], advert: &Advert) -> Result<u32, 
     requires there { Has advert.now adverts.now }
     ensures { IfOk result (λ i. slice_get adverts.now i ≡ Some advert.now) }
 {
-    let ad = Ad(advert.copy(alloc)?);
-    match find(adverts, &ad) {
-        Some(i) => Ok(i),
-        None => unreachable!(),
-    }
+    Ok(number_of(adverts, &Ad(advert.copy(alloc)?)))
 }
 
 // Puts a publication at the end; its number.
