@@ -69,7 +69,7 @@ fn compare(
     requires compared { IsComparedTo traced.now (trace_text tables.now network.now.journal (told_by tables.now network.now.journal)) }
     ensures { OnOk result (GoesOn text.old text.new (traced_text tables.now network.now.journal)) }
 {
-    compare_deliveries(alloc, text, tables, network)?;
+    compare_deliveries(alloc, text, tables.net(), network)?;
     if text.follow(traced, at) {
         return Ok(());
     }

@@ -2,7 +2,6 @@
 ghost use Rattle.std.specs.Prelude.{◌≡◌, ◌≤◌, false, length, OnOk};
 ghost use Rattle.std.specs.List.{flat_map};
 ghost use Rattle.ev_model.specs.Nets.{of_clients};
-ghost use Rattle.ev_model.specs.Sound.{IsSound};
 ghost use Rattle.ev_turns.specs.Network.{received_by, refused_by};
 ghost use Rattle.ev_report.specs.Deliveries.{deliveries_text, delivery_line, delivery_section};
 ghost use Rattle.ev_audited.specs.Comparing.{GoesOn};
@@ -12,7 +11,6 @@ use ev_memory::NoMemory;
 use ev_model::{Client, Delivery, Net};
 use ev_numnet::{Kept, Network};
 use ev_report::{push_client, push_delivery, push_refused};
-use ev_tables::Tables;
 use std::alloc::Global;
 
 // The line of a delivery, put together in a buffer.
@@ -64,8 +62,8 @@ fn compare_section(
     compare_received(text, line, clients, received)
 }
 
-// Client by client in the order of a net.
-fn compare_sections(
+/// Compares what the clients of a network have received, client by client in the order of its net, each delivery in the order received.
+pub fn compare_deliveries(
     alloc: Global,
     text: &mut Comparing<'_>,
     net: &Net,
@@ -89,19 +87,4 @@ fn compare_sections(
         )?;
     }
     Ok(())
-}
-
-/// Compares what the clients of a network have received, client by client in the order of its net, each delivery in the order received.
-pub fn compare_deliveries(
-    alloc: Global,
-    text: &mut Comparing<'_>,
-    tables: &Tables<'_>,
-    network: &Network<'_, Kept>,
-) -> Result<(), NoMemory>
-    requires few { length tables.now.clients ≤ 1024 }
-    requires same { network.now.net ≡ tables.now }
-    ensures { OnOk result (GoesOn text.old text.new (deliveries_text tables.now
-        (of_clients tables.now (refused_by tables.now network.now.journal)) (of_clients tables.now (received_by tables.now network.now.journal)) false)) }
-{
-    compare_sections(alloc, text, tables.net(), network)
 }

@@ -6,7 +6,6 @@ ghost use Rattle.ev_audited.specs.declared.fault.AuditFault.TheVariants as fault
 use ev_audit::ClaimFault;
 use ev_input::Fault;
 use ev_memory::NoMemory;
-use std::alloc::{AllocError, AllocFailed};
 
 /// What is wrong with a claimed run. These are tried in this order.
 #[derive(Clone, Copy, Debug, PartialEq, Eq)]
@@ -60,22 +59,6 @@ impl From<NoMemory> for AuditFault {
     ghost from_gives = { λ _ e. e ≡ faults.NoMemory };
 
     fn from(_: NoMemory) -> Self {
-        AuditFault::NoMemory
-    }
-}
-
-impl From<AllocError> for AuditFault {
-    ghost from_gives = { λ _ e. e ≡ faults.NoMemory };
-
-    fn from(_: AllocError) -> Self {
-        AuditFault::NoMemory
-    }
-}
-
-impl<T: Drop> From<AllocFailed<T>> for AuditFault {
-    ghost from_gives = { λ _ e. e ≡ faults.NoMemory };
-
-    fn from(_: AllocFailed<T>) -> Self {
         AuditFault::NoMemory
     }
 }

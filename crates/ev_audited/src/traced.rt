@@ -4,7 +4,7 @@ ghost use Rattle.ev_model.specs.Sound.{IsSound};
 ghost use Rattle.ev_turns.specs.Network.{IsLegal};
 ghost use Rattle.ev_turns.specs.Told.{told_by};
 ghost use Rattle.ev_turns.specs.Turns.{IsTurn};
-ghost use Rattle.ev_report.specs.Trace.{entries_text, entry_text, trace_head, trace_text};
+ghost use Rattle.ev_report.specs.Trace.{entry_text, trace_head, trace_text};
 ghost use Rattle.ev_audited.specs.Comparing.{ComparesLast, ComparesTurn, GoesOn};
 ghost use Rattle.ev_audited.specs.Answers.{TellsDrained, TellsMade};
 
@@ -51,28 +51,6 @@ fn clients_of<'t>(tables: &'t Tables<'_>) -> &'t [Client]
     &tables.net().clients
 }
 
-// Makes the turns of a run again, and compares each entry with its messages.
-fn compare_entries(
-    alloc: Global,
-    text: &mut Comparing<'_>,
-    tables: &Tables<'_>,
-    journal: &[Entry],
-) -> Result<(), NoMemory>
-    requires sound { IsSound tables.now }
-    requires legal { IsLegal tables.now journal.now }
-    ensures { OnOk result (GoesOn text.old text.new (entries_text tables.now.clients journal.now (told_by tables.now journal.now))) }
-{
-    let mut lines = Vec::new(alloc);
-    let mut network: Network<'_, Passed> = Network::start(alloc, tables)?;
-    let clients = clients_of(tables);
-    for entry in journal {
-        network.turn(turn_of(entry))?;
-        let told = network.last_told()?;
-        compare_entry(text, &mut lines, clients, entry, told.as_slice())?;
-    }
-    Ok(())
-}
-
 /// Whether the run of a network is drained; where it is the network is as before.
 pub fn is_drained(network: &mut Network<'_, Kept>) -> Result<bool, NoMemory>
     ensures drained { IfOk result (λ drained. TellsDrained drained network.old.net network.old.journal) }
@@ -99,7 +77,15 @@ pub fn compare_trace(
     ensures { OnOk result (GoesOn text.old text.new (trace_text tables.now journal.now (told_by tables.now journal.now))) }
 {
     compare_head(alloc, text, journal.len())?;
-    compare_entries(alloc, text, tables, journal)
+    let mut lines = Vec::new(alloc);
+    let mut network: Network<'_, Passed> = Network::start(alloc, tables)?;
+    let clients = clients_of(tables);
+    for entry in journal {
+        network.turn(turn_of(entry))?;
+        let told = network.last_told()?;
+        compare_entry(text, &mut lines, clients, entry, told.as_slice())?;
+    }
+    Ok(())
 }
 
 // The last entry of a run with its messages.

@@ -3,7 +3,7 @@ use Rattle.ev_model.specs.Nets.{of_clients}
 use Rattle.ev_turns.specs.Network.{received_by, refused_by}
 use Rattle.ev_report.specs.Deliveries.{delivery_sections}
 use Rattle.ev_audited.specs.Comparing.{GoesOn}
-use Rattle.ev_audited.proofs.compared.compare_sections.Given as goal
+use Rattle.ev_audited.proofs.compared.compare_deliveries.Given as goal
 
 -- what was compared, and then the text of the clients that are left
 abbrev pub invariant-loop-i : goal.invariant-loop-i

@@ -5,14 +5,14 @@ use Rattle.ev_turns.specs.Turns.{IsTurn}
 use Rattle.ev_turns.specs.Retold.{turn_of_entry}
 use Rattle.ev_turns.specs.Told.{told_by}
 use Rattle.ev_turns.proofs.Again.{retold-all, retold-more, retold-none}
-use Rattle.ev_report.specs.Trace.{entries_text, entry_text}
+use Rattle.ev_report.specs.Trace.{entries_text, entry_text, trace_head}
 use Rattle.ev_audited.specs.Comparing.{GoesOn}
 use Rattle.ev_audited.proofs.Pieces.{goes_nowhere, goes_then}
 use Rattle.ev_audited.proofs.Runs.{entries_more}
-use Rattle.ev_audited.proofs.traced.compare_entries.Goals as goal
+use Rattle.ev_audited.proofs.traced.compare_trace.Goals as goal
 
 pub loop-entry-init : goal.loop-entry-init
-loop-entry-init c = ([], retold-none c.args.tables.now c.args.journal.now c.in_ok-network.network [] c.in_ok-network.ensures refl, goes_nowhere c.args.text.now)
+loop-entry-init c = ([], retold-none c.args.tables.now c.args.journal.now c.in_ok-network.network [] c.in_ok-network.ensures refl, goes_nowhere c.compare_head.new.text)
 
 pub loop-entry-preserved : goal.loop-entry-preserved
 loop-entry-preserved c =
@@ -30,9 +30,9 @@ loop-entry-preserved c =
       told ++ last ∷ [],
       retold-more net journal c.requires.legal i entry c.loop-entry-test.true c.in_ok-turn.field-0 c.loop-entry.network c.turn.new.self told last (told ++ last ∷ [])
           again (subst (λ z. IsTurn c.in_ok-turn.field-0 z c.loop-entry.network c.turn.new.self) turn-is c.in_ok-turn.ensures.turn) c.in_ok-told.ensures refl,
-      subst (GoesOn c.args.text.now c.compare_entry.new.text)
+      subst (GoesOn c.compare_head.new.text c.compare_entry.new.text)
           (entries_more net journal i entry told last c.loop-entry.network c.loop-entry-test.true again)
-          (goes_then c.args.text.now c.loop-entry.text c.compare_entry.new.text (entries_text net.clients (take i journal) told) (entry_text net.clients (get_or journal i entry) last) went text),
+          (goes_then c.compare_head.new.text c.loop-entry.text c.compare_entry.new.text (entries_text net.clients (take i journal) told) (entry_text net.clients (get_or journal i entry) last) went text),
     )
 
 pub returns : goal.returns
@@ -40,6 +40,7 @@ returns c =
     let whole : c.loop-entry.entry-index ≡ length c.args.journal.now = omega (arith, c.loop-entry-test.false, c.loop-entry.auto.entry-index-end) in
     let (told, again, went) = c.loop-entry.invariant in
     let all : told ≡ told_by c.args.tables.now c.args.journal.now = retold-all c.args.tables.now c.args.journal.now c.loop-entry.entry-index c.loop-entry.network told whole again in
-    subst (GoesOn c.args.text.now c.loop-entry.text)
+    goes_then c.args.text.now c.compare_head.new.text c.loop-entry.text (trace_head (length c.args.journal.now)) (entries_text c.args.tables.now.clients c.args.journal.now (told_by c.args.tables.now c.args.journal.now)) c.in_ok-compare_head.ensures
+    (subst (GoesOn c.compare_head.new.text c.loop-entry.text)
     (ap (λ z. entries_text c.args.tables.now.clients z told) (ap (λ n. take n c.args.journal.now) whole ∙ take-length c.args.journal.now)
-    ∙ ap (entries_text c.args.tables.now.clients c.args.journal.now) all) went
+    ∙ ap (entries_text c.args.tables.now.clients c.args.journal.now) all) went)

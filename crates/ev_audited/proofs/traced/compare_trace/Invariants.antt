@@ -3,7 +3,7 @@ use Rattle.ev_wire.specs.declared.sent.Sent.{Sent}
 use Rattle.ev_turns.proofs.Again.{IsRetoldTo}
 use Rattle.ev_report.specs.Trace.{entries_text}
 use Rattle.ev_audited.specs.Comparing.{GoesOn}
-use Rattle.ev_audited.proofs.traced.compare_entries.Given as goal
+use Rattle.ev_audited.proofs.traced.compare_trace.Given as goal
 
 -- so far the journal was made again, its messages were told, and the text of both was compared
 abbrev pub invariant-loop-entry : goal.invariant-loop-entry
