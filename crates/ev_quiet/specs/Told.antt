@@ -11,7 +11,8 @@ from_place net journal n (entry ∷ entries) = ap suc (from_place net journal (s
 pub told_length : (net : NetParts) (journal : List EntryParts) → length (told_by net journal) ≡ length journal
 told_length net journal = from_place net journal zero journal
 
-from_place_below : (net : NetParts) (journal : List EntryParts) (n : ℕ) (entries : List EntryParts) → length (told_below_from net journal n entries) ≡ length entries
+from_place_below : (net : NetParts) (journal : List EntryParts) (n : ℕ) (entries : List EntryParts)
+    → length (told_below_from net journal n entries) ≡ length entries
 from_place_below net journal n [] = refl
 from_place_below net journal n (entry ∷ entries) = ap suc (from_place_below net journal (suc n) entries)
 

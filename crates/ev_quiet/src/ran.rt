@@ -101,29 +101,6 @@ pub fn walked<K: Keeping>(alloc: Global, net: &Net) -> Result<Ran, NoMemory>
     }
 }
 
-// The run of a net over its tables.
-fn run_over<K: Keeping>(
-    alloc: Global,
-    tables: &Tables<'_>,
-    schedule: Schedule,
-) -> Result<Ran, InputFault>
-    requires sound { IsSound tables.now }
-    requires quiet { is_quiet schedule ≡ true }
-    ensures ran { IfOk result (λ ran. IsRan schedule tables.now ran) }
-    ensures kept { IfOk result (λ ran. ran.journal.kept ≡ K.keeps) }
-    ensures bad { (line : ℕ) (kind : Fault) → IsErrOf result (InputFault.Bad line kind)
-        → (kind ≡ Fault.BadTurn) × StopsAtLine tables.now [] (turns_first schedule tables.now) line }
-{
-    let network = through::<K>(alloc, tables, schedule)?;
-    let refused = refused(alloc, &network, clients(tables.net()))?;
-    let (journal, received) = network.into_parts()?;
-    Ok(Ran {
-        journal: Record::of(journal),
-        refused,
-        received,
-    })
-}
-
 /// The run of a net on one thread, by the turns of a schedule and the walk, whose entries are kept or pass.
 pub fn make_run<K: Keeping>(alloc: Global, net: &Net, schedule: Schedule) -> Result<Ran, InputFault>
     requires sound { IsSound net.now }
@@ -134,5 +111,12 @@ pub fn make_run<K: Keeping>(alloc: Global, net: &Net, schedule: Schedule) -> Res
         → (kind ≡ Fault.BadTurn) × StopsAtLine net.now [] (turns_first schedule net.now) line }
 {
     let tables = Tables::of(alloc, net)?;
-    run_over::<K>(alloc, &tables, schedule)
+    let network = through::<K>(alloc, &tables, schedule)?;
+    let refused = refused(alloc, &network, clients(tables.net()))?;
+    let (journal, received) = network.into_parts()?;
+    Ok(Ran {
+        journal: Record::of(journal),
+        refused,
+        received,
+    })
 }

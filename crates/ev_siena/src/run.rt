@@ -15,32 +15,6 @@ use std::alloc::Global;
 use std::sync::Wait;
 use std::thread::Threads;
 
-/// The run of a net over its tables.
-fn run_over<'a, R: Threads + Wait + Sync, G: Gate + Sync>(
-    alloc: Global,
-    rt: &R,
-    tables: &'a Tables<'a>,
-    gate: &G,
-    threads: usize,
-    keeps: bool,
-) -> Result<Ran, NoMemory>
-    requires { IsSound tables.now }
-    ensures run { IfOk result (IsThreaded tables.now) }
-    ensures kept { IfOk result (λ ran. ran.journal.kept ≡ keeps) }
-{
-    let Team {
-        mut cells,
-        mut eyes,
-    } = Team::make(alloc, rt, tables, keeps)?;
-    match run_phases(alloc, rt, tables, gate, threads, &mut cells, &mut eyes) {
-        Ok(()) => collect(alloc, rt, tables.net(), cells, keeps),
-        Err(fault) => {
-            end_all(rt, cells);
-            Err(fault)
-        }
-    }
-}
-
 /// The run of a net, phase by phase, with two workers a server, in as many threads as are wanted where these can be had: one at
 /// least, this one, and 64 or one a worker at most. What the servers did is the entries of their journals by stamp and then by
 /// server, which are kept where that is wanted, and else pass. Its one refusal is want of memory, and it returns where its
@@ -58,5 +32,15 @@ pub fn run_net<R: Threads + Wait + Sync, G: Gate + Sync>(
     ensures kept { IfOk result (λ ran. ran.journal.kept ≡ keeps) }
 {
     let tables = Tables::of(alloc, net)?;
-    run_over(alloc, rt, &tables, gate, threads, keeps)
+    let Team {
+        mut cells,
+        mut eyes,
+    } = Team::make(alloc, rt, &tables, keeps)?;
+    match run_phases(alloc, rt, &tables, gate, threads, &mut cells, &mut eyes) {
+        Ok(()) => collect(alloc, rt, tables.net(), cells, keeps),
+        Err(fault) => {
+            end_all(rt, cells);
+            Err(fault)
+        }
+    }
 }
