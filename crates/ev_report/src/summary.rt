@@ -10,25 +10,6 @@ use ev_memory::NoMemory;
 use ev_model::Net;
 use std::alloc::Global;
 
-// The line of how much a run did.
-#[tactic(auto, unfolding(crate::specs::Summary::summary_text))]
-fn push_summary(
-    out: &mut Vec<u8>,
-    publications: u64,
-    deliveries: u64,
-    entries: u64,
-    messages: u64,
-) -> Result<(), NoMemory>
-    ensures { OnOk result (out.new.items ≡ out.old.items ++ summary_text publications deliveries entries messages) }
-{
-    push_labelled(out, b"publications ", publications)?;
-    push_labelled(out, b" deliveries ", deliveries)?;
-    push_labelled(out, b" entries ", entries)?;
-    push_labelled(out, b" messages ", messages)?;
-    out.extend_from_slice(b"\n")?;
-    Ok(())
-}
-
 /// How much a run did: the accepted publications, the deliveries over all clients, the entries of the journal, and the
 /// messages that were put on links.
 pub fn summary_text(
@@ -41,7 +22,11 @@ pub fn summary_text(
     ensures { IfOk result (λ text. text.items ≡ summary_text publications deliveries entries messages) }
 {
     let mut out = Vec::new(alloc);
-    push_summary(&mut out, publications, deliveries, entries, messages)?;
+    push_labelled(&mut out, b"publications ", publications)?;
+    push_labelled(&mut out, b" deliveries ", deliveries)?;
+    push_labelled(&mut out, b" entries ", entries)?;
+    push_labelled(&mut out, b" messages ", messages)?;
+    out.extend_from_slice(b"\n")?;
     Ok(out)
 }
 
