@@ -1,5 +1,5 @@
 -- What was delivered to a hierarchy's clients lies at their homes.
-use Rattle.std.proofs.Common.{◌≡◌, ℕ, suc, ◌-◌, ap, ◌∙◌, arith}
+use Rattle.std.proofs.Common.{ℕ, suc, ◌-◌, ap, ◌∙◌, arith}
 use Rattle.ev_model.specs.Parts.{NetParts}
 use Rattle.ev_model.specs.Meaning.{deliveries_of}
 use Rattle.ev_model.specs.Nets.{home_of}

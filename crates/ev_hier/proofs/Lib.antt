@@ -10,4 +10,3 @@ pub mod Sessions
 pub mod Starting
 pub mod HandedOn
 pub mod Told
-pub mod Drained

@@ -2,9 +2,7 @@
 use Rattle.std.proofs.Common.{◌≡◌, ℕ, zero, suc, ◌+◌, ◌<◌, ◌≤◌, max, List, [], ◌∷◌, ◌++◌, length, map, take, slice_get, slice_set, slice_index_or, ◌⊎◌, Some, inl, inr, refl, sym, ap, subst, ◌∙◌, arith, add-one}
 use Rattle.std.proofs.lemmas.Option.{same_Some}
 use Rattle.std.proofs.lemmas.List.{map-append}
-use Rattle.std.specs.List.{range_with_len}
 use Rattle.ev_sets.specs.Sets.{Has}
-use Rattle.ev_run.specs.Machine.{Machine}
 use Rattle.ev_run.specs.Runs.{greatest, raised}
 use Rattle.ev_run.proofs.Lists.{has-append}
 use Rattle.ev_theory.specs.Real.{real}
@@ -13,9 +11,11 @@ use Rattle.ev_model.specs.Parts.{NetParts}
 use Rattle.ev_model.specs.Nets.{first_tree}
 use Rattle.ev_hierserver.specs.Core.{HierarchyParts, unsteered, IsHierarchyState}
 use Rattle.ev_hierturns.specs.Network.{net_of, servers_of}
-use Rattle.ev_numnet.proofs.Beginning.{any-clock}
-use Rattle.ev_hier.specs.Clocks.{with_clock, with_clocks, clock_from, greatest_clock}
+use Rattle.ev_numnet.specs.Stepping.{greatest_clock}
+use Rattle.ev_numnet.proofs.Beginning.{any-clock, greatest-is}
+use Rattle.ev_hier.specs.Clocks.{with_clock, with_clocks, clock_from}
 use Rattle.ev_hier.specs.Kept.{AreServers}
+use Rattle.ev_hier.specs.Stepping.{hierarchy}
 
 -- one clock more is set
 set-next : (clocks : List ℕ) (cores : List HierarchyParts) (i : ℕ) (clock : ℕ) (parts : HierarchyParts) → slice_get clocks i ≡ Some clock → slice_get cores i ≡ Some parts
@@ -79,24 +79,8 @@ set-back f (p ∷ cores) = λ k. with_clock (own k) (with_clock (f p) p) ∷ set
     own : max p.core.clock 0 ≡ p.core.clock
     own = omega arith
 
--- the greatest clock
-greatest-is : (m : Machine) (f : ℕ → ℕ) (n k : ℕ) (cores : List HierarchyParts) → length cores ≡ k → ((place : ℕ) (parts : HierarchyParts) → slice_get cores place ≡ Some parts → parts.core.clock ≡ f (n + place))
-    → greatest_clock cores ≡ greatest m f (range_with_len n k)
-greatest-is m f n zero [] e all = refl
-greatest-is m f n (suc k) [] e all = absurd (omega (arith, e))
-greatest-is m f n zero (c ∷ cs) e all = absurd (omega (arith, e))
-greatest-is m f n (suc k) (c ∷ cs) e all =
-    let first : c.core.clock ≡ f n = all 0 c refl ∙ ap f (plus-zero n) in
-    let rest : greatest_clock cs ≡ greatest m f (range_with_len (n + 1) k) = greatest-is m f (n + 1) k cs (omega (arith, e)) (λ place parts at. all (suc place) parts at ∙ ap f (plus-suc n place)) in
-    ap (λ z. max z (greatest_clock cs)) first ∙ ap (max (f n)) rest
-  where
-    plus-zero : (n : ℕ) → n + 0 ≡ n
-    plus-zero n = omega arith
-
-    plus-suc : (n p : ℕ) → n + suc p ≡ n + 1 + p
-    plus-suc n p = omega arith
-
-below-greatest : (cores : List HierarchyParts) (place : ℕ) (parts : HierarchyParts) → slice_get cores place ≡ Some parts → parts.core.clock ≤ greatest_clock cores
+-- no clock is above the greatest
+below-greatest : (cores : List HierarchyParts) (place : ℕ) (parts : HierarchyParts) → slice_get cores place ≡ Some parts → parts.core.clock ≤ greatest_clock hierarchy cores
 below-greatest [] place parts e = absurd cc
 below-greatest (c ∷ cs) zero parts e = let same = ap (λ (z : HierarchyParts). z.core.clock) (same_Some c parts e) in omega (arith, same)
 below-greatest (c ∷ cs) (suc place) parts e = let ih = below-greatest cs place parts e in omega (arith, ih)
@@ -108,28 +92,28 @@ map-got f (x ∷ xs) (suc i) y e = map-got f xs i y e
 
 -- raised to the greatest, the servers are those of the raised state
 module _ (net : NetParts) (state : Hierarchy real (net_of net)) (cores : List HierarchyParts) (servers : AreServers net state cores) where
-  clock-is : greatest_clock cores ≡ greatest (servers_of net) state.clock (net_of net).servers
-  clock-is = greatest-is (servers_of net) state.clock 1 (first_tree net.trees).count cores servers.all (λ place parts at. servers.clocks place parts at ∙ ap state.clock (one-more place))
+  clock-is : greatest_clock hierarchy cores ≡ greatest (servers_of net) state.clock (net_of net).servers
+  clock-is = greatest-is hierarchy (servers_of net) state.clock 1 (first_tree net.trees).count cores servers.all (λ place parts at. servers.clocks place parts at ∙ ap state.clock (one-more place))
     where
       one-more : (place : ℕ) → suc place ≡ 1 + place
       one-more place = omega arith
 
   abbrev up : HierarchyParts → HierarchyParts
-  up p = with_clock (clock_from (greatest_clock cores) p) p
+  up p = with_clock (clock_from (greatest_clock hierarchy cores) p) p
 
   record Was (place : ℕ) (parts : HierarchyParts) : Type 0 where
     old : HierarchyParts
     there : slice_get cores place ≡ Some old
     is : up old ≡ parts
 
-  was : (place : ℕ) (parts : HierarchyParts) → slice_get (with_clocks (map (clock_from (greatest_clock cores)) cores) cores) place ≡ Some parts → Was place parts
+  was : (place : ℕ) (parts : HierarchyParts) → slice_get (with_clocks (map (clock_from (greatest_clock hierarchy cores)) cores) cores) place ≡ Some parts → Was place parts
   was place parts e =
-      let x = map-got up cores place parts (sym (ap (λ z. slice_get z place) (all-set (clock_from (greatest_clock cores)) cores)) ∙ e) in
+      let x = map-got up cores place parts (sym (ap (λ z. slice_get z place) (all-set (clock_from (greatest_clock hierarchy cores)) cores)) ∙ e) in
       record { old = x.0; there = x.1; is = x.2 }
 
-  pub raised-servers : AreServers net (raised (servers_of net) state) (with_clocks (map (clock_from (greatest_clock cores)) cores) cores)
+  pub raised-servers : AreServers net (raised (servers_of net) state) (with_clocks (map (clock_from (greatest_clock hierarchy cores)) cores) cores)
   raised-servers = record {
-    all = clocks-long (map (clock_from (greatest_clock cores)) cores) cores ∙ servers.all;
+    all = clocks-long (map (clock_from (greatest_clock hierarchy cores)) cores) cores ∙ servers.all;
     nets = λ place parts e. let w = was place parts e in subst (λ (z : HierarchyParts). z.core.net ≡ net) w.is (servers.nets place w.old w.there);
     number = λ place parts e. let w = was place parts e in subst (λ (z : HierarchyParts). z.core.server ≡ suc place) w.is (servers.number place w.old w.there);
     states = λ place parts e. let w = was place parts e in subst (λ (z : HierarchyParts). IsHierarchyState (net_of net) z (state.state (suc place))) w.is
@@ -137,12 +121,12 @@ module _ (net : NetParts) (state : Hierarchy real (net_of net)) (cores : List Hi
     clocks = λ place parts e. let w = was place parts e in sym (ap (λ (z : HierarchyParts). z.core.clock) w.is) ∙ high w.old (below-greatest cores place w.old w.there) ∙ clock-is;
   }
     where
-      high : (old : HierarchyParts) → old.core.clock ≤ greatest_clock cores → clock_from (greatest_clock cores) old ≡ greatest_clock cores
+      high : (old : HierarchyParts) → old.core.clock ≤ greatest_clock hierarchy cores → clock_from (greatest_clock hierarchy cores) old ≡ greatest_clock hierarchy cores
       high old l = omega (arith, l)
 
       stands-up : (s : _) (old : HierarchyParts) → IsHierarchyState (net_of net) old s → IsHierarchyState (net_of net) (up old) s
       stands-up s old is = record {
-        stands = any-clock (unsteered (net_of net)) old.core (clock_from (greatest_clock cores) old) s is.stands;
+        stands = any-clock (unsteered (net_of net)) old.core (clock_from (greatest_clock hierarchy cores) old) s is.stands;
         refuses = is.refuses;
         masters = is.masters;
       }

@@ -15,8 +15,3 @@ with_clocks (clock ∷ clocks) (parts ∷ cores) = with_clock clock parts ∷ wi
 -- a server's clock, or a greater one that is given
 abbrev pub clock_from : ℕ → HierarchyParts → ℕ
 clock_from least parts = max parts.core.clock least
-
--- the greatest clock of these cores
-abbrev pub greatest_clock : List HierarchyParts → ℕ
-greatest_clock [] = 0
-greatest_clock (parts ∷ cores) = max parts.core.clock (greatest_clock cores)

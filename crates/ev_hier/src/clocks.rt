@@ -1,23 +1,14 @@
 //! The clocks of the servers, which the first command of a later phase raises to the greatest.
 ghost use Rattle.std.specs.Prelude.{◌≡◌, ◌<◌, ◌^◌, ℕ, length, map, IfOk, OnOk, OnErr};
 ghost use Rattle.ev_sets.specs.Sets.{Has};
-ghost use Rattle.ev_hier.specs.Clocks.{greatest_clock, clock_from, with_clocks};
+ghost use Rattle.ev_numnet.specs.Stepping.{greatest_clock};
+ghost use Rattle.ev_hier.specs.Clocks.{clock_from, with_clocks};
+ghost use Rattle.ev_hier.specs.Stepping.{hierarchy};
 
 use crate::place::Place;
 use ev_memory::NoMemory;
+use ev_numnet::greatest_clock;
 use std::alloc::Global;
-
-/// The greatest clock.
-fn greatest(places: &[Place<'_>]) -> u64
-    ensures greatest { result ≡ greatest_clock places.now }
-    ensures low { result < 2 ^ 62 }
-{
-    let mut greatest = 0;
-    for place in places {
-        greatest = place.core().clock().max(greatest);
-    }
-    greatest
-}
 
 /// The clocks of the servers, each at least this one.
 fn clocks(alloc: Global, places: &[Place<'_>], least: u64) -> Result<Vec<u64>, NoMemory>
@@ -35,13 +26,13 @@ fn clocks(alloc: Global, places: &[Place<'_>], least: u64) -> Result<Vec<u64>, N
 /// Raises every clock to the greatest; the answer is the clocks before. All memory is taken first.
 pub(crate) fn raise_all(alloc: Global, places: &mut Vec<Place<'_>>) -> Result<Vec<u64>, NoMemory>
     ensures raised { OnOk result (places.new.items
-        ≡ with_clocks (map (clock_from (greatest_clock places.old.items)) places.old.items) places.old.items) }
+        ≡ with_clocks (map (clock_from (greatest_clock hierarchy places.old.items)) places.old.items) places.old.items) }
     ensures before { IfOk result (λ before. before.items ≡ map (clock_from 0) places.old.items) }
     ensures low { IfOk result (λ before. (c : ℕ) → Has c before.items → c < 2 ^ 62) }
     ensures err { OnErr result (places.new.items ≡ places.old.items) }
 {
     let before = clocks(alloc, places, 0)?;
-    let raised = clocks(alloc, places, greatest(places))?;
+    let raised = clocks(alloc, places, greatest_clock(places))?;
     set_clocks(places, &raised);
     Ok(before)
 }

@@ -134,6 +134,10 @@ impl<'a> Server<'a> for Place<'a> {
         }
     }
 
+    fn clock(&self) -> u64 {
+        self.core.clock()
+    }
+
     fn is_calm(&self) -> bool {
         self.core.staged().is_empty()
     }

@@ -1,2 +1,2 @@
-mod Wanted
+pub mod Wanted
 mod Sent

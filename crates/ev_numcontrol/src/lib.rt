@@ -9,3 +9,4 @@ mod control;
 mod offering;
 
 pub use control::Control;
+pub use offering::unite;

@@ -3,7 +3,6 @@ ghost use Rattle.std.specs.Prelude.{◌≡◌, ◌≢◌, ◌<◌, ℕ, [], leng
 ghost use Rattle.ev_sets.specs.Sets.{Has, roots};
 ghost use Rattle.ev_notice.specs.Cover.{filter_covers};
 ghost use Rattle.ev_notice.specs.Before.{list_before};
-ghost use Rattle.ev_order.specs.Order.{picked};
 ghost use Rattle.ev_wire.specs.declared.semantics.Semantics.TheVariants.{Advertisement};
 ghost use Rattle.ev_wire.specs.Messages.{Lists};
 ghost use Rattle.ev_stock.specs.Sides.{Told};
@@ -17,7 +16,7 @@ use ev_cover::{Ad, Sub};
 use ev_stock::Stock;
 
 /// Puts the members of each of these rows in whose number is held.
-fn unite(held: &Row, rows: &[Row], row: &mut Row)
+pub fn unite(held: &Row, rows: &[Row], row: &mut Row)
     requires held { held.now.width ≡ length rows.now }
     requires width { (a : ℕ) → a < length rows.now → (row_of rows.now a).width ≡ row.old.width }
     requires empty { row.old.members ≡ [] }
@@ -32,29 +31,8 @@ fn unite(held: &Row, rows: &[Row], row: &mut Row)
     }
 }
 
-/// Makes a row that of the filters that overlap an advertisement which is held from an interface.
-fn find_offered<'a>(
-    filters: &Stock<'a, Sub>,
-    adverts: &Stock<'a, Ad>,
-    overlaps: &[Row],
-    interface: u32,
-    row: &mut Row,
-)
-    requires rows { overlaps.now ≡ overlap_rows filters.now.items adverts.now.items }
-    requires interface { Has interface adverts.now.interfaces }
-    requires width { row.old.width ≡ length filters.now.items }
-    ensures width { row.new.width ≡ row.old.width }
-    ensures offered { Offers Advertisement (held_from list_before interface adverts.now.holdings) filters.now.items
-        (picked filters.now.items row.new.members) }
-{
-    filters.is_known();
-    row.clear();
-    if let Some(held) = adverts.held(interface) {
-        unite(held, overlaps, row);
-    }
-}
-
-/// Offers on the link of an interface, if it is one, what is wanted there now.
+/// Offers on the link of an interface, if it is one, what is wanted there now: the filters that overlap an advertisement
+/// which is held from it. The row is made that of these.
 pub(crate) fn offer_wanted<'a>(
     filters: &mut Stock<'a, Sub>,
     adverts: &Stock<'a, Ad>,
@@ -83,7 +61,11 @@ pub(crate) fn offer_wanted<'a>(
 {
     filters.is_known();
     if let Some(place) = filters.link_place(interface) {
-        find_offered(filters, adverts, overlaps, interface, row);
+        let Some(held) = adverts.held(interface) else {
+            unreachable!()
+        };
+        row.clear();
+        unite(held, overlaps, row);
         filters.offer(place, row);
     }
 }

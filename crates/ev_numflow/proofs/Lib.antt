@@ -1,4 +1,3 @@
-pub mod Wanted
 pub mod Needed
 pub mod Filling
 pub mod Answering

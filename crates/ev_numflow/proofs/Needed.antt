@@ -19,8 +19,9 @@ use Rattle.ev_routing.specs.Clients.{some_pass}
 use Rattle.ev_control.specs.Control.{is_wanted}
 use Rattle.ev_control.proofs.Taken.{has-next, take-all}
 use Rattle.ev_catalogue.specs.Related.{overlap_rows}
-use Rattle.ev_numflow.specs.Rows.{row_at, IsUnion, IsNeeded, IsNeededItem, PicksRootsOf}
-use Rattle.ev_numflow.proofs.Wanted.{union-offers}
+use Rattle.ev_numflow.specs.Rows.{row_at, IsNeeded, IsNeededItem, PicksRootsOf}
+use Rattle.ev_numcontrol.specs.Offering.{IsUnion}
+use Rattle.ev_numcontrol.proofs.Wanted.{union-offers}
 
 -- the numbers so far: a server's own, and those of the first of its links but one
 module _ (table : List Numbers) (at of : ℕ) (own : List ℕ) where
@@ -73,11 +74,21 @@ module _ (table : List Numbers) (at of : ℕ) (own : List ℕ) where
   pub need-end : (tree : Topology) (links row : List ℕ) (n : ℕ) → length links ≤ n → links ≡ links_of tree of → ((k : ℕ) → Has k row ↔ IsSoFar links n k) → (k : ℕ) → Has k row ↔ IsNeeded tree own table at of k
   need-end tree links row n all e before k = subst (λ z. Has k row ↔ (Has k own ⊎ ((c : ℕ) × Has c z × (c ≡ at → ⊥) × Has k (row_at table of c).members))) (take-all links n all ∙ e) (before k)
 
--- the roots of the items of what is needed
-module _ {T : Type 0} {covers before : T → T → Bool} (laws : CoverLaws covers before) (items : List T) (rising : IsRising before items) (tree : Topology) (own-row : List ℕ) (own : List T)
+-- the roots of a set of items that the numbers are of
+pub picks-due : {T : Type 0} {covers before : T → T → Bool} → CoverLaws covers before → (items : List T) → IsRising before items → (due row : List ℕ) → IsRising nat_lt due
+    → picked items row ≡ roots covers before (picked items due) → PicksRootsOf covers before items row (λ x. Has x (picked items due))
+picks-due {covers = covers} {before} laws items rising due row rises is xs up told = is ∙ ap (roots covers before) (ext laws (picked items due) xs (picked-rising laws items rising due rises) up
+    (λ x m. (told x).1 m) (λ x m. (told x).0 m))
+
+pub picks-same : {T : Type 0} (covers before : T → T → Bool) (items : List T) (row : List ℕ) (IsDue IsToo : T → Type 0) → ((x : T) → IsDue x ↔ IsToo x)
+    → PicksRootsOf covers before items row IsDue → PicksRootsOf covers before items row IsToo
+picks-same covers before items row IsDue IsToo same picks xs up told = picks xs up (λ x. (λ m. (same x).1 ((told x).0 m), λ d. (told x).1 ((same x).0 d)))
+
+-- the items of what is needed
+module _ {T : Type 0} (items : List T) (tree : Topology) (own-row : List ℕ) (own : List T)
     (own-is : picked items own-row ≡ own) (table : List Numbers) (a b : ℕ) (need : List ℕ) (needed-are : (k : ℕ) → Has k need ↔ IsNeeded tree own-row table a b k) where
-  item-needed : (x : T) → ((k : ℕ) × Has k need × (slice_get items k ≡ Some x)) ↔ IsNeededItem tree items own table a b x
-  item-needed x = (λ r. to r.0 r.1 r.2, from)
+  pub item-needed : (x : T) → Has x (picked items need) ↔ IsNeededItem tree items own table a b x
+  item-needed x = (λ m. let r = picked-has items need x m in to r.0 r.1 r.2, from)
     where
       to : (k : ℕ) → Has k need → slice_get items k ≡ Some x → IsNeededItem tree items own table a b x
       to k m e = elim ((needed-are k).0 m) [
@@ -85,30 +96,23 @@ module _ {T : Type 0} {covers before : T → T → Bool} (laws : CoverLaws cover
         | inr r ↦ inr (r.0, r.1, r.2, has-picked items (row_at table b r.0).members k x r.3 e)
       ]
 
-      from : IsNeededItem tree items own table a b x → (k : ℕ) × Has k need × (slice_get items k ≡ Some x)
-      from (inl h) = let r = picked-has items own-row x (subst (Has x) (sym own-is) h) in (r.0, (needed-are r.0).1 (inl r.1), r.2)
-      from (inr (c, l, n, h)) = let r = picked-has items (row_at table b c).members x h in (r.0, (needed-are r.0).1 (inr (c, l, n, r.1)), r.2)
+      from : IsNeededItem tree items own table a b x → Has x (picked items need)
+      from (inl h) = let r = picked-has items own-row x (subst (Has x) (sym own-is) h) in has-picked items need r.0 x ((needed-are r.0).1 (inl r.1)) r.2
+      from (inr (c, l, n, h)) = let r = picked-has items (row_at table b c).members x h in has-picked items need r.0 x ((needed-are r.0).1 (inr (c, l, n, r.1))) r.2
 
-  pub picks-needed : (row : List ℕ) → IsRising nat_lt need → picked items row ≡ roots covers before (picked items need) → PicksRootsOf covers before items row (IsNeededItem tree items own table a b)
-  picks-needed row rises is xs up told = is ∙ ap (roots covers before) (ext laws (picked items need) xs (picked-rising laws items rising need rises) up
-      (λ x m. (told x).1 ((item-needed x).0 (let r = picked-has items need x m in (r.0, r.1, r.2))))
-      (λ x m. (let r = (item-needed x).1 ((told x).0 m) in has-picked items need r.0 x r.1 r.2)))
-
-  pub picks-wanted : (wanted : T → Bool) (due row : List ℕ) → IsRising nat_lt due → ((k : ℕ) (x : T) → slice_get items k ≡ Some x → Has k due ↔ (Has k need × (wanted x ≡ true)))
-      → picked items row ≡ roots covers before (picked items due) → (xs : List T) → IsRising before xs → ((x : T) → Has x xs ↔ (IsNeededItem tree items own table a b x × (wanted x ≡ true)))
-      → picked items row ≡ roots covers before xs
-  picks-wanted wanted due row rises due-are is xs up told = is ∙ ap (roots covers before) (ext laws (picked items due) xs (picked-rising laws items rising due rises) up to from)
+  pub item-wanted : (wanted : T → Bool) (due : List ℕ) → ((k : ℕ) (x : T) → slice_get items k ≡ Some x → Has k due ↔ (Has k need × (wanted x ≡ true)))
+      → (x : T) → Has x (picked items due) ↔ (IsNeededItem tree items own table a b x × (wanted x ≡ true))
+  item-wanted wanted due due-are x = (to, from)
     where
-      to : (x : T) → Has x (picked items due) → Has x xs
-      to x m =
+      to : Has x (picked items due) → IsNeededItem tree items own table a b x × (wanted x ≡ true)
+      to m =
           let r = picked-has items due x m in
           let w = (due-are r.0 x r.2).0 r.1 in
-          (told x).1 ((item-needed x).0 (r.0, w.0, r.2), w.1)
+          ((item-needed x).0 (has-picked items need r.0 x w.0 r.2), w.1)
 
-      from : (x : T) → Has x xs → Has x (picked items due)
-      from x m =
-          let w = (told x).0 m in
-          let r = (item-needed x).1 w.0 in
+      from : IsNeededItem tree items own table a b x × (wanted x ≡ true) → Has x (picked items due)
+      from w =
+          let r = picked-has items need x ((item-needed x).1 w.0) in
           has-picked items due r.0 x ((due-are r.0 x r.2).1 (r.1, w.1)) r.2
 
 -- what is wanted by who offers advertisements

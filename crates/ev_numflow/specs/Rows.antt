@@ -14,20 +14,20 @@ use Rattle.ev_model.specs.Parts.{NetParts}
 use Rattle.ev_catalogue.specs.Known.{known_filters, known_adverts}
 use Rattle.ev_flow.specs.declared.home.Home.{Home}
 use Rattle.ev_flow.specs.Flow.{IsNetOn, IsUnionOfClients, filters_of, adverts_of}
+use Rattle.ev_flow.specs.Rows.{IsOrder}
 use Rattle.ev_numheld.specs.Held.{NetHeld, net_held}
+use Rattle.ev_numflow.specs.Homes.{NetHome, AreHomesIn}
+
+-- WHAT ROWS ARE MADE OVER: one home for each server, all in a run of the net, and all links of the tree, each behind those that its row is made of
+pub record IsFlowing (known : NetParts) (tree : Topology) (homes : List NetHome) (order : List (ℕ × ℕ)) : Type 0 where
+  pub one_each : length homes ≡ tree.count
+  pub of_net : AreHomesIn known homes
+  pub ordered : IsOrder tree order
+  pub whole : (a b : ℕ) → Has b (links_of tree a) → Has (a, b) order
 
 -- no numbers
 abbrev pub no_numbers : Numbers
 no_numbers = record { width = 0; members = [] }
-
--- the row at a place
-abbrev pub row_of : List Numbers → ℕ → Numbers
-row_of rows a = get_or rows a no_numbers
-
--- the numbers are those of the rows whose places are held
-pub record IsUnion (held : List ℕ) (rows : List Numbers) (numbers : List ℕ) : Type 0 where
-  pub from : (k : ℕ) → Has k numbers → (a : ℕ) × Has a held × Has k (row_of rows a).members
-  pub to : (a k : ℕ) → Has a held → Has k (row_of rows a).members → Has k numbers
 
 -- the row of a table for two servers
 abbrev pub row_at : List Numbers → ℕ → ℕ → Numbers

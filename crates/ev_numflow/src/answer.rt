@@ -11,7 +11,7 @@ ghost use Rattle.ev_numflow.specs.Rows.{AreWideOn, IsHeldOf};
 
 use crate::gather::copied;
 use crate::home::Home;
-use crate::made::{advert_table, filter_table};
+use crate::made::Flowing;
 use crate::order::ordered;
 use crate::table::Table;
 use ev_memory::NoMemory;
@@ -92,8 +92,15 @@ pub fn flow<'a>(
 {
     tree.laws();
     let order = ordered(alloc, tree)?;
-    let offers = advert_table(alloc, tables, tree, homes, &order)?;
-    let table = filter_table(alloc, tables, tree, homes, &offers, &order)?;
+    let flowing = Flowing {
+        alloc,
+        tables,
+        tree,
+        homes,
+        order: &order,
+    };
+    let offers = flowing.advert_table()?;
+    let table = flowing.filter_table(&offers)?;
     let held = all_links(alloc, tables, tree, &table, &offers)?;
     Ok(held)
 }

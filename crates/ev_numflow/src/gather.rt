@@ -1,8 +1,8 @@
 //! Unions of rows.
-ghost use Rattle.std.specs.Prelude.{◌≡◌, ◌↔◌, ◌<◌, ℕ, [], length, IfOk};
+ghost use Rattle.std.specs.Prelude.{◌≡◌, ◌↔◌, ℕ, IfOk};
 ghost use Rattle.ev_sets.specs.Sets.{Has};
 ghost use Rattle.ev_tree.specs.Tree.{IsServer, links_of};
-ghost use Rattle.ev_numflow.specs.Rows.{row_at, row_of, IsUnion, IsNeeded};
+ghost use Rattle.ev_numflow.specs.Rows.{row_at, IsNeeded};
 
 use crate::table::Table;
 use ev_bits::Row;
@@ -43,20 +43,4 @@ pub(crate) fn needed(
         row.insert_all(table.row(of, *next));
     }
     Ok(row)
-}
-
-/// Puts the members of each of these rows in whose place is held.
-pub(crate) fn unite(held: &Row, rows: &[Row], row: &mut Row)
-    requires held { held.now.width ≡ length rows.now }
-    requires width { (a : ℕ) → a < length rows.now → (row_of rows.now a).width ≡ row.old.width }
-    requires empty { row.old.members ≡ [] }
-    ensures width { row.new.width ≡ row.old.width }
-    ensures union { IsUnion held.now.members rows.now row.new.members }
-{
-    held.is_a_set();
-    let mut at = 0;
-    while let Some(a) = held.first_from(at) {
-        row.insert_all(&rows[a as usize]);
-        at = a + 1;
-    }
 }

@@ -11,6 +11,8 @@ mod home;
 mod made;
 mod order;
 mod table;
+mod trees;
 
 pub use answer::flow;
 pub use home::Home;
+pub use trees::trees_come;

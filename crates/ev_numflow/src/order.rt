@@ -1,8 +1,7 @@
 //! The links of a tree, from those with few servers beyond to those with many.
 ghost use Rattle.std.specs.Prelude.{◌≡◌, ◌+◌, ◌<◌, ℕ, IfOk, OnOk};
 ghost use Rattle.ev_sets.specs.Sets.{Has};
-ghost use Rattle.ev_tree.specs.Hops.{side_size};
-ghost use Rattle.ev_tree.specs.Tree.{IsServer, servers_of, links_of, hop_of};
+ghost use Rattle.ev_tree.specs.Tree.{IsServer, links_of};
 ghost use Rattle.ev_flow.specs.Rows.{IsOrder, size_of};
 
 use ev_memory::NoMemory;

@@ -1,5 +1,5 @@
 //! A row of numbers for each two servers.
-ghost use Rattle.std.specs.Prelude.{◌≡◌, ◌<◌, ◌==◌, ◌&&◌, ℕ, cond, IfOk};
+ghost use Rattle.std.specs.Prelude.{◌≡◌, ◌<◌, ◌==◌, ◌&&◌, ℕ, cond};
 ghost use Rattle.ev_numflow.specs.Rows.{row_at};
 
 use ev_bits::Row;

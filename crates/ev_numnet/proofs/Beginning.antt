@@ -5,6 +5,7 @@ use Rattle.std.proofs.lemmas.Option.{slice_get_cases, slice_get_within, same_Som
 use Rattle.ev_sets.specs.Sets.{Has}
 use Rattle.ev_constraint.specs.Constraint.{ConstraintParts}
 use Rattle.ev_tree.proofs.Servers.{server-in}
+use Rattle.ev_run.specs.Machine.{Machine}
 use Rattle.ev_run.specs.Runs.{greatest}
 use Rattle.ev_routing.specs.Net.{Net}
 use Rattle.ev_routing.specs.Server.{ServerState, interfaces}
@@ -24,7 +25,8 @@ use Rattle.ev_numserver.specs.Ledger.{LedgerParts}
 use Rattle.ev_numserver.specs.Core.{CoreParts, IsServerState}
 use Rattle.ev_numserver.specs.Linked.{SuitsCore}
 use Rattle.ev_numnet.specs.Kept.{AreServers}
-use Rattle.ev_numnet.specs.Begin.{FitsCore, IsHomeOf, greatest_clock}
+use Rattle.ev_numnet.specs.Stepping.{Stepping, greatest_clock, peers}
+use Rattle.ev_numnet.specs.Begin.{FitsCore, IsHomeOf}
 use Rattle.ev_numnet.proofs.Moving.{Sets, AreUnions, client_filters, client_adverts}
 use Rattle.ev_numnet.proofs.Resting.{client_interfaces, fits}
 
@@ -50,15 +52,15 @@ get-map f (y ∷ ys) (suc i) x e = get-map f ys i x e
 
 -- the greatest clock
 
-greatest-is : (m : _) (f : ℕ → ℕ) (n k : ℕ) (cores : List CoreParts) → length cores ≡ k → ((place : ℕ) (core : CoreParts) → slice_get cores place ≡ Some core → core.clock ≡ f (n + place))
-    → greatest_clock cores ≡ greatest m f (range_with_len n k)
-greatest-is m f n zero [] e all = refl
-greatest-is m f n (suc k) [] e all = absurd (omega (arith, e))
-greatest-is m f n zero (c ∷ cs) e all = absurd (omega (arith, e))
-greatest-is m f n (suc k) (c ∷ cs) e all =
-    let first : c.clock ≡ f n = all 0 c refl ∙ ap f (plus-zero n) in
-    let rest : greatest_clock cs ≡ greatest m f (range_with_len (n + 1) k) = greatest-is m f (n + 1) k cs (omega (arith, e)) (λ place core at. all (suc place) core at ∙ ap f (plus-suc n place)) in
-    ap (λ z. max z (greatest_clock cs)) first ∙ ap (max (f n)) rest
+pub greatest-is : {P : Type 0} (kind : Stepping P) (m : Machine) (f : ℕ → ℕ) (n k : ℕ) (cores : List P) → length cores ≡ k → ((place : ℕ) (core : P) → slice_get cores place ≡ Some core → (kind.core core).clock ≡ f (n + place))
+    → greatest_clock kind cores ≡ greatest m f (range_with_len n k)
+greatest-is kind m f n zero [] e all = refl
+greatest-is kind m f n (suc k) [] e all = absurd (omega (arith, e))
+greatest-is kind m f n zero (c ∷ cs) e all = absurd (omega (arith, e))
+greatest-is kind m f n (suc k) (c ∷ cs) e all =
+    let first : (kind.core c).clock ≡ f n = all 0 c refl ∙ ap f (plus-zero n) in
+    let rest : greatest_clock kind cs ≡ greatest m f (range_with_len (n + 1) k) = greatest-is kind m f (n + 1) k cs (omega (arith, e)) (λ place core at. all (suc place) core at ∙ ap f (plus-suc n place)) in
+    ap (λ z. max z (greatest_clock kind cs)) first ∙ ap (max (f n)) rest
   where
     plus-zero : (n : ℕ) → n + 0 ≡ n
     plus-zero n = omega arith
@@ -106,8 +108,8 @@ module _ (net : NetParts) (sound : IsSound net) (last : ℕ) (state : State real
   pub all-fit : (place : ℕ) (core : CoreParts) (ledger : LedgerParts) → slice_get cores place ≡ Some core → SuitsCore core ledger → FitsCore core ledger
   all-fit place core ledger at suits = fits net sound last state rest core (its-state place core at) ledger suits
 
-  pub clock-is : greatest_clock cores ≡ greatest (machine_at real (phased_net net) last) state.clock (servers_in net)
-  clock-is = greatest-is (machine_at real (phased_net net) last) state.clock 1 (first_tree net.trees).count cores servers.all (λ place core at. servers.clocks place core at ∙ ap state.clock (one-more place))
+  pub clock-is : greatest_clock peers cores ≡ greatest (machine_at real (phased_net net) last) state.clock (servers_in net)
+  clock-is = greatest-is peers (machine_at real (phased_net net) last) state.clock 1 (first_tree net.trees).count cores servers.all (λ place core at. servers.clocks place core at ∙ ap state.clock (one-more place))
     where
       one-more : (place : ℕ) → suc place ≡ 1 + place
       one-more place = omega arith

@@ -21,7 +21,8 @@ use Rattle.ev_numserver.specs.Core.{CoreParts, IsServerState, published_from}
 use Rattle.ev_numserver.specs.Linked.{IsOnLinks, ledger_of}
 use Rattle.ev_numnet.specs.Kept.{AreServers}
 use Rattle.ev_numnet.specs.declared.relinking.Standing.{Standing}
-use Rattle.ev_numnet.specs.Begin.{FitsWhere, CanTake, IsGivenLedger, given_back, IsExchanged, CanAllTake, AreExchanged, Begins, IsCoreKept, IsUndone, IsUndoneBy, IsOnOtherLinks, greatest_clock}
+use Rattle.ev_numnet.specs.Stepping.{greatest_clock, peers}
+use Rattle.ev_numnet.specs.Begin.{FitsWhere, CanTake, IsGivenLedger, given_back, IsExchanged, CanAllTake, AreExchanged, Begins, IsCoreKept, IsUndone, IsUndoneBy, IsOnOtherLinks}
 use Rattle.ev_numnet.proofs.Moving.{AreUnions, client_filters, client_adverts, server-moved}
 use Rattle.ev_numnet.proofs.Beginning.{one-there, also, other-clock, its-state, all-fit, clock-is}
 
@@ -181,7 +182,7 @@ all-begun net sound last phase standings left old new begins x state servers res
 
 -- the standings of a phase on the same tree
 pub raised-begins : (net : NetParts) (sound : IsSound net) (last phase clock : ℕ) (cores : List CoreParts) (standings : List Standing) → is_one_tree real (phased_net net) last phase ≡ true
-    → clock ≡ greatest_clock cores → clock < 2 ^ 62 → length standings ≡ length cores → ((place : ℕ) (standing : Standing) → slice_get standings place ≡ Some standing → (standing.clock ≡ clock) × (standing.links ≡ None))
+    → clock ≡ greatest_clock peers cores → clock < 2 ^ 62 → length standings ≡ length cores → ((place : ℕ) (standing : Standing) → slice_get standings place ≡ Some standing → (standing.clock ≡ clock) × (standing.links ≡ None))
     → Begins net last phase cores standings
 raised-begins net sound last phase clock cores standings one is low long all = record {
   can = record { long = long; each = λ place standing core s c. record { low = omega (arith, low, (all place standing s).0); fits = subst (FitsWhere core) (sym (all place standing s).1) unit } };
@@ -201,7 +202,7 @@ raised-begins net sound last phase clock cores standings one is low long all = r
 
 -- the standings of a phase on another tree
 pub moved-begins : (net : NetParts) (sound : IsSound net) (last phase clock : ℕ) (cores : List CoreParts) (standings : List Standing) (state : State real) → is_one_tree real (phased_net net) last phase ≡ false
-    → clock ≡ greatest_clock cores → clock < 2 ^ 62 → length standings ≡ length cores → ((place : ℕ) (standing : Standing) → slice_get standings place ≡ Some standing → standing.clock ≡ clock)
+    → clock ≡ greatest_clock peers cores → clock < 2 ^ 62 → length standings ≡ length cores → ((place : ℕ) (standing : Standing) → slice_get standings place ≡ Some standing → standing.clock ≡ clock)
     → (homes : List Home) → ((state : State real) → AreServers net last state cores → IsAtRestOn real (phased_net net) last state
     → AreUnions (net_at real (phased_net net) phase) (client_filters net sound last phase state homes) (client_adverts net sound last phase state homes) homes)
     → ((place : ℕ) (standing : Standing) (core : CoreParts) → slice_get standings place ≡ Some standing → slice_get cores place ≡ Some core

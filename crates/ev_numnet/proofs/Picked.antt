@@ -6,9 +6,10 @@ use Rattle.ev_constraint.specs.Constraint.{ConstraintParts}
 use Rattle.ev_wire.specs.FilterText.{constraints_text}
 use Rattle.ev_wire.specs.MessageText.{signed, change_text}
 use Rattle.ev_order.specs.Order.{picked}
+use Rattle.ev_numnet.specs.Last.{texts_of}
 
 -- the text of the item of one number more
-pub texts-more : {T : Type 0} (text : T → List ℕ) (items : List T) (ns : List ℕ) (i : ℕ) (x : T) → i < length ns → slice_get items (slice_index_or ns i 0) ≡ Some x
+texts-more : {T : Type 0} (text : T → List ℕ) (items : List T) (ns : List ℕ) (i : ℕ) (x : T) → i < length ns → slice_get items (slice_index_or ns i 0) ≡ Some x
     → flat_map text (picked items (take (suc i) ns)) ≡ flat_map text (picked items (take i ns)) ++ text x
 texts-more text items [] i x l e = absurd (omega (arith, l))
 texts-more text items (n ∷ ns) zero x l e = rw e (append-none (text x))
@@ -20,11 +21,11 @@ texts-more {T} text items (n ∷ ns) (suc i) x l e = go (slice_get items n) refl
     go (Some y) q ih = rw q (ap (λ z. text y ++ z) ih ∙ sym (append_assoc (text y) (flat_map text (picked items (take i ns))) (text x)))
 
 -- the list with one number more is put behind the texts of the others
-pub put-more : (sign : ℕ) (items : List (List ConstraintParts)) (ns : List ℕ) (i : ℕ) (f : List ConstraintParts) (start before after bytes : List ℕ) → i < length ns
-    → slice_get items (slice_index_or ns i 0) ≡ Some f → before ≡ start ++ flat_map (change_text sign) (picked items (take i ns)) → bytes ≡ constraints_text f → after ≡ before ++ signed sign bytes
-    → after ≡ start ++ flat_map (change_text sign) (picked items (take (i + 1) ns))
-put-more sign items ns i f start before after bytes l e was text now =
+pub put-more : {T : Type 0} (constraints : T → List ConstraintParts) (sign : ℕ) (items : List T) (ns : List ℕ) (i : ℕ) (x : T) (start before after bytes : List ℕ) → i < length ns
+    → slice_get items (slice_index_or ns i 0) ≡ Some x → before ≡ start ++ texts_of constraints sign (picked items (take i ns)) → bytes ≡ constraints_text (constraints x) → after ≡ before ++ signed sign bytes
+    → after ≡ start ++ texts_of constraints sign (picked items (take (i + 1) ns))
+put-more constraints sign items ns i x start before after bytes l e was text now =
     let n : suc i ≡ i + 1 = omega arith in
     now ∙ (λ j. was j ++ signed sign (text j))
-    ∙ append_assoc start (flat_map (change_text sign) (picked items (take i ns))) (change_text sign f)
-    ∙ ap (λ z. start ++ z) (sym (texts-more (change_text sign) items ns i f l e) ∙ ap (λ k. flat_map (change_text sign) (picked items (take k ns))) n)
+    ∙ append_assoc start (texts_of constraints sign (picked items (take i ns))) (change_text sign (constraints x))
+    ∙ ap (λ z. start ++ z) (sym (texts-more (λ y. change_text sign (constraints y)) items ns i x l e) ∙ ap (λ k. texts_of constraints sign (picked items (take k ns))) n)

@@ -17,7 +17,8 @@ use Rattle.ev_numserver.specs.Core.{CoreParts}
 use Rattle.ev_numserver.specs.Linked.{AreHeldLinks}
 use Rattle.ev_numnet.specs.Kept.{AreServers}
 use Rattle.ev_numnet.specs.declared.relinking.Standing.{Standing}
-use Rattle.ev_numnet.specs.Begin.{Begins, IsHomeOf, IsOnOtherLinks, greatest_clock}
+use Rattle.ev_numnet.specs.Stepping.{greatest_clock, peers}
+use Rattle.ev_numnet.specs.Begin.{Begins, IsHomeOf, IsOnOtherLinks}
 use Rattle.ev_numnet.proofs.Beginning.{also, unions}
 use Rattle.ev_numnet.proofs.Exchanged.{moved-begins}
 
@@ -70,7 +71,7 @@ held-links tree laws server links is given = record {
 
 -- the standings of all servers
 pub all-set : (net : NetParts) (sound : IsSound net) (phase clock : ℕ) (cores : List CoreParts) (held : List (Vec NetHeld Global)) (homes : List NetHome) (standings : List Standing)
-    → clock ≡ greatest_clock cores → clock < 2 ^ 62 → length homes ≡ length cores → length held ≡ length cores
+    → clock ≡ greatest_clock peers cores → clock < 2 ^ 62 → length homes ≡ length cores → length held ≡ length cores
     → ((place : ℕ) (core : CoreParts) (home : NetHome) → slice_get cores place ≡ Some core → slice_get homes place ≡ Some home → IsHomeOf core home)
     → ((place : ℕ) (links : Vec NetHeld Global) → slice_get held place ≡ Some links → map (λ (h : HeldLink). h.link) (held_in links.items) ≡ links_of (topology_at net phase) (suc place))
     → ((place : ℕ) (links : Vec NetHeld Global) → slice_get held place ≡ Some links → (h : HeldLink) → Has h (held_in links.items) → IsFlow net.semantics (topology_at net phase) (homes_in homes) (suc place) h)

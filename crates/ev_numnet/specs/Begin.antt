@@ -1,5 +1,5 @@
 -- The beginning of a later phase at each server, and how it is taken back.
-use Rattle.std.specs.Prelude.{◌≡◌, ◌↔◌, ℕ, suc, ◌<◌, ◌^◌, max, List, [], ◌∷◌, length, slice_get, Option, Some, None}
+use Rattle.std.specs.Prelude.{◌≡◌, ◌↔◌, ℕ, suc, ◌<◌, ◌^◌, List, [], length, slice_get, Option, Some, None}
 use Rattle.ev_phases.specs.Trees.{State, net_at, IsAtRestOn}
 use Rattle.ev_phases.specs.Moments.{begun}
 use Rattle.ev_theory.specs.Real.{real}
@@ -16,12 +16,8 @@ use Rattle.ev_numserver.specs.Ledger.{LedgerParts}
 use Rattle.ev_numserver.specs.Core.{CoreParts, IsServerState, published_from}
 use Rattle.ev_numserver.specs.Linked.{SuitsCore, IsLinked, IsOnLinks, ledger_of}
 use Rattle.ev_numnet.specs.Kept.{AreServers}
+use Rattle.ev_numnet.specs.Stepping.{greatest_clock, peers}
 use Rattle.ev_numnet.specs.declared.relinking.Standing.{Standing}
-
--- the greatest clock of these cores
-abbrev pub greatest_clock : List CoreParts → ℕ
-greatest_clock [] = 0
-greatest_clock (core ∷ cores) = max core.clock (greatest_clock cores)
 
 -- a ledger fits a core of which all is published
 pub record FitsCore (core : CoreParts) (ledger : LedgerParts) : Type 0 where
@@ -77,7 +73,7 @@ pub record AreExchanged (standings : List Standing) (old : List CoreParts) (back
 -- the standings of a later phase, for all servers: clocks are raised to the greatest, and where its tree is another one each server is on it
 pub record Begins (net : NetParts) (last phase : ℕ) (cores : List CoreParts) (standings : List Standing) : Type 0 where
   pub can : CanAllTake standings cores
-  pub clock : (place : ℕ) (standing : Standing) → slice_get standings place ≡ Some standing → standing.clock ≡ greatest_clock cores
+  pub clock : (place : ℕ) (standing : Standing) → slice_get standings place ≡ Some standing → standing.clock ≡ greatest_clock peers cores
   pub stands : (state : State real) → AreServers net last state cores → IsAtRestOn real (phased_net net) last state
       → (place : ℕ) (standing : Standing) (core new : CoreParts) → slice_get standings place ≡ Some standing → slice_get cores place ≡ Some core
       → IsGivenLedger standing.links core new

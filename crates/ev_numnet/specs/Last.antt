@@ -1,7 +1,10 @@
 -- What lies last on the links of a server, and its texts.
 use Rattle.std.specs.Prelude.{◌≡◌, ℕ, List, [], ◌∷◌, ◌++◌, map}
+use Rattle.std.specs.List.{flat_map}
 use Rattle.ev_sets.specs.Sets.{Has}
+use Rattle.ev_constraint.specs.Constraint.{ConstraintParts}
 use Rattle.ev_wire.specs.declared.sent.Sent.{Sent}
+use Rattle.ev_wire.specs.MessageText.{change_text}
 use Rattle.ev_control.specs.Control.{sent_to}
 use Rattle.ev_message.specs.Parts.{SendingParts}
 use Rattle.ev_numnet.specs.Links.{WaitingParts, waiting_as}
@@ -15,3 +18,7 @@ pub record LieLast (messages : ℕ → ℕ → List WaitingParts) (server : ℕ)
 -- the text of a message on its way to a neighbour
 abbrev pub text_of_sending : SendingParts → Sent
 text_of_sending s = sent_to s.to s.sent.message
+
+-- the texts of items behind a sign, by their constraints
+abbrev pub texts_of : {T : Type 0} → (T → List ConstraintParts) → ℕ → List T → List ℕ
+texts_of constraints sign items = flat_map (λ item. change_text sign (constraints item)) items

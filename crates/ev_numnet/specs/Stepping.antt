@@ -1,5 +1,5 @@
 -- What a server at its place is to a network of its kind, and what the network counts on at its steps.
-use Rattle.std.specs.Prelude.{ℕ, ◌<◌, ◌≤◌, ◌^◌, List, length, map}
+use Rattle.std.specs.Prelude.{ℕ, ◌<◌, ◌≤◌, ◌^◌, max, List, [], ◌∷◌, length, map}
 use Rattle.ev_sets.specs.Sets.{Has}
 use Rattle.ev_sets.specs.Numbers.{IsDistinct}
 use Rattle.ev_run.specs.Machine.{Input}
@@ -32,3 +32,8 @@ pub record GoesOn (links : List ℕ) (stamp : ℕ) (sent : List SendingParts) : 
 -- the servers of a network of peers
 abbrev pub peers : Stepping CoreParts
 peers = record { core = λ core. core; Stands = IsServerState; Steps = MakesStep }
+
+-- the greatest clock of these servers
+abbrev pub greatest_clock : {P : Type 0} → Stepping P → List P → ℕ
+greatest_clock kind [] = 0
+greatest_clock kind (place ∷ places) = max (kind.core place).clock (greatest_clock kind places)

@@ -1,10 +1,10 @@
 //! The beginning of a later phase, all or nothing, and how it is taken back.
 ghost use Rattle.std.specs.Prelude.{◌≡◌, ◌<◌, ◌^◌, ℕ, false, List, length, slice_get, Some, None, IfOk, OnErr};
-ghost use Rattle.ev_phases.specs.Trees.{State, is_one_tree, trees_by, IsAtRestOn};
+ghost use Rattle.ev_phases.specs.Trees.{State, is_one_tree, IsAtRestOn};
 ghost use Rattle.ev_phases.specs.Moments.{begun};
 ghost use Rattle.ev_theory.specs.Real.{real};
 ghost use Rattle.ev_model.specs.Parts.{NetParts};
-ghost use Rattle.ev_model.specs.Nets.{phased_net, later_trees};
+ghost use Rattle.ev_model.specs.Nets.{phased_net};
 ghost use Rattle.ev_model.specs.Sound.{IsSound};
 ghost use Rattle.ev_numheld.specs.Held.{held_in, AreHeldIn};
 ghost use Rattle.ev_numflow.specs.Homes.{NetHome};
@@ -12,13 +12,14 @@ ghost use Rattle.ev_numserver.specs.Core.{CoreParts};
 ghost use Rattle.ev_numserver.specs.Linked.{AreHeldLinks};
 ghost use Rattle.ev_numnet.specs.Kept.{AreServers};
 ghost use Rattle.ev_numnet.specs.declared.relinking.Standing.{Standing};
-ghost use Rattle.ev_numnet.specs.Begin.{greatest_clock, CanAllTake, AreExchanged, Begins, IsUndoneBy, IsHomeOf, IsOnOtherLinks};
+ghost use Rattle.ev_numnet.specs.Stepping.{greatest_clock, peers};
+ghost use Rattle.ev_numnet.specs.Begin.{CanAllTake, AreExchanged, Begins, IsUndoneBy, IsHomeOf, IsOnOtherLinks};
 
 use crate::place::Place;
 use crate::relinking::{OnLinks, Standing};
+use crate::server::greatest_clock;
 use ev_memory::NoMemory;
-use ev_model::Net;
-use ev_numflow::{Home, flow};
+use ev_numflow::{Home, flow, trees_come};
 use ev_numheld::HeldLink;
 use ev_routing::LAST_LINK;
 use ev_tables::Tables;
@@ -39,32 +40,6 @@ impl<'a> Model for Before<'a> {
     ghost Value = { List Standing };
 
     ghost view = { λ before. before.standings.items };
-}
-
-/// The greatest clock.
-fn greatest(places: &[Place<'_>]) -> u64
-    ensures greatest { result ≡ greatest_clock places.now }
-    ensures low { result < 2 ^ 62 }
-{
-    let mut greatest = 0;
-    for place in places {
-        greatest = place.core().clock().max(greatest);
-    }
-    greatest
-}
-
-/// How many of the later trees have come by a phase.
-fn trees_come(net: &Net, phase: u32) -> usize
-    requires { IsSound net.now }
-    ensures { result ≡ trees_by (later_trees net.now.trees) phase }
-{
-    let later = &net.trees[1..];
-    for (i, tree) in later.iter().enumerate() {
-        if tree.0 > phase {
-            return i;
-        }
-    }
-    later.len()
 }
 
 /// For each server that its clock is raised.
@@ -159,7 +134,7 @@ fn on_tree<'a>(
     phase: u32,
 ) -> Result<Vec<Standing<'a>>, NoMemory>
     requires sound { IsSound tables.now }
-    requires greatest { clock ≡ greatest_clock places.now }
+    requires greatest { clock ≡ greatest_clock peers places.now }
     requires low { clock < 2 ^ 62 }
     requires state { (last : ℕ) × (state : State real) × AreServers tables.now last state places.now × IsAtRestOn real (phased_net tables.now) last state }
     ensures { IfOk result (λ standings. (last : ℕ) (state : State real) → is_one_tree real (phased_net tables.now) last phase ≡ false
@@ -186,7 +161,7 @@ fn beginning<'a>(
     ensures { IfOk result (λ standings. Begins tables.now last phase places.now standings.items) }
 {
     let net = tables.net();
-    let clock = greatest(places);
+    let clock = greatest_clock(places);
     if trees_come(net, last) == trees_come(net, phase) {
         raised(alloc, clock, places)
     } else {

@@ -33,7 +33,7 @@ pub use network::{Network, all_clients};
 pub use place::{unexhausted, unpublished};
 pub use retelling::retell;
 pub use routing::{route, routed};
-pub use server::Server;
+pub use server::{Server, greatest_clock};
 pub use servers::Servers;
 pub use telling::last_on;
 pub use waiting::Waiting;

@@ -7,7 +7,7 @@ ghost use Rattle.ev_numnet.specs.Begin.{FitsCore, FitsWhere, IsOn, given_back, C
 use crate::place::{Place, unpublished};
 use ev_forwarding::Forwarding;
 use ev_memory::NoMemory;
-use ev_numserver::Relinked;
+use ev_numserver::Ledger;
 use std::alloc::Global;
 use std::marker::Model;
 use std::mem;
@@ -15,7 +15,7 @@ use std::mem;
 /// What a server holds from whom, made beside its core, with its pairs by numbers; contracts see what is held.
 #[derive(Drop)]
 pub(crate) struct OnLinks<'a> {
-    relinked: Relinked<'a>,
+    relinked: Ledger<'a>,
     forwarding: Forwarding,
 }
 
@@ -40,7 +40,7 @@ pub(crate) struct Standing<'a> {
 
 impl<'a> OnLinks<'a> {
     /// What is held, of which nothing is published, with all its pairs.
-    pub(crate) fn of(alloc: Global, relinked: Relinked<'a>) -> Result<OnLinks<'a>, NoMemory>
+    pub(crate) fn of(alloc: Global, relinked: Ledger<'a>) -> Result<OnLinks<'a>, NoMemory>
         requires { relinked.published ≡ [] }
         ensures { IfOk result (λ on. on ≡ relinked.entry) }
     {

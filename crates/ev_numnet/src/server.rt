@@ -1,5 +1,5 @@
 //! A server at its place in a network.
-ghost use Rattle.std.specs.Prelude.{◌≡◌, ◌<◌, ◌↔◌, [], not, length, IfOk, OnErr, IsTrue};
+ghost use Rattle.std.specs.Prelude.{◌≡◌, ◌<◌, ◌^◌, ◌↔◌, [], not, length, IfOk, OnErr, IsTrue};
 ghost use Rattle.ev_sets.specs.Sets.{Has};
 ghost use Rattle.ev_run.specs.Machine.{Does, Takes};
 ghost use Rattle.ev_routing.specs.Step.{NextCommand, Version};
@@ -8,7 +8,7 @@ ghost use Rattle.ev_numserver.specs.Clients.{client_numbers};
 ghost use Rattle.ev_numserver.specs.Core.{without_inbox};
 ghost use Rattle.ev_numserver.specs.Staged.{is_some_there};
 ghost use Rattle.ev_numserver.specs.Step.{last_stamp};
-ghost use Rattle.ev_numnet.specs.Stepping.{IsSome, GoesOn};
+ghost use Rattle.ev_numnet.specs.Stepping.{IsSome, GoesOn, greatest_clock};
 
 use crate::waiting::Waiting;
 use ev_memory::NoMemory;
@@ -55,6 +55,11 @@ pub trait Server<'a>: Drop {
         requires low { (stepping.core self.old).clock < last_stamp }
         ensures { stepping.Steps (Does Version) 0 self.old self.new result [] };
 
+    /// Its clock.
+    fn clock(&self) -> u64
+        ensures clock { result ≡ (stepping.core self.now).clock }
+        ensures low { result < 2 ^ 62 };
+
     /// Whether it has nothing staged.
     fn is_calm(&self) -> bool
         ensures staged { IsTrue result ↔ ((stepping.core self.now).staged ≡ []) }
@@ -65,4 +70,16 @@ pub trait Server<'a>: Drop {
         requires { Has client (client_numbers (stepping.core self.old).clients) }
         ensures inbox { (s : SessionParts) → Has s (stepping.core self.old).clients → s.client ≡ client → result.items ≡ s.inbox }
         ensures emptied { stepping.core self.new ≡ without_inbox client (stepping.core self.old) };
+}
+
+/// The greatest clock of these servers.
+pub fn greatest_clock<'a, P: Server<'a>>(places: &[P]) -> u64
+    ensures greatest { result ≡ greatest_clock P.stepping places.now }
+    ensures low { result < 2 ^ 62 }
+{
+    let mut greatest = 0;
+    for place in places {
+        greatest = place.clock().max(greatest);
+    }
+    greatest
 }

@@ -8,9 +8,9 @@ ghost use Rattle.ev_numnode.specs.Entered.{AreCalm, AreEntered, AreSameCells, Ar
 
 use crate::cell::Cell;
 use crate::finish::tell_all;
-use crate::phases::trees_come;
 use crate::relinking::relink;
 use ev_memory::NoMemory;
+use ev_numflow::trees_come;
 use ev_tables::Tables;
 use std::alloc::Global;
 use std::sync::Wait;

@@ -1,8 +1,7 @@
 //! Phases of a net, and what is left of them at a server.
-ghost use Rattle.std.specs.Prelude.{◌≡◌, ◌↔◌, ◌≤◌, ◌+◌, length, IsTrue};
+ghost use Rattle.std.specs.Prelude.{◌≡◌, ◌↔◌, IsTrue};
 ghost use Rattle.ev_sets.specs.Sets.{Has};
-ghost use Rattle.ev_phases.specs.Trees.{trees_by};
-ghost use Rattle.ev_model.specs.Nets.{clients_of, later_trees};
+ghost use Rattle.ev_model.specs.Nets.{clients_of};
 ghost use Rattle.ev_model.specs.Sound.{IsSound};
 ghost use Rattle.ev_numserver.specs.Clients.{client_numbers};
 ghost use Rattle.ev_numnode.specs.Kept.{IsSomeServer};
@@ -10,20 +9,6 @@ ghost use Rattle.ev_numnode.specs.Cell.{HasNoneBelow, IsPast};
 
 use ev_model::Net;
 use ev_numserver::Core;
-
-/// How many of the later trees have come by a phase.
-pub(crate) fn trees_come(net: &Net, phase: u32) -> usize
-    requires { IsSound net.now }
-    ensures { result ≡ trees_by (later_trees net.now.trees) phase }
-{
-    let later = &net.trees[1..];
-    for (i, tree) in later.iter().enumerate() {
-        if tree.0 > phase {
-            return i;
-        }
-    }
-    later.len()
-}
 
 /// Whether the next command of a client that lives here is of this phase or a later one, or there is none.
 fn is_past(core: &Core<'_>, client: u32, phase: u32) -> bool

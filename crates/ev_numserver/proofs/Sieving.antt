@@ -1,10 +1,11 @@
 -- Numbers that pass a test, one after the other.
-use Rattle.std.proofs.Common.{◌≡◌, ◌↔◌, inl, inr, ℕ, ◌+◌, ◌<◌, Bool, true, false, List, [], ◌∷◌, ◌++◌, length, take, get_or, slice_get, Some, sym, subst, ◌∙◌, add-one}
+use Rattle.std.proofs.Common.{◌≡◌, ◌↔◌, inl, inr, ℕ, ◌+◌, ◌<◌, Bool, true, false, List, [], ◌∷◌, ◌++◌, length, take, get_or, slice_get, Some, refl, sym, subst, ◌∙◌, add-one}
+use mathlib.Core.Bool.{beq}
 use Rattle.ev_sets.specs.Sets.{Has}
 use Rattle.ev_bits.proofs.Passing.{has-push, push-old, push-new}
 use Rattle.ev_stock.proofs.Turns.{get-some}
 use Rattle.ev_control.proofs.Taken.{take-some}
-use Rattle.ev_numserver.specs.Due.{IsHeldAt}
+use Rattle.ev_numserver.specs.Due.{IsHeldAt, IsHeldAs}
 use Rattle.ev_numserver.proofs.Going.{got-number}
 
 -- the numbers of a list are those seen that pass
@@ -52,8 +53,22 @@ never e = cc
 
 -- whether the item of a number is held
 module _ {T : Type 0} (items held : List T) (n : ℕ) (b : Bool) (there : n < length items) (iff : (x : T) → slice_get items n ≡ Some x → (b ≡ true) ↔ Has x held) where
-  pub is-held : b ≡ true → IsHeldAt items held n
+  is-held : b ≡ true → IsHeldAt items held n
   is-held e = let x = get-some items n there in record { item = x.0; at = x.1; is_held = (iff x.0 x.1).0 e }
 
-  pub not-held : b ≡ false → IsHeldAt items held n → ⊥
+  not-held : b ≡ false → IsHeldAt items held n → ⊥
   not-held e h = never (sym e ∙ (iff h.item h.at).1 h.is_held)
+
+-- and whether that is what is asked
+module _ {T : Type 0} (items held : List T) (n : ℕ) where
+  pub held-as : (b want : Bool) → n < length items → ((x : T) → slice_get items n ≡ Some x → (b ≡ true) ↔ Has x held) → beq b want ≡ true → IsHeldAs want items held n
+  held-as true true there iff e = is-held items held n true there iff refl
+  held-as false true there iff e = absurd (never e)
+  held-as true false there iff e = absurd (never e)
+  held-as false false there iff e = not-held items held n false there iff refl
+
+  pub held-else : (b want : Bool) → n < length items → ((x : T) → slice_get items n ≡ Some x → (b ≡ true) ↔ Has x held) → beq b want ≡ false → IsHeldAs want items held n → ⊥
+  held-else true true there iff e h = never (sym e)
+  held-else false true there iff e h = not-held items held n false there iff refl h
+  held-else true false there iff e h = h (is-held items held n true there iff refl)
+  held-else false false there iff e h = never (sym e)

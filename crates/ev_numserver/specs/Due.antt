@@ -1,5 +1,5 @@
 -- How the code makes the messages of a change; no promise to a caller speaks of it.
-use Rattle.std.specs.Prelude.{◌≡◌, ◌<◌, ℕ, nat_lt, List, [], slice_get, Option, Some, None}
+use Rattle.std.specs.Prelude.{◌≡◌, ◌<◌, ℕ, nat_lt, Bool, true, false, List, [], slice_get, Option, Some, None}
 use Rattle.ev_sets.specs.Sets.{Has, IsRising}
 use Rattle.ev_stock.specs.Sides.{Told}
 use Rattle.ev_message.specs.Parts.{ChangeParts}
@@ -24,3 +24,8 @@ pub record IsHeldAt {T : Type 0} (items held : List T) (k : ℕ) : Type 0 where
   pub item : T
   pub at : slice_get items k ≡ Some item
   pub is_held : Has item held
+
+-- an item with this number is held, or none is
+abbrev pub IsHeldAs : {T : Type 0} → Bool → List T → List T → ℕ → Type 0
+IsHeldAs true items held k = IsHeldAt items held k
+IsHeldAs false items held k = IsHeldAt items held k → ⊥

@@ -3,7 +3,7 @@ ghost use Rattle.std.specs.Prelude.{◌≡◌, ◌<◌, ◌↔◌, ℕ, length, 
 ghost use Rattle.ev_sets.specs.Sets.{Has};
 ghost use Rattle.ev_order.specs.Order.{picked};
 ghost use Rattle.ev_stock.specs.Stock.{held_from};
-ghost use Rattle.ev_numserver.specs.Due.{IsHeldAt};
+ghost use Rattle.ev_numserver.specs.Due.{IsHeldAs};
 
 use ev_bits::Row;
 use ev_memory::NoMemory;
@@ -11,43 +11,23 @@ use ev_pool::Cover;
 use ev_stock::Stock;
 use std::alloc::Global;
 
-/// Those of these numbers whose items are held from an interface.
-pub(crate) fn held_of<'a, T: Cover>(
+/// Those of these numbers whose items are held from an interface, or those whose items are not.
+pub(crate) fn sieve<'a, T: Cover>(
     alloc: Global,
     stock: &Stock<'a, T>,
     interface: u32,
     numbers: &[u32],
+    held: bool,
 ) -> Result<Vec<u32>, NoMemory>
     requires { (i : ℕ) → Has i numbers.now → i < length stock.now.items }
     ensures { IfOk result (λ list. (k : ℕ) → Has k list.items
-        ↔ (Has k numbers.now × IsHeldAt stock.now.items (held_from T.order interface stock.now.holdings) k)) }
+        ↔ (Has k numbers.now × IsHeldAs held stock.now.items (held_from T.order interface stock.now.holdings) k)) }
 {
     let mut list = Vec::new(alloc);
     for i in numbers {
-        if stock.holds(interface, *i) {
+        if stock.holds(interface, *i) == held {
             list.push(*i)?;
         }
-    }
-    Ok(list)
-}
-
-/// Those of these numbers whose items are not held from an interface.
-pub(crate) fn unheld_of<'a, T: Cover>(
-    alloc: Global,
-    stock: &Stock<'a, T>,
-    interface: u32,
-    numbers: &[u32],
-) -> Result<Vec<u32>, NoMemory>
-    requires { (i : ℕ) → Has i numbers.now → i < length stock.now.items }
-    ensures { IfOk result (λ list. (k : ℕ) → Has k list.items
-        ↔ (Has k numbers.now × (IsHeldAt stock.now.items (held_from T.order interface stock.now.holdings) k → ⊥))) }
-{
-    let mut list = Vec::new(alloc);
-    for i in numbers {
-        if stock.holds(interface, *i) {
-            continue;
-        }
-        list.push(*i)?;
     }
     Ok(list)
 }

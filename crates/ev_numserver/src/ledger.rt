@@ -12,7 +12,7 @@ ghost use Rattle.ev_numserver.specs.Putting.{FiltersPut, AdvertsPut, ArePut, hel
 ghost use Rattle.ev_numserver.specs.Staged.{IsStaged};
 
 use crate::due::{advert_messages, filter_messages};
-use crate::effective::{held_of, row_of, unheld_of};
+use crate::effective::{row_of, sieve};
 use crate::staging::stage;
 use ev_forwarding::Change;
 use ev_memory::NoMemory;
@@ -162,8 +162,8 @@ impl<'a> Ledger<'a> {
     {
         self.control.filters().is_known();
         self.control.adverts().is_known();
-        let lost = held_of(self.alloc, self.control.filters(), interface, out)?;
-        let won = unheld_of(self.alloc, self.control.filters(), interface, add)?;
+        let lost = sieve(self.alloc, self.control.filters(), interface, out, true)?;
+        let won = sieve(self.alloc, self.control.filters(), interface, add, false)?;
         self.staged.reserve(lost.len() + won.len())?;
         self.control.change_filters(interface, &lost, &won);
         self.control.filters().is_known();
@@ -200,8 +200,8 @@ impl<'a> Ledger<'a> {
     {
         self.control.filters().is_known();
         self.control.adverts().is_known();
-        let lost = held_of(self.alloc, self.control.adverts(), interface, out)?;
-        let won = unheld_of(self.alloc, self.control.adverts(), interface, add)?;
+        let lost = sieve(self.alloc, self.control.adverts(), interface, out, true)?;
+        let won = sieve(self.alloc, self.control.adverts(), interface, add, false)?;
         self.control.change_adverts(interface, &lost, &won);
         self.control.adverts().is_known();
         match advert_messages(
@@ -229,7 +229,7 @@ impl<'a> Ledger<'a> {
     {
         self.control.filters().is_known();
         self.control.adverts().is_known();
-        let won = unheld_of(self.alloc, self.control.filters(), interface, add)?;
+        let won = sieve(self.alloc, self.control.filters(), interface, add, false)?;
         self.staged.reserve(won.len())?;
         self.control.change_filters(interface, &[], &won);
         self.control.filters().is_known();
@@ -245,7 +245,7 @@ impl<'a> Ledger<'a> {
     {
         self.control.filters().is_known();
         self.control.adverts().is_known();
-        let won = unheld_of(self.alloc, self.control.adverts(), interface, add)?;
+        let won = sieve(self.alloc, self.control.adverts(), interface, add, false)?;
         self.control.change_adverts(interface, &[], &won);
         self.control.adverts().is_known();
         Ok(())

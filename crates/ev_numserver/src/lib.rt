@@ -20,7 +20,6 @@ mod stepped;
 pub use acting::act_on;
 pub use clients::Clients;
 pub use ledger::Ledger;
-pub use linking::Relinked;
 pub use server::Core;
 pub use spreading::spread;
 pub use start::{at_home, interfaces_of};

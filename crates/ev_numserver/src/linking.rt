@@ -1,76 +1,19 @@
 //! Changes of the tree at one server: what it holds is made on other links beside it, and taken on without memory.
-ghost use Rattle.std.specs.Prelude.{◌≡◌, ◌+◌, ◌<◌, ◌≤◌, ◌^◌, ℕ, nat_lt, List, [], length, map, IfOk, OnOk};
-ghost use Rattle.ev_constraint.specs.Constraint.{ConstraintParts};
-ghost use Rattle.ev_sets.specs.Sets.{Has, IsRising};
-ghost use Rattle.ev_catalogue.specs.Known.{known_filters};
+ghost use Rattle.std.specs.Prelude.{◌≡◌, ◌+◌, ◌≤◌, ℕ, [], map, IfOk, OnOk};
+ghost use Rattle.ev_sets.specs.Sets.{Has};
 ghost use Rattle.ev_control.specs.Control.{subs, advs};
-ghost use Rattle.ev_control.specs.Holdings.{held_from};
-ghost use Rattle.ev_theory.specs.Real.{real};
 ghost use Rattle.ev_numheld.specs.Held.{held_in, AreHeldIn};
 ghost use Rattle.ev_numserver.specs.Linked.{AreHeldLinks, SuitsCore, IsLinked, IsOnLinks, ledger_of};
 ghost use Rattle.ev_numserver.specs.Putting.{ArePut, held_by_clients};
-ghost use Rattle.ev_numserver.specs.Staged.{IsStaged};
 
 use crate::ledger::Ledger;
 use crate::server::Core;
 use crate::start::interfaces_of;
-use ev_forwarding::Change;
 use ev_memory::NoMemory;
 use ev_numheld::HeldLink;
 use ev_routing::LAST_LINK;
-use ev_tables::Tables;
 use std::alloc::Global;
-use std::marker::Model;
 use std::mem::replace;
-
-/// What a core has on other links, made beside it: what is held, published and staged there.
-#[derive(Drop)]
-pub struct Relinked<'a> {
-    ledger: Ledger<'a>,
-}
-
-impl<'a> Model for Relinked<'a> {
-    ghost use Rattle.ev_numserver.specs.Ledger.{LedgerParts};
-
-    ghost Value = { LedgerParts };
-
-    ghost view = { λ r. r.ledger };
-}
-
-impl<'a> Relinked<'a> {
-    /// What changed since its last version, which turns what was published into what is held. For one that was just made,
-    /// nothing was published, so these changes put all that is held.
-    pub fn staged(&self) -> &[Change]
-        ensures changes { result.now ≡ self.now.staged }
-        ensures staged { IsStaged (known_filters self.now.net.clients) self.now.interfaces (λ i. held_from real.before i self.now.published)
-            (subs self.now.control) self.now.staged }
-    {
-        self.ledger.staged()
-    }
-
-    /// The tables of the run.
-    pub fn tables(&self) -> &'a Tables<'a>
-        ensures { result.now ≡ self.now.net }
-    {
-        self.ledger.tables()
-    }
-
-    /// The interfaces, rising.
-    pub fn interfaces(&self) -> &[u32]
-        ensures interfaces { result.now ≡ self.now.interfaces }
-        ensures rising { IsRising nat_lt self.now.interfaces }
-        ensures few { length self.now.interfaces < 2 ^ 32 }
-    {
-        self.ledger.interfaces()
-    }
-
-    /// Does nothing; its contract tells that the filters that are held are filters of the net.
-    pub fn is_known(&self)
-        ensures { (i : ℕ) (f : List ConstraintParts) → Has f (subs self.now.control i) → Has f (known_filters self.now.net.clients) }
-    {
-        self.ledger.is_known();
-    }
-}
 
 /// The links of which something is given.
 fn links_of<'a>(alloc: Global, held: &[HeldLink<'a>]) -> Result<Vec<u32>, NoMemory>
@@ -124,8 +67,9 @@ impl<'a> Core<'a> {
         self.ledger.held(interface)
     }
 
-    /// What the core would have on other links, of which nothing is published yet; the core stays as it is.
-    pub fn relinked(&self, held: &[HeldLink<'a>]) -> Result<Relinked<'a>, NoMemory>
+    /// What the core would have on other links, of which nothing is published yet, so that its changes put all that is held;
+    /// the core stays as it is.
+    pub fn relinked(&self, held: &[HeldLink<'a>]) -> Result<Ledger<'a>, NoMemory>
         requires held { AreHeldLinks (held_in held.now) }
         requires net { AreHeldIn self.now.net held.now }
         ensures linked { IfOk result (λ r. IsLinked (held_in held.now) self.now.control r.control) }
@@ -142,20 +86,20 @@ impl<'a> Core<'a> {
         let mut ledger = Ledger::new(self.alloc, tables, semantics, &interfaces, links.len())?;
         put_links(&mut ledger, held)?;
         put_clients(&mut ledger, &self.ledger, numbers)?;
-        Ok(Relinked { ledger })
+        Ok(ledger)
     }
 
     /// Gives the core what was made for it since its last step, all of it published; what it had comes back, so that a second
     /// call takes the change back. It takes no memory and stages nothing.
-    pub fn relink(&mut self, r: Relinked<'a>) -> Relinked<'a>
+    pub fn relink(&mut self, ledger: Ledger<'a>) -> Ledger<'a>
         requires staged { self.old.staged ≡ [] }
-        requires suits { SuitsCore self.old r }
-        ensures core { IsOnLinks r.entry self.old self.new }
+        requires suits { SuitsCore self.old ledger }
+        ensures core { IsOnLinks ledger.entry self.old self.new }
         ensures back { result ≡ ledger_of self.old }
         ensures suits_back { SuitsCore self.new result }
     {
-        let ledger = replace(&mut self.ledger, r.ledger);
+        let before = replace(&mut self.ledger, ledger);
         self.ledger.publish();
-        Relinked { ledger }
+        before
     }
 }

@@ -10,9 +10,10 @@ use Rattle.ev_model.specs.declared.turn.Act.TheVariants as acts
 use Rattle.ev_turns.proofs.Among.{count_at}
 use Rattle.ev_hierturns.specs.Network.{servers_of, moment_by}
 use Rattle.ev_numnet.specs.Links.{messages_at}
+use Rattle.ev_numnet.specs.Stepping.{greatest_clock}
 use Rattle.ev_numnet.proofs.Commanding.{home_low}
 use Rattle.ev_numnet.specs.Acted.{IsActed}
-use Rattle.ev_hier.specs.Clocks.{clock_from, greatest_clock, with_clocks}
+use Rattle.ev_hier.specs.Clocks.{clock_from, with_clocks}
 use Rattle.ev_hier.specs.Kept.{AreServers}
 use Rattle.ev_numnet.specs.Seen.{seen, CanAct}
 use Rattle.ev_hier.proofs.Commanding.{lives_there, left_there, ready_later, links_later, low_later, command_made, command_kept}
@@ -60,7 +61,7 @@ command-requires c = λ k. (
 pub set_clocks-requires-clause-long : goal.set_clocks-requires-clause-long
 set_clocks-requires-clause-long c =
     let old = c.args.servers.now.places.items in
-    let f = clock_from (greatest_clock c.args.servers.now.places.items) in
+    let f = clock_from (greatest_clock hierarchy c.args.servers.now.places.items) in
     ap length (c.deref.ensures.value ∙ c.in_ok-before.ensures.before) ∙ length-map old (clock_from 0)
     ∙ sym (ap length (c.in-Err.ensures.err.cores ∙ c.in_ok-before.ensures.raised) ∙ clocks-long (map f old) old)
 
@@ -70,7 +71,7 @@ set_clocks-requires-clause-low c = subst (λ z. (clock : ℕ) → Has clock z �
 pub returns-in-Err-clause-err : goal.returns-in-Err-clause-err
 returns-in-Err-clause-err c =
     let old = c.args.servers.now.places.items in
-    let f = clock_from (greatest_clock c.args.servers.now.places.items) in
+    let f = clock_from (greatest_clock hierarchy c.args.servers.now.places.items) in
     let cores = c.set_clocks.ensures ∙ ((λ k. with_clocks ((c.deref.ensures.value ∙ c.in_ok-before.ensures.before) k) ((c.in-Err.ensures.err.cores ∙ c.in_ok-before.ensures.raised) k)) ∙ set-back f old) in (
       stays_kept c.args.net.now c.args.last (seen c.args.servers.now)
           (record { run = c.command.new.self.tables.now; cores = c.set_clocks.new.places.items; messages = messages_at c.command.new.self.links; journal = c.command.new.self.journal.entries })

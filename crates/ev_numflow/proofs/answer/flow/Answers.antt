@@ -4,17 +4,11 @@ use Rattle.ev_numflow.specs.Homes.{homes_in}
 use Rattle.ev_numflow.proofs.Answering.{held-net, flow-is}
 use Rattle.ev_numflow.proofs.answer.flow.Goals as goal
 
-pub advert_table-requires-clause-all : goal.advert_table-requires-clause-all
-advert_table-requires-clause-all c = λ a b m. rw c.deref.ensures.value (c.in_ok-order.ensures.all a b m)
+pub advert_table-requires : goal.advert_table-requires
+advert_table-requires c = record { one_each = c.requires.homes; of_net = c.requires.net; ordered = rw c.deref.ensures.value c.in_ok-order.ensures.order; whole = λ a b m. rw c.deref.ensures.value (c.in_ok-order.ensures.all a b m) }
 
-pub advert_table-requires-clause-order : goal.advert_table-requires-clause-order
-advert_table-requires-clause-order c = rw c.deref.ensures.value c.in_ok-order.ensures.order
-
-pub filter_table-requires-clause-all : goal.filter_table-requires-clause-all
-filter_table-requires-clause-all c = λ a b m. rw c.deref-2.ensures.value (c.in_ok-order.ensures.all a b m)
-
-pub filter_table-requires-clause-order : goal.filter_table-requires-clause-order
-filter_table-requires-clause-order c = rw c.deref-2.ensures.value c.in_ok-order.ensures.order
+pub filter_table-requires-clause-flowing : goal.filter_table-requires-clause-flowing
+filter_table-requires-clause-flowing c = record { one_each = c.requires.homes; of_net = c.requires.net; ordered = rw c.deref.ensures.value c.in_ok-order.ensures.order; whole = λ a b m. rw c.deref.ensures.value (c.in_ok-order.ensures.all a b m) }
 
 pub all_links-requires-clause-filters : goal.all_links-requires-clause-filters
 all_links-requires-clause-filters c = c.in_ok-table.ensures.wide

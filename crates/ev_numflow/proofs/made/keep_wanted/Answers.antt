@@ -8,8 +8,8 @@ use Rattle.ev_wire.specs.declared.semantics.Semantics.{Semantics}
 use Rattle.ev_wire.specs.declared.semantics.Semantics.TheVariants.{Advertisement}
 use Rattle.ev_control.specs.Control.{is_wanted}
 use Rattle.ev_catalogue.specs.Known.{known_filters, known_adverts}
-use Rattle.ev_numflow.specs.Rows.{IsUnion}
-use Rattle.ev_numflow.proofs.Wanted.{overlap-widths, overlaps-long}
+use Rattle.ev_numcontrol.specs.Offering.{IsUnion}
+use Rattle.ev_numcontrol.proofs.Wanted.{overlap-widths, overlaps-long}
 use Rattle.ev_numflow.proofs.Needed.{wanted-kept}
 use Rattle.ev_numflow.proofs.made.keep_wanted.Goals as goal
 

@@ -9,7 +9,7 @@ use Rattle.ev_numnet.proofs.begin.beginning.Goals as goal
 pub returns-then-trees_come : goal.returns-then-trees_come
 returns-then-trees_come c =
     let one = one-tree c.args.tables.now c.args.last c.args.phase c.trees_come.result c.trees_come-2.result (c.trees_come.ensures ∙ ap (λ (n : NetParts). trees_by (later_trees n.trees) c.args.last) c.net-net.ensures) (c.trees_come-2.ensures ∙ ap (λ (n : NetParts). trees_by (later_trees n.trees) c.args.phase) c.net-net.ensures) c.if-trees_come.true in
-    if-both (λ standings long all. raised-begins c.args.tables.now c.requires.sound c.args.last c.args.phase c.greatest-clock.result c.args.places.now standings.items one c.greatest-clock.ensures.greatest c.greatest-clock.ensures.low long all)
+    if-both (λ standings long all. raised-begins c.args.tables.now c.requires.sound c.args.last c.args.phase c.greatest_clock-clock.result c.args.places.now standings.items one c.greatest_clock-clock.ensures.greatest c.greatest_clock-clock.ensures.low long all)
     c.raised.result c.raised.ensures.long c.raised.ensures.raised
 
 pub returns-else-trees_come : goal.returns-else-trees_come

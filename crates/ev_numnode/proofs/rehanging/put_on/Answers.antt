@@ -68,7 +68,7 @@ returns-clause-held g c =
     let reaches = reached-wide c.args.held.now.core (forwarding_of c.args.held.now.publisher) c.in_ok-relinked.relinked.interfaces c.requires.held.shown.wide
     (λ i m. subst (λ l. (i ≤ 64) ⊎ Has i l) c.interfaces.ensures.interfaces (c.are_reached.ensures c.if-not-are_reached.false i (subst (Has i) (sym c.interfaces-2.ensures.interfaces) m))) in
     put-held c.args.held.now _ (held_in c.args.given.now) c.in_ok-relinked.relinked w.0 c.requires.held c.requires.stands c.requires.calm c.requires.names c.requires.new
-    c.staged-calm.ensures.staged c.in_ok-relinked.ensures.linked c.in_ok-relinked.ensures.suits c.relink-before.ensures.core taken c.staged.ensures.staged c.in_ok-relinked.ensures.published c.is_known.ensures reaches same
+    c.staged-calm.ensures.staged c.in_ok-relinked.ensures.linked c.in_ok-relinked.ensures.suits c.relink-before.ensures.core taken c.staged.ensures.staged c.in_ok-relinked.ensures.published c.is_known.ensures.known reaches same
     (c.in_ok-publish.ensures.published ∙ c.hand_over.ensures.handed ∙ ap (λ l. l ++ c.hand_over.new.handed.items) (c.hand_over.ensures.same.1 ∙ c.withdraw_all.ensures.same.1) ∙ ap (λ l. published c.args.held.now.publisher ++ l) all)
     (c.publish.ensures.staged ∙ sym c.in_ok-publish.ensures.published) c.clear.ensures.items
 

@@ -26,4 +26,4 @@ invariant_of-result c =
     (c.in_ok-forwarding.ensures.width ∙ ap (λ (n : NetParts). length (known_filters n.clients)) c.tables.ensures) (c.in_ok-forwarding.ensures.interfaces ∙ c.interfaces.ensures.interfaces) c.in_ok-forwarding.ensures.pairs
     (λ i. ap (held_from real.before i) c.requires) in
     forwarding_turned r.net r.interfaces (λ i. held_from real.before i r.published) (subs r.control) r.staged f none c.staged.ensures.staged c.apply.new.self c.apply.ensures.same
-    (subst (λ z. c.apply.new.self.pairs ≡ all_changed z f.pairs) c.staged.ensures.changes c.apply.ensures.pairs) c.is_known.ensures
+    (subst (λ z. c.apply.new.self.pairs ≡ all_changed z f.pairs) c.staged.ensures.changes c.apply.ensures.pairs) c.is_known.ensures.known

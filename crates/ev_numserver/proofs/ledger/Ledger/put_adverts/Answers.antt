@@ -17,8 +17,8 @@ use Rattle.ev_numserver.proofs.Starting.{ledger_parts}
 use Rattle.ev_numserver.proofs.Putting.{none-sieved, adverts-put}
 use Rattle.ev_numserver.proofs.ledger.Ledger.put_adverts.Goals as goal
 
-pub unheld_of-requires : goal.unheld_of-requires
-unheld_of-requires c =
+pub sieve-requires : goal.sieve-requires
+sieve-requires c =
     let old = c.self.inside.control in
     let is = c.self.invariant in
     let was : IsKnown old = known-from old c.filters.result.now c.adverts.result.now c.filters.ensures c.adverts.ensures c.is_known.ensures.held_from c.is_known-2.ensures.held_from in

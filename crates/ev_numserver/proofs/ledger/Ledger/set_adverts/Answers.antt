@@ -17,8 +17,8 @@ use Rattle.ev_numserver.proofs.Sieving.{Sieved}
 use Rattle.ev_numserver.proofs.Changed.{AreAdvertsChanged, known-from, known-then, sieved-of, adverts-by, lost-ads, won-ads, kept-ads, set-ads, tells-ads-there, tells-ads-elsewhere, ads-as-before, ads-kept-back, ledgers-same}
 use Rattle.ev_numserver.proofs.ledger.Ledger.set_adverts.Goals as goal
 
-pub held_of-requires : goal.held_of-requires
-held_of-requires c =
+pub sieve-requires : goal.sieve-requires
+sieve-requires c =
     let old = c.self.inside.control in
     let is = c.self.invariant in
     let was : IsKnown old = known-from old c.filters.result.now c.adverts.result.now c.filters.ensures c.adverts.ensures c.is_known.ensures.held_from c.is_known-2.ensures.held_from in
@@ -31,8 +31,8 @@ held_of-requires c =
     (subst (λ (z : LedgerParts). (i : ℕ) → Has i c.args.add.now → i < length (known_adverts z.net.clients)) (sym c.self.view_is) c.requires.add) in
     subst (λ (z : Stocked (List ConstraintParts)). (i : ℕ) → Has i c.args.out.now → i < length z.items) (sym c.adverts-2.ensures) outs
 
-pub unheld_of-requires : goal.unheld_of-requires
-unheld_of-requires c =
+pub sieve-requires-2 : goal.sieve-requires-2
+sieve-requires-2 c =
     let old = c.self.inside.control in
     let is = c.self.invariant in
     let was : IsKnown old = known-from old c.filters.result.now c.adverts.result.now c.filters.ensures c.adverts.ensures c.is_known.ensures.held_from c.is_known-2.ensures.held_from in
