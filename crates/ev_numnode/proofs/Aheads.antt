@@ -1,12 +1,11 @@
 -- Steps with a match ahead keep what a cell's type says, and their publications.
-use Rattle.std.proofs.Common.{◌≡◌, ℕ, List, Some, None, Result, Ok, Err, IfOk, OnErr, refl, sym, ap, subst, ◌∙◌}
+use Rattle.std.proofs.Common.{◌≡◌, ℕ, List, Option, Some, None, Result, Ok, Err, IfOk, OnErr, sym, ap, subst, ◌∙◌}
 use Rattle.ev_constraint.specs.Constraint.{ConstraintParts}
 use Rattle.ev_notice.specs.Notice.{Attribute}
 use Rattle.ev_run.specs.Machine.{Act, Does, Takes, Did, Took}
 use Rattle.ev_routing.specs.Server.{Message, Noticed}
 use Rattle.ev_routing.specs.Step.{Task, NextCommand, Version}
 use Rattle.ev_theory.specs.Real.{real}
-use Rattle.ev_wire.specs.declared.id.Id.{Id}
 use Rattle.ev_model.specs.Parts.{NetParts, EntryParts}
 use Rattle.ev_matcher.specs.Matching.{matched}
 use Rattle.ev_bits.specs.Rows.{Numbers}
@@ -14,7 +13,7 @@ use Rattle.ev_catalogue.specs.Known.{PublicationParts, known_filters}
 use Rattle.ev_tables.specs.Found.{FoundParts, IsFound, publication_at}
 use Rattle.ev_message.specs.declared.load.Load.{Load}
 use Rattle.ev_message.specs.declared.load.Load.TheVariants as loads
-use Rattle.ev_message.specs.Message.{IsLoad, meaning}
+use Rattle.ev_message.specs.Message.{meaning}
 use Rattle.ev_forwarding.specs.Routes.{IsRouteBy}
 use Rattle.ev_numserver.specs.Core.{CoreParts, published_from}
 use Rattle.ev_numserver.specs.Routed.{IsRoute, RoutesMessage}
@@ -35,23 +34,27 @@ use Rattle.ev_numnode.specs.declared.what.What.{What}
 use Rattle.ev_numnode.specs.declared.what.Turned.{Turned}
 use Rattle.ev_numnode.specs.declared.what.Turned.TheVariants.{Made, Stale, Idle}
 use Rattle.ev_numnode.specs.declared.choice.Choice.{Choice}
+use Rattle.ev_numnode.specs.declared.choice.Matched.{Matched}
 use Rattle.ev_numnode.specs.declared.choice.Choice.TheVariants.{Other, Outdated, Agreed}
 use Rattle.ev_numnode.specs.Acted.{StampedInput, told_as}
 use Rattle.ev_numnode.specs.Kept.{AreOf}
 use Rattle.ev_numnode.specs.Cell.{IsServerInHand, IsKept}
 use Rattle.ev_numnode.specs.Turns.{IsStill}
 use Rattle.ev_numnode.specs.Asked.{act_for}
-use Rattle.ev_numnode.specs.Looking.{IsPublicationIn}
-use Rattle.ev_numnode.specs.Ahead.{AnswersAhead, CarriesMatched, IsChoice, IsChoiceNext, IsChoiceOf, IsRight, IsUpToDate, PublishesNext, RoutesMatched}
+use Rattle.ev_numnode.specs.Ahead.{AnswersBy, IsChoice, IsChoiceNext, IsChoiceOf, IsRight, IsUpToDate, RoutesMatched}
 use Rattle.ev_numnode.proofs.Routes.{route-is, same-notice}
 use Rattle.ev_numnode.proofs.Keeping.{kept-turn, kept-still}
 
 module _ (net : NetParts) (root : Root) (journal : List EntryParts) (old : ServerInHand) (kept : IsKept net root journal old) where
-  pub kept-ahead : (what : What) (ahead : Ahead) (new : ServerInHand) (after : List EntryParts) (r : Result Turned StepFault) → IfOk r (AnswersAhead root.phase what ahead old new journal after) → OnErr r (IsStill old new journal after) → IsServerInHand new → IsKept net root after new
-  kept-ahead what ahead new after (Ok Made) a s held = kept-turn net root journal old kept a.0.input (act_for what) new after a.0.turn held
-  kept-ahead what ahead new after (Ok Stale) a s held = kept-turn net root journal old kept a.0.input (act_for what) new after a.0.turn held
-  kept-ahead what ahead new after (Ok Idle) a s held = kept-still net root journal old kept new after a.0 held
-  kept-ahead what ahead new after (Err e) a s held = kept-still net root journal old kept new after s held
+  -- WHATEVER IS ANSWERED
+  pub kept-by : (what : What) (matched : Option Matched) (new : ServerInHand) (after : List EntryParts) (r : Result Turned StepFault) → IfOk r (AnswersBy root.phase what matched old new journal after) → OnErr r (IsStill old new journal after) → IsServerInHand new → IsKept net root after new
+  kept-by what None new after (Ok Made) a s held = kept-turn net root journal old kept a.input (act_for what) new after a.turn held
+  kept-by what None new after (Ok Stale) a s held = absurd a
+  kept-by what (Some h) new after (Ok Made) a s held = kept-turn net root journal old kept a.0.input (act_for what) new after a.0.turn held
+  kept-by what (Some h) new after (Ok Stale) a s held = kept-turn net root journal old kept a.0.input (act_for what) new after a.0.turn held
+  kept-by what None new after (Ok Idle) a s held = kept-still net root journal old kept new after a.0 held
+  kept-by what (Some h) new after (Ok Idle) a s held = kept-still net root journal old kept new after a.0 held
+  kept-by what matched new after (Err e) a s held = kept-still net root journal old kept new after s held
 
 -- a version routes nothing
 pub version-routes : (core : CoreParts) (input : StampedInput) (numbers : List ℕ) → told_as input ≡ Did Version → RoutesMatched core input numbers → ⊥
@@ -96,16 +99,6 @@ module _ (core : CoreParts) (publisher : Publisher) (ahead : Ahead) (agrees : Ar
       right found.matched.members r.now f.0 f.1 f.2 f.3,
       subst (λ z. RoutesMessage core z r.now) (sym means) (routed r.now f.2),
     )
-
--- who publishes nothing next publishes nothing that was matched
-pub choice-none : (core : CoreParts) (client : ℕ) (numbers : List ℕ) → ((s : SessionParts) (id : Id) (n : List Attribute) → Has s core.clients → s.client ≡ client → next_plan s ≡ Some (Publish id n) → ⊥) → PublishesNext core client numbers → ⊥
-choice-none core client numbers none x = none x.0 x.3.0 x.3.1 x.1 x.2 x.3.2
-
--- what is no publication of the net is no notice
-pub no-publication : (core : CoreParts) (load : Load) (numbers : List ℕ) → IsPublicationIn core.net load None → IsLoad core.net load → CarriesMatched core.net (meaning core.net load) numbers → ⊥
-no-publication core (loads.Publication number) numbers none of carries = none number refl of
-no-publication core (loads.Filters change) numbers none of x = let e = x.3 in absurd cc
-no-publication core (loads.Adverts change) numbers none of x = let e = x.3 in absurd cc
 
 -- what a publication of the net says
 pub publication-says : (core : CoreParts) (load : Load) (number : ℕ) → load ≡ loads.Publication number

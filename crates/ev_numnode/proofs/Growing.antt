@@ -1,5 +1,5 @@
 -- Journals that go on.
-use Rattle.std.proofs.Common.{◌≡◌, ℕ, zero, suc, ◌<◌, Bool, true, false, List, [], ◌∷◌, length, get_or, set, Result, Ok, Err, IfOk, OnErr, sym, ap, ◌∙◌, arith}
+use Rattle.std.proofs.Common.{◌≡◌, ℕ, zero, suc, ◌<◌, List, [], ◌∷◌, length, get_or, set, Result, Ok, Err, IfOk, OnErr, sym, ap, ◌∙◌, arith}
 use Rattle.std.proofs.lemmas.List.{append-nil}
 use mathlib.Core.List.{IsPrefix}
 use Rattle.ev_numnode.proofs.Begins.{prefix_self, prefix_trans}
@@ -10,7 +10,7 @@ use Rattle.ev_numnode.specs.declared.what.What.{What}
 use Rattle.ev_numnode.specs.declared.what.Turned.{Turned}
 use Rattle.ev_numnode.specs.declared.what.Turned.TheVariants.{Made, Stale, Idle}
 use Rattle.ev_numnode.specs.Cell.{CellParts}
-use Rattle.ev_numnode.specs.Turns.{IsStill, IsTaking}
+use Rattle.ev_numnode.specs.Turns.{IsStill}
 use Rattle.ev_numnode.specs.Asked.{Answers}
 use Rattle.ev_numnode.specs.Together.{Sight, sight, sights, HasGrown, HaveGrown}
 use Rattle.ev_numnode.proofs.Walks.{both-comp}
@@ -24,11 +24,6 @@ module _ (old new : ServerInHand) (before after : List EntryParts) where
   asked-grows phase what (Ok Stale) a s = elim a [ ]
   asked-grows phase what (Ok Idle) a s = same-prefix before after a.0.journal
   asked-grows phase what (Err e) a s = same-prefix before after s.journal
-
-  pub taking-grows : (phase place : ℕ) (r : Result Bool StepFault) → IfOk r (IsTaking phase place old new before after) → OnErr r (IsStill old new before after) → IsPrefix before after
-  taking-grows phase place (Ok true) a s = (_, sym a.1.turn.entry)
-  taking-grows phase place (Ok false) a s = same-prefix before after a.0.journal
-  taking-grows phase place (Err e) a s = same-prefix before after s.journal
 
 pub grown-same : (cells : List CellParts) → HaveGrown cells cells
 grown-same [] = tt

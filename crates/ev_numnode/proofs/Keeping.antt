@@ -1,6 +1,5 @@
 -- What a cell's type keeps goes on through a turn.
 use Rattle.std.proofs.Common.{◌≡◌, ℕ, ◌≤◌, List, [], ◌∷◌, length, map, take, drop, sym, ap, subst, ◌∙◌, arith}
-use Rattle.std.specs.Prelude.{Result, Ok, Err, IfOk, OnErr}
 use Rattle.std.proofs.lemmas.List.{length-append, take-append-le}
 use Rattle.ev_run.specs.Journals.{Cell, IsReplay}
 use Rattle.ev_routing.specs.Net.{NetLaws}
@@ -16,19 +15,16 @@ use Rattle.ev_model.specs.Sound.{IsSound}
 use Rattle.ev_model.proofs.SoundNets.{net-laws, tree-map}
 use Rattle.ev_model.specs.declared.turn.Act.{Act as EntryAct}
 use Rattle.ev_numserver.specs.Core.{CoreParts, IsServerState}
-use Rattle.ev_numserver.specs.declared.stepped.StepFault.{StepFault}
 use Rattle.ev_numnode.specs.declared.held.ServerInHand.{ServerInHand}
 use Rattle.ev_numnode.specs.declared.held.Root.{Root}
 use Rattle.ev_numnode.specs.declared.what.What.{What}
 use Rattle.ev_numnode.specs.declared.what.What.TheVariants.{Command, Take, Version}
-use Rattle.ev_numnode.specs.declared.what.Turned.{Turned}
-use Rattle.ev_numnode.specs.declared.what.Turned.TheVariants.{Made, Stale, Idle}
 use Rattle.ev_numnode.specs.Acted.{StampedInput}
 use Rattle.ev_numnode.specs.Kept.{IsSomeServer}
 use Rattle.ev_numnode.specs.Links.{IsSameLink, IsMoved, IsUnmoved}
 use Rattle.ev_numnode.specs.Cell.{IsCellOf, IsServerInHand, IsKept, IsDue, IsReplayed, machine_in}
 use Rattle.ev_numnode.specs.Turns.{IsCellTurn, IsStill, taken_by_input}
-use Rattle.ev_numnode.specs.Asked.{Answers, Suits, SuitsHeld, act_for}
+use Rattle.ev_numnode.specs.Asked.{Suits, SuitsHeld}
 use Rattle.ev_numnode.proofs.Walks.{both-comp}
 use Rattle.ev_numnode.proofs.Unmoved.{same-link}
 use Rattle.ev_numnode.proofs.Moved.{unmoved-put, unmoved-taken}
@@ -114,10 +110,3 @@ module _ (net : NetParts) (root : Root) (journal : List EntryParts) (old : Serve
         put = λ link. unmoved-put net old.links.items new.links.items still.links link ∙ s.put link;
         took = λ link. unmoved-taken net old.links.items new.links.items still.links link ∙ s.took link;
       }
-
-  -- WHATEVER IS ANSWERED
-  pub kept-asked : (what : What) (new : ServerInHand) (after : List EntryParts) (r : Result Turned StepFault) → IfOk r (Answers root.phase what old new journal after) → OnErr r (IsStill old new journal after) → IsServerInHand new → IsKept net root after new
-  kept-asked what new after (Ok Made) a s held = kept-turn a.input (act_for what) new after a.turn held
-  kept-asked what new after (Ok Stale) a s held = elim a [ ]
-  kept-asked what new after (Ok Idle) a s held = kept-still new after a.0 held
-  kept-asked what new after (Err e) a s held = kept-still new after s held

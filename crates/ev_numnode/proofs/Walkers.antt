@@ -1,23 +1,30 @@
 -- What is seen of a cell after steps that may find nothing to do.
-use Rattle.std.proofs.Common.{◌≡◌, ℕ, Bool, true, false, List, sym, subst}
-use Rattle.std.specs.Prelude.{Result, Ok, Err, IfOk, OnErr, IsErrOf}
-use Rattle.ev_model.specs.Parts.{NetParts, EntryParts}
+use Rattle.std.proofs.Common.{◌≡◌, ℕ, zero, suc, List, [], ◌∷◌, refl, sym, ap, subst, ◌∙◌}
+use Rattle.std.proofs.lemmas.Option.{same_Some}
+use Rattle.ev_sets.specs.Sets.{Has}
+use Rattle.ev_sets.specs.Numbers.{IsDistinct}
+use Rattle.ev_model.specs.Parts.{EntryParts}
 use Rattle.ev_numserver.specs.Core.{CoreParts}
-use Rattle.ev_numserver.specs.declared.stepped.StepFault.{StepFault}
-use Rattle.ev_numserver.specs.declared.stepped.StepFault.TheVariants.{StampsExhausted}
 use Rattle.ev_numnode.specs.declared.held.ServerInHand.{ServerInHand}
 use Rattle.ev_numnode.specs.declared.held.Root.{Root}
+use Rattle.ev_numnode.specs.declared.link.Link.{Link}
 use Rattle.ev_numnode.specs.declared.what.What.{What}
+use Rattle.ev_numnode.specs.declared.what.What.TheVariants.{Command, Take}
 use Rattle.ev_numnode.specs.declared.what.Turned.{Turned}
 use Rattle.ev_numnode.specs.declared.what.Turned.TheVariants.{Made, Stale, Idle}
-use Rattle.ev_numnode.specs.Links.{Both, IsSameLink, IsUnmoved, HasMissed}
-use Rattle.ev_numnode.specs.Cell.{IsServerInHand, IsKept, cell_parts}
-use Rattle.ev_numnode.specs.Turns.{IsStill, IsTaking, IsWornAt}
-use Rattle.ev_numnode.specs.Asked.{Answers, IsIdleStep}
+use Rattle.ev_numnode.specs.Links.{Both, IsSameLink, IsUnmoved, IsNeighbour, HasMissed}
+use Rattle.ev_numnode.specs.Cell.{CellParts, cell_parts}
+use Rattle.ev_numnode.specs.Turns.{HasCommand, IsStill, IsWornAt}
+use Rattle.ev_numnode.specs.Asked.{Answers, IsIdleStep, IsWorn, Suits}
 use Rattle.ev_numnode.specs.Together.{sight}
 use Rattle.ev_numnode.proofs.Walks.{both-map}
-use Rattle.ev_numnode.proofs.Moved.{unmoved-put, unmoved-taken}
-use Rattle.ev_numnode.proofs.Keeping.{kept-turn, kept-still}
+use Rattle.ev_numnode.proofs.Hands.{names}
+use Rattle.ev_numnode.proofs.Places.{found-name}
+use Rattle.ev_numnode.proofs.Moved.{names-same, unmoved-put, unmoved-taken}
+use Rattle.ev_numnode.proofs.Keeping.{links_at}
+use Rattle.ev_numnode.proofs.Gathered.{IsKeptCell, names-kept}
+use Rattle.ev_numnode.proofs.Emptied.{distinct-kept}
+use Rattle.ev_numnode.proofs.Asking.{neighbour-still}
 
 -- where nothing was done nothing is seen
 pub sight-unmoved : (root : Root) (journal after : List EntryParts) (old new : ServerInHand) → new.core ≡ old.core → Both IsUnmoved old.links.items new.links.items → after ≡ journal → sight (cell_parts root after new) ≡ sight (cell_parts root journal old)
@@ -41,19 +48,46 @@ idle-is phase what old new before after Made a e = absurd cc
 idle-is phase what old new before after Stale a e = absurd a
 idle-is phase what old new before after Idle a e = a
 
-module _ (net : NetParts) (root : Root) (journal : List EntryParts) (old : ServerInHand) (kept : IsKept net root journal old) (place : ℕ) (new : ServerInHand) (after : List EntryParts) where
-  pub kept-taking : (r : Result Bool StepFault) → IfOk r (λ made. IsTaking root.phase place old new journal after made) → OnErr r (IsStill old new journal after) → IsServerInHand new → IsKept net root after new
-  kept-taking (Ok true) a s held = kept-turn net root journal old kept _ _ new after a.1.turn held
-  kept-taking (Ok false) a s held = kept-still net root journal old kept new after a.0 held
-  kept-taking (Err e) a s held = kept-still net root journal old kept new after s held
+-- a cell in which nothing was done
+pub sight-after : (old new : CellParts) → new.root ≡ old.root → IsStill old.held new.held old.journal new.journal → sight new ≡ sight old
+sight-after old new same s = ap (λ (r : Root). sight (cell_parts r new.journal new.held)) same ∙ sight-still old.root old.journal new.journal old.held new.held s
 
-  pub taking-idle : (r : Result Bool StepFault) → IfOk r (λ made. IsTaking root.phase place old new journal after made)
-      → IfOk r (λ made. made ≡ false → (sight (cell_parts root after new) ≡ sight (cell_parts root journal old)) × Both IsSameLink old.links.items new.links.items × HasMissed place old.links.items new.links.items)
-  taking-idle (Ok true) a = λ q. absurd (let e : true ≡ false = q in cc)
-  taking-idle (Ok false) a = λ q. (sight-still root journal after old new a.0, same-links-still old new journal after a.0, a.1)
-  taking-idle (Err e) a = tt
+pub command-idle : (old new : CellParts) → new.root ≡ old.root → (client : ℕ) (t : Turned) → Answers old.root.phase (Command client) old.held new.held old.journal new.journal t → t ≡ Idle
+    → (sight new ≡ sight old) × (HasCommand new.held.core client new.root.phase → ⊥)
+command-idle old new same client t a e =
+    let i = idle-is old.root.phase (Command client) old.held new.held old.journal new.journal t a e in (
+      sight-after old new same i.0,
+      λ h. i.1 (subst (λ (r : Root). HasCommand old.held.core client r.phase) same (subst (λ (k : CoreParts). HasCommand k client new.root.phase) i.0.core h)),
+    )
 
-  pub taking-worn : (r : Result Bool StepFault) (s : ℕ) → OnErr r (IsStill old new journal after) → (IsErrOf r (StampsExhausted s) → IsWornAt place old.core.clock s new.links.items) → IsErrOf r (StampsExhausted s)
-      → (sight (cell_parts root after new) ≡ sight (cell_parts root journal old)) × IsWornAt place new.core.clock s new.links.items
-  taking-worn (Ok b) s still worn e = absurd (let q : ◌≡◌ {A = Result Bool StepFault} (Ok b) (Err (StampsExhausted s)) = e in cc)
-  taking-worn (Err f) s still worn e = (sight-still root journal after old new still, subst (λ (c : CoreParts). IsWornAt place c.clock s new.links.items) (sym still.core) (worn e))
+apart : (x : Link) (xs : List Link) (q n : ℕ) → IsDistinct (names (x ∷ xs)) → IsNeighbour zero n (x ∷ xs) → IsNeighbour q n xs → ⊥
+apart x xs q n d a b =
+    let one : x.neighbour ≡ a.0.neighbour = ap (λ (l : Link). l.neighbour) (same_Some x a.0 a.1) in
+    d.0 (subst (λ k. Has k (names xs)) (b.2 ∙ sym a.2 ∙ sym one) (found-name q xs b.0 b.1))
+
+-- a neighbour has one place
+one-place : (xs : List Link) (p q n : ℕ) → IsDistinct (names xs) → IsNeighbour p n xs → IsNeighbour q n xs → p ≡ q
+one-place [] p q n d a b = let e = a.1 in absurd cc
+one-place (x ∷ xs) zero zero n d a b = refl
+one-place (x ∷ xs) zero (suc q) n d a b = absurd (apart x xs q n d a b)
+one-place (x ∷ xs) (suc p) zero n d a b = absurd (apart x xs p n d b a)
+one-place (x ∷ xs) (suc p) (suc q) n d a b = ap suc (one-place xs p q n d.1 a b)
+
+-- a taking from a neighbour is one from its place
+module _ (cell : CellParts) (kept : IsKeptCell cell) (place n : ℕ) (named : IsNeighbour place n cell.held.links.items) where
+  pub suits-place : Suits (Take n) cell.root
+  suits-place = subst (Has n) (names-kept cell kept ∙ links_at cell.root.net.value cell.root.phase cell.root.server)
+      (subst (λ k. Has k (names cell.held.links.items)) named.2 (found-name place cell.held.links.items named.0 named.1))
+
+  pub place-idle : (new : ServerInHand) (after : List EntryParts) (t : Turned) → Answers cell.root.phase (Take n) cell.held new cell.journal after t → t ≡ Idle
+      → IsStill cell.held new cell.journal after × HasMissed place cell.held.links.items new.links.items
+  place-idle new after t a e =
+      let i = idle-is cell.root.phase (Take n) cell.held new cell.journal after t a e in
+      (i.0, subst (λ p. HasMissed p cell.held.links.items new.links.items) (one-place cell.held.links.items i.1.0 place n (distinct-kept cell kept) i.1.1 named) i.1.2)
+
+  pub place-worn : (new : ServerInHand) (after : List EntryParts) (s : ℕ) → IsStill cell.held new cell.journal after → IsWorn (Take n) s cell.held new → IsWornAt place new.core.clock s new.links.items
+  place-worn new after s still w =
+      let same = one-place new.links.items w.0 place n
+      (subst IsDistinct (sym (names-same cell.held.links.items new.links.items (same-links-still cell.held new cell.journal after still))) (distinct-kept cell kept))
+      w.1 (neighbour-still cell.root.phase place n cell.held new cell.journal after named still) in
+      subst (λ (c : CoreParts). IsWornAt place c.clock s new.links.items) (sym still.core) (subst (λ p. IsWornAt p cell.held.core.clock s new.links.items) same w.2)

@@ -1,5 +1,5 @@
 -- A turn of what is in hand.
-use Rattle.std.specs.Prelude.{◌≡◌, ℕ, max, Bool, true, false, List, [], ◌∷◌, ◌++◌, map, Some, slice_get}
+use Rattle.std.specs.Prelude.{◌≡◌, ℕ, max, List, [], ◌∷◌, ◌++◌, map, Some, slice_get}
 use Rattle.ev_sets.specs.Sets.{Has}
 use Rattle.ev_run.specs.Machine.{Does, Takes}
 use Rattle.ev_routing.specs.Step.{NextCommand, Version}
@@ -19,6 +19,8 @@ use Rattle.ev_numversions.specs.Ends.{published, IsSamePublisher}
 use Rattle.ev_numnode.specs.Acted.{Said, StampedInput, input_of, stamp_of, told_as}
 use Rattle.ev_numnode.specs.declared.held.ServerInHand.{ServerInHand}
 use Rattle.ev_numnode.specs.declared.link.Link.{Link}
+use Rattle.ev_numnode.specs.declared.what.Turned.{Turned}
+use Rattle.ev_numnode.specs.declared.what.Turned.TheVariants.{Made, Stale, Idle}
 use Rattle.ev_numnode.specs.Links.{Both, IsMoved, IsUnmoved, IsFlushed, HasMissed, HasSeen, ComesNext, IsNextAt, only_from}
 
 -- what an input takes from each neighbour
@@ -66,9 +68,10 @@ pub record IsTakingFrom (phase place : ℕ) (message : Said) (old new : ServerIn
   pub seen : HasSeen place old.links.items new.links.items
 
 -- a message was taken, or all that the neighbour put is taken
-abbrev pub IsTaking : ℕ → ℕ → ServerInHand → ServerInHand → List EntryParts → List EntryParts → Bool → Type 0
-IsTaking phase place old new before after true = (m : Said) × IsTakingFrom phase place m old new before after
-IsTaking phase place old new before after false = IsStill old new before after × HasMissed place old.links.items new.links.items
+abbrev pub IsTaking : ℕ → ℕ → ServerInHand → ServerInHand → List EntryParts → List EntryParts → Turned → Type 0
+IsTaking phase place old new before after Made = (m : Said) × IsTakingFrom phase place m old new before after
+IsTaking phase place old new before after Stale = ⊥
+IsTaking phase place old new before after Idle = IsStill old new before after × HasMissed place old.links.items new.links.items
 
 -- what comes next from the neighbour at a place, of which this is said in a net
 pub record IsNextSaid (net : NetParts) (place : ℕ) (message : Said) (links : List Link) : Type 0 where
@@ -82,11 +85,6 @@ pub record IsTakingNext (phase place : ℕ) (old new : ServerInHand) (before aft
   pub message : Said
   pub said_next : IsNextSaid old.core.net place message old.links.items
   pub taking : IsTakingFrom phase place message old new before after
-
--- a version was made, or nothing is staged
-abbrev pub IsVersionTurn : ℕ → ServerInHand → ServerInHand → List EntryParts → List EntryParts → Bool → Type 0
-IsVersionTurn phase old new before after true = IsCellTurn phase (Does Version) acts.Version old new before after × (old.core.staged ≡ [] → ⊥)
-IsVersionTurn phase old new before after false = IsStill old new before after × (old.core.staged ≡ [])
 
 -- the next stamp would be 2^62, by the clock, or by what comes next from the neighbour at a place
 pub record IsWornAt (place clock stamp : ℕ) (links : List Link) : Type 0 where

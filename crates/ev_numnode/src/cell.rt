@@ -1,8 +1,8 @@
 //! Cells.
 ghost use Rattle.std.specs.Prelude.{◌≡◌};
 
-use crate::ahead::turn_held_ahead;
 use crate::asked::turn_held;
+use crate::choice::Matched;
 use crate::coming::next_of;
 use crate::held::{Root, ServerInHand};
 use crate::link::Link;
@@ -17,7 +17,7 @@ use ev_model::{Entry, Net};
 use ev_numflow::trees_come;
 use ev_numheld::HeldLink;
 use ev_numserver::{Core, StepFault};
-use ev_numversions::{Ahead, Publisher, Viewer};
+use ev_numversions::{Ahead, Publisher, Viewer, agree};
 use ev_tables::Tables;
 use ev_turnlock::Standing;
 use std::alloc::Global;
@@ -59,7 +59,7 @@ impl<'a> Standing for Cell<'a> {
 }
 
 impl<'a> Cell<'a> {
-    ghost use Rattle.std.specs.Prelude.{◌≡◌, ◌≤◌, ◌<◌, ◌^◌, ℕ, true, [], length, map, IfOk, OnOk, OnErr, IsErrOf, IsTrue, ◌↔◌};
+    ghost use Rattle.std.specs.Prelude.{◌≡◌, ◌≤◌, ◌<◌, ◌^◌, ℕ, true, [], length, map, IfOk, IfSome, OnOk, OnErr, IsErrOf, IsTrue, ◌↔◌};
     ghost use Rattle.ev_tree.specs.Tree.{links_of};
     ghost use Rattle.ev_routing.specs.Routing.{empty_server};
     ghost use Rattle.ev_phases.specs.Trees.{is_one_tree, net_at};
@@ -76,7 +76,7 @@ impl<'a> Cell<'a> {
     ghost use Rattle.ev_numnode.specs.Lanes.{IsNew};
     ghost use Rattle.ev_numnode.specs.Started.{IsFreshCell};
     ghost use Rattle.ev_numnode.specs.Asked.{Answers, IsWorn, Suits};
-    ghost use Rattle.ev_numnode.specs.Ahead.{AnswersAhead};
+    ghost use Rattle.ev_numnode.specs.Ahead.{AnswersAhead, AnswersBy, IsJudged};
     ghost use Rattle.ev_numnode.specs.Looking.{IsLookedFor};
     ghost use Rattle.ev_numnode.specs.Coming.{AreFrom, IsOfSome};
     ghost use Rattle.ev_numnode.specs.Relinking.{CanMove, HasMoved};
@@ -177,6 +177,20 @@ impl<'a> Cell<'a> {
         self.root.phase
     }
 
+    /// Its net.
+    pub fn net(&self) -> &'a Net
+        ensures { result.now ≡ self.now.root.net.value }
+    {
+        self.tables.net()
+    }
+
+    /// The number of its server.
+    pub fn number(&self) -> u32
+        ensures { result ≡ self.now.root.server }
+    {
+        self.root.server
+    }
+
     /// Its core.
     pub fn core(&self) -> &Core<'a>
         ensures { result.now ≡ self.now.held.core }
@@ -202,15 +216,7 @@ impl<'a> Cell<'a> {
         ensures still { OnErr result (IsStill self.old.held self.new.held self.old.journal self.new.journal) }
         ensures worn { (s : ℕ) → IsErrOf result (StepFault.StampsExhausted s) → IsWorn what s self.old.held self.new.held }
     {
-        turn_held(
-            rt,
-            self.alloc,
-            &mut self.held,
-            &mut self.journal,
-            self.root.server,
-            self.root.phase,
-            what,
-        )
+        self.turn_by(rt, what, None)
     }
 
     /// The same with a route that was matched ahead, which is used exactly where its numbers are those that the
@@ -233,7 +239,25 @@ impl<'a> Cell<'a> {
         ensures worn { (s : ℕ) → IsErrOf result (StepFault.StampsExhausted s) → IsWorn what s self.old.held self.new.held }
         ensures viewer { IsSameViewer viewer.old viewer.new }
     {
-        turn_held_ahead(
+        let agreed = agree(&self.held.publisher, viewer, ahead);
+        self.turn_by(rt, what, Some(Matched { ahead, agreed }))
+    }
+
+    /// One step, whose publication may have been matched ahead.
+    fn turn_by<R: Wait>(
+        &mut self,
+        rt: &R,
+        what: What,
+        matched: Option<Matched<'_>>,
+    ) -> Result<Turned, StepFault>
+        requires suits { Suits what self.old.root }
+        requires judged { IfSome matched (IsJudged self.old.held.publisher) }
+        ensures root { self.new.root ≡ self.old.root }
+        ensures answers { IfOk result (AnswersBy self.old.root.phase what matched.entry self.old.held self.new.held self.old.journal self.new.journal) }
+        ensures still { OnErr result (IsStill self.old.held self.new.held self.old.journal self.new.journal) }
+        ensures worn { (s : ℕ) → IsErrOf result (StepFault.StampsExhausted s) → IsWorn what s self.old.held self.new.held }
+    {
+        turn_held(
             rt,
             self.alloc,
             &mut self.held,
@@ -241,8 +265,7 @@ impl<'a> Cell<'a> {
             self.root.server,
             self.root.phase,
             what,
-            viewer,
-            ahead,
+            matched,
         )
     }
 
@@ -310,11 +333,7 @@ impl<'a> Cell<'a> {
         ensures entered { HasEntered self.old.root phase self.new }
     {
         self.held.core.raise(clock);
-        self.root.phase = phase;
-        self.root.entries = self.journal.len();
-        self.root.before = Snapshot::of(&self.journal);
-        self.root.core = Snapshot::of(&self.held.core);
-        self.root.links = Snapshot::of(&self.held.links);
+        self.root.enter(phase, &self.journal, &self.held);
     }
 
     /// The cell enters a phase on other links, of which this is given, over these lanes, with this clock. It is called outside
@@ -335,11 +354,7 @@ impl<'a> Cell<'a> {
     {
         put_on(rt, self.alloc, &mut self.held, given, links)?;
         self.held.core.raise(clock);
-        self.root.phase = phase;
-        self.root.entries = self.journal.len();
-        self.root.before = Snapshot::of(&self.journal);
-        self.root.core = Snapshot::of(&self.held.core);
-        self.root.links = Snapshot::of(&self.held.links);
+        self.root.enter(phase, &self.journal, &self.held);
         Ok(())
     }
 }

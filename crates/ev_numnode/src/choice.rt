@@ -1,21 +1,19 @@
 //! What comes of a match ahead for the publication of a step.
-ghost use Rattle.std.specs.Prelude.{◌≡◌};
+ghost use Rattle.std.specs.Prelude.{◌≡◌, IfSome};
 ghost use Rattle.ev_sets.specs.Sets.{Has};
 ghost use Rattle.ev_numserver.specs.Clients.{client_numbers};
-ghost use Rattle.ev_numversions.specs.Ends.{IsAheadOf, IsSameViewer, IsViewerOf};
-ghost use Rattle.ev_numnode.specs.Kept.{IsSomeServer};
 ghost use Rattle.ev_numnode.specs.Cell.{IsPublishedBy};
-ghost use Rattle.ev_numnode.specs.Ahead.{IsChoice, IsChoiceNext, IsChoiceOf};
+ghost use Rattle.ev_numnode.specs.Ahead.{IsChoiceNextBy, IsChoiceOfBy, IsJudged};
 
 use crate::desk::publication_in;
+use crate::held::ServerInHand;
 use crate::what::Turned;
-use ev_bits::Row;
 use ev_forwarding::Route;
 use ev_message::Load;
 use ev_numserver::Core;
-use ev_numversions::{Ahead, Publisher, Viewer, agree};
+use ev_numversions::Ahead;
 
-/// What comes of it.
+/// What comes of a match ahead.
 #[derive(Drop)]
 pub(crate) enum Choice<'a> {
     /// The match is of other numbers.
@@ -51,68 +49,70 @@ impl<'a> Choice<'a> {
     }
 }
 
-/// For matched numbers.
-fn choose<'a>(
-    publisher: &Publisher,
-    viewer: &mut Viewer,
-    ahead: &'a Ahead,
-    matched: &Row,
-) -> Choice<'a>
-    requires viewer { IsViewerOf publisher.now viewer.old }
-    requires ahead { IsAheadOf publisher.now ahead.now }
-    ensures same { IsSameViewer viewer.old viewer.new }
-    ensures choice { IsChoice publisher.now ahead.now matched.now.members result }
-{
-    if !ahead.is_of(matched) {
-        return Choice::Other;
-    }
-    if agree(publisher, viewer, ahead) {
-        Choice::Agreed(ahead.route())
-    } else {
-        Choice::Outdated
+/// A publication that was matched ahead, and whether the match had seen all that is published.
+#[derive(Drop)]
+pub(crate) struct Matched<'a> {
+    pub(crate) ahead: &'a Ahead,
+    pub(crate) agreed: bool,
+}
+
+impl<'a> Matched<'a> {
+    ghost use Rattle.std.specs.Prelude.{◌<◌, length};
+    ghost use Rattle.ev_catalogue.specs.Known.{known_publications};
+    ghost use Rattle.ev_numversions.specs.declared.publisher.Publisher.{Publisher as PublisherParts};
+    ghost use Rattle.ev_numnode.specs.Ahead.{IsChoiceIn, IsJudged};
+
+    /// What comes of it for the publication with a number.
+    fn choose(&self, core: &Core<'_>, number: u32) -> Choice<'a>
+        requires { number < length (known_publications 1 core.now.net.clients) }
+        ensures { (publisher : PublisherParts) → IsJudged publisher self.now → IsChoiceIn core.now.net publisher self.now.ahead.now number result }
+    {
+        if !self.ahead.is_of(core.tables().found(number).matched()) {
+            return Choice::Other;
+        }
+        if self.agreed {
+            Choice::Agreed(self.ahead.route())
+        } else {
+            Choice::Outdated
+        }
     }
 }
 
 /// For the next command of a client that lives here.
 pub(crate) fn choose_next<'a>(
-    core: &Core<'_>,
-    publisher: &Publisher,
-    viewer: &mut Viewer,
-    ahead: &'a Ahead,
+    held: &ServerInHand<'_>,
+    matched: Option<Matched<'a>>,
     client: u32,
 ) -> Choice<'a>
-    requires viewer { IsViewerOf publisher.now viewer.old }
-    requires ahead { IsAheadOf publisher.now ahead.now }
-    requires lives { Has client (client_numbers core.now.clients) }
-    requires stands { IsSomeServer core.now }
-    requires published { IsPublishedBy publisher.now core.now }
-    ensures same { IsSameViewer viewer.old viewer.new }
-    ensures choice { IsChoiceNext core.now publisher.now ahead.now client result }
+    requires lives { Has client (client_numbers held.now.core.clients) }
+    requires published { IsPublishedBy held.now.publisher held.now.core }
+    requires judged { IfSome matched (IsJudged held.now.publisher) }
+    ensures { IsChoiceNextBy held.now.core held.now.publisher matched.entry client result }
 {
-    let tables = core.tables();
-    match core.next_publication(client) {
-        Some(number) => choose(publisher, viewer, ahead, tables.found(number).matched()),
+    let Some(matched) = matched else {
+        return Choice::Other;
+    };
+    match held.core.next_publication(client) {
+        Some(number) => matched.choose(&held.core, number),
         None => Choice::Other,
     }
 }
 
 /// For what a message carries.
 pub(crate) fn choose_of<'a>(
-    core: &Core<'_>,
-    publisher: &Publisher,
-    viewer: &mut Viewer,
-    ahead: &'a Ahead,
+    held: &ServerInHand<'_>,
+    matched: Option<Matched<'a>>,
     load: &Load,
 ) -> Choice<'a>
-    requires viewer { IsViewerOf publisher.now viewer.old }
-    requires ahead { IsAheadOf publisher.now ahead.now }
-    requires published { IsPublishedBy publisher.now core.now }
-    ensures same { IsSameViewer viewer.old viewer.new }
-    ensures choice { IsChoiceOf core.now publisher.now ahead.now load.now result }
+    requires published { IsPublishedBy held.now.publisher held.now.core }
+    requires judged { IfSome matched (IsJudged held.now.publisher) }
+    ensures { IsChoiceOfBy held.now.core held.now.publisher matched.entry load.now result }
 {
-    let tables = core.tables();
-    match publication_in(tables, load) {
-        Some(number) => choose(publisher, viewer, ahead, tables.found(number).matched()),
+    let Some(matched) = matched else {
+        return Choice::Other;
+    };
+    match publication_in(held.core.tables(), load) {
+        Some(number) => matched.choose(&held.core, number),
         None => Choice::Other,
     }
 }

@@ -3,13 +3,9 @@ ghost use Rattle.std.specs.Prelude.{◌≡◌, ◌<◌, ◌^◌, ℕ, List, leng
 ghost use Rattle.ev_sets.specs.Sets.{Has};
 ghost use Rattle.ev_run.specs.Machine.{Does, Takes};
 ghost use Rattle.ev_routing.specs.Step.{NextCommand};
-ghost use Rattle.ev_notice.specs.Notice.{Attribute};
-ghost use Rattle.ev_wire.specs.declared.id.Id.{Id};
 ghost use Rattle.ev_catalogue.specs.Known.{known_publications};
 ghost use Rattle.ev_tables.specs.Found.{publication_at};
 ghost use Rattle.ev_message.specs.Message.{IsLoad, meaning};
-ghost use Rattle.ev_session.specs.declared.planned.Planned.TheVariants as plans;
-ghost use Rattle.ev_session.specs.Plan.{next_plan};
 ghost use Rattle.ev_session.specs.Session.{SessionParts};
 ghost use Rattle.ev_numserver.specs.Clients.{client_numbers};
 ghost use Rattle.ev_numserver.specs.Core.{published_from};
@@ -71,57 +67,6 @@ fn route(
     }
 }
 
-/// Takes the next command of a client that lives here and has one left, where that is no publish that is accepted.
-fn command_by<'a>(
-    core: &mut Core<'a>,
-    publisher: &Publisher,
-    client: u32,
-) -> Result<Step<'a>, StepFault>
-    requires lives { Has client (client_numbers core.old.clients) }
-    requires left { (s : SessionParts) → Has s core.old.clients → s.client ≡ client → s.taken < length s.script }
-    requires silent { (s : SessionParts) (id : Id) (n : List Attribute) → Has s core.old.clients → s.client ≡ client
-        → next_plan s ≡ Some (plans.Publish id n) → ⊥ }
-    requires stands { IsSomeServer core.old }
-    requires published { IsPublishedBy publisher.now core.old }
-    ensures step { IfOk result (λ s. MakesStep (Does (NextCommand client)) 0 core.old core.new s.stamp s.sent.items) }
-    ensures worn { (s : ℕ) → IsErrOf result (StepFault.StampsExhausted s) → (core.old.clock ≡ last_stamp) × (s ≡ last_stamp) }
-    ensures low { IfOk result (λ s. s.stamp < 2 ^ 62) }
-    ensures published { IsPublishedBy publisher.now core.new }
-    ensures err { OnErr result (core.new ≡ core.old) }
-{
-    let _publisher = publisher;
-    let _clock = core.clock();
-    core.take_command(client)
-}
-
-/// Takes the next command of a client that lives here, a publish that is accepted: of the publication with this number, by a
-/// route of what is published.
-fn publish_by<'a>(
-    core: &mut Core<'a>,
-    publisher: &Publisher,
-    client: u32,
-    number: u32,
-    route: &Route,
-) -> Result<Step<'a>, StepFault>
-    requires lives { Has client (client_numbers core.old.clients) }
-    requires left { (s : SessionParts) → Has s core.old.clients → s.client ≡ client → s.taken < length s.script }
-    requires publish { (s : SessionParts) → Has s core.old.clients → s.client ≡ client
-        → next_plan s ≡ Some (plans.Publish (publication_at core.old.net number).id (publication_at core.old.net number).notice) }
-    requires known { number < length (known_publications 1 core.old.net.clients) }
-    requires stands { IsSomeServer core.old }
-    requires published { IsPublishedBy publisher.now core.old }
-    requires route { IsRoute (publication_at core.old.net number).notice (published_from core.old) route.now }
-    ensures step { IfOk result (λ s. MakesStep (Does (NextCommand client)) 0 core.old core.new s.stamp s.sent.items) }
-    ensures worn { (s : ℕ) → IsErrOf result (StepFault.StampsExhausted s) → (core.old.clock ≡ last_stamp) × (s ≡ last_stamp) }
-    ensures low { IfOk result (λ s. s.stamp < 2 ^ 62) }
-    ensures published { IsPublishedBy publisher.now core.new }
-    ensures err { OnErr result (core.new ≡ core.old) }
-{
-    let _publisher = publisher;
-    let _clock = core.clock();
-    core.take_publish(client, number, route.interfaces())
-}
-
 /// Takes the next command of a client that lives here and has one left, by the route that is known, if one is.
 pub(crate) fn take_command<'a>(
     alloc: Global,
@@ -141,40 +86,15 @@ pub(crate) fn take_command<'a>(
     ensures published { IsPublishedBy publisher.now core.new }
     ensures err { OnErr result (core.new ≡ core.old) }
 {
+    let _clock = core.clock();
     let Some(number) = core.next_publication(client) else {
-        return command_by(core, publisher, client);
+        return core.take_command(client);
     };
     if let Some(route) = known {
-        return publish_by(core, publisher, client, number, route);
+        return core.take_publish(client, number, route.interfaces());
     }
     let route = routed(alloc, core, publisher, number)?;
-    publish_by(core, publisher, client, number, &route)
-}
-
-/// Takes what a neighbour sent with its stamp, by a route of what is published.
-fn load_by<'a>(
-    core: &mut Core<'a>,
-    publisher: &Publisher,
-    from: u32,
-    stamp: u64,
-    load: &Load,
-    route: &Route,
-) -> Result<Step<'a>, StepFault>
-    requires from { Has from core.old.control.links }
-    requires stamp { stamp < 2 ^ 62 }
-    requires load { IsLoad core.old.net load.now }
-    requires stands { IsSomeServer core.old }
-    requires published { IsPublishedBy publisher.now core.old }
-    requires route { RoutesMessage core.old (meaning core.old.net load.now) route.now }
-    ensures step { IfOk result (λ s. MakesStep (Takes from (meaning core.old.net load.now)) stamp core.old core.new s.stamp s.sent.items) }
-    ensures worn { (s : ℕ) → IsErrOf result (StepFault.StampsExhausted s) → (max core.old.clock stamp ≡ last_stamp) × (s ≡ last_stamp) }
-    ensures low { IfOk result (λ s. s.stamp < 2 ^ 62) }
-    ensures published { IsPublishedBy publisher.now core.new }
-    ensures err { OnErr result (core.new ≡ core.old) }
-{
-    let _publisher = publisher;
-    let _clock = core.clock();
-    core.take_load(from, stamp, load, route.interfaces())
+    core.take_publish(client, number, route.interfaces())
 }
 
 /// Takes what a neighbour sent with its stamp, by the route that is known, if one is.
@@ -199,9 +119,10 @@ pub(crate) fn take_load<'a>(
     ensures published { IsPublishedBy publisher.now core.new }
     ensures err { OnErr result (core.new ≡ core.old) }
 {
+    let _clock = core.clock();
     if let Some(route) = known {
-        return load_by(core, publisher, from, stamp, load, route);
+        return core.take_load(from, stamp, load, route.interfaces());
     }
     let route = route(alloc, core, publisher, load)?;
-    load_by(core, publisher, from, stamp, load, &route)
+    core.take_load(from, stamp, load, route.interfaces())
 }

@@ -16,28 +16,6 @@ use ev_memory::NoMemory;
 use ev_numserver::StepFault;
 use std::sync::Wait;
 
-/// Brings all that was put on a lane, and not taken, to its taking end.
-fn settle_at(
-    cells: &mut [Cell<'_>],
-    giver: usize,
-    to: usize,
-    taker: usize,
-    from: usize,
-) -> Result<(), NoMemory>
-    requires giver { giver < length cells.old }
-    requires taker { taker < length cells.old }
-    requires apart { giver ≡ taker → ⊥ }
-    requires lane { (a b : CellParts) → slice_get cells.old giver ≡ Some a → slice_get cells.old taker ≡ Some b
-        → At IsOneLane to (root_links a.root) from (root_links b.root) }
-    ensures sights { sights cells.new ≡ sights cells.old }
-    ensures settled { OnOk result ((a b : CellParts) × (slice_get cells.new giver ≡ Some a) × (slice_get cells.new taker ≡ Some b)
-        × At IsSettledLane to a.held.links.items from b.held.links.items) }
-    ensures next { (b : CellParts) (item : ItemParts) → slice_get cells.old taker ≡ Some b → IsNextAt from item b.held.links.items
-        → (c : CellParts) × (slice_get cells.new taker ≡ Some c) × IsNextAt from item c.held.links.items }
-{
-    settle_two(cells, giver, to, taker, from)
-}
-
 /// Where the lane to a server from one of its neighbours comes from: the place of that neighbour's cell, and the place of
 /// its link to the server.
 fn giver_of(cells: &[Cell<'_>], taker: usize, from: usize) -> (usize, usize)
@@ -73,12 +51,12 @@ fn take_settled<R: Wait>(
     ensures worn { (s : ℕ) → IsErrOf result (StepFault.StampsExhausted s) → IsWornSomewhere s (sights cells.new) }
 {
     let (giver, to) = giver_of(cells, taker, from);
-    settle_at(cells, giver, to, taker, from)?;
+    settle_two(cells, giver, to, taker, from)?;
     cells[giver].tells();
     cells[taker].tells();
     match cells[taker].take_from_place(rt, from) {
         Err(StepFault::StampsExhausted(stamp)) => {
-            settle_at(cells, giver, to, taker, from)?;
+            settle_two(cells, giver, to, taker, from)?;
             cells[giver].tells();
             Err(StepFault::StampsExhausted(stamp))
         }
@@ -155,13 +133,13 @@ fn walk_rest<R: Wait>(rt: &R, cells: &mut [Cell<'_>]) -> Result<(), StepFault>
 }
 
 /// Takes the commands of the phase that are left, server by server.
-fn walk_commands(cells: &mut [Cell<'_>]) -> Result<(), StepFault>
+fn walk_commands<R: Wait>(rt: &R, cells: &mut [Cell<'_>]) -> Result<(), StepFault>
     ensures roots { cell_roots cells.new ≡ cell_roots cells.old }
     ensures grown { HaveGrown cells.old cells.new }
     ensures worn { (s : ℕ) → IsErrOf result (StepFault.StampsExhausted s) → IsWornSomewhere s (sights cells.new) }
 {
     for k in 0..cells.len() {
-        cells[k].take_commands()?;
+        cells[k].take_commands(rt)?;
     }
     Ok(())
 }
@@ -186,7 +164,7 @@ fn settle_one(cells: &mut [Cell<'_>], k: usize) -> Result<(), NoMemory>
     mine.tells();
     for from in 0..mine.neighbours() {
         let (giver, to) = giver_of(cells, k, from);
-        settle_at(cells, giver, to, k, from)?;
+        settle_two(cells, giver, to, k, from)?;
         cells[giver].tells();
         cells[k].tells();
     }
@@ -216,7 +194,7 @@ fn walk_phase<R: Wait>(rt: &R, cells: &mut [Cell<'_>]) -> Result<(), StepFault>
         → (begun : ℕ → Begun (machine_in net phase)) → AreBegun net phase cells.new begun → IsFinished net phase cells.new begun) }
     ensures worn { (s : ℕ) → IsErrOf result (StepFault.StampsExhausted s) → IsWornSomewhere s (sights cells.new) }
 {
-    walk_commands(cells)?;
+    walk_commands(rt, cells)?;
     walk_rest(rt, cells)?;
     tell_all(cells);
     Ok(())

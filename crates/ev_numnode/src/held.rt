@@ -31,3 +31,18 @@ pub struct Root<'a> {
     pub(crate) links: Snapshot<Vec<Link>>,
     pub(crate) viewer: Snapshot<Viewer>,
 }
+
+impl<'a> Root<'a> {
+    ghost use Rattle.ev_numnode.specs.Cell.{HasEntered, cell_parts};
+
+    /// It enters a phase with this journal and what is in hand.
+    pub(crate) fn enter(&mut self, phase: u32, journal: &Journal, held: &ServerInHand<'a>)
+        ensures { HasEntered self.old phase (cell_parts self.new journal.now.entries held.now) }
+    {
+        self.phase = phase;
+        self.entries = journal.len();
+        self.before = Snapshot::of(journal);
+        self.core = Snapshot::of(&held.core);
+        self.links = Snapshot::of(&held.links);
+    }
+}

@@ -4,7 +4,6 @@
 //! are those of his own tables.
 #![tactic(auto)]
 
-mod ahead;
 mod asked;
 mod cell;
 mod choice;

@@ -14,13 +14,15 @@ ghost use Rattle.ev_message.specs.Message.{meaning};
 ghost use Rattle.ev_message.specs.declared.stamped.StampedLoad.{StampedLoad as ItemParts};
 ghost use Rattle.ev_numnode.specs.Links.{IsInSight, IsNextAt};
 ghost use Rattle.ev_numnode.specs.Cell.{IsServerInHand, IsPublishedBy};
-ghost use Rattle.ev_numnode.specs.Turns.{HasCommand, IsCellTurn, IsStill, IsTaking, IsTakingNext, IsVersionTurn, IsWornAt};
+ghost use Rattle.ev_numnode.specs.Turns.{HasCommand, IsCellTurn, IsStill, IsTakingNext, IsWornAt};
+ghost use Rattle.ev_numnode.specs.Asked.{Answers};
 
 use crate::desk::{take_command, take_load};
 use crate::held::ServerInHand;
 use crate::step::{enter, make_room};
-use crate::taking::{look_at, next_at, take_at};
+use crate::taking::{next_at, take_at};
 use crate::version::{are_touched, hand_over};
+use crate::what::{Turned, What};
 use ev_forwarding::Route;
 use ev_journal::Journal;
 use ev_memory::NoMemory;
@@ -66,32 +68,6 @@ pub(crate) fn turn_command(
         outs,
     );
     Ok(())
-}
-
-/// Takes the next message from the neighbour at a place, where there is one. After a fault all is as before.
-pub(crate) fn turn_take<R: Wait>(
-    rt: &R,
-    alloc: Global,
-    held: &mut ServerInHand<'_>,
-    journal: &mut Journal,
-    server: u32,
-    place: usize,
-) -> Result<bool, StepFault>
-    requires server { held.old.core.server ≡ server }
-    requires place { place < length held.old.links.items }
-    requires held { IsServerInHand held.old }
-    requires stands { IsSomeServer held.old.core }
-    ensures made { (phase : ℕ) → IfOk result (λ made. IsTaking phase place held.old held.new journal.old.entries journal.new.entries made) }
-    ensures still { OnErr result (IsStill held.old held.new journal.old.entries journal.new.entries) }
-    ensures kept { journal.new.kept ≡ journal.old.kept }
-    ensures worn { (s : ℕ) → IsErrOf result (StepFault.StampsExhausted s) → IsWornAt place held.old.core.clock s held.new.links.items }
-    ensures held { IsServerInHand held.new }
-{
-    if !look_at(rt, &mut held.links, place) {
-        return Ok(false);
-    }
-    take_seen(rt, alloc, held, journal, server, place, None)?;
-    Ok(true)
 }
 
 /// Takes the next message from the neighbour at a place, which is in sight; a publication goes by the route that is known, if
@@ -171,18 +147,18 @@ pub(crate) fn turn_version<R: Wait>(
     held: &mut ServerInHand<'_>,
     journal: &mut Journal,
     server: u32,
-) -> Result<bool, StepFault>
+) -> Result<Turned, StepFault>
     requires server { held.old.core.server ≡ server }
     requires held { IsServerInHand held.old }
     requires stands { IsSomeServer held.old.core }
-    ensures made { (phase : ℕ) → IfOk result (λ made. IsVersionTurn phase held.old held.new journal.old.entries journal.new.entries made) }
+    ensures answers { (phase : ℕ) → IfOk result (Answers phase What.Version held.old held.new journal.old.entries journal.new.entries) }
     ensures still { OnErr result (IsStill held.old held.new journal.old.entries journal.new.entries) }
     ensures kept { journal.new.kept ≡ journal.old.kept }
     ensures worn { (s : ℕ) → IsErrOf result (StepFault.StampsExhausted s) → (held.old.core.clock ≡ last_stamp) × (s ≡ last_stamp) }
     ensures held { IsServerInHand held.new }
 {
     if is_calm(&held.core) {
-        return Ok(false);
+        return Ok(Turned::Idle);
     }
     if held.core.clock() == LAST_STAMP {
         return Err(StepFault::StampsExhausted(LAST_STAMP));
@@ -191,7 +167,7 @@ pub(crate) fn turn_version<R: Wait>(
     let stamp = publish(rt, held)?;
     let step = silent(alloc, stamp);
     enter(&mut held.links, journal, server, Act::Version, step, outs);
-    Ok(true)
+    Ok(Turned::Made)
 }
 
 /// Hands what is staged to the publisher, publishes it, and has the core publish it.

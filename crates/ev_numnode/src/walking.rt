@@ -3,12 +3,10 @@ ghost use Rattle.std.specs.Prelude.{◌≡◌, ◌≤◌, false, length};
 ghost use Rattle.ev_model.specs.Nets.{script_of};
 ghost use Rattle.ev_numnode.specs.declared.what.Turned.TheVariants.{Idle};
 
-use crate::asked::{command_asked, version_asked};
 use crate::cell::Cell;
 use crate::link::{place_in, settle_links};
 use crate::naming::lives_at;
-use crate::turn::turn_take;
-use crate::what::Turned;
+use crate::what::{Turned, What};
 use ev_memory::NoMemory;
 use ev_model::Net;
 use ev_numserver::StepFault;
@@ -24,20 +22,6 @@ impl<'a> Cell<'a> {
     ghost use Rattle.ev_numserver.specs.Step.{last_stamp};
     ghost use Rattle.ev_message.specs.declared.stamped.StampedLoad.{StampedLoad as ItemParts};
     ghost use Rattle.ev_numnode.specs.Together.{HasNoCommand, root_links, sight};
-
-    /// Its net.
-    fn net(&self) -> &'a Net
-        ensures { result.now ≡ self.now.root.net.value }
-    {
-        self.tables.net()
-    }
-
-    /// The number of its server.
-    pub(crate) fn number(&self) -> u32
-        ensures { result ≡ self.now.root.server }
-    {
-        self.root.server
-    }
 
     /// How many neighbours there are.
     pub(crate) fn neighbours(&self) -> usize
@@ -93,38 +77,13 @@ impl<'a> Cell<'a> {
         ensures worn { (s : ℕ) → IsErrOf result (StepFault.StampsExhausted s) → (sight self.new ≡ sight self.old)
             × IsWornAt place self.new.held.core.clock s self.new.held.links.items }
     {
-        turn_take(
-            rt,
-            self.alloc,
-            &mut self.held,
-            &mut self.journal,
-            self.root.server,
-            place,
-        )
-    }
-
-    /// Takes the next command of a client that lives here, if it is of the phase; answers whether it was.
-    fn take_command(&mut self, client: u32) -> Result<bool, StepFault>
-        requires { Has client (clients_of self.old.root.net.value self.old.root.server) }
-        ensures root { self.new.root ≡ self.old.root }
-        ensures grown { IsPrefix self.old.journal self.new.journal }
-        ensures idle { IfOk result (λ made. made ≡ false → (sight self.new ≡ sight self.old)
-            × (HasCommand self.new.held.core client self.new.root.phase → ⊥)) }
-        ensures worn { (s : ℕ) → IsErrOf result (StepFault.StampsExhausted s) → (s ≡ last_stamp) × (self.new.held.core.clock ≡ last_stamp) }
-    {
-        let turned = command_asked(
-            self.alloc,
-            &mut self.held,
-            &mut self.journal,
-            self.root.server,
-            self.root.phase,
-            client,
-        )?;
+        self.tells();
+        let turned = self.turn(rt, What::Take(self.neighbour(place)))?;
         Ok(was_made(turned))
     }
 
     /// Takes the commands of the phase that are left of a client that lives here; answers whether there were any.
-    fn take_script(&mut self, client: u32) -> Result<bool, StepFault>
+    fn take_script<R: Wait>(&mut self, rt: &R, client: u32) -> Result<bool, StepFault>
         requires { Has client (clients_of self.old.root.net.value self.old.root.server) }
         ensures root { self.new.root ≡ self.old.root }
         ensures grown { IsPrefix self.old.journal self.new.journal }
@@ -132,11 +91,11 @@ impl<'a> Cell<'a> {
             × (HasCommand self.new.held.core client self.new.root.phase → ⊥)) }
         ensures worn { (s : ℕ) → IsErrOf result (StepFault.StampsExhausted s) → (s ≡ last_stamp) × (self.new.held.core.clock ≡ last_stamp) }
     {
-        if !self.take_command(client)? {
+        if !was_made(self.turn(rt, What::Command(client))?) {
             return Ok(false);
         }
         for _ in 1..script_len(self.net(), client) {
-            if !self.take_command(client)? {
+            if !was_made(self.turn(rt, What::Command(client))?) {
                 return Ok(true);
             }
         }
@@ -145,7 +104,7 @@ impl<'a> Cell<'a> {
 
     /// Takes the commands of the phase that are left of the client at a place of the net, if it lives here; answers whether
     /// there were any.
-    fn take_home(&mut self, place: usize) -> Result<bool, StepFault>
+    fn take_home<R: Wait>(&mut self, rt: &R, place: usize) -> Result<bool, StepFault>
         requires { place < length self.old.root.net.value.clients }
         ensures root { self.new.root ≡ self.old.root }
         ensures grown { IsPrefix self.old.journal self.new.journal }
@@ -159,11 +118,11 @@ impl<'a> Cell<'a> {
         if !lives_at(self.net(), client, self.number()) {
             return Ok(false);
         }
-        self.take_script(client)
+        self.take_script(rt, client)
     }
 
     /// Takes the commands of the phase that are left of the server's clients; answers whether there were any.
-    pub(crate) fn take_commands(&mut self) -> Result<bool, StepFault>
+    pub(crate) fn take_commands<R: Wait>(&mut self, rt: &R) -> Result<bool, StepFault>
         ensures root { self.new.root ≡ self.old.root }
         ensures grown { IsPrefix self.old.journal self.new.journal }
         ensures idle { IfOk result (λ made. made ≡ false → (sight self.new ≡ sight self.old)
@@ -173,7 +132,7 @@ impl<'a> Cell<'a> {
         self.tells();
         let mut made = false;
         for place in 0..self.net().clients.len() {
-            if self.take_home(place)? {
+            if self.take_home(rt, place)? {
                 made = true;
             }
         }
@@ -187,14 +146,7 @@ impl<'a> Cell<'a> {
         ensures idle { IfOk result (λ made. made ≡ false → (sight self.new ≡ sight self.old) × (self.new.held.core.staged ≡ [])) }
         ensures worn { (s : ℕ) → IsErrOf result (StepFault.StampsExhausted s) → (s ≡ last_stamp) × (self.new.held.core.clock ≡ last_stamp) }
     {
-        let turned = version_asked(
-            rt,
-            self.alloc,
-            &mut self.held,
-            &mut self.journal,
-            self.root.server,
-            self.root.phase,
-        )?;
+        let turned = self.turn(rt, What::Version)?;
         Ok(was_made(turned))
     }
 
@@ -207,7 +159,7 @@ impl<'a> Cell<'a> {
         ensures worn { (s : ℕ) → IsErrOf result (StepFault.StampsExhausted s) → (s ≡ last_stamp) × (self.new.held.core.clock ≡ last_stamp) }
     {
         let published = self.publish_staged(rt)?;
-        let took = self.take_commands()?;
+        let took = self.take_commands(rt)?;
         Ok(published || took)
     }
 }

@@ -12,19 +12,14 @@ use Rattle.ev_catalogue.specs.Known.{known_filters, known_publications}
 use Rattle.ev_numversions.specs.Ends.{IsAheadBy, IsSameViewer, width_of}
 use Rattle.ev_numnode.specs.declared.held.Root.{Root}
 use Rattle.ev_numnode.specs.declared.what.What.{What}
-use Rattle.ev_numnode.specs.declared.what.What.TheVariants.{Command, Take}
+use Rattle.ev_numnode.specs.declared.what.What.TheVariants.{Command}
 use Rattle.ev_numnode.specs.Asked.{Suits}
 use Rattle.ev_numnode.specs.Cell.{CellParts}
 use Rattle.ev_workers.specs.declared.hands.Hands.{Hands}
-use Rattle.ev_workers.specs.declared.tried.Picked.{Picked}
-use Rattle.ev_workers.specs.declared.tried.Picked.TheVariants.{Done, Taken, Ahead}
-use Rattle.ev_workers.specs.declared.tried.Looked.{Looked}
-use Rattle.ev_workers.specs.declared.tried.Looked.TheVariants as looks
 use Rattle.ev_workers.specs.declared.tried.Tried.{Tried}
 use Rattle.ev_workers.specs.declared.tried.Tried.TheVariants as tries
 use Rattle.ev_workers.specs.declared.stand.Stand.{Stand}
 use Rattle.ev_workers.specs.declared.stand.Stand.TheVariants.{Free, Matched, Ended}
-use Rattle.ev_workers.specs.Journals.{HasCommands}
 use Rattle.ev_workers.specs.Work.{EndsWith}
 
 abbrev pub CellLock : Type 0
@@ -65,18 +60,6 @@ CanMatch root number = (number < length (known_publications 1 root.net.value.cli
 abbrev pub IsOfWorker : Worker → What → Type 0
 IsOfWorker Commands what = (client : ℕ) × (what ≡ Command client)
 IsOfWorker Links what = Unit {0}
-
--- what was picked: who has the next command lives there, and nothing was picked only where the journal has every command
-abbrev pub IsPicked : Picked → Root → List EntryParts → Type 0
-IsPicked Done root journal = HasCommands root.phase root journal
-IsPicked (Taken client turned) root journal = Unit {0}
-IsPicked (Ahead client number) root journal = Suits (Command client) root × CanMatch root number
-
--- what was looked at: who sent the publication is a neighbour
-abbrev pub SuitsLooked : Looked → Root → Type 0
-SuitsLooked (looks.Taken from turned) root = Unit {0}
-SuitsLooked (looks.Ahead from number) root = Suits (Take from) root × CanMatch root number
-SuitsLooked (looks.Version turned) root = Unit {0}
 
 -- what a worker tried: where it has no turn left to make it may end; a turn to be matched ahead is one of its own
 abbrev pub IsTried : Worker → Tried → Root → List EntryParts → Type 0

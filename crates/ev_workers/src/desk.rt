@@ -135,15 +135,7 @@ impl<'l, 'a, R: Wait, G: Gate> Desk<'l, 'a, R, G> {
             return (Stand::Free, Did::Missed);
         };
         let mut made = Made::none();
-        let came = make_turns(
-            self.rt,
-            &mut cell,
-            self.tables,
-            self.server,
-            self.worker,
-            at,
-            &mut made,
-        );
+        let came = make_turns(self.rt, &mut cell, self.server, self.worker, at, &mut made);
         self.lock.put(&mut hands.pass, cell);
         self.follow(hands, came, &made)
     }
@@ -171,7 +163,6 @@ impl<'l, 'a, R: Wait, G: Gate> Desk<'l, 'a, R, G> {
         let came = make_ahead(
             self.rt,
             &mut cell,
-            self.tables,
             self.server,
             self.worker,
             &mut hands.viewer,

@@ -5,17 +5,16 @@ ghost use Rattle.ev_model.specs.Sound.{IsSound};
 ghost use Rattle.ev_numversions.specs.Ends.{IsAheadBy, IsSameViewer};
 ghost use Rattle.ev_numnode.specs.Asked.{Suits};
 ghost use Rattle.ev_numnode.specs.Cell.{IsPast};
-ghost use Rattle.ev_workers.specs.Hands.{CanMatch, IsPicked, IsTried, SuitsLooked, IsOfWorker};
+ghost use Rattle.ev_workers.specs.Hands.{CanMatch, IsTried, IsOfWorker};
 ghost use Rattle.ev_workers.specs.Journals.{HasCommands, IsWornBy};
 
 use crate::made::Made;
-use crate::tried::{Looked, Picked, Tried};
+use crate::tried::Tried;
 use ev_model::Net;
 use ev_numnode::{Cell, Turned, What};
 use ev_numserver::StepFault;
 use ev_numversions::{Ahead, Viewer};
 use ev_outside::Worker;
-use ev_tables::Tables;
 use std::sync::Wait;
 
 // So many turns at most are made under one taking.
@@ -60,13 +59,12 @@ fn clients(net: &Net) -> u32
 }
 
 /// The next client in turn that waits, after this one, by the order of the document. Where none waits, all commands are taken.
-fn next_in_turn(cell: &Cell<'_>, tables: &Tables<'_>, last: u32) -> Option<u32>
-    requires { cell.now.root.net.value ≡ tables.now }
+fn next_in_turn(cell: &Cell<'_>, last: u32) -> Option<u32>
     ensures lives { IfSome result (λ client. Suits (What.Command client) cell.now.root) }
     ensures done { IfNone result (HasCommands cell.now.root.phase cell.now.root cell.now.journal) }
 {
     cell.tells();
-    let end = clients(tables.net()) + 1;
+    let end = clients(cell.core().tables().net()) + 1;
     match first_waiting(cell, last.wrapping_add(1), end) {
         Some(client) => Some(client),
         None => first_waiting(cell, 1, end),
@@ -83,13 +81,17 @@ fn next_publication(cell: &Cell<'_>, client: u32) -> Option<u32>
 }
 
 /// The neighbour at a place in the tree of the cell's phase.
-fn neighbour_at(cell: &Cell<'_>, tables: &Tables<'_>, server: u32, place: usize) -> Option<u32>
-    requires net { cell.now.root.net.value ≡ tables.now }
-    requires server { cell.now.root.server ≡ server }
+fn neighbour_at(cell: &Cell<'_>, server: u32, place: usize) -> Option<u32>
+    requires { cell.now.root.server ≡ server }
     ensures { IfSome result (λ from. Suits (What.Take from) cell.now.root) }
 {
     cell.tells();
-    let neighbours = tables.net().tree(cell.phase()).neighbours(server);
+    let neighbours = cell
+        .core()
+        .tables()
+        .net()
+        .tree(cell.phase())
+        .neighbours(server);
     if place >= neighbours.len() {
         return None;
     }
@@ -107,189 +109,105 @@ fn make_turn<R: Wait>(rt: &R, cell: &mut Cell<'_>, what: What) -> Result<Turned,
     cell.turn(rt, what)
 }
 
-/// One turn with a route that was matched ahead.
-fn make_turn_ahead<R: Wait>(
-    rt: &R,
-    cell: &mut Cell<'_>,
-    what: What,
-    viewer: &mut Viewer,
-    ahead: &Ahead,
-) -> Result<Turned, StepFault>
-    requires suits { Suits what cell.old.root }
-    requires viewer { IsSameViewer cell.old.root.viewer.value viewer.old }
-    requires ahead { IsAheadBy cell.old.root.viewer.value ahead.now }
-    ensures root { cell.new.root ≡ cell.old.root }
-    ensures grows { IsPrefix cell.old.journal cell.new.journal }
-    ensures worn { (client s : ℕ) → what ≡ What.Command client → IsErrOf result (StepFault.StampsExhausted s) → IsWornBy s cell.new.root cell.new.journal }
-    ensures viewer { IsSameViewer viewer.old viewer.new }
-{
-    cell.tells();
-    cell.turn_ahead(rt, what, viewer, ahead)
-}
-
-/// The next command of the next client in turn; a publish is to be matched ahead.
-fn pick_command<R: Wait>(
-    rt: &R,
-    cell: &mut Cell<'_>,
-    tables: &Tables<'_>,
-    last: u32,
-) -> Result<Picked, StepFault>
-    requires { cell.old.root.net.value ≡ tables.now }
-    ensures root { cell.new.root ≡ cell.old.root }
-    ensures grows { IsPrefix cell.old.journal cell.new.journal }
-    ensures picked { IfOk result (λ picked. IsPicked picked cell.new.root cell.new.journal) }
-    ensures worn { (s : ℕ) → IsErrOf result (StepFault.StampsExhausted s) → IsWornBy s cell.new.root cell.new.journal }
-{
-    let Some(client) = next_in_turn(cell, tables, last) else {
-        return Ok(Picked::Done);
-    };
-    if let Some(number) = next_publication(cell, client) {
-        return Ok(Picked::Ahead(client, number));
-    }
-    match make_turn(rt, cell, What::Command(client)) {
-        Ok(turned) => Ok(Picked::Taken(client, turned)),
-        Err(fault) => Err(fault),
-    }
-}
-
-/// A taking from a neighbour; a publication is to be matched ahead.
-fn look_from<R: Wait>(rt: &R, cell: &mut Cell<'_>, from: u32) -> Result<Looked, StepFault>
-    requires { Suits (What.Take from) cell.old.root }
-    ensures root { cell.new.root ≡ cell.old.root }
-    ensures grows { IsPrefix cell.old.journal cell.new.journal }
-    ensures looked { IfOk result (λ looked. SuitsLooked looked cell.new.root) }
-{
-    cell.tells();
-    if let Some(number) = cell.look(rt, from) {
-        return Ok(Looked::Ahead(from, number));
-    }
-    let turned = make_turn(rt, cell, What::Take(from))?;
-    Ok(Looked::Taken(from, turned))
-}
-
-/// A taking from the neighbour at a place, or behind the last one a version.
-fn look_at<R: Wait>(
-    rt: &R,
-    cell: &mut Cell<'_>,
-    tables: &Tables<'_>,
-    server: u32,
-    place: usize,
-) -> Result<Looked, StepFault>
-    requires net { cell.old.root.net.value ≡ tables.now }
-    requires server { cell.old.root.server ≡ server }
-    ensures root { cell.new.root ≡ cell.old.root }
-    ensures grows { IsPrefix cell.old.journal cell.new.journal }
-    ensures looked { IfOk result (λ looked. SuitsLooked looked cell.new.root) }
-{
-    match neighbour_at(cell, tables, server, place) {
-        Some(from) => look_from(rt, cell, from),
-        None => {
-            let turned = make_turn(rt, cell, What::Version)?;
-            Ok(Looked::Version(turned))
-        }
-    }
-}
-
-/// One try of the worker for commands, who took one of this client last.
-fn try_command<R: Wait>(
-    rt: &R,
-    cell: &mut Cell<'_>,
-    tables: &Tables<'_>,
-    at: &mut u32,
-) -> Result<Tried, StepFault>
-    requires { cell.old.root.net.value ≡ tables.now }
+/// One try of the worker for commands, who took one of this client last: the next command of the next client in turn, where a
+/// publish is to be matched ahead.
+fn try_command<R: Wait>(rt: &R, cell: &mut Cell<'_>, at: &mut u32) -> Result<Tried, StepFault>
     ensures root { cell.new.root ≡ cell.old.root }
     ensures grows { IsPrefix cell.old.journal cell.new.journal }
     ensures tried { IfOk result (λ tried. IsTried Worker.Commands tried cell.new.root cell.new.journal) }
     ensures worn { (s : ℕ) → IsErrOf result (StepFault.StampsExhausted s) → IsWornBy s cell.new.root cell.new.journal }
 {
-    match pick_command(rt, cell, tables, *at) {
-        Ok(Picked::Done) => Ok(Tried::Done),
-        Ok(Picked::Taken(client, turned)) => {
-            *at = client;
-            Ok(Tried::Turned(turned))
-        }
-        Ok(Picked::Ahead(client, number)) => {
-            *at = client;
-            Ok(Tried::Ahead(What::Command(client), number))
-        }
+    let Some(client) = next_in_turn(cell, *at) else {
+        return Ok(Tried::Done);
+    };
+    *at = client;
+    if let Some(number) = next_publication(cell, client) {
+        return Ok(Tried::Ahead(What::Command(client), number));
+    }
+    match make_turn(rt, cell, What::Command(client)) {
+        Ok(turned) => Ok(Tried::Turned(turned)),
         Err(fault) => Err(fault),
     }
 }
 
-/// One try of the worker for links, at the neighbour at this place or behind the last one for a version.
-fn try_link<R: Wait>(
-    rt: &R,
-    cell: &mut Cell<'_>,
-    tables: &Tables<'_>,
-    server: u32,
-    at: &mut u32,
-) -> Result<Tried, StepFault>
-    requires net { cell.old.root.net.value ≡ tables.now }
-    requires server { cell.old.root.server ≡ server }
+/// A taking from a neighbour; a publication is to be matched ahead.
+fn look_from<R: Wait>(rt: &R, cell: &mut Cell<'_>, from: u32) -> Result<Tried, StepFault>
+    requires { Suits (What.Take from) cell.old.root }
     ensures root { cell.new.root ≡ cell.old.root }
     ensures grows { IsPrefix cell.old.journal cell.new.journal }
     ensures tried { IfOk result (λ tried. IsTried Worker.Links tried cell.new.root cell.new.journal) }
 {
-    match look_at(rt, cell, tables, server, *at as usize)? {
-        Looked::Taken(_, turned) => {
-            *at = at.wrapping_add(1);
-            Ok(Tried::Turned(turned))
-        }
-        Looked::Ahead(from, number) => {
-            *at = at.wrapping_add(1);
-            Ok(Tried::Ahead(What::Take(from), number))
-        }
-        Looked::Version(turned) => {
-            *at = 0;
-            Ok(Tried::Turned(turned))
-        }
+    cell.tells();
+    if let Some(number) = cell.look(rt, from) {
+        return Ok(Tried::Ahead(What::Take(from), number));
     }
+    let turned = make_turn(rt, cell, What::Take(from))?;
+    Ok(Tried::Turned(turned))
 }
 
-/// One try of a worker.
-fn try_next<R: Wait>(
+/// One try of the worker for links: a taking from the neighbour at this place, or behind the last one a version.
+fn try_link<R: Wait>(
     rt: &R,
     cell: &mut Cell<'_>,
-    tables: &Tables<'_>,
     server: u32,
-    worker: Worker,
     at: &mut u32,
 ) -> Result<Tried, StepFault>
-    requires net { cell.old.root.net.value ≡ tables.now }
-    requires server { cell.old.root.server ≡ server }
+    requires { cell.old.root.server ≡ server }
     ensures root { cell.new.root ≡ cell.old.root }
     ensures grows { IsPrefix cell.old.journal cell.new.journal }
-    ensures tried { IfOk result (λ tried. IsTried worker tried cell.new.root cell.new.journal) }
-    ensures worn { (s : ℕ) → worker ≡ Worker.Commands → IsErrOf result (StepFault.StampsExhausted s) → IsWornBy s cell.new.root cell.new.journal }
+    ensures tried { IfOk result (λ tried. IsTried Worker.Links tried cell.new.root cell.new.journal) }
 {
-    match worker {
-        Worker::Commands => try_command(rt, cell, tables, at),
-        Worker::Links => try_link(rt, cell, tables, server, at),
+    match neighbour_at(cell, server, *at as usize) {
+        Some(from) => {
+            *at = at.wrapping_add(1);
+            look_from(rt, cell, from)
+        }
+        None => {
+            *at = 0;
+            let turned = make_turn(rt, cell, What::Version)?;
+            Ok(Tried::Turned(turned))
+        }
     }
 }
 
-/// Turns of a worker one after the other, so many at most, until a publication is to be matched ahead or none is left; for
-/// links, until from each neighbour in turn nothing came and nothing was published.
-pub(crate) fn make_turns<R: Wait>(
+/// Commands one after the other, so many at most, until a publication is to be matched ahead or none is left.
+fn make_commands<R: Wait>(
     rt: &R,
     cell: &mut Cell<'_>,
-    tables: &Tables<'_>,
-    server: u32,
-    worker: Worker,
     at: &mut u32,
     made: &mut Made,
 ) -> Result<Tried, StepFault>
-    requires net { cell.old.root.net.value ≡ tables.now }
-    requires server { cell.old.root.server ≡ server }
     ensures root { cell.new.root ≡ cell.old.root }
     ensures grows { IsPrefix cell.old.journal cell.new.journal }
-    ensures tried { IfOk result (λ tried. IsTried worker tried cell.new.root cell.new.journal) }
-    ensures worn { (s : ℕ) → worker ≡ Worker.Commands → IsErrOf result (StepFault.StampsExhausted s) → IsWornBy s cell.new.root cell.new.journal }
+    ensures tried { IfOk result (λ tried. IsTried Worker.Commands tried cell.new.root cell.new.journal) }
+    ensures worn { (s : ℕ) → IsErrOf result (StepFault.StampsExhausted s) → IsWornBy s cell.new.root cell.new.journal }
+{
+    for _ in 0..TURNS {
+        match try_command(rt, cell, at) {
+            Ok(Tried::Turned(turned)) => made.count(turned),
+            other => return other,
+        }
+    }
+    Ok(Tried::Turned(Turned::Made))
+}
+
+/// Takings from the neighbours in turn and versions, so many at most, until a publication is to be matched ahead, or until from
+/// each neighbour in turn nothing came and nothing was published.
+fn make_takings<R: Wait>(
+    rt: &R,
+    cell: &mut Cell<'_>,
+    server: u32,
+    at: &mut u32,
+    made: &mut Made,
+) -> Result<Tried, StepFault>
+    requires { cell.old.root.server ≡ server }
+    ensures root { cell.new.root ≡ cell.old.root }
+    ensures grows { IsPrefix cell.old.journal cell.new.journal }
+    ensures tried { IfOk result (λ tried. IsTried Worker.Links tried cell.new.root cell.new.journal) }
 {
     let mut still = *at == 0;
     for _ in 0..TURNS {
-        match try_next(rt, cell, tables, server, worker, at) {
+        match try_link(rt, cell, server, at) {
             Ok(Tried::Turned(turned)) => {
                 made.count(turned);
                 still = still && turned == Turned::Idle;
@@ -306,11 +224,31 @@ pub(crate) fn make_turns<R: Wait>(
     Ok(Tried::Turned(Turned::Made))
 }
 
+/// Turns of a worker one after the other.
+pub(crate) fn make_turns<R: Wait>(
+    rt: &R,
+    cell: &mut Cell<'_>,
+    server: u32,
+    worker: Worker,
+    at: &mut u32,
+    made: &mut Made,
+) -> Result<Tried, StepFault>
+    requires server { cell.old.root.server ≡ server }
+    ensures root { cell.new.root ≡ cell.old.root }
+    ensures grows { IsPrefix cell.old.journal cell.new.journal }
+    ensures tried { IfOk result (λ tried. IsTried worker tried cell.new.root cell.new.journal) }
+    ensures worn { (s : ℕ) → worker ≡ Worker.Commands → IsErrOf result (StepFault.StampsExhausted s) → IsWornBy s cell.new.root cell.new.journal }
+{
+    match worker {
+        Worker::Commands => make_commands(rt, cell, at, made),
+        Worker::Links => make_takings(rt, cell, server, at, made),
+    }
+}
+
 /// The turn whose publication was matched ahead, and turns after it.
 pub(crate) fn make_ahead<R: Wait>(
     rt: &R,
     cell: &mut Cell<'_>,
-    tables: &Tables<'_>,
     server: u32,
     worker: Worker,
     viewer: &mut Viewer,
@@ -319,7 +257,6 @@ pub(crate) fn make_ahead<R: Wait>(
     at: &mut u32,
     made: &mut Made,
 ) -> Result<Tried, StepFault>
-    requires net { cell.old.root.net.value ≡ tables.now }
     requires server { cell.old.root.server ≡ server }
     requires suits { Suits what cell.old.root }
     requires own { IsOfWorker worker what }
@@ -331,10 +268,11 @@ pub(crate) fn make_ahead<R: Wait>(
     ensures worn { (s : ℕ) → worker ≡ Worker.Commands → IsErrOf result (StepFault.StampsExhausted s) → IsWornBy s cell.new.root cell.new.journal }
     ensures viewer { IsSameViewer viewer.old viewer.new }
 {
-    match make_turn_ahead(rt, cell, what, viewer, ahead) {
+    cell.tells();
+    match cell.turn_ahead(rt, what, viewer, ahead) {
         Ok(turned) => {
             made.count(turned);
-            make_turns(rt, cell, tables, server, worker, at, made)
+            make_turns(rt, cell, server, worker, at, made)
         }
         Err(fault) => Err(fault),
     }

@@ -15,19 +15,19 @@ giver_of-giver-requires-clause-from c = λ b e.
 
 pub loop-from-preserved : goal.loop-from-preserved
 loop-from-preserved c =
-    let n = same-count _ _ c.settle_at.ensures.sights in
+    let n = same-count _ _ c.settle_two.ensures.sights in
     let m = roots-count _ _ c.loop-from.invariant.roots in
-    let lt : c.args.k < length c.settle_at.new.cells = omega (arith, n, m, c.requires.k) in
-    let within : c.giver_of-giver.result.0 < length c.settle_at.new.cells = omega (arith, n, c.giver_of-giver.ensures.within) in
+    let lt : c.args.k < length c.settle_two.new.all = omega (arith, n, m, c.requires.k) in
+    let within : c.giver_of-giver.result.0 < length c.settle_two.new.all = omega (arith, n, c.giver_of-giver.ensures.within) in
     record {
-      seen = c.settle_at.ensures.sights ∙ c.loop-from.invariant.seen;
-      roots = same-roots _ _ c.settle_at.ensures.sights ∙ c.loop-from.invariant.roots;
+      seen = c.settle_two.ensures.sights ∙ c.loop-from.invariant.seen;
+      roots = same-roots _ _ c.settle_two.ensures.sights ∙ c.loop-from.invariant.roots;
       order = λ p lt-p. elim (split p c.loop-from.from lt-p) [
-        | inl a ↦ subst (λ l. IsTakenInOrder l c.args.k p) (sym c.settle_at.ensures.sights) (c.loop-from.invariant.order p a)
-        | inr e ↦ subst (λ q. IsTakenInOrder (sights c.settle_at.new.cells) c.args.k q) (sym e)
-            (settle-order c.loop-from.cells c.settle_at.new.cells c.giver_of-giver.result.0 c.giver_of-giver.result.1 c.args.k c.loop-from.from c.giver_of-giver.ensures c.settle_at.ensures.sights
-            (get_or c.settle_at.new.cells c.giver_of-giver.result.0 c.index-cells-giver.result) (get_or c.settle_at.new.cells c.args.k c.index-cells-k-in-loop-from.result)
-            (found c.settle_at.new.cells c.giver_of-giver.result.0 c.index-cells-giver.result within) (found c.settle_at.new.cells c.args.k c.index-cells-k-in-loop-from.result lt) c.tells-in-loop-from.ensures c.tells-in-loop-from-2.ensures c.in_ok-settle_at.ensures.settled)
+        | inl a ↦ subst (λ l. IsTakenInOrder l c.args.k p) (sym c.settle_two.ensures.sights) (c.loop-from.invariant.order p a)
+        | inr e ↦ subst (λ q. IsTakenInOrder (sights c.settle_two.new.all) c.args.k q) (sym e)
+            (settle-order c.loop-from.cells c.settle_two.new.all c.giver_of-giver.result.0 c.giver_of-giver.result.1 c.args.k c.loop-from.from c.giver_of-giver.ensures c.settle_two.ensures.sights
+            (get_or c.settle_two.new.all c.giver_of-giver.result.0 c.index-cells-giver.result) (get_or c.settle_two.new.all c.args.k c.index-cells-k-in-loop-from.result)
+            (found c.settle_two.new.all c.giver_of-giver.result.0 c.index-cells-giver.result within) (found c.settle_two.new.all c.args.k c.index-cells-k-in-loop-from.result lt) c.tells-in-loop-from.ensures c.tells-in-loop-from-2.ensures c.in_ok-settle_two.ensures.settled)
       ];
     }
 
@@ -42,8 +42,8 @@ returns-clause-order c =
 pub giver_of-giver-requires-clause-together : goal.giver_of-giver-requires-clause-together
 giver_of-giver-requires-clause-together c = (c.requires.together.0, c.requires.together.1, subst (AreTogether c.requires.together.0 c.requires.together.1) (sym c.loop-from.invariant.roots) c.requires.together.2)
 
-pub returns-in_err-settle_at-clause-sights : goal.returns-in_err-settle_at-clause-sights
-returns-in_err-settle_at-clause-sights c = c.settle_at.ensures.sights ∙ c.loop-from.invariant.seen
+pub returns-in_err-settle_two-clause-sights : goal.returns-in_err-settle_two-clause-sights
+returns-in_err-settle_two-clause-sights c = c.settle_two.ensures.sights ∙ c.loop-from.invariant.seen
 
 pub returns-clause-sights : goal.returns-clause-sights
 returns-clause-sights c = c.loop-from.invariant.seen

@@ -15,8 +15,8 @@ use Rattle.ev_numnode.proofs.Unmoved.{all-unmoved, unmoved-roomed}
 use Rattle.ev_numnode.proofs.Turning.{still, held-still, did, did-links, held-after, room-left, distinct-left, long-left, on_err}
 use Rattle.ev_numnode.proofs.turn.turn_version.Goals as goal
 
-pub returns-then-is_calm-clause-made : goal.returns-then-is_calm-clause-made
-returns-then-is_calm-clause-made g c phase = (still _ _ _ _ refl (all-unmoved c.args.held.now.links.items) refl (same-one _) refl, c.is_calm.ensures.0 c.if-is_calm.true)
+pub returns-then-is_calm-clause-answers : goal.returns-then-is_calm-clause-answers
+returns-then-is_calm-clause-answers g c phase = (still _ _ _ _ refl (all-unmoved c.args.held.now.links.items) refl (same-one _) refl, c.is_calm.ensures.0 c.if-is_calm.true)
 
 pub returns-then-clock-eq-LAST_STAMP-clause-still : goal.returns-then-clock-eq-LAST_STAMP-clause-still
 returns-then-clock-eq-LAST_STAMP-clause-still g c = still _ _ _ _ refl (all-unmoved c.args.held.now.links.items) refl (same-one _) refl
@@ -51,17 +51,18 @@ enter-requires-clause-outs g c =
 pub enter-requires-clause-net : goal.enter-requires-clause-net
 enter-requires-clause-net g c = (c.args.held.now.core.net, λ s h. absurd (subst (Has s) c.silent-step.ensures.1 h))
 
-pub returns-clause-made : goal.returns-clause-made
-returns-clause-made g c phase =
+pub returns-clause-answers : goal.returns-clause-answers
+returns-clause-answers g c phase =
     let u = subst (λ l. Both IsUnmoved c.args.held.now.links.items l.items) (sym c.publish.ensures.links) (unmoved-roomed _ _ c.make_room.ensures.roomed) in
-    let step = subst (λ n. MakesStep (Does Version) 0 c.args.held.now.core c.publish.new.held.core n []) (sym c.silent-step.ensures.0) c.in_ok-stamp.ensures.step in (
-      did phase Version acts.Version c.args.held.now _ c.publish.new.held.links.items c.args.journal.now.entries c.enter.new.journal.entries c.silent-step.result.stamp c.silent-step.result.sent.items refl tt
+    let step = subst (λ n. MakesStep (Does Version) 0 c.args.held.now.core c.publish.new.held.core n []) (sym c.silent-step.ensures.0) c.in_ok-stamp.ensures.step in record {
+      input = Does Version;
+      turn = did phase Version acts.Version c.args.held.now _ c.publish.new.held.links.items c.args.journal.now.entries c.enter.new.journal.entries c.silent-step.result.stamp c.silent-step.result.sent.items refl tt
           (subst (λ s. MakesStep (Does Version) 0 c.args.held.now.core c.publish.new.held.core c.silent-step.result.stamp s) (sym c.silent-step.ensures.1) step) u (c.enter.ensures.given c.args.held.now.core.net (λ s h. absurd (subst (Has s) c.silent-step.ensures.1 h)))
           (c.enter.ensures.entry ∙ ap (λ z. z ++ entry_parts c.silent-step.result.stamp c.args.server acts.Version (map (λ s. s.to) c.silent-step.result.sent.items) ∷ []) c.make_room.ensures.journal
           ∙ ap (λ z. c.args.journal.now.entries ++ entry_parts c.silent-step.result.stamp z acts.Version (map (λ s. s.to) c.silent-step.result.sent.items) ∷ []) (sym c.requires.server))
-          c.publish.ensures.publisher,
-      λ e. let t = c.is_calm.ensures.1 e in let q : true ≡ false = sym t ∙ c.if-is_calm.false in absurd cc,
-    )
+          c.publish.ensures.publisher;
+      busy = λ e. let t = c.is_calm.ensures.1 e in let q : true ≡ false = sym t ∙ c.if-is_calm.false in absurd cc;
+    }
 
 pub returns-clause-held : goal.returns-clause-held
 returns-clause-held g c =

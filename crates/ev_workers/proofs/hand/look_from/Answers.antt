@@ -10,9 +10,10 @@ use Rattle.ev_workers.proofs.hand.look_from.Goals as goal
 pub returns-in-Some-clause-grows : goal.returns-in-Some-clause-grows
 returns-in-Some-clause-grows g c = prefix-of c.args.cell.now.journal c.look.new.self.journal c.look.ensures.still.journal
 
-pub returns-in-Some-clause-looked : goal.returns-in-Some-clause-looked
-returns-in-Some-clause-looked g c = (
+pub returns-in-Some-clause-tried : goal.returns-in-Some-clause-tried
+returns-in-Some-clause-tried g c = (
   subst (Suits (Take c.args.from)) (sym c.look.ensures.root) c.requires,
   subst (λ (z : Root). CanMatch z c.in-Some.number) (sym c.look.ensures.root)
       (some-gives (CanMatch c.args.cell.now.root) c.look.result c.in-Some.number c.in-Some.is (looked-matchable _ _ _ c.tells.ensures c.args.from _ _ c.look.result c.look.ensures.looked)),
+  tt,
 )

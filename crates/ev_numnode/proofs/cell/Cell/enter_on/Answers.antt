@@ -1,6 +1,5 @@
-use Rattle.std.proofs.Common.{refl, sym, ap, subst, ◌∙◌}
-use Rattle.ev_journal.specs.Journal.{JournalParts}
-use Rattle.ev_numnode.specs.Cell.{CellParts}
+use Rattle.std.proofs.Common.{refl, sym, subst, ◌∙◌}
+use Rattle.ev_numnode.specs.Cell.{CellParts, cell_parts}
 use Rattle.ev_numheld.specs.Held.{held_in, AreHeldIn}
 use Rattle.ev_numnode.specs.Relinking.{CanMove}
 use Rattle.ev_numnode.proofs.Keeping.{some-server, kept-still}
@@ -17,10 +16,13 @@ invariant_of-self g c = (
 )
 
 pub invariant_of-self-2 : goal.invariant_of-self-2
-invariant_of-self-2 g c = (
-  kept-moved c.self.inside.tables.now c.self.inside.root _ c.self.inside.journal.entries c.self.inside.held c.put_on.new.held _ c.args.clock (held_in c.args.given.now) c.args.links.items c.self.invariant.0 (subst (λ (z : CellParts). CanMove c.args.phase c.args.clock (held_in c.args.given.now) c.args.links.items z) (sym c.self.view_is) c.requires.can) c.requires.low c.put_on.ensures.held c.in_ok-put_on.ensures.put c.raise.ensures refl refl refl c.len-self-inside.ensures (ap (λ (j : JournalParts). j.entries) c.of.ensures) c.of-2.ensures c.of-3.ensures refl refl refl,
-  c.self.invariant.1,
-)
+invariant_of-self-2 g c =
+    let e = c.enter.ensures in (
+      kept-moved c.self.inside.tables.now c.self.inside.root c.enter.new.self c.self.inside.journal.entries c.self.inside.held c.put_on.new.held _ c.args.clock (held_in c.args.given.now) c.args.links.items c.self.invariant.0
+          (subst (λ p. CanMove p c.args.clock (held_in c.args.given.now) c.args.links.items (cell_parts c.self.inside.root c.self.inside.journal.entries c.self.inside.held)) (sym e.phase_is) (subst (λ (z : CellParts). CanMove c.args.phase c.args.clock (held_in c.args.given.now) c.args.links.items z) (sym c.self.view_is) c.requires.can))
+          c.requires.low c.put_on.ensures.held c.in_ok-put_on.ensures.put c.raise.ensures refl e.net e.server e.entries e.before e.core e.links e.viewer refl refl,
+      c.self.invariant.1 ∙ sym e.keeps,
+    )
 
 pub put_on-requires-clause-net : goal.put_on-requires-clause-net
 put_on-requires-clause-net g c =

@@ -11,7 +11,7 @@ use Rattle.ev_numnode.proofs.cell.Cell.take_commands.Goals.{then-branch, else-br
 use Rattle.ev_numnode.proofs.cell.Cell.take_commands.Goals as goal
 
 pub loop-place-preserved : goal.loop-place-preserved
-loop-place-preserved c = record {
+loop-place-preserved g c = record {
   root = c.take_home.ensures.root ∙ c.loop-place.invariant.root;
   grown = prefix_trans _ _ _ c.loop-place.invariant.grown c.take_home.ensures.grown;
   idle = elim c.if-branch.branch [
@@ -29,7 +29,7 @@ loop-place-preserved c = record {
 }
 
 pub returns-clause-idle : goal.returns-clause-idle
-returns-clause-idle c e =
+returns-clause-idle g c e =
     let b = c.loop-place.invariant.idle e in
     let n = ap (λ (z : NetParts). length z.clients) (c.behind-self.view_is ∙ c.net.ensures) in (
       b.0,
@@ -38,4 +38,4 @@ returns-clause-idle c e =
     )
 
 pub returns-in_err-take_home-clause-grown : goal.returns-in_err-take_home-clause-grown
-returns-in_err-take_home-clause-grown c = prefix_trans _ _ _ c.loop-place.invariant.grown c.take_home.ensures.grown
+returns-in_err-take_home-clause-grown g c = prefix_trans _ _ _ c.loop-place.invariant.grown c.take_home.ensures.grown

@@ -7,7 +7,7 @@ use Rattle.ev_numnode.specs.Together.{sight}
 use Rattle.ev_numnode.proofs.cell.Cell.take_commands.Given as goal
 
 abbrev pub invariant-loop-place : goal.invariant-loop-place
-invariant-loop-place l = record {
+invariant-loop-place g l = record {
   root : l.self.root ≡ l.fn.self.root;
   grown : IsPrefix l.fn.self.journal l.self.journal;
   idle : l.made ≡ false → (sight l.self ≡ sight l.fn.self)

@@ -2,20 +2,35 @@ use Rattle.std.proofs.Common.{sym, ap, subst, ◌∙◌}
 use Rattle.ev_sets.specs.Sets.{Has}
 use Rattle.ev_model.specs.Nets.{clients_of}
 use Rattle.ev_numnode.specs.declared.held.Root.{Root}
+use Rattle.ev_numnode.specs.declared.what.What.TheVariants.{Command}
 use Rattle.ev_numnode.proofs.Housed.{client-within}
 use Rattle.ev_numnode.proofs.Begins.{prefix_trans}
+use Rattle.ev_numnode.proofs.Growing.{asked-grows}
+use Rattle.ev_numnode.proofs.Walkers.{command-idle}
 use Rattle.ev_numnode.proofs.cell.Cell.take_script.Goals as goal
 
+pub returns-then-not-was_made-clause-grown : goal.returns-then-not-was_made-clause-grown
+returns-then-not-was_made-clause-grown g c =
+    asked-grows c.args.self.now.held c.turn.new.self.held c.args.self.now.journal c.turn.new.self.journal c.args.self.now.root.phase (Command c.args.client) c.turn.result c.turn.ensures.answers c.turn.ensures.still
+
+pub returns-then-not-was_made-clause-idle : goal.returns-then-not-was_made-clause-idle
+returns-then-not-was_made-clause-idle g c q =
+    command-idle c.args.self.now c.turn.new.self c.turn.ensures.root c.args.client _ c.in_ok-turn.ensures.answers (c.was_made.ensures c.if-not-was_made.true)
+
 pub script_len-end-requires : goal.script_len-end-requires
-script_len-end-requires c =
+script_len-end-requires g c =
     client-within c.net.result.now c.args.self.now.root.server c.args.client
-    (subst (λ n. Has c.args.client (clients_of n c.args.self.now.root.server)) (sym (c.net.ensures ∙ ap (λ (r : Root). r.net.value) c.take_command.ensures.root)) c.requires)
+    (subst (λ n. Has c.args.client (clients_of n c.args.self.now.root.server)) (sym (c.net.ensures ∙ ap (λ (r : Root). r.net.value) c.turn.ensures.root)) c.requires)
 
 pub loop-init : goal.loop-init
-loop-init c = record { root = c.take_command.ensures.root; grown = c.take_command.ensures.grown }
+loop-init g c = record {
+  root = c.turn.ensures.root;
+  grown = asked-grows c.args.self.now.held c.turn.new.self.held c.args.self.now.journal c.turn.new.self.journal c.args.self.now.root.phase (Command c.args.client) c.turn.result c.turn.ensures.answers c.turn.ensures.still;
+}
 
 pub loop-preserved : goal.loop-preserved
-loop-preserved c = record {
-  root = c.take_command-in-loop.ensures.root ∙ c.loop.invariant.root;
-  grown = prefix_trans _ _ _ c.loop.invariant.grown c.take_command-in-loop.ensures.grown;
+loop-preserved g c = record {
+  root = c.turn-in-loop.ensures.root ∙ c.loop.invariant.root;
+  grown = prefix_trans _ _ _ c.loop.invariant.grown
+      (asked-grows c.loop.self.held c.turn-in-loop.new.self.held c.loop.self.journal c.turn-in-loop.new.self.journal c.loop.self.root.phase (Command c.args.client) c.turn-in-loop.result c.turn-in-loop.ensures.answers c.turn-in-loop.ensures.still);
 }

@@ -1,0 +1,63 @@
+use Rattle.std.proofs.Common.{refl, sym, subst}
+use Rattle.std.specs.Prelude.{IfOk}
+use Rattle.ev_run.specs.Machine.{Does}
+use Rattle.ev_routing.specs.Step.{NextCommand}
+use Rattle.ev_numnode.specs.declared.what.What.TheVariants.{Command}
+use Rattle.ev_numnode.specs.declared.what.Turned.TheVariants.{Idle}
+use Rattle.ev_numnode.specs.Links.{IsNeighbour}
+use Rattle.ev_numnode.specs.Asked.{IsWorn, SuitsHeld}
+use Rattle.ev_numnode.specs.Ahead.{AnswersBy}
+use Rattle.ev_numnode.proofs.Shown.{same-one}
+use Rattle.ev_numnode.proofs.Unmoved.{all-unmoved}
+use Rattle.ev_numnode.proofs.Turning.{still}
+use Rattle.ev_numnode.proofs.Phased.{left-all}
+use Rattle.ev_numnode.proofs.Places.{below-found}
+use Rattle.ev_numnode.proofs.Asking.{not-both, place-of, taken-by, version-by, worn-by}
+use Rattle.ev_numnode.proofs.Choosing.{command-by, idle-by}
+use Rattle.ev_numnode.proofs.asked.turn_held.Goals as goal
+
+pub returns-then-not-is_of_phase-clause-answers : goal.returns-then-not-is_of_phase-clause-answers
+returns-then-not-is_of_phase-clause-answers g c =
+    subst (λ w. AnswersBy c.args.phase w c.args.matched c.args.held.now c.args.held.now c.args.journal.now.entries c.args.journal.now.entries Idle) (sym c.in-Command.is)
+    (idle-by c.args.phase c.args.held.now c.args.held.now c.args.journal.now.entries c.args.journal.now.entries c.args.matched (Command c.in-Command.client) (
+      still _ _ _ _ refl (all-unmoved c.args.held.now.links.items) refl (same-one _) refl,
+      λ h. not-both c.is_of_phase.result (c.is_of_phase.ensures.1 h) c.if-not-is_of_phase.true,
+    ))
+
+pub turn_command-requires-clause-left : goal.turn_command-requires-clause-left
+turn_command-requires-clause-left g c = left-all c.args.held.now.core c.in-Command.client c.args.phase c.requires.stands (c.is_of_phase.ensures.0 c.if-not-is_of_phase.false)
+
+pub returns-in_ok-turn_command-in-Command-clause-answers : goal.returns-in_ok-turn_command-in-Command-clause-answers
+returns-in_ok-turn_command-in-Command-clause-answers g c =
+    let due = c.is_of_phase.ensures.0 c.if-not-is_of_phase.false in
+    subst (λ w. AnswersBy c.args.phase w c.args.matched c.args.held.now c.turn_command.new.held c.args.journal.now.entries c.turn_command.new.journal.entries c.turned.result) (sym c.in-Command.is)
+    (subst (AnswersBy c.args.phase (Command c.in-Command.client) c.args.matched c.args.held.now c.turn_command.new.held c.args.journal.now.entries c.turn_command.new.journal.entries) (sym c.turned.ensures)
+    (command-by c.args.phase c.args.held.now c.turn_command.new.held c.args.journal.now.entries c.turn_command.new.journal.entries c.args.matched c.in-Command.client c.choose_next-choice.result c.choose_next-choice.ensures
+    (record { input = Does (NextCommand c.in-Command.client); turn = c.in_ok-turn_command-in-Command.ensures.made c.args.phase due; busy = due }) refl))
+
+pub unreachable-requires : goal.unreachable-requires
+unreachable-requires g c =
+    let n = place-of c.args.held.now c.in-Take.from c.requires.held (subst (λ w. SuitsHeld w c.args.held.now) c.in-Take.is c.requires.suits) in
+    c.in_default.ensures.none n.0 (subst (IsNeighbour n.0 c.in-Take.from) (sym c.deref.ensures.value) n.1)
+
+pub turn_take-requires-clause-place : goal.turn_take-requires-clause-place
+turn_take-requires-clause-place g c =
+    let n = subst (IsNeighbour c.in-Some.place c.in-Take.from) c.deref.ensures.value c.in-Some.ensures.some in
+    below-found c.in-Some.place c.args.held.now.links.items n.0 n.1
+
+pub returns-in-Some-clause-answers : goal.returns-in-Some-clause-answers
+returns-in-Some-clause-answers g c =
+    let n = subst (IsNeighbour c.in-Some.place c.in-Take.from) c.deref.ensures.value c.in-Some.ensures.some in
+    subst (λ w. IfOk c.turn_take.result (AnswersBy c.args.phase w c.args.matched c.args.held.now c.turn_take.new.held c.args.journal.now.entries c.turn_take.new.journal.entries)) (sym c.in-Take.is)
+    (taken-by c.args.phase c.in-Some.place c.in-Take.from c.args.held.now _ _ _ n c.args.matched c.turn_take.result (c.turn_take.ensures.taken c.args.phase))
+
+pub returns-in-Some-clause-worn : goal.returns-in-Some-clause-worn
+returns-in-Some-clause-worn g c s e =
+    let n = subst (IsNeighbour c.in-Some.place c.in-Take.from) c.deref.ensures.value c.in-Some.ensures.some in
+    subst (λ w. IsWorn w s c.args.held.now c.turn_take.new.held) (sym c.in-Take.is)
+    (worn-by c.args.phase c.in-Some.place c.in-Take.from c.args.held.now _ _ _ n c.turn_take.result s c.turn_take.ensures.still (c.turn_take.ensures.worn s) e)
+
+pub returns-in-Version-clause-answers : goal.returns-in-Version-clause-answers
+returns-in-Version-clause-answers g c =
+    subst (λ w. IfOk c.turn_version.result (AnswersBy c.args.phase w c.args.matched c.args.held.now c.turn_version.new.held c.args.journal.now.entries c.turn_version.new.journal.entries)) (sym c.in-Version.is)
+    (version-by c.args.phase c.args.held.now c.turn_version.new.held c.args.journal.now.entries c.turn_version.new.journal.entries c.args.matched c.turn_version.result (c.turn_version.ensures.answers c.args.phase))
