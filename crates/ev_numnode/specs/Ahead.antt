@@ -103,6 +103,7 @@ IsChoiceNext core publisher ahead client Other = PublishesNext core client (matc
 IsChoiceNext core publisher ahead client Outdated = PublishesNext core client (matched_in ahead) × (IsUpToDate publisher ahead → ⊥)
 IsChoiceNext core publisher ahead client (Agreed route) = IsRight core publisher ahead × RoutesNext core client route.now
 
+-- the same of a match ahead that may not be there
 abbrev pub IsChoiceNextBy : CoreParts → Publisher → Option Matched → ℕ → Choice → Type 0
 IsChoiceNextBy core publisher None client choice = choice ≡ Other
 IsChoiceNextBy core publisher (Some matched) client choice = IsChoiceNext core publisher matched.ahead.now client choice
@@ -113,6 +114,7 @@ IsChoiceOf core publisher ahead load Other = IsLoad core.net load → CarriesMat
 IsChoiceOf core publisher ahead load Outdated = CarriesMatched core.net (meaning core.net load) (matched_in ahead) × (IsUpToDate publisher ahead → ⊥)
 IsChoiceOf core publisher ahead load (Agreed route) = IsRight core publisher ahead × RoutesMessage core (meaning core.net load) route.now
 
+-- the same of a match ahead that may not be there
 abbrev pub IsChoiceOfBy : CoreParts → Publisher → Option Matched → Load → Choice → Type 0
 IsChoiceOfBy core publisher None load choice = choice ≡ Other
 IsChoiceOfBy core publisher (Some matched) load choice = IsChoiceOf core publisher matched.ahead.now load choice
@@ -125,6 +127,7 @@ IsTakingAhead phase place ahead old new before after Stale = (m : Said) × IsTak
     × CarriesMatched old.core.net m.message (matched_in ahead) × (IsUpToDate old.publisher ahead → ⊥)
 IsTakingAhead phase place ahead old new before after Idle = IsStill old new before after × HasMissed place old.links.items new.links.items
 
+-- the same with a match ahead or without one
 abbrev pub IsTakingBy : ℕ → ℕ → Option Matched → ServerInHand → ServerInHand → List EntryParts → List EntryParts → Turned → Type 0
 IsTakingBy phase place None old new before after turned = IsTaking phase place old new before after turned
 IsTakingBy phase place (Some matched) old new before after turned = IsTakingAhead phase place matched.ahead.now old new before after turned

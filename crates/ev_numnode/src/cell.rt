@@ -178,14 +178,14 @@ impl<'a> Cell<'a> {
     }
 
     /// Its net.
-    pub fn net(&self) -> &'a Net
+    pub(crate) fn net(&self) -> &'a Net
         ensures { result.now ≡ self.now.root.net.value }
     {
         self.tables.net()
     }
 
     /// The number of its server.
-    pub fn number(&self) -> u32
+    pub(crate) fn number(&self) -> u32
         ensures { result ≡ self.now.root.server }
     {
         self.root.server
