@@ -6,36 +6,20 @@ ghost use Rattle.ev_constraint.specs.Order.{list_cmp};
 ghost use Rattle.ev_notice.specs.Before.{list_before};
 ghost use Rattle.ev_sets.specs.Sets.{set_of};
 
-use ev_notice::{Advert, Filter};
+use ev_notice::Constraints;
 
 // Of neighbours that are equal the first alone.
-fn without_repeats(mut sorted: Vec<Filter>) -> Vec<Filter>
+fn without_repeats<const MOST: usize>(mut sorted: Vec<Constraints<MOST>>) -> Vec<Constraints<MOST>>
     ensures { IsFiltered (DiffersFromLast (eq_by_cmp list_cmp)) [] sorted.items result.items }
 {
     sorted.dedup();
     sorted
 }
 
-/// The filters, each once, in canonical order. It takes no memory.
-pub(crate) fn distinct_filters(mut filters: Vec<Filter>) -> Vec<Filter>
-    ensures { result.items ≡ set_of list_before filters.items }
+/// The filters or the advertisements, each once, in canonical order. It takes no memory.
+pub(crate) fn distinct<const MOST: usize>(mut lists: Vec<Constraints<MOST>>) -> Vec<Constraints<MOST>>
+    ensures { result.items ≡ set_of list_before lists.items }
 {
-    filters.sort_unstable();
-    without_repeats(filters)
-}
-
-// Of neighbours that are equal the first alone.
-fn adverts_without_repeats(mut sorted: Vec<Advert>) -> Vec<Advert>
-    ensures { IsFiltered (DiffersFromLast (eq_by_cmp list_cmp)) [] sorted.items result.items }
-{
-    sorted.dedup();
-    sorted
-}
-
-/// The advertisements, each once, in canonical order. It takes no memory.
-pub(crate) fn distinct_adverts(mut adverts: Vec<Advert>) -> Vec<Advert>
-    ensures { result.items ≡ set_of list_before adverts.items }
-{
-    adverts.sort_unstable();
-    adverts_without_repeats(adverts)
+    lists.sort_unstable();
+    without_repeats(lists)
 }

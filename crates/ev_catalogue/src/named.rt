@@ -3,7 +3,7 @@ ghost use Rattle.std.specs.Prelude.{◌≡◌, ◌++◌, IfOk, OnOk};
 ghost use Rattle.std.specs.List.{flat_map};
 ghost use Rattle.ev_catalogue.specs.Known.{filters_in, adverts_in, script_filters, script_adverts, known_filters, known_adverts};
 
-use crate::distinct::{distinct_adverts, distinct_filters};
+use crate::distinct::distinct;
 use ev_memory::NoMemory;
 use ev_model::{Client, Command};
 use ev_notice::{Advert, Filter};
@@ -51,7 +51,7 @@ fn named_filters(alloc: Global, clients: &[Client]) -> Result<Vec<Filter>, NoMem
 pub(crate) fn filters(alloc: Global, clients: &[Client]) -> Result<Vec<Filter>, NoMemory>
     ensures { IfOk result (λ filters. filters.items ≡ known_filters clients.now) }
 {
-    Ok(distinct_filters(named_filters(alloc, clients)?))
+    Ok(distinct(named_filters(alloc, clients)?))
 }
 
 // Puts the advertisement of a command at the end, where it has one.
@@ -96,5 +96,5 @@ fn named_adverts(alloc: Global, clients: &[Client]) -> Result<Vec<Advert>, NoMem
 pub(crate) fn adverts(alloc: Global, clients: &[Client]) -> Result<Vec<Advert>, NoMemory>
     ensures { IfOk result (λ adverts. adverts.items ≡ known_adverts clients.now) }
 {
-    Ok(distinct_adverts(named_adverts(alloc, clients)?))
+    Ok(distinct(named_adverts(alloc, clients)?))
 }

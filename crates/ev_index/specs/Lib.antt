@@ -1,3 +1,4 @@
 pub mod Pairs
 pub mod Groups
+pub mod Sides
 pub mod Lines

@@ -13,4 +13,4 @@ pub use append::append_ids;
 pub use ids::{place_of, put_id};
 pub use key::{LineKey, Sought};
 pub use line::Line;
-pub use sides::Sides;
+pub use sides::{EQUAL, Sides};

@@ -14,6 +14,7 @@ use Rattle.ev_constraint.specs.declared.op.Op.TheVariants as ops
 use Rattle.std.specs.Prelude.{Some, None, int_lt, if◌then◌else◌}
 use Rattle.ev_index.specs.Pairs.{passes}
 use Rattle.ev_index.specs.Lines.{on_side}
+use Rattle.ev_index.specs.Sides.{asked, sides_of}
 use Rattle.ev_index.specs.declared.sides.Sides.{Sides}
 use Rattle.ev_index.proofs.Orders.{same-turned}
 use Rattle.ev_constraint.specs.Numbers.{number_satisfies}
@@ -21,7 +22,7 @@ use Rattle.ev_numindex.specs.Keys.{same_key, truth_key, time_key, key_meets, tes
 
 -- an equal key alone
 abbrev pub alone : Sides
-alone = record { below = false; equal = true; above = false }
+alone = asked false true false
 
 pub equal-alone : (x k : ℤ) → on_side alone (int_cmp k x) ≡ same_key x k
 equal-alone x k = go (int_cmp k x) ∙ same-turned int_cmp_total k x
@@ -30,6 +31,19 @@ equal-alone x k = go (int_cmp k x) ∙ same-turned int_cmp_total k x
     go Less = refl
     go Equal = refl
     go Greater = refl
+
+-- the keys on the sides that an operator asks for
+pub side-meets : (op : Op) → (op ≡ ops.Any → ⊥) → (x k : ℤ) → on_side (sides_of op) (int_cmp k x) ≡ key_meets op x k
+side-meets ops.Any h x k = absurd (h refl)
+side-meets ops.Eq h x k = grind (arith, ints)
+side-meets ops.Ne h x k = grind (arith, ints)
+side-meets ops.Lt h x k = grind (arith, ints)
+side-meets ops.Le h x k = grind (arith, ints)
+side-meets ops.Gt h x k = grind (arith, ints)
+side-meets ops.Ge h x k = grind (arith, ints)
+side-meets ops.Contains h x k = grind (arith, ints)
+side-meets ops.Prefix h x k = grind (arith, ints)
+side-meets ops.Suffix h x k = grind (arith, ints)
 
 -- a number finds the groups whose operand it meets
 number-said : (op : Op) → (op ≡ ops.Any → ⊥) → (x k : ℤ) → key_meets op x k ≡ number_satisfies op x k

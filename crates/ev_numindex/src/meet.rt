@@ -1,15 +1,14 @@
 //! The ids of a row whose test a value passes.
-ghost use Rattle.std.specs.Prelude.{◌≡◌, ◌≢◌, ◌++◌, ℤ, pos, Bool, true, false, not, OnOk};
-ghost use Rattle.std.specs.Ordering.{int_cmp};
+ghost use Rattle.std.specs.Prelude.{◌≡◌, ◌++◌, ℤ, pos, Bool, true, false, not, OnOk};
 ghost use Rattle.ev_values.specs.declared.value.Kind.{Kind};
 ghost use Rattle.ev_values.specs.declared.value.Value.{Value};
 ghost use Rattle.ev_index.specs.Pairs.{KeepsBeginning, ids_met};
 ghost use Rattle.ev_constraint.specs.declared.op.Op.{Op};
-ghost use Rattle.ev_index.specs.Lines.{told, ids_with, on_side};
+ghost use Rattle.ev_index.specs.Lines.{told, ids_with};
 ghost use Rattle.ev_numindex.specs.Keys.{test_at, truth_key, time_key, key_meets};
 
 use ev_constraint::Op;
-use ev_index::{Line, Sides};
+use ev_index::{EQUAL, Line, Sides};
 use ev_memory::NoMemory;
 
 /// The key of a truth value.
@@ -30,68 +29,20 @@ pub(crate) fn time_key(x: u64) -> i64
     }
 }
 
-/// An equal key alone.
-const EQUAL: Sides = Sides {
-    below: false,
-    equal: true,
-    above: false,
-};
-
-/// The sides of a number that an operator asks for.
-fn sides(op: Op) -> Sides
-    ensures { op ≢ Op.Any → (x k : ℤ) → on_side result (int_cmp k x) ≡ key_meets op x k }
-{
-    let (below, equal, above) = match op {
-        Op::Eq => (false, true, false),
-        Op::Ne => (true, false, true),
-        Op::Lt => (false, false, true),
-        Op::Le => (false, true, true),
-        Op::Gt => (true, false, false),
-        Op::Ge => (true, true, false),
-        _ => (false, false, false),
-    };
-    Sides {
-        below,
-        equal,
-        above,
-    }
-}
-
 /// Appends the ids of the keys that a number finds by its own, in a row of an operator.
-fn meet_key(line: &Line<i64>, op: Op, x: i64, found: &mut Vec<u32>) -> Result<(), NoMemory>
-    ensures ok { OnOk result (found.new.items ≡ found.old.items ++ ids_with (key_meets op x) line.now) }
-    ensures begins { KeepsBeginning found.old.items found.new.items }
-{
-    match op {
-        Op::Any => line.meet(EQUAL, &0, found),
-        _ => line.meet(sides(op), &x, found),
-    }
-}
-
-/// Appends the ids of an int row whose test the number passes.
-pub(crate) fn meet_number(
+pub(crate) fn meet_key(
     line: &Line<i64>,
     op: Op,
     x: i64,
     found: &mut Vec<u32>,
 ) -> Result<(), NoMemory>
-    ensures ok { OnOk result (found.new.items ≡ found.old.items ++ ids_met (Value.Int x) (told (test_at Kind.Int op) line.now)) }
+    ensures ok { OnOk result (found.new.items ≡ found.old.items ++ ids_with (key_meets op x) line.now) }
     ensures begins { KeepsBeginning found.old.items found.new.items }
 {
-    meet_key(line, op, x, found)
-}
-
-/// Appends the ids of a time row whose test the time passes.
-pub(crate) fn meet_time(
-    line: &Line<i64>,
-    op: Op,
-    x: u64,
-    found: &mut Vec<u32>,
-) -> Result<(), NoMemory>
-    ensures ok { OnOk result (found.new.items ≡ found.old.items ++ ids_met (Value.Time x) (told (test_at Kind.Time op) line.now)) }
-    ensures begins { KeepsBeginning found.old.items found.new.items }
-{
-    meet_key(line, op, time_key(x), found)
+    match op {
+        Op::Any => line.meet(EQUAL, &0, found),
+        _ => line.meet(Sides::of(op), &x, found),
+    }
 }
 
 /// Appends the ids of a bool row whose test the truth value passes.

@@ -5,7 +5,7 @@ ghost use Rattle.ev_numindex.specs.Keys.{key_of};
 ghost use Rattle.std.specs.Option.{option_copied};
 ghost use Rattle.ev_numindex.specs.Rows.{IsRowOf, HasAt};
 
-use crate::meet::{meet_number, meet_time, meet_truth, time_key, truth_key};
+use crate::meet::{meet_key, meet_truth, time_key, truth_key};
 use ev_constraint::Op;
 use ev_index::Line;
 use ev_memory::NoMemory;
@@ -98,8 +98,8 @@ impl Row {
     {
         match (self.kind, value) {
             (Kind::Bool, Value::Bool(x)) => meet_truth(&self.line, self.op, *x, found),
-            (Kind::Int, Value::Int(x)) => meet_number(&self.line, self.op, *x, found),
-            (Kind::Time, Value::Time(x)) => meet_time(&self.line, self.op, *x, found),
+            (Kind::Int, Value::Int(x)) => meet_key(&self.line, self.op, *x, found),
+            (Kind::Time, Value::Time(x)) => meet_key(&self.line, self.op, time_key(*x), found),
             _ => Ok(()),
         }
     }

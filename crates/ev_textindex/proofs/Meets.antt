@@ -11,10 +11,10 @@ use Rattle.ev_constraint.specs.declared.op.Op.{Op}
 use Rattle.ev_constraint.specs.declared.op.Op.TheVariants as ops
 use Rattle.ev_index.specs.Pairs.{passes}
 use Rattle.ev_index.proofs.Orders.{same-turned}
-use Rattle.ev_index.specs.declared.sides.Sides.{Sides}
 use Rattle.ev_textindex.specs.Heads.{is_pattern_op}
 use Rattle.ev_textindex.specs.Keys.{test_at, same_bytes}
 use Rattle.ev_index.specs.Lines.{on_side}
+use Rattle.ev_index.specs.Sides.{asked, sides_of}
 use Rattle.ev_textindex.proofs.Keys.{less-before, less-after}
 
 -- what each operator asks of a key
@@ -23,9 +23,6 @@ any-key x [] = refl
 any-key x (b ∷ u) = refl
 
 -- and of its side of a text
-abbrev pub asked : Bool → Bool → Bool → Sides
-asked below equal above = record { below = below; equal = equal; above = above }
-
 pub equal-side : (x k : List ℕ) → on_side (asked false true false) (slice_cmp nat_cmp k x) ≡ same_bytes x k
 equal-side x k = go (slice_cmp nat_cmp k x) ∙ same-turned nat_list_cmp_total k x
   where
@@ -34,10 +31,10 @@ equal-side x k = go (slice_cmp nat_cmp k x) ∙ same-turned nat_list_cmp_total k
     go Equal = refl
     go Greater = refl
 
-pub eq-side : (x k : List ℕ) → on_side (asked false true false) (slice_cmp nat_cmp k x) ≡ passes (values.Str x) (test_at ops.Eq k)
+eq-side : (x k : List ℕ) → on_side (asked false true false) (slice_cmp nat_cmp k x) ≡ passes (values.Str x) (test_at ops.Eq k)
 eq-side x k = equal-side x k ∙ is_eq-slice_cmp x k
 
-pub ne-side : (x k : List ℕ) → on_side (asked true false true) (slice_cmp nat_cmp k x) ≡ passes (values.Str x) (test_at ops.Ne k)
+ne-side : (x k : List ℕ) → on_side (asked true false true) (slice_cmp nat_cmp k x) ≡ passes (values.Str x) (test_at ops.Ne k)
 ne-side x k = go (slice_cmp nat_cmp k x) ∙ ap not (eq-side x k)
   where
     go : (o : Ordering) → on_side (asked true false true) o ≡ not (on_side (asked false true false) o)
@@ -46,7 +43,7 @@ ne-side x k = go (slice_cmp nat_cmp k x) ∙ ap not (eq-side x k)
     go Greater = refl
 
 -- the keys that are greater than a text, and those that are less
-pub lt-side : (x k : List ℕ) → on_side (asked false false true) (slice_cmp nat_cmp k x) ≡ passes (values.Str x) (test_at ops.Lt k)
+lt-side : (x k : List ℕ) → on_side (asked false false true) (slice_cmp nat_cmp k x) ≡ passes (values.Str x) (test_at ops.Lt k)
 lt-side x k = go (slice_cmp nat_cmp k x) ∙ sym (less-after x k)
   where
     go : (o : Ordering) → on_side (asked false false true) o ≡ is_gt o
@@ -54,7 +51,7 @@ lt-side x k = go (slice_cmp nat_cmp k x) ∙ sym (less-after x k)
     go Equal = refl
     go Greater = refl
 
-pub le-side : (x k : List ℕ) → on_side (asked false true true) (slice_cmp nat_cmp k x) ≡ passes (values.Str x) (test_at ops.Le k)
+le-side : (x k : List ℕ) → on_side (asked false true true) (slice_cmp nat_cmp k x) ≡ passes (values.Str x) (test_at ops.Le k)
 le-side x k = go (slice_cmp nat_cmp k x) ∙ ap not (sym (less-before k x))
   where
     go : (o : Ordering) → on_side (asked false true true) o ≡ not (is_lt o)
@@ -62,7 +59,7 @@ le-side x k = go (slice_cmp nat_cmp k x) ∙ ap not (sym (less-before k x))
     go Equal = refl
     go Greater = refl
 
-pub gt-side : (x k : List ℕ) → on_side (asked true false false) (slice_cmp nat_cmp k x) ≡ passes (values.Str x) (test_at ops.Gt k)
+gt-side : (x k : List ℕ) → on_side (asked true false false) (slice_cmp nat_cmp k x) ≡ passes (values.Str x) (test_at ops.Gt k)
 gt-side x k = go (slice_cmp nat_cmp k x) ∙ sym (less-before k x)
   where
     go : (o : Ordering) → on_side (asked true false false) o ≡ is_lt o
@@ -70,13 +67,26 @@ gt-side x k = go (slice_cmp nat_cmp k x) ∙ sym (less-before k x)
     go Equal = refl
     go Greater = refl
 
-pub ge-side : (x k : List ℕ) → on_side (asked true true false) (slice_cmp nat_cmp k x) ≡ passes (values.Str x) (test_at ops.Ge k)
+ge-side : (x k : List ℕ) → on_side (asked true true false) (slice_cmp nat_cmp k x) ≡ passes (values.Str x) (test_at ops.Ge k)
 ge-side x k = go (slice_cmp nat_cmp k x) ∙ ap not (sym (less-after x k))
   where
     go : (o : Ordering) → on_side (asked true true false) o ≡ not (is_gt o)
     go Less = refl
     go Equal = refl
     go Greater = refl
+
+-- the keys on the sides that an operator asks for
+pub side-passes : (op : Op) → is_pattern_op op ≡ false → (op ≡ ops.Any → ⊥) → (x k : List ℕ) → on_side (sides_of op) (slice_cmp nat_cmp k x) ≡ passes (values.Str x) (test_at op k)
+side-passes ops.Any p h x k = absurd (h refl)
+side-passes ops.Eq p h x k = eq-side x k
+side-passes ops.Ne p h x k = ne-side x k
+side-passes ops.Lt p h x k = lt-side x k
+side-passes ops.Le p h x k = le-side x k
+side-passes ops.Gt p h x k = gt-side x k
+side-passes ops.Ge p h x k = ge-side x k
+side-passes ops.Contains p h x k = cc
+side-passes ops.Prefix p h x k = cc
+side-passes ops.Suffix p h x k = cc
 
 -- a pattern of neither the beginning nor the end
 pub is-part : (op : Op) → is_pattern_op op ≡ true → (op ≡ ops.Prefix → ⊥) → (op ≡ ops.Suffix → ⊥) → op ≡ ops.Contains

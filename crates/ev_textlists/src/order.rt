@@ -1,17 +1,14 @@
 //! A line of ids under texts, for an operator of their order.
-ghost use Rattle.std.specs.Prelude.{◌≡◌, ◌≢◌, ◌++◌, ◌∷◌, false, ℕ, List, [], OnOk};
-ghost use Rattle.std.specs.Ordering.{nat_cmp};
-ghost use Rattle.std.specs.Cmp.Lexicographic.{slice_cmp};
+ghost use Rattle.std.specs.Prelude.{◌≡◌, ◌++◌, false, OnOk};
 ghost use Rattle.ev_values.specs.declared.value.Value.{Value};
-ghost use Rattle.ev_constraint.specs.declared.op.Op.{Op};
-ghost use Rattle.ev_index.specs.Pairs.{passes, ids_met};
-ghost use Rattle.ev_index.specs.Lines.{told, on_side};
+ghost use Rattle.ev_index.specs.Pairs.{ids_met};
+ghost use Rattle.ev_index.specs.Lines.{told};
 ghost use Rattle.ev_textindex.specs.Heads.{is_pattern_op};
 ghost use Rattle.ev_textindex.specs.Keys.{test_at};
 
 use crate::key::{SoughtText, TextKey};
 use ev_constraint::Op;
-use ev_index::{Line, Sides};
+use ev_index::{EQUAL, Line, Sides};
 use ev_memory::NoMemory;
 use std::alloc::Global;
 
@@ -21,33 +18,6 @@ pub struct Order {
     pub(crate) op: Op,
     pub(crate) line: Line<TextKey>,
     ghost plain: { is_pattern_op op ≡ false },
-}
-
-/// An equal key alone.
-const EQUAL: Sides = Sides {
-    below: false,
-    equal: true,
-    above: false,
-};
-
-/// The sides of a text that an operator asks for.
-fn sides(op: Op) -> Sides
-    ensures { is_pattern_op op ≡ false → op ≢ Op.Any → (x k : List ℕ) → on_side result (slice_cmp nat_cmp k x) ≡ passes (Value.Str x) (test_at op k) }
-{
-    let (below, equal, above) = match op {
-        Op::Eq => (false, true, false),
-        Op::Ne => (true, false, true),
-        Op::Lt => (false, false, true),
-        Op::Le => (false, true, true),
-        Op::Gt => (true, false, false),
-        Op::Ge => (true, true, false),
-        _ => (false, false, false),
-    };
-    Sides {
-        below,
-        equal,
-        above,
-    }
 }
 
 /// Appends the ids of a line whose test the text passes.
@@ -62,7 +32,7 @@ fn meet_line(
 {
     match op {
         Op::Any => line.meet(EQUAL, SoughtText::of(&[]), found),
-        _ => line.meet(sides(op), x, found),
+        _ => line.meet(Sides::of(op), x, found),
     }
 }
 

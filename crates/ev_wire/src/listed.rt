@@ -9,7 +9,7 @@ use crate::constraint::{push_constraints, settle_names};
 use crate::fault::WireFault;
 use crate::reader::Reader;
 use ev_memory::NoMemory;
-use ev_notice::{Advert, Filter};
+use ev_notice::Constraints;
 use std::alloc::Global;
 
 /// A list of constraints of a bounded length, in canonical order, with its one text. The contracts name how it is read,
@@ -45,20 +45,20 @@ pub trait Listed: Drop {
         ensures { IsSound self.now };
 }
 
-impl Listed for Filter {
-    ghost front = { list_at 16 };
+impl<const MOST: usize> Listed for Constraints<MOST> {
+    ghost front = { list_at MOST };
 
     ghost text = { constraints_text };
 
     ghost order = { list_before };
 
-    ghost IsSound = { IsWhole 16 };
+    ghost IsSound = { IsWhole MOST };
 
     #[tactic(auto, unfolding(crate::specs::Filters::list_at))]
-    fn read(reader: &mut Reader<'_>, alloc: Global) -> Result<Filter, WireFault> {
-        let constraints = reader.constraints(alloc, 16)?;
-        match Filter::of_rising(constraints)? {
-            Some(filter) => Ok(filter),
+    fn read(reader: &mut Reader<'_>, alloc: Global) -> Result<Self, WireFault> {
+        let constraints = reader.constraints(alloc, MOST)?;
+        match Self::of_rising(constraints)? {
+            Some(list) => Ok(list),
             None => Err(WireFault::Outside),
         }
     }
@@ -68,39 +68,7 @@ impl Listed for Filter {
     }
 
     #[tactic(auto, unfolding(ev_notice::specs::Before::list_before))]
-    fn stands_before(&self, other: &Filter) -> bool {
-        self < other
-    }
-
-    fn settle(&self) {
-        settle_names(self.constraints());
-    }
-}
-
-impl Listed for Advert {
-    ghost front = { list_at 64 };
-
-    ghost text = { constraints_text };
-
-    ghost order = { list_before };
-
-    ghost IsSound = { IsWhole 64 };
-
-    #[tactic(auto, unfolding(crate::specs::Filters::list_at))]
-    fn read(reader: &mut Reader<'_>, alloc: Global) -> Result<Advert, WireFault> {
-        let constraints = reader.constraints(alloc, 64)?;
-        match Advert::of_rising(constraints)? {
-            Some(advert) => Ok(advert),
-            None => Err(WireFault::Outside),
-        }
-    }
-
-    fn push(&self, out: &mut Vec<u8>) -> Result<(), NoMemory> {
-        push_constraints(out, self.constraints())
-    }
-
-    #[tactic(auto, unfolding(ev_notice::specs::Before::list_before))]
-    fn stands_before(&self, other: &Advert) -> bool {
+    fn stands_before(&self, other: &Self) -> bool {
         self < other
     }
 

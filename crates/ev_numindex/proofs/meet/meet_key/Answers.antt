@@ -5,9 +5,10 @@ use Rattle.std.specs.Ordering.{int_cmp}
 use Rattle.std.proofs.lemmas.Result.{on_ok_weaker}
 use Rattle.ev_constraint.specs.declared.op.Op.{Op}
 use Rattle.ev_index.specs.Lines.{on_side}
+use Rattle.ev_index.specs.declared.sides.Sides.{Sides}
 use Rattle.ev_index.proofs.Lines.{alike-found}
 use Rattle.ev_numindex.specs.Keys.{key_meets}
-use Rattle.ev_numindex.proofs.Meets.{alone, equal-alone}
+use Rattle.ev_numindex.proofs.Meets.{alone, equal-alone, side-meets}
 use Rattle.ev_numindex.proofs.meet.meet_key.Goals as goal
 
 pub returns-in-Any-clause-ok : goal.returns-in-Any-clause-ok
@@ -21,5 +22,5 @@ returns-in_default-clause-ok c =
     let x = c.args.x in
     let y : ℤ = to_z w64 (of_z w64 x) in
     let z : y ≡ x = to_z-of_z w64 x (search rules) in
-    let same = alike-found (λ k. on_side c.sides.result (int_cmp k y)) (key_meets c.args.op x) c.args.line.now (λ k. ap {B = Bool} (λ (n : ℤ). on_side c.sides.result (int_cmp k n)) z ∙ c.sides.ensures c.in_default.not-Any x k) in
+    let same = alike-found (λ k. on_side c.of.result (int_cmp k y)) (key_meets c.args.op x) c.args.line.now (λ k. ap {B = Bool} (λ (n : ℤ). on_side c.of.result (int_cmp k n)) z ∙ (ap {B = Bool} (λ (s : Sides). on_side s (int_cmp k x)) c.of.ensures ∙ side-meets c.args.op c.in_default.not-Any x k)) in
     on_ok_weaker c.meet-in_default.result (λ h. h ∙ ap {B = List ℕ} (λ ids. c.args.found.now.items ++ ids) same) c.meet-in_default.ensures.ok

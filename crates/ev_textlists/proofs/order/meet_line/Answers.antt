@@ -1,15 +1,17 @@
-use Rattle.std.proofs.Common.{◌≡◌, ◌∙◌, ◌++◌, [], ap, sym, true, false, ℕ, List}
+use Rattle.std.proofs.Common.{◌≡◌, ◌∙◌, ◌++◌, [], ap, sym, true, false, ℕ, Bool, List}
 use Rattle.std.specs.Ordering.{nat_cmp}
 use Rattle.std.specs.Cmp.Lexicographic.{slice_cmp}
 use Rattle.std.proofs.lemmas.Result.{on_ok_weaker}
 use Rattle.ev_values.specs.declared.value.Value.TheVariants as values
 use Rattle.ev_constraint.specs.declared.op.Op.{Op}
 use Rattle.ev_constraint.specs.declared.op.Op.TheVariants as ops
-use Rattle.ev_index.specs.Pairs.{ids_met}
+use Rattle.ev_index.specs.Pairs.{ids_met, passes}
 use Rattle.ev_index.specs.Lines.{told, on_side}
+use Rattle.ev_index.specs.Sides.{asked}
+use Rattle.ev_index.specs.declared.sides.Sides.{Sides}
 use Rattle.ev_index.proofs.Lines.{met-told}
 use Rattle.ev_textindex.specs.Keys.{test_at}
-use Rattle.ev_textindex.proofs.Meets.{asked, any-key, equal-side}
+use Rattle.ev_textindex.proofs.Meets.{any-key, equal-side, side-passes}
 use Rattle.ev_textlists.proofs.order.meet_line.Goals as goal
 
 pub returns-in-Any : goal.returns-in-Any
@@ -25,5 +27,5 @@ pub returns-in_default : goal.returns-in_default
 returns-in_default c =
     let v = values.Str c.args.x.bytes.now in
     let line : List (List ℕ × ℕ) = c.args.line.now in
-    let met = met-told v (test_at c.args.op) (λ (k : List ℕ). on_side c.sides.result (slice_cmp nat_cmp k c.args.x.bytes.now)) line (c.sides.ensures c.requires c.in_default.not-Any c.args.x.bytes.now) in
+    let met = met-told v (test_at c.args.op) (λ (k : List ℕ). on_side c.of-in_default.result (slice_cmp nat_cmp k c.args.x.bytes.now)) line (λ k. ap {B = Bool} (λ (s : Sides). on_side s (slice_cmp nat_cmp k c.args.x.bytes.now)) c.of-in_default.ensures ∙ side-passes c.args.op c.requires c.in_default.not-Any c.args.x.bytes.now k) in
     on_ok_weaker c.meet-in_default.result (λ h. h ∙ ap (λ (ids : List ℕ). c.args.found.now.items ++ ids) met) c.meet-in_default.ensures.ok
