@@ -1,7 +1,6 @@
 //! The one text of each value that goes from server to server and to clients, written and read exactly.
 #![tactic(auto)]
 
-mod bytes;
 mod change;
 mod command;
 mod constraint;
@@ -25,7 +24,6 @@ mod time;
 mod value;
 mod wire;
 
-pub use bytes::Bytes;
 pub use command::Command;
 pub use constraint::{op_named, op_word};
 pub use delivery::Delivery;
@@ -33,7 +31,7 @@ pub use fault::WireFault;
 pub use filters::{read_advert, read_filter, write_advert, write_filter};
 pub use id::Id;
 pub use law::{one_text, one_value};
-pub use lists::{Adverts, Filters, Lists};
+pub use lists::{Adverts, Bytes, Filters, Lists};
 pub use message::Message;
 pub use notice::{read_notice, write_notice};
 pub use reader::kind_named;

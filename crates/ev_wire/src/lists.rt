@@ -1,4 +1,4 @@
-//! Lists of filters and of advertisements.
+//! Lists that contracts see whole: of filters, of advertisements, of bytes.
 use ev_notice::{Advert, Filter};
 use std::marker::Model;
 
@@ -13,6 +13,9 @@ pub type Filters = Lists<Filter>;
 
 /// A list of advertisements; contracts see the list.
 pub type Adverts = Lists<Advert>;
+
+/// Bytes of a text; contracts see the list.
+pub type Bytes = Lists<u8>;
 
 impl<L> Model for Lists<L> {
     ghost use Rattle.std.specs.Prelude.{List};

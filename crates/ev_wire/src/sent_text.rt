@@ -3,8 +3,8 @@ ghost use Rattle.std.specs.Prelude.{◌≡◌, ◌++◌, List, ℕ, IfOk, OnOk, 
 ghost use Rattle.ev_wire.specs.declared.message.Message.{Message};
 ghost use Rattle.ev_wire.specs.MessageText.{Each, IsMessageText, IsSendable, IsSoundMessage};
 
-use crate::bytes::Bytes;
 use crate::listed::Listed;
+use crate::lists::Bytes;
 use crate::message::Message;
 use crate::wire::push_message;
 use ev_memory::NoMemory;
