@@ -1,27 +1,11 @@
-//! Tests of bytes against bytes.
+//! Whether a key stands in a text.
 ghost use Rattle.std.specs.Prelude.{◌≡◌};
-ghost use Rattle.ev_constraint.specs.Bytes.{has_prefix, has_suffix, has_part};
+ghost use Rattle.ev_constraint.specs.Bytes.{has_part};
 
 use memchr::memmem;
 
 /// Up to this length of a text, looking at its bytes one by one is quicker than to make a searcher for the key.
 const SHORT: usize = 64;
-
-/// Whether a text begins with a key.
-#[tactic(auto, unfolding(ev_constraint::specs::Bytes::has_prefix))]
-pub(crate) fn begins_with(x: &[u8], u: &[u8]) -> bool
-    ensures { result ≡ has_prefix x.now u.now }
-{
-    x.starts_with(u)
-}
-
-/// Whether a text ends with a key.
-#[tactic(auto, unfolding(ev_constraint::specs::Bytes::has_suffix))]
-pub(crate) fn ends_with(x: &[u8], u: &[u8]) -> bool
-    ensures { result ≡ has_suffix x.now u.now }
-{
-    x.ends_with(u)
-}
 
 /// Whether the bytes of a key stand in a text.
 pub(crate) fn has_part(x: &[u8], u: &[u8]) -> bool

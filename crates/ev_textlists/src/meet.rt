@@ -5,11 +5,12 @@ ghost use Rattle.ev_index.specs.Lines.{ids_with};
 ghost use Rattle.ev_textlists.specs.Groups.{mark_of, marks_of, groups_pairs};
 ghost use Rattle.ev_textlists.specs.Marks.{first_mark, first_pair, last_mark, last_pair, AreMarked};
 
-use crate::bytes::{begins_with, ends_with, has_part};
+use crate::bytes::has_part;
 use crate::group::Group;
 use crate::marks::{
     Mark, SHORT, WORDS, first_mark, first_pair, is_marked, last_mark, last_pair, mark_all,
 };
+use ev_constraint::{has_prefix, has_suffix};
 use ev_index::append_ids;
 use ev_memory::NoMemory;
 
@@ -35,7 +36,7 @@ fn is_prefix(mark: Mark, key: &[u8], first: u32, pair: u32, x: &[u8]) -> bool
     if mark.first != first && mark.first != pair && mark.first != SHORT {
         return false;
     }
-    begins_with(x, key)
+    has_prefix(x, key)
 }
 
 /// Appends the ids of the patterns that a text begins with.
@@ -72,7 +73,7 @@ fn is_suffix(mark: Mark, key: &[u8], last: u32, pair: u32, x: &[u8]) -> bool
     if mark.last != last && mark.last != pair && mark.last != SHORT {
         return false;
     }
-    ends_with(x, key)
+    has_suffix(x, key)
 }
 
 /// Appends the ids of the patterns that a text ends with.

@@ -1,12 +1,11 @@
 //! The texts of constraints and of lists of them.
-ghost use Rattle.std.specs.Prelude.{◌≡◌, ◌++◌, [], OnOk, true};
+ghost use Rattle.std.specs.Prelude.{◌≡◌, ◌++◌, OnOk, true};
 ghost use Rattle.std.specs.Option.{option_copied};
 ghost use Rattle.ev_values.specs.Name.{IsName};
 ghost use Rattle.ev_wire.specs.Reading.{Reads};
 ghost use Rattle.ev_wire.specs.ValueText.{op_word};
 ghost use Rattle.ev_wire.specs.NoticeText.{later};
 ghost use Rattle.ev_wire.specs.FilterText.{test_text, constraint_text, constraints_text, AreNamed};
-ghost use Rattle.ev_wire.specs.Items.{items_at};
 ghost use Rattle.ev_wire.specs.Filters.{op_named, op_at, some_at, operand_at, constraint_at};
 
 use crate::fault::WireFault;
@@ -94,8 +93,9 @@ impl<'a> Reader<'a> {
         }
     }
 
+    /// A constraint: a name, a kind, an operator and its operand.
     #[tactic(auto, unfolding(crate::specs::Filters::constraint_at))]
-    fn constraint(&mut self, alloc: Global) -> Result<Constraint, WireFault>
+    pub(crate) fn constraint(&mut self, alloc: Global) -> Result<Constraint, WireFault>
         ensures { Reads (λ x. x) result (constraint_at self.old.rest.now) self.new.rest.now }
     {
         let (name, kind) = self.head(alloc)?;
@@ -106,22 +106,6 @@ impl<'a> Reader<'a> {
             Ok(constraint) => Ok(constraint),
             Err(_) => Err(WireFault::Outside),
         }
-    }
-
-    /// At most so many constraints, joined.
-    #[tactic(auto, using(crate::proofs::ItemsLoop::ends))]
-    pub fn constraints(&mut self, alloc: Global, most: usize) -> Result<Vec<Constraint>, WireFault>
-        ensures { Reads (λ x. x.items) result (items_at constraint_at most [] self.old.rest.now) self.new.rest.now }
-    {
-        let mut read = Vec::new(alloc);
-        for _ in 0..most {
-            let constraint = self.constraint(alloc)?;
-            read.push(constraint)?;
-            if !self.more() {
-                return Ok(read);
-            }
-        }
-        Err(WireFault::Outside)
     }
 }
 

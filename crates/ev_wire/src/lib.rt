@@ -9,6 +9,7 @@ mod fault;
 mod filters;
 mod id;
 mod int;
+mod joined;
 mod law;
 mod listed;
 mod lists;

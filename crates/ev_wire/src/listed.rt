@@ -56,7 +56,7 @@ impl<const MOST: usize> Listed for Constraints<MOST> {
 
     #[tactic(auto, unfolding(crate::specs::Filters::list_at))]
     fn read(reader: &mut Reader<'_>, alloc: Global) -> Result<Self, WireFault> {
-        let constraints = reader.constraints(alloc, MOST)?;
+        let constraints = reader.joined(alloc, MOST)?;
         match Self::of_rising(constraints)? {
             Some(list) => Ok(list),
             None => Err(WireFault::Outside),

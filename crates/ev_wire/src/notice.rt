@@ -16,28 +16,12 @@ use ev_values::{Name, Value};
 use std::alloc::Global;
 
 impl<'a> Reader<'a> {
-    // At most so many attributes, joined.
-    #[tactic(auto, using(crate::proofs::ItemsLoop::ends))]
-    fn attributes(&mut self, alloc: Global, most: usize) -> Result<Vec<(Name, Value)>, WireFault>
-        ensures { Reads (λ x. x.items) result (items_at attribute_at most [] self.old.rest.now) self.new.rest.now }
-    {
-        let mut read = Vec::new(alloc);
-        for _ in 0..most {
-            let attribute = self.attribute(alloc)?;
-            read.push(attribute)?;
-            if !self.more() {
-                return Ok(read);
-            }
-        }
-        Err(WireFault::Outside)
-    }
-
     /// All that is left, as a notice.
     #[tactic(auto, unfolding(crate::specs::Notices::notice_of))]
     pub fn notice(&mut self, alloc: Global) -> Result<Notice, WireFault>
         ensures { Gives (λ n. n) result (notice_of self.old.rest.now) }
     {
-        let attributes = self.attributes(alloc, 64)?;
+        let attributes = self.joined(alloc, 64)?;
         if !self.rest.is_empty() {
             return Err(WireFault::Outside);
         }

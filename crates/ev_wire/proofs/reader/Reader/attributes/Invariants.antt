@@ -1,7 +1,0 @@
-use Rattle.std.proofs.Common.{◌≡◌, ◌-◌, []}
-use Rattle.ev_wire.specs.Items.{items_at}
-use Rattle.ev_wire.specs.Values.{attribute_at}
-use Rattle.ev_wire.proofs.reader.Reader.attributes.Given as goal
-
-abbrev pub invariant-loop : goal.invariant-loop
-invariant-loop l = items_at attribute_at (l.most - l.counter) l.read.items l.self.rest.now ≡ items_at attribute_at l.most [] l.fn.self.rest.now
