@@ -5,6 +5,7 @@ use Rattle.std.specs.List.{flat_map}
 use Rattle.ev_wire.specs.MessageText.{signed}
 use Rattle.ev_wire.specs.Reading.{◌>>=◌, whole}
 use Rattle.ev_wire.specs.Items.{go_on}
+use Rattle.ev_wire.specs.Words.{sign_at}
 
 -- whether a space, the sign and `{` stand in front, and what follows then
 abbrev pub marked_at : ℕ → List ℕ → Bool × List ℕ
@@ -15,8 +16,7 @@ marked_at sign (a ∷ b ∷ c ∷ rest) = if a == 32 && (b == sign && c == 123) 
 
 -- `}`, and what follows it
 abbrev pub closed_at : List ℕ → Option (Unit {0} × List ℕ)
-closed_at [] = None
-closed_at (b ∷ rest) = if b == 125 then Some (tt, rest) else None
+closed_at bytes = sign_at 125 bytes
 
 -- a member and `}` in front, and what follows them
 unfoldable pub braced_at : {A : Type 0} → (List ℕ → Option (A × List ℕ)) → List ℕ → Option (A × List ℕ)

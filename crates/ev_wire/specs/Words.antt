@@ -18,10 +18,14 @@ unfoldable pub word_at : List ℕ → List ℕ → List ℕ × List ℕ
 word_at read [] = (read, [])
 word_at read (b ∷ rest) = if is_stop b then (read, b ∷ rest) else word_at (read ++ b ∷ []) rest
 
+-- a sign, and what follows it
+abbrev pub sign_at : ℕ → List ℕ → Option (Unit {0} × List ℕ)
+sign_at sign [] = None
+sign_at sign (b ∷ rest) = if b == sign then Some (tt, rest) else None
+
 -- a space, and what follows it
 abbrev pub space_at : List ℕ → Option (Unit {0} × List ℕ)
-space_at [] = None
-space_at (b ∷ rest) = if b == 32 then Some (tt, rest) else None
+space_at bytes = sign_at 32 bytes
 
 -- the kind of a word
 abbrev pub kind_named : List ℕ → Option Kind

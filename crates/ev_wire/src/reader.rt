@@ -1,7 +1,7 @@
 //! A reader over bytes: words, names, kinds and numbers.
 ghost use Rattle.std.specs.Prelude.{◌≡◌, []};
 ghost use Rattle.ev_wire.specs.Reading.{Reads};
-ghost use Rattle.ev_wire.specs.Words.{is_stop, word_at, space_at, kind_named, name_at, kind_at, head_at, number_at, when_within};
+ghost use Rattle.ev_wire.specs.Words.{is_stop, word_at, sign_at, space_at, kind_named, name_at, kind_at, head_at, number_at, when_within};
 ghost use Rattle.ev_wire.specs.Items.{more_at};
 
 use crate::fault::WireFault;
@@ -74,17 +74,24 @@ impl<'a> Reader<'a> {
         bytes
     }
 
-    /// A space.
-    pub fn space(&mut self) -> Result<(), WireFault>
-        ensures { Reads (λ x. x) result (space_at self.old.rest.now) self.new.rest.now }
+    /// A sign.
+    pub fn sign(&mut self, sign: u8) -> Result<(), WireFault>
+        ensures { Reads (λ x. x) result (sign_at sign self.old.rest.now) self.new.rest.now }
     {
         match self.rest {
-            [b' ', rest @ ..] => {
+            [b, rest @ ..] if *b == sign => {
                 self.rest = rest;
                 Ok(())
             }
             _ => Err(WireFault::Outside),
         }
+    }
+
+    /// A space.
+    pub fn space(&mut self) -> Result<(), WireFault>
+        ensures { Reads (λ x. x) result (space_at self.old.rest.now) self.new.rest.now }
+    {
+        self.sign(b' ')
     }
 
     /// Whether `;` and a space stand in front, which are read then.

@@ -38,13 +38,7 @@ impl<'a> Reader<'a> {
     pub fn close(&mut self) -> Result<(), WireFault>
         ensures { Reads (λ x. x) result (closed_at self.old.rest.now) self.new.rest.now }
     {
-        match self.rest {
-            [b'}', rest @ ..] => {
-                self.rest = rest;
-                Ok(())
-            }
-            _ => Err(WireFault::Outside),
-        }
+        self.sign(b'}')
     }
 
     #[tactic(auto, unfolding(crate::specs::Messages::id_at))]

@@ -24,8 +24,7 @@ use Rattle.left_right.specs.contracts.writer.Writer as Writer
 use Rattle.ev_values.specs.contracts.name.Name as Name
 use Rattle.ev_values.specs.contracts.value.Value as Value
 use Rattle.ev_constraint.specs.contracts.constraint.Constraint as Constraint
-use Rattle.ev_notice.specs.contracts.filter.Filter as Filter
-use Rattle.ev_notice.specs.contracts.filter.Advert as Advert
+use Rattle.ev_notice.specs.contracts.filter.Constraints as Constraints
 use Rattle.ev_notice.specs.contracts.notice.Notice as Notice
 use Rattle.ev_numindex.specs.contracts.index.NumIndex as NumIndex
 use Rattle.ev_numindex.specs.contracts.row.Row as NumRow
@@ -115,11 +114,9 @@ constraint_send = let a = name_send in let b = value_send in search (sendable, c
 pub constraint_sync : IsSync Constraint.the_field.row
 constraint_sync = let a = name_sync in let b = value_sync in search (sendable, crosses) depth 20
 
-pub filter_sync : IsSync Filter.the_field.row
-filter_sync = let a = constraint_send in let b = constraint_sync in search (sendable, crosses) depth 20
-
-pub advert_sync : IsSync Advert.the_field.row
-advert_sync = let a = constraint_send in let b = constraint_sync in search (sendable, crosses) depth 20
+-- filters and advertisements
+pub constraints_sync : (T : RattleType) → IsSync (Constraints.the_field T).row
+constraints_sync T = let a = constraint_send in let b = constraint_sync in search (sendable, crosses) depth 20
 
 pub notice_sync : IsSync Notice.the_field.row
 notice_sync = let a = name_send in let b = value_send in let c = name_sync in let d = value_sync in search (sendable, crosses) depth 20
@@ -164,7 +161,7 @@ pub index_sync : IsSync Index.the_field.row
 index_sync = let a = pairs_sync in search (ours, maps.BTreeMap-sync) depth 20
 
 pub matcher_sync : IsSync Matcher.the_field.row
-matcher_sync = let a = index_sync in let b = filter_sync in search (sendable, crosses) depth 20
+matcher_sync = let a = index_sync in search (sendable, crosses, constraints_sync) depth 20
 
 pub front_send : IsSend Front.the_field.row
 front_send = search ours depth 20
@@ -233,7 +230,7 @@ pub publisher_send : IsSend Publisher.the_field.row
 publisher_send = let a = front_send in let b = version_send in let c = version_sync in let d = step_send in let e = change_send in search (ours, writer_send) depth 20
 
 pub command_sync : IsSync Command.the_field.row
-command_sync = let a = filter_sync in let b = advert_sync in let c = notice_sync in search (sendable, crosses) depth 20
+command_sync = let c = notice_sync in search (sendable, crosses, constraints_sync) depth 20
 
 pub text_send : IsSend SharedText.the_field.row
 text_send = search (sendable, crosses) depth 20
@@ -254,10 +251,10 @@ pub lists_sync : (T : RattleType) → IsSync T → IsSync (Lists.the_field T).ro
 lists_sync T a = search (sendable, crosses) depth 20
 
 pub sub_sync : IsSync Sub.the_row
-sub_sync = let a = filter_sync in search (sendable, crosses) depth 20
+sub_sync = search (sendable, crosses, constraints_sync) depth 20
 
 pub ad_sync : IsSync Ad.the_row
-ad_sync = let a = advert_sync in search (sendable, crosses) depth 20
+ad_sync = search (sendable, crosses, constraints_sync) depth 20
 
 pub tree_sync : IsSync Tree.the_field.row
 tree_sync = search (sendable, crosses) depth 20
