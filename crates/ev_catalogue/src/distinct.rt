@@ -10,7 +10,7 @@ use ev_notice::Constraints;
 
 // Of neighbours that are equal the first alone.
 fn without_repeats<const MOST: usize>(mut sorted: Vec<Constraints<MOST>>) -> Vec<Constraints<MOST>>
-    ensures { IsFiltered (DiffersFromLast (eq_by_cmp list_cmp)) [] sorted.items result.items }
+    ensures { IsFiltered (DiffersFromLast (eq_by_cmp list_cmp)) [] sorted.entry.items result.items }
 {
     sorted.dedup();
     sorted
@@ -18,7 +18,7 @@ fn without_repeats<const MOST: usize>(mut sorted: Vec<Constraints<MOST>>) -> Vec
 
 /// The filters or the advertisements, each once, in canonical order. It takes no memory.
 pub(crate) fn distinct<const MOST: usize>(mut lists: Vec<Constraints<MOST>>) -> Vec<Constraints<MOST>>
-    ensures { result.items ≡ set_of list_before lists.items }
+    ensures { result.items ≡ set_of list_before lists.entry.items }
 {
     lists.sort_unstable();
     without_repeats(lists)

@@ -2,4 +2,4 @@ use Rattle.ev_catalogue.proofs.Filters.{distinct_lists}
 use Rattle.ev_catalogue.proofs.distinct.distinct.Goals as goal
 
 pub returns : goal.returns
-returns c = distinct_lists _ _ _ c.sort_unstable.ensures.permutation c.sort_unstable.ensures.sorted c.without_repeats.ensures
+returns g c = distinct_lists _ _ _ c.sort_unstable.ensures.permutation c.sort_unstable.ensures.sorted c.without_repeats.ensures
