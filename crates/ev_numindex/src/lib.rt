@@ -2,7 +2,7 @@
 #![tactic(auto)]
 
 mod index;
-mod meet;
+mod key;
 mod row;
 
 pub use index::NumIndex;

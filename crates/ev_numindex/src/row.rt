@@ -5,9 +5,9 @@ ghost use Rattle.ev_numindex.specs.Keys.{key_of};
 ghost use Rattle.std.specs.Option.{option_copied};
 ghost use Rattle.ev_numindex.specs.Rows.{IsRowOf, HasAt};
 
-use crate::meet::{meet_key, meet_truth, time_key, truth_key};
+use crate::key::{time_key, truth_key};
 use ev_constraint::Op;
-use ev_index::Line;
+use ev_index::{EQUAL, Line, Sides};
 use ev_memory::NoMemory;
 use ev_values::{Kind, Value};
 use std::alloc::Global;
@@ -36,7 +36,7 @@ impl Row {
     ghost use Rattle.std.specs.Prelude.{◌∷◌, [], IfOk};
     ghost use Rattle.std.specs.Prelude.{◌==◌, nat_lt, OnErr, true, false};
     ghost use Rattle.ev_index.specs.Pairs.{Same, tally};
-    ghost use Rattle.ev_numindex.specs.Keys.{test_at, same_key};
+    ghost use Rattle.ev_numindex.specs.Keys.{test_at, same_key, key_meets};
 
     /// The row of a kind and an operator with one id.
     pub(crate) fn with(
@@ -56,6 +56,9 @@ impl Row {
 
     ghost use Rattle.std.specs.Prelude.{◌≡◌, ◌++◌, ◌&&◌, ◌↔◌, OnOk, IsTrue};
     ghost use Rattle.ev_index.specs.Pairs.{KeepsBeginning, ids_met};
+    ghost use Rattle.ev_index.specs.Lines.{told, ids_with};
+    ghost use Rattle.ev_values.specs.declared.value.Kind.{Kind};
+    ghost use Rattle.ev_values.specs.declared.value.Value.{Value};
     ghost use Rattle.ev_values.specs.Value.{same_kind};
     ghost use Rattle.ev_numindex.specs.Rows.{row_pairs, IsRowOf};
 
@@ -91,15 +94,39 @@ impl Row {
         self.kind.is(kind) && self.op == op
     }
 
+    /// Appends the ids of the keys that a number finds by its own.
+    fn meet_key(&self, x: i64, found: &mut Vec<u32>) -> Result<(), NoMemory>
+        ensures ok { OnOk result (found.new.items ≡ found.old.items ++ ids_with (key_meets self.now.op x) self.now.line) }
+        ensures begins { KeepsBeginning found.old.items found.new.items }
+    {
+        match self.op {
+            Op::Any => self.line.meet(EQUAL, &0, found),
+            _ => self.line.meet(Sides::of(self.op), &x, found),
+        }
+    }
+
+    /// Appends the ids of the row whose test the truth value passes, as a row of truth values.
+    fn meet_truth(&self, x: bool, found: &mut Vec<u32>) -> Result<(), NoMemory>
+        ensures ok { OnOk result (found.new.items ≡ found.old.items ++ ids_met (Value.Bool x) (told (test_at Kind.Bool self.now.op) self.now.line)) }
+        ensures begins { KeepsBeginning found.old.items found.new.items }
+    {
+        match self.op {
+            Op::Any => self.line.meet(EQUAL, &0, found),
+            Op::Eq => self.line.meet(EQUAL, &truth_key(x), found),
+            Op::Ne => self.line.meet(EQUAL, &truth_key(!x), found),
+            _ => Ok(()),
+        }
+    }
+
     /// Appends the ids of the row whose test the value passes.
     pub(crate) fn meet(&self, value: &Value, found: &mut Vec<u32>) -> Result<(), NoMemory>
         ensures ok { OnOk result (found.new.items ≡ found.old.items ++ ids_met value.now (row_pairs self.now)) }
         ensures begins { KeepsBeginning found.old.items found.new.items }
     {
         match (self.kind, value) {
-            (Kind::Bool, Value::Bool(x)) => meet_truth(&self.line, self.op, *x, found),
-            (Kind::Int, Value::Int(x)) => meet_key(&self.line, self.op, *x, found),
-            (Kind::Time, Value::Time(x)) => meet_key(&self.line, self.op, time_key(*x), found),
+            (Kind::Bool, Value::Bool(x)) => self.meet_truth(*x, found),
+            (Kind::Int, Value::Int(x)) => self.meet_key(*x, found),
+            (Kind::Time, Value::Time(x)) => self.meet_key(time_key(*x), found),
             _ => Ok(()),
         }
     }
