@@ -28,17 +28,12 @@ pub(crate) struct Side {
 pub(crate) fn fresh_side(alloc: Global, width: u32) -> Result<Side, NoMemory>
     ensures { IfOk result (λ side. side ≡ empty_side width) }
 {
-    let offered = full_row(alloc, width)?;
-    let need = Row::new(alloc, width)?;
-    let roots = Row::new(alloc, width)?;
-    let withdrawn = Row::new(alloc, width)?;
-    let added = Row::new(alloc, width)?;
     Ok(Side {
-        offered,
-        need,
-        roots,
-        withdrawn,
-        added,
+        offered: full_row(alloc, width)?,
+        need: Row::new(alloc, width)?,
+        roots: Row::new(alloc, width)?,
+        withdrawn: Row::new(alloc, width)?,
+        added: Row::new(alloc, width)?,
     })
 }
 
