@@ -1,19 +1,17 @@
 //! The form of a command, read from its tokens.
 ghost use Rattle.std.specs.Prelude.{◌≡◌, ◌≢◌, ◌<◌, [], length, IfOk};
-ghost use Rattle.ev_wire.specs.Words.{kind_named};
 ghost use Rattle.ev_script.specs.Form.{attribute_in, constraint_in, given_in, head_in, kind_by, kind_in, operand_in, part_of, parts_in};
 ghost use Rattle.ev_script.specs.Reading.{GathersTokens, IsGathered, ReadsTokens, TakesFront};
 
 use crate::fault::ScriptFault;
 use crate::number::int_given;
 use crate::part::{CommandPart, Parts};
-use crate::same::is_same;
 use crate::time::time_given;
 use crate::token::Token;
 use crate::tokens::Tokens;
 use ev_constraint::{BadConstraint, Constraint, Op, has_op};
 use ev_values::{Kind, Name, NameFault, Value};
-use ev_wire::truth_named;
+use ev_wire::{kind_named, truth_named};
 use std::alloc::Global;
 
 /// A value as a line gives it.
@@ -34,22 +32,6 @@ pub enum Part {
     Beyond,
     /// A pattern whose operand is empty.
     Empty,
-}
-
-fn kind_named(word: &[u8]) -> Option<Kind>
-    ensures { result ≡ kind_named word.now }
-{
-    if is_same(word, b"bool") {
-        Some(Kind::Bool)
-    } else if is_same(word, b"int") {
-        Some(Kind::Int)
-    } else if is_same(word, b"str") {
-        Some(Kind::Str)
-    } else if is_same(word, b"time") {
-        Some(Kind::Time)
-    } else {
-        None
-    }
 }
 
 // The kind of the word in documents of the version.
