@@ -12,4 +12,6 @@ mod merging;
 #[cfg(test)]
 mod nets;
 #[cfg(test)]
+mod networks;
+#[cfg(test)]
 mod trees;

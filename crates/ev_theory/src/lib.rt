@@ -2,7 +2,6 @@
 //! servers are those of `ev_routing` and of `ev_run`, called at `Real`.
 #![tactic(auto)]
 
-pub mod laws;
 mod real;
 
 pub use real::{Real, plain};

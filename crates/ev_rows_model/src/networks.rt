@@ -1,8 +1,8 @@
-//! Each law of networks and of runs, called at the real theory. A crate above calls those that it needs in the same way.
-use crate::real::Real;
+//! Each law of networks, of their runs, and of every machine, at a lone server, is called at the real theory of filters.
+use ev_theory::Real;
 
-/// The laws of every run of servers that route by the real theory.
-pub fn of_networks() {
+#[test]
+fn laws_of_networks() {
     ev_routing::opening_starts::<Real>();
     ev_routing::last_moment::<Real>();
     ev_routing::bounded::<Real>();
@@ -37,8 +37,8 @@ pub fn of_networks() {
     ev_routing::tree_changes::<Real>();
 }
 
-/// The laws of runs and of journals, at the servers of any net.
-pub fn of_journals() {
+#[test]
+fn laws_of_runs() {
     ev_routing::runs::fixed_by_turns::<Real>();
     ev_routing::runs::fixed_by_entries::<Real>();
     ev_routing::runs::run_begins::<Real>();
@@ -56,8 +56,8 @@ pub fn of_journals() {
     ev_routing::runs::whole_run::<Real>();
 }
 
-/// The laws of every machine, at a lone server that routes by the real theory.
-pub fn of_machines() {
+#[test]
+fn laws_of_machines() {
     ev_run::run_fixed::<Real>();
     ev_run::fixed_by_turns::<Real>();
     ev_run::run_begins::<Real>();
