@@ -1,7 +1,6 @@
 pub mod Places
 pub mod Pieces
 pub mod Apart
-pub mod Digits
 pub mod Claiming
 pub mod Spelled
 pub mod Inputs

@@ -1,20 +1,18 @@
 -- Lines of a trace as they are written, and what they are read as.
 use Rattle.std.proofs.Common.{◌≡◌, ℕ, zero, suc, ◌+◌, ◌-◌, ◌*◌, ◌/◌, ◌%◌, ◌==◌, ◌<◌, ◌≤◌, ◌^◌, Bool, true, false, ◌&&◌, List, [], ◌∷◌, ◌++◌, length, get_or, Some, refl, ap, ◌∙◌, arith, nat_le, nat_lt}
 use Rattle.std.specs.Prelude.{codes, nat_eq, slice_get, if◌then◌else◌}
-use Rattle.std.specs.Char.{digit_value}
 use Rattle.std.specs.Fmt.{decimal, digit_glyph, digits, digits_onto}
 use Rattle.std.specs.List.{list_all, position_or_len}
 use Rattle.std.specs.Option.{option_map}
 use Rattle.std.specs.Str.{bytes_eq}
-use Rattle.std.specs.Str.Parse.{AllDigits, digits_value_after}
 use Rattle.std.proofs.lemmas.Bool.Decides.{nat_tests}
 use Rattle.std.proofs.lemmas.Fmt.{decimal_digit, decimal_is_IsNumeral, decimal_nonempty, first_decimal, length-decimal-le}
 use Rattle.std.proofs.lemmas.Grind.{common_steps}
 use Rattle.std.proofs.lemmas.Option.{same_Some}
 use Rattle.ev_constraint.proofs.BytesLemmas.{bytes_eq-self}
-use Rattle.ev_script.specs.Form.{is_digit}
+use Rattle.ev_script.specs.Form.{are_digits}
+use Rattle.ev_script.proofs.IntLaws.{digits_are, numeral_number}
 use Rattle.ev_input.specs.Lines.{before_first, words}
-use Rattle.ev_input.specs.Words.{number_from}
 use Rattle.ev_model.specs.declared.turn.Turn.{Turn}
 use Rattle.ev_model.specs.declared.turn.Turn.TheVariants as turns
 use Rattle.ev_model.specs.Parts.{ClientParts, NetParts}
@@ -69,29 +67,6 @@ word-apart (b ∷ w) rest e =
 
 -- Numbers.
 
-digit_range : (d : ℕ) → digit_value d < 10 → (48 ≤ d) × (d ≤ 57)
-digit_range d h = grind arith
-
-digit_is : (d : ℕ) → digit_value d < 10 → is_digit d ≡ true
-digit_is d h = let r = digit_range d h in let lo : 48 ≤ d = r.0 in let hi : d ≤ 57 = r.1 in grind (arith, nat_tests)
-
-digit_minus : (d : ℕ) → digit_value d < 10 → digit_value d ≡ d - 48
-digit_minus d h =
-    let r = digit_range d h in
-    let lo : 48 ≤ d = r.0 in
-    let hi : d ≤ 57 = r.1 in
-    let p : nat_lt d 48 ≡ false = grind (arith, nat_tests) in
-    let q : nat_lt d 58 ≡ true = grind (arith, nat_tests) in
-    simp (p, q)
-
-digits_are : (ds : List ℕ) → AllDigits 10 ds → list_all is_digit ds ≡ true
-digits_are [] h = refl
-digits_are (d ∷ ds) h = rw (digit_is d h.0, digits_are ds h.1) refl
-
-number_on : (m : ℕ) (ds : List ℕ) → AllDigits 10 ds → number_from m ds ≡ Some (digits_value_after 10 m ds)
-number_on m [] h = refl
-number_on m (d ∷ ds) h = rw (digit_is d h.0, digit_minus d h.0) (number_on (m * 10 + (d - 48)) ds h.1)
-
 leads-by : (ds : List ℕ) → 0 < length ds → (48 < get_or ds 0 0) → leads ds ≡ true
 leads-by [] s h = absurd (omega (arith, s))
 leads-by (d ∷ []) s h = refl
@@ -126,7 +101,7 @@ decimal-dense n = onto-dense 64 n [] refl
 
 pub decimal-is : (n : ℕ) → n < 2 ^ 64 → is_decimal (decimal n) ≡ true
 unfolding is_decimal
-decimal-is n l = rw (decimal-leads n l) (digits_are (decimal n) (decimal_is_IsNumeral n l).0.1)
+decimal-is n l = rw (decimal-leads n l) (digits_are (decimal n) (decimal_is_IsNumeral n l).0)
 
 pub decimal-again : (n : ℕ) → n < 10 ^ 19 → decimal_number (decimal n) ≡ Some n
 unfolding decimal_number
@@ -135,7 +110,7 @@ decimal-again n l =
     let d = decimal_is_IsNumeral n small in
     let few : length (decimal n) ≤ 19 = length-decimal-le 19 n (omega arith) l small in
     let some : nat_le (length (decimal n)) 19 ≡ true = grind (arith, nat_tests) in
-    rw (decimal-leads n small, some) (number_on 0 (decimal n) d.0.1 ∙ ap Some d.1)
+    rw (decimal-leads n small, some) (numeral_number (decimal n) d.0.1 ∙ ap Some d.1)
 
 -- Lines of deliveries.
 

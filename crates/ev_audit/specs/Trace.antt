@@ -4,14 +4,13 @@ use Rattle.std.specs.Prelude.{Option, Some, None, Result, Ok, Err}
 use Rattle.std.specs.Option.{option_and_then, option_map}
 use Rattle.std.specs.List.{list_all, list_any, position}
 use Rattle.std.specs.Str.{bytes_eq}
-use Rattle.ev_script.specs.Form.{is_digit}
+use Rattle.ev_script.specs.Form.{are_digits, number_of_digits}
 use Rattle.ev_tree.specs.Tree.{Topology, links_of}
 use Rattle.ev_model.specs.declared.turn.Turn.{Turn}
 use Rattle.ev_model.specs.declared.turn.Turn.TheVariants.{Command, Take, Version}
 use Rattle.ev_model.specs.Parts.{ClientParts, NetParts}
 use Rattle.ev_model.specs.Nets.{first_tree}
 use Rattle.ev_input.specs.Lines.{words}
-use Rattle.ev_input.specs.Words.{number_from}
 use Rattle.ev_audit.specs.Output.{at_space}
 use Rattle.ev_audit.specs.declared.line.TraceLine.{TraceLine}
 use Rattle.ev_audit.specs.declared.line.TraceLine.TheVariants.{Entry, Message}
@@ -34,11 +33,11 @@ leads (b ∷ c ∷ cs) = not (nat_eq b 48)
 
 -- a decimal number without a leading zero, of any length
 unfoldable pub is_decimal : List ℕ → Bool
-is_decimal word = leads word && list_all is_digit word
+is_decimal word = leads word && are_digits word
 
 -- a decimal number without a leading zero, of at most 19 digits
 unfoldable pub decimal_number : List ℕ → Option ℕ
-decimal_number word = if leads word && nat_le (length word) 19 then number_from 0 word else None
+decimal_number word = if leads word && nat_le (length word) 19 then number_of_digits word else None
 
 -- a server of the net
 abbrev pub is_server : NetParts → ℕ → Bool

@@ -1,14 +1,8 @@
 //! Numbers of a trace, without leading zeros.
 ghost use Rattle.std.specs.Prelude.{◌≡◌};
-ghost use Rattle.std.specs.List.{list_all};
-ghost use Rattle.ev_script.specs.Form.{is_digit};
 ghost use Rattle.ev_audit.specs.Trace.{decimal_number, is_decimal, leads};
 
-fn is_digit(byte: u8) -> bool
-    ensures { result ≡ is_digit byte }
-{
-    byte >= b'0' && byte <= b'9'
-}
+use ev_script::{are_digits, short_digits};
 
 // Whether the word does not begin with the digit 0, or is that digit.
 fn leads(word: &[u8]) -> bool
@@ -19,18 +13,6 @@ fn leads(word: &[u8]) -> bool
         [_] => true,
         [first, ..] => *first != b'0',
     }
-}
-
-// Whether all are digits.
-fn are_digits(word: &[u8]) -> bool
-    ensures { result ≡ list_all is_digit word.now }
-{
-    for byte in word {
-        if !is_digit(*byte) {
-            return false;
-        }
-    }
-    true
 }
 
 /// Whether the word is a number, of any length.
@@ -49,12 +31,5 @@ pub fn decimal_number(word: &[u8]) -> Option<u64>
     if !leads(word) || word.len() > 19 {
         return None;
     }
-    let mut number: u64 = 0;
-    for (i, byte) in word.iter().enumerate() {
-        if !is_digit(*byte) {
-            return None;
-        }
-        number = number * 10 + (*byte - b'0') as u64;
-    }
-    Some(number)
+    short_digits(word)
 }

@@ -193,7 +193,7 @@ lasting_shown known client count (n ∷ ns) (c ∷ cs) xs list h s =
 
 -- those that are added
 added_one : (c : Command) (list rest : Lists) (n : NumberedCommand) (known : Catalogued) (client count phase : ℕ) (xs : List ℕ) → Means known client count phase n c
-    → Shows known.filters xs list → (more : Lists) × Shows known.filters (adding_step known.filters xs n) more
+    → Shows known.filters xs list → (more : Lists) × Shows known.filters (adding_step xs n) more
     × ((f : List ConstraintParts) → (Has f (more ++ rest) → Has f (list ++ with_filter c rest)) × (Has f (list ++ with_filter c rest) → Has f (more ++ rest)))
 added_one c list rest (numbers.Subscribe i) known client count phase xs m s = (
   list ++ m.0 ∷ [],
@@ -225,14 +225,14 @@ nothing_more [] = refl
 nothing_more (f ∷ list) = ap (λ z. f ∷ z) (nothing_more list)
 
 added_shown : (known : Catalogued) (client count : ℕ) (steps : Steps) (script : Script) (xs : List ℕ) (list : Lists) → AreNumbered known client count steps script
-    → Shows known.filters xs list → Shows known.filters (numbers_added known.filters xs steps) (list ++ subscribed script)
+    → Shows known.filters xs list → Shows known.filters (numbers_added xs steps) (list ++ subscribed script)
 added_shown known client count [] [] xs list h s = subst (Shows known.filters xs) (sym (nothing_more list)) s
 added_shown known client count [] (c ∷ cs) xs list h s = absurd h
 added_shown known client count (n ∷ ns) [] xs list h s = absurd h
 added_shown known client count (n ∷ ns) (c ∷ cs) xs list h s =
     let one = added_one c.1 list (subscribed cs) n.1 known client count c.0 xs h.1 s in
-    shows_same known.filters (numbers_added known.filters xs (n ∷ ns)) (one.0 ++ subscribed cs) (list ++ with_filter c.1 (subscribed cs)) one.2
-    (added_shown known client (publishes_after count c.1) ns cs (adding_step known.filters xs n.1) one.0 h.2 one.1)
+    shows_same known.filters (numbers_added xs (n ∷ ns)) (one.0 ++ subscribed cs) (list ++ with_filter c.1 (subscribed cs)) one.2
+    (added_shown known client (publishes_after count c.1) ns cs (adding_step xs n.1) one.0 h.2 one.1)
 
 -- within a phase
 nothing_shown : (filters : Lists) → Shows filters [] []

@@ -30,6 +30,18 @@ IsNumber count (numbers.Publish i) = Unit {0}
 abbrev pub AreNumbers : ℕ → Steps → Type 0
 AreNumbers count steps = (step : ℕ × NumberedCommand) → Has step steps → IsNumber count step.1
 
+-- with those that commands add
+abbrev pub adding_step : List ℕ → NumberedCommand → List ℕ
+adding_step xs (numbers.Subscribe i) = put_in nat_lt i xs
+adding_step xs (numbers.Unsubscribe i) = xs
+adding_step xs (numbers.Advertise i) = xs
+adding_step xs (numbers.Unadvertise i) = xs
+adding_step xs (numbers.Publish i) = xs
+
+abbrev pub numbers_added : List ℕ → Steps → List ℕ
+numbers_added xs [] = xs
+numbers_added xs (step ∷ steps) = numbers_added (adding_step xs step.1) steps
+
 module _ (known : Lists) where
   -- those that a filter does not cover
   abbrev pub uncovered : ℕ → List ℕ → List ℕ
@@ -58,18 +70,6 @@ module _ (known : Lists) where
   abbrev pub numbers_lasting : List ℕ → Steps → List ℕ
   numbers_lasting xs [] = xs
   numbers_lasting xs (step ∷ steps) = numbers_lasting (lasting_step xs step.1) steps
-
-  -- with those that commands add
-  abbrev pub adding_step : List ℕ → NumberedCommand → List ℕ
-  adding_step xs (numbers.Subscribe i) = put_in nat_lt i xs
-  adding_step xs (numbers.Unsubscribe i) = xs
-  adding_step xs (numbers.Advertise i) = xs
-  adding_step xs (numbers.Unadvertise i) = xs
-  adding_step xs (numbers.Publish i) = xs
-
-  abbrev pub numbers_added : List ℕ → Steps → List ℕ
-  numbers_added xs [] = xs
-  numbers_added xs (step ∷ steps) = numbers_added (adding_step xs step.1) steps
 
   -- a client's filters at every moment of a phase, and those at some moment of it
   abbrev pub every_number : ℕ → Steps → List ℕ

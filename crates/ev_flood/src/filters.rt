@@ -64,6 +64,29 @@ fn withdraw(filters: &[Sub], row: &mut Row, by: u32)
     row.is_a_set();
 }
 
+// Puts in what a command adds.
+fn add(row: &mut Row, command: NumberedCommand)
+    requires { IsNumber row.old.width command }
+    ensures width { row.new.width ≡ row.old.width }
+    ensures members { row.new.members ≡ adding_step row.old.members command }
+{
+    if let NumberedCommand::Subscribe(i) = command {
+        row.insert(i);
+    }
+}
+
+// Takes out what a command takes away.
+fn take_away(filters: &[Sub], row: &mut Row, command: NumberedCommand)
+    requires number { IsNumber (length filters.now) command }
+    requires width { row.old.width ≡ length filters.now }
+    ensures width { row.new.width ≡ row.old.width }
+    ensures members { row.new.members ≡ lasting_step filters.now row.old.members command }
+{
+    if let NumberedCommand::Unsubscribe(i) = command {
+        withdraw(filters, row, i);
+    }
+}
+
 // One command.
 fn step(filters: &[Sub], row: &mut Row, command: NumberedCommand)
     requires number { IsNumber (length filters.now) command }
@@ -71,13 +94,8 @@ fn step(filters: &[Sub], row: &mut Row, command: NumberedCommand)
     ensures width { row.new.width ≡ row.old.width }
     ensures members { row.new.members ≡ number_step filters.now row.old.members command }
 {
-    match command {
-        NumberedCommand::Subscribe(i) => {
-            row.insert(i);
-        }
-        NumberedCommand::Unsubscribe(i) => withdraw(filters, row, i),
-        _ => {}
-    }
+    add(row, command);
+    take_away(filters, row, command);
 }
 
 // All commands.
@@ -92,26 +110,7 @@ fn go_through(filters: &[Sub], row: &mut Row, steps: &[(u32, NumberedCommand)])
     }
 }
 
-// One command of a phase: what it takes away is not there at every moment of it, and what it adds is there at some.
-fn phase_step(filters: &[Sub], every: &mut Row, ever: &mut Row, command: NumberedCommand)
-    requires number { IsNumber (length filters.now) command }
-    requires every_width { every.old.width ≡ length filters.now }
-    requires ever_width { ever.old.width ≡ length filters.now }
-    ensures every_width { every.new.width ≡ every.old.width }
-    ensures ever_width { ever.new.width ≡ ever.old.width }
-    ensures every { every.new.members ≡ lasting_step filters.now every.old.members command }
-    ensures ever { ever.new.members ≡ adding_step filters.now ever.old.members command }
-{
-    match command {
-        NumberedCommand::Subscribe(i) => {
-            ever.insert(i);
-        }
-        NumberedCommand::Unsubscribe(i) => withdraw(filters, every, i),
-        _ => {}
-    }
-}
-
-// The commands of a phase: leaves those that none takes away, and puts in those that they add.
+// The commands of a phase: what they take away is not there at every moment of it, and what they add is there at some.
 fn go_through_phase(
     filters: &[Sub],
     every: &mut Row,
@@ -124,10 +123,11 @@ fn go_through_phase(
     ensures every_width { every.new.width ≡ every.old.width }
     ensures ever_width { ever.new.width ≡ ever.old.width }
     ensures every { every.new.members ≡ numbers_lasting filters.now every.old.members steps.now }
-    ensures ever { ever.new.members ≡ numbers_added filters.now ever.old.members steps.now }
+    ensures ever { ever.new.members ≡ numbers_added ever.old.members steps.now }
 {
     for (_, command) in steps {
-        phase_step(filters, every, ever, *command);
+        take_away(filters, every, *command);
+        add(ever, *command);
     }
 }
 

@@ -223,31 +223,6 @@ fn enter(
     are_same(&client.every, &client.ever, &mut room.change)
 }
 
-// All clients enter a phase; whether it is known that each has the same filters all through it.
-fn enter_all(
-    tables: &mut Tables,
-    filters: &[Sub],
-    scripts: &[Lists<(u32, NumberedCommand)>],
-    phase: u32,
-    room: &mut Room,
-) -> bool
-    requires few_scripts { length scripts.now ≤ 1024 }
-    requires numbers { AreAllNumbers (length filters.now) scripts.now }
-    requires ready { IsReady filters.now scripts.now tables.old }
-    requires room { IsRoom (length filters.now) room.old }
-    ensures room { IsRoom (length filters.now) room.new }
-    ensures ready { IsReady filters.now scripts.now tables.new }
-    ensures all { AreAll filters.now phase scripts.now tables.new.clients.items }
-    ensures steady { result ≡ true → AreSteady tables.new.clients.items }
-{
-    let mut steady = true;
-    for place in 0..scripts.len() {
-        let own = enter(tables, filters, scripts, place, phase, room);
-        steady &= own;
-    }
-    steady
-}
-
 /// Makes the tables those of a phase.
 pub(crate) fn enter_phase(
     tables: &mut Tables,
@@ -267,7 +242,11 @@ pub(crate) fn enter_phase(
     if tables.phase == Some(phase) {
         return;
     }
-    let steady = enter_all(tables, filters, scripts, phase, room);
+    let mut steady = true;
+    for place in 0..scripts.len() {
+        let own = enter(tables, filters, scripts, place, phase, room);
+        steady &= own;
+    }
     tables.steady = steady;
     tables.phase = Some(phase);
 }

@@ -1,18 +1,16 @@
 -- The words of canonical lines, and the numbers and names that they are.
 use Rattle.std.proofs.Common.{◌≡◌, ℕ, ◌+◌, ◌*◌, ◌-◌, ◌<◌, ◌≤◌, Bool, true, false, not, ◌&&◌, List, [], ◌∷◌, ◌++◌, length, refl, ap, ◌∙◌, arith, nat_le, nat_lt, Some}
-use Rattle.std.specs.Char.{digit_value}
 use Rattle.std.specs.Fmt.{decimal}
-use Rattle.std.specs.Str.Parse.{AllDigits, digits_value_after}
 use Rattle.std.proofs.lemmas.Fmt.{decimal_is_IsNumeral, length-decimal-le}
 use Rattle.std.proofs.lemmas.Bool.Decides.{nat_tests}
 use Rattle.std.proofs.lemmas.Grind.{common_steps}
 use Rattle.ev_values.specs.Name.{IsName}
 use Rattle.ev_values.proofs.NameTests.{name_tested}
 use Rattle.ev_script.specs.Tokens.{is_word_byte}
-use Rattle.ev_script.specs.Form.{is_digit}
-use Rattle.ev_spelling.proofs.Cuts.{are_word_bytes, whole_name, digits_bytes, digit_range}
+use Rattle.ev_script.proofs.IntLaws.{numeral_number}
+use Rattle.ev_spelling.proofs.Cuts.{are_word_bytes, whole_name, digits_bytes}
 use Rattle.ev_input.specs.Lines.{words, is_blank}
-use Rattle.ev_input.specs.Words.{number_from, number, one_number, two_numbers, name_and_number, one_name}
+use Rattle.ev_input.specs.Words.{number, one_number, two_numbers, name_and_number, one_name}
 use Rattle.ev_format.proofs.LineLaws.{are_shown, are_dense, word_then, word_last}
 
 both : (a b : Bool) → a && b ≡ true → (a ≡ true) × (b ≡ true)
@@ -55,22 +53,6 @@ words_then (b ∷ w) rest is = word_then b w rest (word_dense (b ∷ w) is.bytes
 
 -- Numbers.
 
-digit_is : (d : ℕ) → digit_value d < 10 → is_digit d ≡ true
-digit_is d h = let r = digit_range d h in let lo : 48 ≤ d = r.0 in let hi : d ≤ 57 = r.1 in grind (arith, nat_tests)
-
-digit_minus : (d : ℕ) → digit_value d < 10 → digit_value d ≡ d - 48
-digit_minus d h =
-    let r = digit_range d h in
-    let lo : 48 ≤ d = r.0 in
-    let hi : d ≤ 57 = r.1 in
-    let p : nat_lt d 48 ≡ false = grind (arith, nat_tests) in
-    let q : nat_lt d 58 ≡ true = grind (arith, nat_tests) in
-    simp (p, q)
-
-number_on : (m : ℕ) (ds : List ℕ) → AllDigits 10 ds → number_from m ds ≡ Some (digits_value_after 10 m ds)
-number_on m [] h = refl
-number_on m (d ∷ ds) h = rw (digit_is d h.0, digit_minus d h.0) (number_on (m * 10 + (d - 48)) ds h.1)
-
 pub number_again : (n : ℕ) → n < 65536 → number (decimal n) ≡ Some n
 unfolding number
 number_again n l =
@@ -79,7 +61,7 @@ number_again n l =
     let few : length (decimal n) ≤ 10 = length-decimal-le 10 n (omega arith) (omega arith) (omega arith) in
     let a : nat_lt 0 (length (decimal n)) ≡ true = grind (arith, nat_tests) in
     let b : nat_le (length (decimal n)) 10 ≡ true = grind (arith, nat_tests) in
-    rw (a, b) (number_on 0 (decimal n) d.0.1 ∙ ap Some d.1)
+    rw (a, b) (numeral_number (decimal n) d.0.1 ∙ ap Some d.1)
 
 pub one_again : (n : ℕ) → n < 65536 → one_number (decimal n ∷ []) ≡ Some n
 unfolding one_number

@@ -1,11 +1,12 @@
 -- Members of lists by their numbers.
 use Rattle.std.proofs.Common.{◌≡◌, ◌≤◌, ◌-◌, ℕ, zero, suc, true, false, ◌&&◌, All, List, [], ◌∷◌, length, get_or, subst, refl, arith}
-use Rattle.std.specs.Prelude.{nat_le, nat_lt, slice_get}
+use Rattle.std.specs.Prelude.{None, nat_le, nat_lt, slice_get}
 use Rattle.std.proofs.lemmas.Grind.{common_steps}
 use Rattle.std.proofs.lemmas.List.{get_or_default}
 use Rattle.ev_wire.specs.declared.delivery.Delivery.{Delivery}
 use Rattle.ev_report.specs.Published.{by_number}
 use Rattle.ev_found.specs.Found.{delivery_text, place_text}
+use Rattle.ev_found.specs.Published.{at_number}
 
 -- what holds of each list holds of the one with a number, where there is none too
 pub each-number : (P : List Delivery → Type 0) (lists : List (List Delivery)) (n : ℕ) → P [] → All P lists → P (by_number lists n)
@@ -52,3 +53,13 @@ no-place names deliveries (suc i) at h e f = go deliveries i (behind at i (lengt
     go [] k l = refl
     go (d ∷ ds) zero l = absurd (omega (arith, l))
     go (d ∷ ds) (suc k) l = go ds k (omega (arith, l))
+
+-- nothing is there, so the list is empty
+pub none_there : {A : Type 0} (lists : List (List A)) (n : ℕ) → None ≡ at_number lists n → [] ≡ by_number lists n
+none_there {A = A} lists zero e = refl
+none_there {A = A} lists (suc i) e = go lists i e
+  where
+    go : (ls : List (List A)) (k : ℕ) → None ≡ slice_get ls k → [] ≡ get_or ls k []
+    go [] k e = refl
+    go (l ∷ ls) zero e = absurd cc
+    go (l ∷ ls) (suc k) e = go ls k e

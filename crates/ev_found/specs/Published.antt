@@ -1,5 +1,5 @@
 -- The names of clients, and the notices that they publish.
-use Rattle.std.specs.Prelude.{◌≡◌, true, Bool, ◌&&◌, ℕ, All, List, [], ◌∷◌, length, map, nat_le, nat_lt}
+use Rattle.std.specs.Prelude.{◌≡◌, true, Bool, ◌&&◌, ℕ, zero, suc, All, List, [], ◌∷◌, Option, None, length, map, nat_le, nat_lt, slice_get}
 use Rattle.ev_notice.specs.Notice.{Attribute}
 use Rattle.ev_wire.specs.declared.command.Command.{Command}
 use Rattle.ev_wire.specs.declared.command.Command.TheVariants as commands
@@ -28,6 +28,11 @@ notices_in clients = map (λ client. script_notices client.script) clients
 -- the name of each client
 abbrev pub names_in : List ClientParts → List (List ℕ)
 names_in clients = map (λ client. client.name) clients
+
+-- what stands at a number, from 1
+abbrev pub at_number : {A : Type 0} → List A → ℕ → Option A
+at_number items zero = None
+at_number items (suc place) = slice_get items place
 
 -- the notice of a publish by its publisher and its ordinal
 abbrev pub notice_at : List (List (List Attribute)) → Id → List Attribute

@@ -1,7 +1,8 @@
 //! The names of clients, and the notices that they publish, taken out of a net.
 ghost use Rattle.std.specs.Prelude.{◌≡◌, true, IfOk};
+ghost use Rattle.std.specs.Option.{option_copied};
 ghost use Rattle.ev_report.specs.Published.{by_number};
-ghost use Rattle.ev_found.specs.Published.{is_published, names_in, notice_at, notices_in, script_notices};
+ghost use Rattle.ev_found.specs.Published.{at_number, is_published, names_in, notice_at, notices_in, script_notices};
 
 use ev_memory::NoMemory;
 use ev_model::{Client, Command};
@@ -55,14 +56,21 @@ pub fn notice_at(notices: &[Lists<Notice>], id: Id) -> &Notice
     &of_client[(id.ordinal - 1) as usize]
 }
 
+// What stands at a number, from 1.
+fn at_number<T>(items: &[T], number: u32) -> Option<&T>
+    ensures { option_copied result ≡ at_number items.now number }
+{
+    match number.checked_sub(1) {
+        Some(place) => items.get(place as usize),
+        None => None,
+    }
+}
+
 /// The name of a client, by its number from 1.
 pub fn name_at(names: &[Name], number: u32) -> &[u8]
     ensures { result.now ≡ by_number names.now number }
 {
-    let Some(place) = number.checked_sub(1) else {
-        return &[];
-    };
-    match names.get(place as usize) {
+    match at_number(names, number) {
         Some(name) => name.bytes(),
         None => &[],
     }
@@ -72,10 +80,7 @@ pub fn name_at(names: &[Name], number: u32) -> &[u8]
 pub fn received_by(received: &[Lists<Delivery>], number: u32) -> &[Delivery]
     ensures { result.now ≡ by_number received.now number }
 {
-    let Some(place) = number.checked_sub(1) else {
-        return &[];
-    };
-    match received.get(place as usize) {
+    match at_number(received, number) {
         Some(list) => list.as_slice(),
         None => &[],
     }

@@ -34,39 +34,24 @@ fn put_id<K: Sink>(out: &mut Pending, sink: &mut K, names: &[Name], id: Id)
     put_number(out, sink, u64::from(id.ordinal))
 }
 
+// What a client received, with the names of those who published it.
+#[derive(Clone, Copy)]
+struct Heard<'a> {
+    names: &'a [Name],
+    deliveries: &'a [Delivery],
+}
+
 // The publication of the delivery at a place.
-fn put_place<K: Sink>(
-    out: &mut Pending,
-    sink: &mut K,
-    names: &[Name],
-    deliveries: &[Delivery],
-    place: u64,
-)
+fn put_place<K: Sink>(out: &mut Pending, sink: &mut K, heard: Heard<'_>, place: u64)
     ensures { Went (outlet (K.taken sink.old) (K.faults sink.old) out.old) (outlet (K.taken sink.new) (K.faults sink.new) out.new)
-        (place_text names.now deliveries.now place) }
+        (place_text heard.entry.names.now heard.entry.deliveries.now place) }
 {
     let Some(at) = place.checked_sub(1) else {
         return;
     };
-    match deliveries.get(at as usize) {
-        Some(delivery) => put_id(out, sink, names, delivery.id),
+    match heard.deliveries.get(at as usize) {
+        Some(delivery) => put_id(out, sink, heard.names, delivery.id),
         None => {}
-    }
-}
-
-// Those of all places.
-fn put_places<K: Sink>(
-    out: &mut Pending,
-    sink: &mut K,
-    names: &[Name],
-    deliveries: &[Delivery],
-    places: &[u64],
-)
-    ensures { Went (outlet (K.taken sink.old) (K.faults sink.old) out.old) (outlet (K.taken sink.new) (K.faults sink.new) out.new)
-        (flat_map (place_text names.now deliveries.now) places.now) }
-{
-    for place in places {
-        put_place(out, sink, names, deliveries, *place);
     }
 }
 
@@ -83,18 +68,14 @@ fn put_head<K: Sink>(out: &mut Pending, sink: &mut K, names: &[Name], client: u3
 }
 
 // The line of an occurrence.
-fn put_occurrence<K: Sink>(
-    out: &mut Pending,
-    sink: &mut K,
-    names: &[Name],
-    deliveries: &[Delivery],
-    places: &[u64],
-)
+fn put_occurrence<K: Sink>(out: &mut Pending, sink: &mut K, heard: Heard<'_>, places: &[u64])
     ensures { Went (outlet (K.taken sink.old) (K.faults sink.old) out.old) (outlet (K.taken sink.new) (K.faults sink.new) out.new)
-        (found_line names.now deliveries.now places.now) }
+        (found_line heard.entry.names.now heard.entry.deliveries.now places.now) }
 {
     out.put(sink, b"found");
-    put_places(out, sink, names, deliveries, places);
+    for place in places {
+        put_place(out, sink, heard, *place);
+    }
     out.put(sink, b"\n")
 }
 
@@ -102,8 +83,7 @@ fn put_occurrence<K: Sink>(
 fn put_next<K: Sink>(
     out: &mut Pending,
     sink: &mut K,
-    names: &[Name],
-    deliveries: &[Delivery],
+    heard: Heard<'_>,
     detector: &mut Detector,
     notice: &Notice,
 )
@@ -113,11 +93,11 @@ fn put_next<K: Sink>(
     ensures fed { detector.new.fed ≡ detector.old.fed ++ notice.now ∷ [] }
     ensures went { (line : List ℕ)
         × Went (outlet (K.taken sink.old) (K.faults sink.old) out.old) (outlet (K.taken sink.new) (K.faults sink.new) out.new) line
-        × (flat_map (found_line names.now deliveries.now) (all_occurrences detector.old.steps (detector.old.fed ++ notice.now ∷ []))
-        ≡ flat_map (found_line names.now deliveries.now) (all_occurrences detector.old.steps detector.old.fed) ++ line) }
+        × (flat_map (found_line heard.entry.names.now heard.entry.deliveries.now) (all_occurrences detector.old.steps (detector.old.fed ++ notice.now ∷ []))
+        ≡ flat_map (found_line heard.entry.names.now heard.entry.deliveries.now) (all_occurrences detector.old.steps detector.old.fed) ++ line) }
 {
     if detector.feed(notice) {
-        put_occurrence(out, sink, names, deliveries, detector.places());
+        put_occurrence(out, sink, heard, detector.places());
     }
 }
 
@@ -125,23 +105,21 @@ fn put_next<K: Sink>(
 fn put_occurrences<K: Sink>(
     out: &mut Pending,
     sink: &mut K,
-    names: &[Name],
+    heard: Heard<'_>,
     notices: &[Lists<Notice>],
-    deliveries: &[Delivery],
     mut detector: Detector,
 )
     requires some { 0 < length detector.steps }
     requires nothing { detector.fed ≡ [] }
-    requires published { ArePublished notices.now deliveries.now }
+    requires published { ArePublished notices.now heard.deliveries.now }
     ensures { Went (outlet (K.taken sink.old) (K.faults sink.old) out.old) (outlet (K.taken sink.new) (K.faults sink.new) out.new)
-        (flat_map (found_line names.now deliveries.now) (all_occurrences detector.steps (notices_of notices.now deliveries.now))) }
+        (flat_map (found_line heard.entry.names.now heard.entry.deliveries.now) (all_occurrences detector.steps (notices_of notices.now heard.entry.deliveries.now))) }
 {
-    for delivery in deliveries {
+    for delivery in heard.deliveries {
         put_next(
             out,
             sink,
-            names,
-            deliveries,
+            heard,
             &mut detector,
             notice_at(notices, delivery.id),
         );
@@ -167,5 +145,6 @@ pub fn put_pattern<K: Sink>(
         detector,
     } = pattern;
     put_head(out, sink, names, client, &label);
-    put_occurrences(out, sink, names, notices, deliveries, detector)
+    let heard = Heard { names, deliveries };
+    put_occurrences(out, sink, heard, notices, detector)
 }

@@ -11,7 +11,8 @@ use Rattle.ev_script.specs.declared.verb.Verb.TheVariants as verbs
 use Rattle.ev_script.specs.Form.{CommandForm}
 use Rattle.ev_script.specs.Form.CommandForm.{control, publish}
 use Rattle.ev_script.specs.Command.{IsCommandOf, Spells, fault_of_form, fits, form_of, script_fault}
-use Rattle.ev_input.specs.declared.fault.InputFault.{InputFault}
+use Rattle.ev_input.specs.declared.fault.Fault.{Fault}
+use Rattle.ev_input.specs.declared.fault.LineFault.{LineFault}
 use Rattle.ev_input.specs.Answer.{FailsByRule}
 use Rattle.ev_input.specs.Commands.{Tells, command_in, command_of, command_of_form, document_fault, unless_fault}
 use Rattle.ev_input.proofs.Notices.{rising_is_set}
@@ -44,13 +45,13 @@ unfolding command_of
 fault_told version line e h = in_form (form_of version line) e h
 
 -- a fault of a command line, told as one of a document, is the fault of its command
-pub told_fault : (version : ℕ) (line : List ℕ) (r : Result Command ScriptFault) (e : ScriptFault) (told : InputFault) → r ≡ Err e → Tells told e
+pub told_fault : (version : ℕ) (line : List ℕ) (r : Result Command ScriptFault) (e : ScriptFault) (told : LineFault Fault) → r ≡ Err e → Tells told e
     → (r ≡ Err faults.Syntax → script_fault version line ≡ Some faults.Syntax) → (r ≡ Err faults.Value → script_fault version line ≡ Some faults.Value)
     → (r ≡ Err faults.Operand → script_fault version line ≡ Some faults.Operand) → (r ≡ Err faults.Count → script_fault version line ≡ Some faults.Count)
     → (r ≡ Err faults.Repeat → script_fault version line ≡ Some faults.Repeat) → FailsByRule told (command_of version line)
-told_fault version line r faults.Syntax told e t a b c d f = subst (λ (x : InputFault). FailsByRule x (command_of version line)) (sym t) (fault_told version line faults.Syntax (a e))
-told_fault version line r faults.Value told e t a b c d f = subst (λ (x : InputFault). FailsByRule x (command_of version line)) (sym t) (fault_told version line faults.Value (b e))
-told_fault version line r faults.Operand told e t a b c d f = subst (λ (x : InputFault). FailsByRule x (command_of version line)) (sym t) (fault_told version line faults.Operand (c e))
-told_fault version line r faults.Count told e t a b c d f = subst (λ (x : InputFault). FailsByRule x (command_of version line)) (sym t) (fault_told version line faults.Count (d e))
-told_fault version line r faults.Repeat told e t a b c d f = subst (λ (x : InputFault). FailsByRule x (command_of version line)) (sym t) (fault_told version line faults.Repeat (f e))
-told_fault version line r faults.NoMemory told e t a b c d f = subst (λ (x : InputFault). FailsByRule x (command_of version line)) (sym t) tt
+told_fault version line r faults.Syntax told e t a b c d f = subst (λ (x : LineFault Fault). FailsByRule x (command_of version line)) (sym t) (fault_told version line faults.Syntax (a e))
+told_fault version line r faults.Value told e t a b c d f = subst (λ (x : LineFault Fault). FailsByRule x (command_of version line)) (sym t) (fault_told version line faults.Value (b e))
+told_fault version line r faults.Operand told e t a b c d f = subst (λ (x : LineFault Fault). FailsByRule x (command_of version line)) (sym t) (fault_told version line faults.Operand (c e))
+told_fault version line r faults.Count told e t a b c d f = subst (λ (x : LineFault Fault). FailsByRule x (command_of version line)) (sym t) (fault_told version line faults.Count (d e))
+told_fault version line r faults.Repeat told e t a b c d f = subst (λ (x : LineFault Fault). FailsByRule x (command_of version line)) (sym t) (fault_told version line faults.Repeat (f e))
+told_fault version line r faults.NoMemory told e t a b c d f = subst (λ (x : LineFault Fault). FailsByRule x (command_of version line)) (sym t) tt

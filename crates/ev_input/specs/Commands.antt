@@ -12,8 +12,8 @@ use Rattle.ev_script.specs.Form.{CommandForm}
 use Rattle.ev_script.specs.Form.CommandForm.{control, publish}
 use Rattle.ev_script.specs.Command.{fault_in, fits, form_of, wholes}
 use Rattle.ev_input.specs.declared.fault.Fault.{Fault}
-use Rattle.ev_input.specs.declared.fault.InputFault.{InputFault}
-use Rattle.ev_input.specs.declared.fault.InputFault.TheVariants.{NoMemory, Bad}
+use Rattle.ev_input.specs.declared.fault.LineFault.{LineFault}
+use Rattle.ev_input.specs.declared.fault.LineFault.TheVariants.{NoMemory, Kind}
 use Rattle.ev_input.specs.declared.fault.Fault.TheVariants as is
 
 -- a fault of a command line, as one of a document; want of memory is no fault of a line
@@ -50,6 +50,6 @@ unfoldable pub command_of : ℕ → List ℕ → Result Command Fault
 command_of version line = command_of_form (form_of version line)
 
 -- the fault of a line that a fault of its command is; want of memory stays what it is
-abbrev pub Tells : InputFault → ScriptFault → Type 0
+abbrev pub Tells : LineFault Fault → ScriptFault → Type 0
 Tells fault faults.NoMemory = fault ≡ NoMemory
-Tells fault e = fault ≡ Bad 0 (document_fault e)
+Tells fault e = fault ≡ Kind (document_fault e)

@@ -47,11 +47,6 @@ pub record IsNetOf (bytes : List ℕ) (net : NetParts) : Type 0 where
 abbrev pub IsBadAt : List ℕ → ℕ → Fault → Type 0
 IsBadAt bytes line fault = document_of bytes ≡ Err (line, fault)
 
--- the fault of a line is told with the number of the line
-abbrev pub Places : InputFault → ℕ → InputFault → Type 0
-Places told line inputs.NoMemory = told ≡ inputs.NoMemory
-Places told line (inputs.Bad untold kind) = told ≡ inputs.Bad line kind
-
 abbrev pub Refuses : InputFault → Result State (ℕ × Fault) → Type 0
 Refuses inputs.NoMemory read = Unit {0}
 Refuses (inputs.Bad line kind) read = read ≡ Err (line, kind)

@@ -19,13 +19,18 @@ use Rattle.ev_input.specs.declared.state.State.{State}
 use Rattle.ev_input.specs.declared.state.Place.{Place}
 use Rattle.ev_input.specs.declared.state.Place.TheVariants as at
 
--- after a client: a client, a script or the schedule
+-- the section that this word begins: a script or the schedule; or something else
+abbrev pub next_section : State → List ℕ → List ℕ → List (List ℕ) → Answer → Answer
+next_section s token w ws other =
+    if bytes_eq token (codes "script") then script_rule s w ws
+    else if bytes_eq token (codes "schedule") then schedule_rule s w ws
+    else other
+
+-- after a client: a client or the next section
 unfoldable pub at_clients : State → List ℕ → List (List ℕ) → Answer
 at_clients s w ws =
     if bytes_eq w (codes "client") then client_rule s ws
-    else if bytes_eq w (codes "script") then script_rule s w ws
-    else if bytes_eq w (codes "schedule") then schedule_rule s w ws
-    else Err is.Order
+    else next_section s w w ws (Err is.Order)
 
 -- after an edge, or where one may stand: an edge; if the edges join all servers, in version 2 the next tree, or what stands after a client
 unfoldable pub at_edges : State → List ℕ → List (List ℕ) → Answer
@@ -40,10 +45,7 @@ unfoldable pub at_token : State → List ℕ → List ℕ → List (List ℕ) �
 at_token s line w ws None = Err is.Order
 at_token s line w ws (Some token) =
     if bytes_eq token (codes "barrier") then barrier_rule s w ws
-    else if bytes_eq token (codes "script") then script_rule s w ws
-    else if bytes_eq token (codes "schedule") then schedule_rule s w ws
-    else if is_some (verb_named token) then command_rule s line
-    else Err is.Order
+    else next_section s token w ws (if is_some (verb_named token) then command_rule s line else Err is.Order)
 
 -- in the schedule
 unfoldable pub at_schedule : State → ℕ → List ℕ → List (List ℕ) → Answer

@@ -1,5 +1,5 @@
 -- What each line of a document does to what stands so far: one rule for each kind of line, whose tests stand in their order.
-use Rattle.std.specs.Prelude.{true, false, not, ℕ, ◌+◌, List, [], ◌∷◌, ◌++◌, ◌&&◌, nat_eq}
+use Rattle.std.specs.Prelude.{Bool, true, false, not, ℕ, ◌+◌, List, [], ◌∷◌, ◌++◌, ◌&&◌, nat_eq}
 use Rattle.std.specs.Prelude.{nat_lt, nat_le, length, if◌then◌else◌, Option, Some, None, Result, Ok, codes}
 use Rattle.std.specs.Option.{is_some}
 use Rattle.std.specs.Str.{bytes_eq}
@@ -105,10 +105,14 @@ script_rule s w ws = do
   first ← need (not (has_script s.clients client)) is.Name
   Ok (record s { place = at.Scripts; clients = changed_at client begun s.clients; client = client })
 
+-- a line of this word alone
+abbrev pub is_alone : List ℕ → List ℕ → List (List ℕ) → Bool
+is_alone text w ws = bytes_eq w text && nat_eq (length ws) 0
+
 -- `barrier`
 unfoldable pub barrier_rule : State → List ℕ → List (List ℕ) → Answer
 barrier_rule s w ws = do
-  alone ← need (bytes_eq w (codes "barrier") && nat_eq (length ws) 0) is.Words
+  alone ← need (is_alone (codes "barrier") w ws) is.Words
   room ← need (nat_lt (barriers_at s.clients s.client) 4095) is.Count
   Ok (record s { clients = changed_at s.client with_barrier s.clients })
 
@@ -130,7 +134,7 @@ command_rule s line = do
 -- `schedule`
 unfoldable pub schedule_rule : State → List ℕ → List (List ℕ) → Answer
 schedule_rule s w ws = do
-  alone ← need (bytes_eq w (codes "schedule") && nat_eq (length ws) 0) is.Words
+  alone ← need (is_alone (codes "schedule") w ws) is.Words
   Ok (record s { place = at.Schedule })
 
 -- a turn on line n

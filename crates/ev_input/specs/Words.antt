@@ -1,17 +1,12 @@
 -- What the words of a line are.
-use Rattle.std.specs.Prelude.{ℕ, ◌+◌, ◌*◌, ◌-◌, List, [], ◌∷◌, ◌&&◌, nat_lt, nat_le, length, if◌then◌else◌, Option, Some, None}
+use Rattle.std.specs.Prelude.{ℕ, List, [], ◌∷◌, ◌&&◌, nat_lt, nat_le, length, if◌then◌else◌, Option, Some, None}
 use Rattle.std.specs.Option.{option_and_then, option_zip}
 use Rattle.ev_values.specs.Name.{is_name}
-use Rattle.ev_script.specs.Form.{is_digit}
-
--- the number of further digits behind those of which this is the number
-abbrev pub number_from : ℕ → List ℕ → Option ℕ
-number_from n [] = Some n
-number_from n (b ∷ bs) = if is_digit b then number_from (n * 10 + (b - 48)) bs else None
+use Rattle.ev_script.specs.Form.{number_of_digits}
 
 -- a number: 1 to 10 digits
 unfoldable pub number : List ℕ → Option ℕ
-number w = if nat_lt 0 (length w) && nat_le (length w) 10 then number_from 0 w else None
+number w = if nat_lt 0 (length w) && nat_le (length w) 10 then number_of_digits w else None
 
 -- the one word, the two words that there are
 abbrev pub one : List (List ℕ) → Option (List ℕ)

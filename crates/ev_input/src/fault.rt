@@ -1,7 +1,7 @@
 //! Why a document is refused.
-ghost use Rattle.std.specs.Prelude.{◌≡◌};
+ghost use Rattle.std.specs.Prelude.{◌≡◌, IfOk, OnErr};
+ghost use Rattle.ev_input.specs.declared.fault.LineFault.TheVariants as faults;
 ghost use Rattle.ev_input.specs.declared.fault.InputFault.TheVariants as inputs;
-ghost use Rattle.ev_input.specs.Net.{Places};
 
 use ev_memory;
 use ev_memory::NoMemory;
@@ -52,6 +52,39 @@ pub enum Fault {
     BadTurn,
 }
 
+/// Why a line is not taken, before its number is told: its fault, of one of these kinds, or want of memory.
+#[derive(Clone, Copy, Debug, PartialEq, Eq)]
+pub enum LineFault<K> {
+    /// The line is at fault.
+    Kind(K),
+    /// Memory ran out.
+    NoMemory,
+}
+
+impl<K> LineFault<K> {
+    /// The fault of the line; an error where memory ran out.
+    pub fn kind(self) -> Result<K, NoMemory>
+        ensures kind { IfOk result (λ kind. self ≡ faults.Kind kind) }
+        ensures memory { OnErr result (self ≡ faults.NoMemory) }
+    {
+        match self {
+            LineFault::Kind(kind) => Ok(kind),
+            LineFault::NoMemory => Err(NoMemory),
+        }
+    }
+}
+
+impl<K> From<NoMemory> for LineFault<K> {
+    ghost from_gives = { λ _ e. e ≡ faults.NoMemory };
+
+    fn from(_: NoMemory) -> Self {
+        LineFault::NoMemory
+    }
+}
+
+/// What a rule answers, unless the line is at fault or memory ran out.
+pub(crate) type Ruled<T> = Result<T, LineFault<Fault>>;
+
 /// Why bytes give no net.
 #[derive(Clone, Copy, Debug, PartialEq, Eq)]
 pub enum InputFault {
@@ -65,25 +98,6 @@ pub enum InputFault {
     },
     /// Memory ran out.
     NoMemory,
-}
-
-impl InputFault {
-    /// What is at fault with a line, before the number of the line is told: 0 stands in its place.
-    pub(crate) fn of_line(kind: Fault) -> InputFault
-        ensures { result ≡ inputs.Bad 0 kind }
-    {
-        InputFault::Bad { line: 0, kind }
-    }
-
-    /// The same, told with the number of the line.
-    pub(crate) fn on_line(self, line: u32) -> InputFault
-        ensures { Places result line self }
-    {
-        match self {
-            InputFault::Bad { line: _, kind } => InputFault::Bad { line, kind },
-            InputFault::NoMemory => InputFault::NoMemory,
-        }
-    }
 }
 
 impl From<NoMemory> for InputFault {

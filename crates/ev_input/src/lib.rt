@@ -1,6 +1,7 @@
 //! The input document: read whole into a net, or refused with its first line at fault and the first fault there.
 #![tactic(auto)]
 
+mod answer;
 mod block;
 mod clients;
 mod cut;
@@ -22,7 +23,8 @@ mod turns;
 mod version;
 mod words;
 
+pub use answer::{need, want};
 pub use cut::{next_line, next_word};
-pub use fault::{Fault, InputFault};
+pub use fault::{Fault, InputFault, LineFault};
 pub use read::read_net;
 pub use words::two;

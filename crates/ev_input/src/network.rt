@@ -5,7 +5,8 @@ ghost use Rattle.ev_input.specs.Answer.{StepsByRule};
 ghost use Rattle.ev_input.specs.Drawn.{are_servers, is_apart, is_server};
 ghost use Rattle.ev_input.specs.Rules.{client_rule, edge_rule, header_rule, phase_rule, semantics_named, semantics_rule, servers_rule};
 
-use crate::fault::{Fault, InputFault};
+use crate::answer::{need, want};
+use crate::fault::{Fault, LineFault, Ruled};
 use crate::state::{Place, State};
 use crate::trees::Trees;
 use crate::version::version_named;
@@ -43,18 +44,12 @@ fn semantics_named(word: &[u8]) -> Option<Semantics>
 
 /// `siena 1`, `siena 2`.
 #[tactic(auto, unfolding(crate::specs::Rules::header_rule))]
-pub fn header(state: &mut State, word: &[u8], rest: &[u8]) -> Result<(), InputFault>
+pub fn header(state: &mut State, word: &[u8], rest: &[u8]) -> Ruled<()>
     ensures { StepsByRule result state.new (header_rule state.old word.now (words rest.now)) }
 {
-    if !is_same(word, b"siena") {
-        return Err(InputFault::of_line(Fault::Header));
-    }
-    let Some(word) = one(rest) else {
-        return Err(InputFault::of_line(Fault::Header));
-    };
-    let Some(version) = version_named(word) else {
-        return Err(InputFault::of_line(Fault::Header));
-    };
+    need(is_same(word, b"siena"), Fault::Header)?;
+    let word = want(one(rest), Fault::Header)?;
+    let version = want(version_named(word), Fault::Header)?;
     state.place = Place::Semantics;
     state.version = version;
     Ok(())
@@ -62,18 +57,12 @@ pub fn header(state: &mut State, word: &[u8], rest: &[u8]) -> Result<(), InputFa
 
 /// `semantics subscription`, `semantics advertisement`.
 #[tactic(auto, unfolding(crate::specs::Rules::semantics_rule))]
-pub fn semantics(state: &mut State, word: &[u8], rest: &[u8]) -> Result<(), InputFault>
+pub fn semantics(state: &mut State, word: &[u8], rest: &[u8]) -> Ruled<()>
     ensures { StepsByRule result state.new (semantics_rule state.old word.now (words rest.now)) }
 {
-    if !is_same(word, b"semantics") {
-        return Err(InputFault::of_line(Fault::Order));
-    }
-    let Some(word) = one(rest) else {
-        return Err(InputFault::of_line(Fault::Words));
-    };
-    let Some(semantics) = semantics_named(word) else {
-        return Err(InputFault::of_line(Fault::Words));
-    };
+    need(is_same(word, b"semantics"), Fault::Order)?;
+    let word = want(one(rest), Fault::Words)?;
+    let semantics = want(semantics_named(word), Fault::Words)?;
     state.place = Place::Servers;
     state.semantics = semantics;
     Ok(())
@@ -81,18 +70,12 @@ pub fn semantics(state: &mut State, word: &[u8], rest: &[u8]) -> Result<(), Inpu
 
 /// `servers N`.
 #[tactic(auto, unfolding(crate::specs::Rules::servers_rule))]
-pub fn servers(alloc: Global, state: &mut State, word: &[u8], rest: &[u8]) -> Result<(), InputFault>
+pub fn servers(alloc: Global, state: &mut State, word: &[u8], rest: &[u8]) -> Ruled<()>
     ensures { StepsByRule result state.new (servers_rule state.old word.now (words rest.now)) }
 {
-    if !is_same(word, b"servers") {
-        return Err(InputFault::of_line(Fault::Order));
-    }
-    let Some(n) = one_number(rest) else {
-        return Err(InputFault::of_line(Fault::Words));
-    };
-    if !is_server(64, n) {
-        return Err(InputFault::of_line(Fault::Range));
-    }
+    need(is_same(word, b"servers"), Fault::Order)?;
+    let n = want(one_number(rest), Fault::Words)?;
+    need(is_server(64, n), Fault::Range)?;
     state.place = Place::Edges;
     state.trees = Trees::new(alloc, n as u32);
     Ok(())
@@ -100,55 +83,39 @@ pub fn servers(alloc: Global, state: &mut State, word: &[u8], rest: &[u8]) -> Re
 
 /// `edge A B`.
 #[tactic(auto, unfolding(crate::specs::Rules::edge_rule, crate::specs::Drawn::edge_fault))]
-pub fn edge(state: &mut State, rest: &[u8]) -> Result<(), InputFault>
+pub fn edge(state: &mut State, rest: &[u8]) -> Ruled<()>
     ensures { StepsByRule result state.new (edge_rule state.old (words rest.now)) }
 {
-    let Some((a, b)) = two_numbers(rest) else {
-        return Err(InputFault::of_line(Fault::Words));
-    };
-    if !are_servers(state.trees.servers(), a, b) {
-        return Err(InputFault::of_line(Fault::Range));
-    }
+    let (a, b) = want(two_numbers(rest), Fault::Words)?;
+    need(are_servers(state.trees.servers(), a, b), Fault::Range)?;
     match state.trees.join(a as u32, b as u32)? {
-        Some(EdgeFault::Twice) => Err(InputFault::of_line(Fault::Twice)),
-        Some(EdgeFault::Loop) => Err(InputFault::of_line(Fault::Loop)),
+        Some(EdgeFault::Twice) => Err(LineFault::Kind(Fault::Twice)),
+        Some(EdgeFault::Loop) => Err(LineFault::Kind(Fault::Loop)),
         None => Ok(()),
     }
 }
 
 /// `phase K`, where the edges before join all servers.
 #[tactic(auto, unfolding(crate::specs::Rules::phase_rule))]
-pub fn phase(alloc: Global, state: &mut State, rest: &[u8]) -> Result<(), InputFault>
+pub fn phase(alloc: Global, state: &mut State, rest: &[u8]) -> Ruled<()>
     requires { is_apart state.old.trees ≡ false }
     ensures { StepsByRule result state.new (phase_rule state.old (words rest.now)) }
 {
-    let Some(k) = one_number(rest) else {
-        return Err(InputFault::of_line(Fault::Words));
-    };
-    if k <= state.trees.phase() as u64 || k > 4095 {
-        return Err(InputFault::of_line(Fault::Range));
-    }
+    let k = want(one_number(rest), Fault::Words)?;
+    need(k > state.trees.phase() as u64 && k <= 4095, Fault::Range)?;
     state.trees.begin(alloc, k as u32)?;
     Ok(())
 }
 
 /// `client NAME SERVER`.
 #[tactic(auto, unfolding(crate::specs::Rules::client_rule))]
-pub fn client(alloc: Global, state: &mut State, rest: &[u8]) -> Result<(), InputFault>
+pub fn client(alloc: Global, state: &mut State, rest: &[u8]) -> Ruled<()>
     ensures { StepsByRule result state.new (client_rule state.old (words rest.now)) }
 {
-    let Some((name, server)) = name_and_number(rest) else {
-        return Err(InputFault::of_line(Fault::Words));
-    };
-    if !is_server(state.trees.servers(), server) {
-        return Err(InputFault::of_line(Fault::Range));
-    }
-    if state.clients.find(name).is_some() {
-        return Err(InputFault::of_line(Fault::Name));
-    }
-    if state.clients.count() >= 1024 {
-        return Err(InputFault::of_line(Fault::Count));
-    }
+    let (name, server) = want(name_and_number(rest), Fault::Words)?;
+    need(is_server(state.trees.servers(), server), Fault::Range)?;
+    need(state.clients.find(name).is_none(), Fault::Name)?;
+    need(state.clients.count() < 1024, Fault::Count)?;
     state.clients.add(alloc, name, server as u32)?;
     state.place = Place::Clients;
     Ok(())

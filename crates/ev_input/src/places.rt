@@ -1,16 +1,18 @@
 //! Which rule a line is read by.
-ghost use Rattle.std.specs.Prelude.{◌≡◌, ◌≤◌, ◌&&◌, ℕ, List, None, OnOk, Some, codes, false, length, nat_eq};
+ghost use Rattle.std.specs.Prelude.{◌≡◌, ◌≤◌, ◌&&◌, ℕ, Err, List, None, OnOk, Some, codes, false, length, nat_eq};
 ghost use Rattle.std.specs.Str.{bytes_eq};
 ghost use Rattle.ev_input.specs.Rules.{version_number};
 ghost use Rattle.ev_script.specs.Tokens.{first_word, tokens};
 ghost use Rattle.ev_input.specs.Lines.{words};
 ghost use Rattle.ev_input.specs.Answer.{StepsByRule};
+ghost use Rattle.ev_input.specs.declared.fault.Fault.{Fault as Kind};
 ghost use Rattle.ev_input.specs.Drawn.{is_apart};
-ghost use Rattle.ev_input.specs.Places.{at_clients, at_edges, at_place, at_schedule, at_section, end_rule, has_servers, is_script, is_skipped, line_rule};
+ghost use Rattle.ev_input.specs.Places.{at_clients, at_edges, at_place, at_schedule, at_section, end_rule, has_servers, is_script, is_skipped, line_rule, next_section};
 ghost use Rattle.ev_script.specs.Form.{verb_named};
 
+use crate::answer::need;
 use crate::cut::{is_blank, next_word};
-use crate::fault::{Fault, InputFault};
+use crate::fault::{Fault, LineFault, Ruled};
 use crate::network::{client, edge, header, phase, semantics, servers};
 use crate::schedule::{command_turn, take_turn, version_turn};
 use crate::scripts::{barrier, command, schedule, script};
@@ -19,19 +21,28 @@ use crate::version::Version;
 use ev_script::{Line, is_same, verb_named};
 use std::alloc::Global;
 
+// A script or the schedule, where this word begins it.
+fn next_section(state: &mut State, token: &[u8], word: &[u8], rest: &[u8]) -> Ruled<()>
+    ensures { StepsByRule result state.new (next_section state.old token.now word.now (words rest.now) (Err Kind.Order)) }
+{
+    if is_same(token, b"script") {
+        script(state, word, rest)
+    } else if is_same(token, b"schedule") {
+        schedule(state, word, rest)
+    } else {
+        Err(LineFault::Kind(Fault::Order))
+    }
+}
+
 // Behind a client.
 #[tactic(auto, unfolding(crate::specs::Places::at_clients))]
-fn at_clients(alloc: Global, state: &mut State, word: &[u8], rest: &[u8]) -> Result<(), InputFault>
+fn at_clients(alloc: Global, state: &mut State, word: &[u8], rest: &[u8]) -> Ruled<()>
     ensures { StepsByRule result state.new (at_clients state.old word.now (words rest.now)) }
 {
     if is_same(word, b"client") {
         client(alloc, state, rest)
-    } else if is_same(word, b"script") {
-        script(state, word, rest)
-    } else if is_same(word, b"schedule") {
-        schedule(state, word, rest)
     } else {
-        Err(InputFault::of_line(Fault::Order))
+        next_section(state, word, word, rest)
     }
 }
 
@@ -44,15 +55,13 @@ fn begins_phase(version: Version, word: &[u8]) -> bool
 
 // Behind `servers`, an edge or a phase.
 #[tactic(auto, unfolding(crate::specs::Places::at_edges))]
-fn at_edges(alloc: Global, state: &mut State, word: &[u8], rest: &[u8]) -> Result<(), InputFault>
+fn at_edges(alloc: Global, state: &mut State, word: &[u8], rest: &[u8]) -> Ruled<()>
     ensures { StepsByRule result state.new (at_edges state.old word.now (words rest.now)) }
 {
     if is_same(word, b"edge") {
         return edge(state, rest);
     }
-    if state.trees.is_apart() {
-        return Err(InputFault::of_line(Fault::Apart));
-    }
+    need(!state.trees.is_apart(), Fault::Apart)?;
     if begins_phase(state.version, word) {
         return phase(alloc, state, rest);
     }
@@ -61,7 +70,7 @@ fn at_edges(alloc: Global, state: &mut State, word: &[u8], rest: &[u8]) -> Resul
 
 // In a script, by the words of a line whose first token is this word and no command's first word.
 #[tactic(auto, unfolding(crate::specs::Places::at_token))]
-fn at_section(state: &mut State, token: &[u8], line: &[u8]) -> Result<(), InputFault>
+fn at_section(state: &mut State, token: &[u8], line: &[u8]) -> Ruled<()>
     requires { verb_named token.now ≡ None }
     ensures { StepsByRule result state.new (at_section state.old line.now (Some token.now) (words line.now)) }
 {
@@ -71,17 +80,11 @@ fn at_section(state: &mut State, token: &[u8], line: &[u8]) -> Result<(), InputF
     if is_same(token, b"barrier") {
         return barrier(state, word, rest);
     }
-    if is_same(token, b"script") {
-        return script(state, word, rest);
-    }
-    if is_same(token, b"schedule") {
-        return schedule(state, word, rest);
-    }
-    Err(InputFault::of_line(Fault::Order))
+    next_section(state, token, word, rest)
 }
 
 // In a script, a line that isn't skipped.
-fn in_script(alloc: Global, state: &mut State, line: &[u8]) -> Result<(), InputFault>
+fn in_script(alloc: Global, state: &mut State, line: &[u8]) -> Ruled<()>
     requires short { length line.now ≤ 4194304 }
     requires kept { is_skipped (words line.now) ≡ false }
     ensures { StepsByRule result state.new (at_section state.old line.now (first_word (tokens line.now)) (words line.now)) }
@@ -95,13 +98,13 @@ fn in_script(alloc: Global, state: &mut State, line: &[u8]) -> Result<(), InputF
                 at_section(state, token, line)
             }
         }
-        None => Err(InputFault::of_line(Fault::Order)),
+        None => Err(LineFault::Kind(Fault::Order)),
     }
 }
 
 // In the schedule.
 #[tactic(auto, unfolding(crate::specs::Places::at_schedule))]
-fn at_schedule(state: &mut State, number: u32, word: &[u8], rest: &[u8]) -> Result<(), InputFault>
+fn at_schedule(state: &mut State, number: u32, word: &[u8], rest: &[u8]) -> Ruled<()>
     ensures { StepsByRule result state.new (at_schedule state.old number word.now (words rest.now)) }
 {
     if is_same(word, b"command") {
@@ -111,7 +114,7 @@ fn at_schedule(state: &mut State, number: u32, word: &[u8], rest: &[u8]) -> Resu
     } else if is_same(word, b"version") {
         version_turn(state, number, rest)
     } else {
-        Err(InputFault::of_line(Fault::Order))
+        Err(LineFault::Kind(Fault::Order))
     }
 }
 
@@ -138,13 +141,7 @@ fn is_skipped(line: &[u8]) -> bool
 }
 
 // Outside of scripts, a line by its words.
-fn by_words(
-    alloc: Global,
-    state: &mut State,
-    number: u32,
-    word: &[u8],
-    rest: &[u8],
-) -> Result<(), InputFault>
+fn by_words(alloc: Global, state: &mut State, number: u32, word: &[u8], rest: &[u8]) -> Ruled<()>
     requires { is_script state.old.place ≡ false }
     ensures { (line : List ℕ) → StepsByRule result state.new (at_place state.old.place state.old number line word.now (words rest.now)) }
 {
@@ -154,13 +151,13 @@ fn by_words(
         Place::Servers => servers(alloc, state, word, rest),
         Place::Edges => at_edges(alloc, state, word, rest),
         Place::Clients => at_clients(alloc, state, word, rest),
-        Place::Scripts => Err(InputFault::of_line(Fault::Order)),
+        Place::Scripts => Err(LineFault::Kind(Fault::Order)),
         Place::Schedule => at_schedule(state, number, word, rest),
     }
 }
 
 /// Takes a line with its number, or tells its first fault.
-pub fn line(alloc: Global, state: &mut State, number: u32, line: &[u8]) -> Result<(), InputFault>
+pub fn line(alloc: Global, state: &mut State, number: u32, line: &[u8]) -> Ruled<()>
     requires { length line.now ≤ 4194304 }
     ensures { StepsByRule result state.new (line_rule state.old number line.now) }
 {
@@ -187,15 +184,11 @@ fn has_servers(place: Place) -> bool
 
 /// Takes the end, or tells its first fault.
 #[tactic(auto, unfolding(crate::specs::Places::end_rule))]
-pub fn end(state: &State) -> Result<(), InputFault>
+pub fn end(state: &State) -> Ruled<()>
     ensures steps { StepsByRule result state.now (end_rule state.now) }
     ensures whole { OnOk result (is_apart state.now.trees ≡ false) }
 {
-    if !has_servers(state.place) {
-        return Err(InputFault::of_line(Fault::Ended));
-    }
-    if state.trees.is_apart() {
-        return Err(InputFault::of_line(Fault::Apart));
-    }
+    need(has_servers(state.place), Fault::Ended)?;
+    need(!state.trees.is_apart(), Fault::Apart)?;
     Ok(())
 }

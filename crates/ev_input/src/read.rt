@@ -47,14 +47,20 @@ fn read_lines(alloc: Global, bytes: &[u8]) -> Result<Net, InputFault>
     'lines: while let Some((text, after)) = next_line(rest) {
         match line(alloc, &mut state, number, text) {
             Ok(()) => {}
-            Err(fault) => return Err(fault.on_line(number)),
+            Err(fault) => return Err(InputFault::Bad {
+                line: number,
+                kind: fault.kind()?,
+            }),
         }
         number += 1;
         rest = after;
     }
     match end(&state) {
         Ok(()) => {}
-        Err(missing) => return Err(missing.on_line(number)),
+        Err(missing) => return Err(InputFault::Bad {
+            line: number,
+            kind: missing.kind()?,
+        }),
     }
     match net(alloc, state) {
         Ok(net) => Ok(net),

@@ -3,10 +3,11 @@ ghost use Rattle.std.specs.Prelude.{◌≡◌, ◌≤◌, length};
 ghost use Rattle.ev_input.specs.Lines.{words};
 ghost use Rattle.ev_input.specs.Answer.{GivesByRule, StepsByRule};
 ghost use Rattle.ev_input.specs.Commands.{Tells, command_of};
-ghost use Rattle.ev_input.specs.Rules.{barrier_rule, command_rule, count_rule, schedule_rule, script_rule, version_number};
+ghost use Rattle.ev_input.specs.Rules.{barrier_rule, command_rule, count_rule, is_alone, schedule_rule, script_rule, version_number};
 
+use crate::answer::{need, want};
 use crate::cut::next_word;
-use crate::fault::{Fault, InputFault};
+use crate::fault::{Fault, LineFault, Ruled};
 use crate::state::{Place, State};
 use crate::tally::Tally;
 use crate::version::Version;
@@ -17,70 +18,63 @@ use std::alloc::Global;
 
 /// `script NAME`.
 #[tactic(auto, unfolding(crate::specs::Rules::script_rule))]
-pub fn script(state: &mut State, word: &[u8], rest: &[u8]) -> Result<(), InputFault>
+pub fn script(state: &mut State, word: &[u8], rest: &[u8]) -> Ruled<()>
     ensures { StepsByRule result state.new (script_rule state.old word.now (words rest.now)) }
 {
-    if !is_same(word, b"script") {
-        return Err(InputFault::of_line(Fault::Words));
-    }
-    let Some(name) = one_name(rest) else {
-        return Err(InputFault::of_line(Fault::Words));
-    };
-    let Some(client) = state.clients.find(name) else {
-        return Err(InputFault::of_line(Fault::Name));
-    };
-    if state.clients.has_script(client) {
-        return Err(InputFault::of_line(Fault::Name));
-    }
+    need(is_same(word, b"script"), Fault::Words)?;
+    let name = want(one_name(rest), Fault::Words)?;
+    let client = want(state.clients.find(name), Fault::Name)?;
+    need(!state.clients.has_script(client), Fault::Name)?;
     state.clients.begin_script(client);
     state.place = Place::Scripts;
     state.client = client;
     Ok(())
 }
 
+// Whether a line is this word alone.
+fn is_alone(word: &[u8], text: &[u8], rest: &[u8]) -> bool
+    ensures { result ≡ is_alone text.now word.now (words rest.now) }
+{
+    is_same(word, text) && next_word(rest).is_none()
+}
+
 /// `barrier`.
 #[tactic(auto, unfolding(crate::specs::Rules::barrier_rule))]
-pub fn barrier(state: &mut State, word: &[u8], rest: &[u8]) -> Result<(), InputFault>
+pub fn barrier(state: &mut State, word: &[u8], rest: &[u8]) -> Ruled<()>
     ensures { StepsByRule result state.new (barrier_rule state.old word.now (words rest.now)) }
 {
-    if !is_same(word, b"barrier") || next_word(rest).is_some() {
-        return Err(InputFault::of_line(Fault::Words));
-    }
-    if state.clients.barriers(state.client) >= 4095 {
-        return Err(InputFault::of_line(Fault::Count));
-    }
+    need(is_alone(word, b"barrier", rest), Fault::Words)?;
+    need(state.clients.barriers(state.client) < 4095, Fault::Count)?;
     state.clients.add_barrier(state.client);
     Ok(())
 }
 
 /// `schedule`.
 #[tactic(auto, unfolding(crate::specs::Rules::schedule_rule))]
-pub fn schedule(state: &mut State, word: &[u8], rest: &[u8]) -> Result<(), InputFault>
+pub fn schedule(state: &mut State, word: &[u8], rest: &[u8]) -> Ruled<()>
     ensures { StepsByRule result state.new (schedule_rule state.old word.now (words rest.now)) }
 {
-    if !is_same(word, b"schedule") || next_word(rest).is_some() {
-        return Err(InputFault::of_line(Fault::Words));
-    }
+    need(is_alone(word, b"schedule", rest), Fault::Words)?;
     state.place = Place::Schedule;
     Ok(())
 }
 
 // A fault of a command line, as one of a document.
-fn line_fault(fault: ScriptFault) -> InputFault
+fn line_fault(fault: ScriptFault) -> LineFault<Fault>
     ensures { Tells result fault }
 {
     match fault {
-        ScriptFault::Syntax => InputFault::of_line(Fault::Syntax),
-        ScriptFault::Value => InputFault::of_line(Fault::Value),
-        ScriptFault::Operand => InputFault::of_line(Fault::Operand),
-        ScriptFault::Count => InputFault::of_line(Fault::Count),
-        ScriptFault::Repeat => InputFault::of_line(Fault::Repeat),
-        ScriptFault::NoMemory => InputFault::NoMemory,
+        ScriptFault::Syntax => LineFault::Kind(Fault::Syntax),
+        ScriptFault::Value => LineFault::Kind(Fault::Value),
+        ScriptFault::Operand => LineFault::Kind(Fault::Operand),
+        ScriptFault::Count => LineFault::Kind(Fault::Count),
+        ScriptFault::Repeat => LineFault::Kind(Fault::Repeat),
+        ScriptFault::NoMemory => LineFault::NoMemory,
     }
 }
 
 // The command of a line whose first token is cut off.
-fn command_of(alloc: Global, version: Version, line: Line<'_>) -> Result<Command, InputFault>
+fn command_of(alloc: Global, version: Version, line: Line<'_>) -> Ruled<Command>
     ensures { GivesByRule result (command_of (version_number version) line.entry) }
 {
     match line.command(alloc, version.number()) {
@@ -90,13 +84,7 @@ fn command_of(alloc: Global, version: Version, line: Line<'_>) -> Result<Command
 }
 
 // Counts the command, on a line of so many bytes, if that is within the limits.
-fn count(
-    tally: &mut Tally,
-    command: &Command,
-    bytes: u64,
-    servers: u64,
-    clients: u64,
-) -> Result<(), InputFault>
+fn count(tally: &mut Tally, command: &Command, bytes: u64, servers: u64, clients: u64) -> Ruled<()>
     requires short { bytes ≤ 4194304 }
     requires servers { servers ≤ 64 }
     requires clients { clients ≤ 1024 }
@@ -113,12 +101,7 @@ fn count(
 
 /// A command, by its line of so many bytes, whose first token is cut off.
 #[tactic(auto, unfolding(crate::specs::Rules::command_rule))]
-pub fn command(
-    alloc: Global,
-    state: &mut State,
-    line: Line<'_>,
-    bytes: usize,
-) -> Result<(), InputFault>
+pub fn command(alloc: Global, state: &mut State, line: Line<'_>, bytes: usize) -> Ruled<()>
     requires bytes { bytes ≡ length line }
     requires short { bytes ≤ 4194304 }
     ensures { StepsByRule result state.new (command_rule state.old line.entry) }

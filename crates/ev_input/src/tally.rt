@@ -3,7 +3,8 @@ ghost use Rattle.std.specs.Prelude.{◌≡◌, ◌≤◌};
 ghost use Rattle.ev_input.specs.Answer.{StepsByRule};
 ghost use Rattle.ev_input.specs.Tally.{control_rule, no_counts, publish_rule};
 
-use crate::fault::{Fault, InputFault};
+use crate::answer::need;
+use crate::fault::{Fault, Ruled};
 use std::marker::Model;
 
 const MOST_CONTROLS: u64 = 4096;
@@ -50,28 +51,22 @@ impl Tally {
 
     /// One control command more, on a line of so many bytes, if that is within the limits.
     #[tactic(auto, unfolding(crate::specs::Tally::control_rule))]
-    pub fn add_control(
-        &mut self,
-        withdraws: bool,
-        bytes: u64,
-        servers: u64,
-    ) -> Result<(), InputFault>
+    pub fn add_control(&mut self, withdraws: bool, bytes: u64, servers: u64) -> Ruled<()>
         requires short { bytes ≤ 4194304 }
         requires few { servers ≤ 64 }
         ensures { StepsByRule result self.new (control_rule self.old withdraws bytes servers) }
     {
-        if self.controls >= MOST_CONTROLS {
-            return Err(InputFault::of_line(Fault::Commands));
-        }
+        need(self.controls < MOST_CONTROLS, Fault::Commands)?;
         let withdrawals = if withdraws {
             self.withdrawals + 1
         } else {
             self.withdrawals
         };
         let sum = self.control_bytes + bytes;
-        if (1 + withdrawals) * sum * servers > MOST_CONTROL {
-            return Err(InputFault::of_line(Fault::MuchControl));
-        }
+        need(
+            (1 + withdrawals) * sum * servers <= MOST_CONTROL,
+            Fault::MuchControl,
+        )?;
         self.controls += 1;
         self.withdrawals = withdrawals;
         self.control_bytes = sum;
@@ -80,18 +75,14 @@ impl Tally {
 
     /// One publish command more, on a line of so many bytes, if that is within the limits.
     #[tactic(auto, unfolding(crate::specs::Tally::publish_rule))]
-    pub fn add_publish(&mut self, bytes: u64, clients: u64) -> Result<(), InputFault>
+    pub fn add_publish(&mut self, bytes: u64, clients: u64) -> Ruled<()>
         requires short { bytes ≤ 4194304 }
         requires few { clients ≤ 1024 }
         ensures { StepsByRule result self.new (publish_rule self.old bytes clients) }
     {
-        if self.publications >= MOST_PUBLICATIONS {
-            return Err(InputFault::of_line(Fault::Publications));
-        }
+        need(self.publications < MOST_PUBLICATIONS, Fault::Publications)?;
         let sum = self.publish_bytes + bytes;
-        if sum * clients > MOST_NOTICE {
-            return Err(InputFault::of_line(Fault::MuchNotice));
-        }
+        need(sum * clients <= MOST_NOTICE, Fault::MuchNotice)?;
         self.publications += 1;
         self.publish_bytes = sum;
         Ok(())

@@ -1,17 +1,11 @@
 //! What the words of a line are.
 ghost use Rattle.std.specs.Prelude.{◌≡◌, None, Some, MatchOption};
-ghost use Rattle.ev_script.specs.Form.{is_digit};
 ghost use Rattle.ev_input.specs.Lines.{words};
 ghost use Rattle.ev_input.specs.Words.{name_and_number, number, one, one_name, one_number, two, two_numbers};
 
 use crate::cut::next_word;
+use ev_script::short_digits;
 use ev_values::is_name;
-
-fn is_digit(byte: u8) -> bool
-    ensures { result ≡ is_digit byte }
-{
-    byte >= b'0' && byte <= b'9'
-}
 
 // The number that the word spells in 1 to 10 digits.
 #[tactic(auto, unfolding(crate::specs::Words::number))]
@@ -21,14 +15,7 @@ fn number(word: &[u8]) -> Option<u64>
     if word.is_empty() || word.len() > 10 {
         return None;
     }
-    let mut sum: u64 = 0;
-    for (i, b) in word.iter().enumerate() {
-        if !is_digit(*b) {
-            return None;
-        }
-        sum = sum * 10 + (*b - 48) as u64;
-    }
-    Some(sum)
+    short_digits(word)
 }
 
 /// The one word of the rest of a line.

@@ -48,13 +48,9 @@ traffic_by [] = Some (Document (Traffic false))
 traffic_by (word ∷ []) = if bytes_eq word (codes "--dot") then Some (Document (Traffic true)) else None
 traffic_by (word ∷ other ∷ words) = None
 
--- a number that fits into 64 bits
-abbrev pub in_64_bits : ℕ → Option ℕ
-in_64_bits n = if nat_lt n (2 ^ 64) then Some n else None
-
 -- a seed: 1 to 20 decimal digits of a value below 2^64
 unfoldable pub seed_number : List ℕ → Option ℕ
-seed_number word = if nat_lt 0 (length word) && nat_le (length word) 20 then option_and_then in_64_bits (number_from 0 word) else None
+seed_number word = if nat_lt 0 (length word) && nat_le (length word) 20 then option_and_then in_64_bits (number_of_digits word) else None
 
 -- the seed of the one word `--seed=N`
 abbrev pub joined_seed : List ℕ → Option ℕ

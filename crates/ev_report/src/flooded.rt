@@ -1,6 +1,5 @@
 //! What flooding brings, line by line on its way to a sink. What writing wants is made before it, so it takes no memory.
 ghost use Rattle.std.specs.Prelude.{◌≡◌, length};
-ghost use Rattle.std.specs.List.{flat_map};
 ghost use Rattle.ev_outside.specs.Pending.{outlet, Went};
 ghost use Rattle.ev_report.specs.Flood.{row_word, row_line, flood_section, flood_sections};
 
@@ -42,82 +41,66 @@ impl Model for Flooded {
         × (f.texts.items ≡ texts_in f.net.clients) };
 }
 
+// The clients, with the texts of what they publish.
+#[derive(Clone, Copy)]
+struct Published<'a> {
+    clients: &'a [Client],
+    texts: &'a [Lists<Bytes>],
+}
+
 // The line of a row.
 #[tactic(auto, unfolding(crate::specs::Flood::row_line))]
-fn put_row<K: Sink>(
-    out: &mut Pending,
-    sink: &mut K,
-    clients: &[Client],
-    texts: &[Lists<Bytes>],
-    row: &OwedRow,
-)
+fn put_row<K: Sink>(out: &mut Pending, sink: &mut K, published: Published<'_>, row: &OwedRow)
     ensures { Went (outlet (K.taken sink.old) (K.faults sink.old) out.old) (outlet (K.taken sink.new) (K.faults sink.new) out.new)
-        (row_line clients.now texts.now row.now) }
+        (row_line published.entry.clients.now published.entry.texts.now row.now) }
 {
     put_publication(
         out,
         sink,
         row_word(row.must),
-        clients,
+        published.clients,
         row.id,
-        text_at(texts, row.id),
+        text_at(published.texts, row.id),
     )
 }
 
-// The lines of rows, in their order.
-fn put_rows<K: Sink>(
-    out: &mut Pending,
-    sink: &mut K,
-    clients: &[Client],
-    texts: &[Lists<Bytes>],
-    rows: &[OwedRow],
-)
-    ensures { Went (outlet (K.taken sink.old) (K.faults sink.old) out.old) (outlet (K.taken sink.new) (K.faults sink.new) out.new)
-        (flat_map (row_line clients.now texts.now) rows.now) }
-{
-    for row in rows {
-        put_row(out, sink, clients, texts, row);
-    }
-}
-
-// A client with its refused publishes and its rows.
+// A client with its refused publishes and its rows, in their order.
 fn put_section<K: Sink>(
     out: &mut Pending,
     sink: &mut K,
-    clients: &[Client],
-    texts: &[Lists<Bytes>],
+    published: Published<'_>,
     client: &Client,
     refused: &[u32],
     rows: &[OwedRow],
 )
     ensures { Went (outlet (K.taken sink.old) (K.faults sink.old) out.old) (outlet (K.taken sink.new) (K.faults sink.new) out.new)
-        (flood_section clients.now texts.now client.now refused.now rows.now) }
+        (flood_section published.entry.clients.now published.entry.texts.now client.now refused.now rows.now) }
 {
     put_client(out, sink, &client.name);
     put_refused(out, sink, refused);
-    put_rows(out, sink, clients, texts, rows)
+    for row in rows {
+        put_row(out, sink, published, row);
+    }
 }
 
 // All clients in their order.
 fn put_sections<K: Sink>(
     out: &mut Pending,
     sink: &mut K,
-    clients: &[Client],
-    texts: &[Lists<Bytes>],
+    published: Published<'_>,
     refused: &[Lists<u32>],
     rows: &[Lists<OwedRow>],
 )
-    requires refused { length refused.now ≡ length clients.now }
-    requires rows { length rows.now ≡ length clients.now }
+    requires refused { length refused.now ≡ length published.clients.now }
+    requires rows { length rows.now ≡ length published.clients.now }
     ensures { Went (outlet (K.taken sink.old) (K.faults sink.old) out.old) (outlet (K.taken sink.new) (K.faults sink.new) out.new)
-        (flood_sections clients.now texts.now clients.now refused.now rows.now) }
+        (flood_sections published.entry.clients.now published.entry.texts.now published.entry.clients.now refused.now rows.now) }
 {
-    for (i, client) in clients.iter().enumerate() {
+    for (i, client) in published.clients.iter().enumerate() {
         put_section(
             out,
             sink,
-            clients,
-            texts,
+            published,
             client,
             refused[i].as_slice(),
             rows[i].as_slice(),
@@ -145,13 +128,10 @@ impl Flooded {
     pub fn put<K: Sink>(&self, out: &mut Pending, sink: &mut K)
         ensures { Went (outlet (K.taken sink.old) (K.faults sink.old) out.old) (outlet (K.taken sink.new) (K.faults sink.new) out.new) self.now }
     {
-        put_sections(
-            out,
-            sink,
-            &self.net.clients,
-            &self.texts,
-            &self.owed.refused,
-            &self.owed.rows,
-        )
+        let published = Published {
+            clients: &self.net.clients,
+            texts: &self.texts,
+        };
+        put_sections(out, sink, published, &self.owed.refused, &self.owed.rows)
     }
 }

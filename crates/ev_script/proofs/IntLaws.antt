@@ -6,6 +6,7 @@ use Rattle.std.specs.declared.result.Result.{Result}
 use Rattle.std.specs.declared.result.Result.TheVariants.{Ok, Err}
 use Rattle.std.specs.Int.{w64}
 use Rattle.std.specs.List.{list_all}
+use Rattle.std.specs.Result.{result_ok}
 use Rattle.std.specs.Char.{digit_value}
 use Rattle.std.specs.Str.{IsAscii, IsUtf8}
 use Rattle.std.specs.Str.Parse.{AllDigits, IsNumeral, ParsesSigned, ParsesUnsigned, digits_value, starts_with_minus, without_leading_plus, without_leading_sign, signed_digits_value}
@@ -18,13 +19,16 @@ use Rattle.ev_notice.proofs.Lists.{both}
 use Rattle.ev_wire.specs.Words.{fits_i64}
 use Rattle.ev_wire.proofs.IntLaws.{fits_told, fits_tells}
 use Rattle.ev_script.specs.declared.form.Given.TheVariants.{Fit, Wide}
-use Rattle.ev_script.specs.Form.{is_digit, are_digits, int_given, time_given}
+use Rattle.ev_script.specs.Form.{is_digit, are_digits, in_64_bits, int_given, number_of_digits}
 
 eq_of : (a b : ℕ) → (a == b) ≡ true → a ≡ b
 eq_of a b e = grind (arith, nat_tests)
 
 digit_small : (b : ℕ) → is_digit b ≡ true → b < 128
 digit_small b e = grind (arith, nat_tests)
+
+digit_range : (d : ℕ) → digit_value d < 10 → (48 ≤ d) × (d ≤ 57)
+digit_range d h = grind arith
 
 digit_is : (b : ℕ) → is_digit b ≡ true → digit_value b < 10
 digit_is b e =
@@ -40,6 +44,16 @@ digit_is b e =
 all_digits : (ds : List ℕ) → list_all is_digit ds ≡ true → AllDigits 10 ds
 all_digits [] e = tt
 all_digits (b ∷ ds) e = let w = both (is_digit b) (list_all is_digit ds) e in (digit_is b w.0, all_digits ds w.1)
+
+is_small : (d : ℕ) → digit_value d < 10 → is_digit d ≡ true
+is_small d h = let r = digit_range d h in let lo : 48 ≤ d = r.0 in let hi : d ≤ 57 = r.1 in grind (arith, nat_tests)
+
+digits_all : (ds : List ℕ) → AllDigits 10 ds → list_all is_digit ds ≡ true
+digits_all [] h = refl
+digits_all (d ∷ ds) h = rw (is_small d h.0, digits_all ds h.1) refl
+
+pub digits_are : (ds : List ℕ) → IsNumeral 10 ds → are_digits ds ≡ true
+digits_are ds h = let some : nat_lt 0 (length ds) ≡ true = (let s = h.0 in grind (arith, nat_tests)) in rw (some, digits_all ds h.1) refl
 
 ascii_cons : (b : ℕ) (rest : List ℕ) → b < 128 → IsAscii rest → IsAscii (b ∷ rest)
 ascii_cons b rest h k zero = h
@@ -108,21 +122,17 @@ no_plus (b ∷ w) e =
 plain : (w : List ℕ) → are_digits w ≡ true → without_leading_plus w ≡ w
 plain w e = no_plus w (both (nat_lt 0 (length w)) (list_all is_digit w) e).1
 
-pub parsed_time : {E : Type 0} (w text : List ℕ) (n : ℕ) (r : Result ℕ E) → are_digits w ≡ true → text ≡ w → ParsesUnsigned 64 10 text r → r ≡ Ok n → Some (Fit (values.Time n)) ≡ time_given w
-unfolding time_given
-parsed_time {E = E} w text n r e same h ok =
-    let k : ParsesUnsigned {E = E} 64 10 w (Ok n) = subst (λ (x : Result ℕ E). ParsesUnsigned 64 10 w x) ok (subst (λ (x : List ℕ). ParsesUnsigned 64 10 x r) same h) in
+pub parsed_long : {E : Type 0} (w text : List ℕ) (r : Result ℕ E) → are_digits w ≡ true → text ≡ w → ParsesUnsigned 64 10 text r → result_ok r ≡ in_64_bits (digits_value 10 w)
+parsed_long {E = E} w text (Ok n) e same h =
+    let k : ParsesUnsigned {E = E} 64 10 w (Ok n) = subst (λ (x : List ℕ). ParsesUnsigned {E = E} 64 10 x (Ok n)) same h in
     let below : digits_value 10 w < 2 ^ 64 = subst (λ (x : List ℕ). digits_value 10 x < 2 ^ 64) (plain w e) k.0.1 in
     let fits : nat_lt (digits_value 10 w) (2 ^ 64) ≡ true = grind (arith, nat_tests) in
     let is : n ≡ digits_value 10 w = k.1 ∙ ap (digits_value 10) (plain w e) in
-    rw (e, fits, is) refl
-
-pub wide_time : {E : Type 0} (w text : List ℕ) (f : E) (r : Result ℕ E) → are_digits w ≡ true → text ≡ w → ParsesUnsigned 64 10 text r → r ≡ Err f → Some Wide ≡ time_given w
-unfolding time_given
-wide_time {E = E} w text f r e same h err =
-    let k : ParsesUnsigned {E = E} 64 10 w (Err f) = subst (λ (x : Result ℕ E). ParsesUnsigned 64 10 w x) err (subst (λ (x : List ℕ). ParsesUnsigned 64 10 x r) same h) in
+    rw (fits, is) refl
+parsed_long {E = E} w text (Err f) e same h =
+    let k : ParsesUnsigned {E = E} 64 10 w (Err f) = subst (λ (x : List ℕ). ParsesUnsigned {E = E} 64 10 x (Err f)) same h in
     let not_fits : nat_lt (digits_value 10 w) (2 ^ 64) ≡ false = go (nat_lt (digits_value 10 w) (2 ^ 64)) refl k in
-    rw (e, not_fits) refl
+    rw not_fits refl
   where
     below : (n : ℕ) → nat_lt n (2 ^ 64) ≡ true → n < 2 ^ 64
     below n e = grind (arith, nat_tests)
@@ -132,6 +142,23 @@ wide_time {E = E} w text f r e same h err =
     go false p k = refl
 
 -- Numbers of few digits.
+
+pub no_number : (ds : List ℕ) → None ≡ number_of_digits ds → list_all is_digit ds ≡ false
+no_number ds = go (list_all is_digit ds)
+  where
+    go : (b : Bool) → None ≡ cond b (Some (digits_value 10 ds)) None → b ≡ false
+    go true e = absurd (cc)
+    go false e = refl
+
+pub one_number : (ds : List ℕ) (n : ℕ) → Some n ≡ number_of_digits ds → (list_all is_digit ds ≡ true) × (n ≡ digits_value 10 ds)
+one_number ds n = go (list_all is_digit ds)
+  where
+    go : (b : Bool) → Some n ≡ cond b (Some (digits_value 10 ds)) None → (b ≡ true) × (n ≡ digits_value 10 ds)
+    go true e = (refl, cc)
+    go false e = absurd (cc)
+
+pub numeral_number : (ds : List ℕ) → AllDigits 10 ds → number_of_digits ds ≡ Some (digits_value 10 ds)
+numeral_number ds h = rw (digits_all ds h) refl
 
 pub small_pow : (i : ℕ) (n : ℕ) → i < 19 → n < 10 ^ i → n < 10 ^ 18
 small_pow i n l s = let p : 10 ^ i ≤ 10 ^ 18 = pow-le-pow_right {n = 10} (omega arith) {i = i} {j = 18} (omega (arith, l)) in omega (arith, s, p)

@@ -35,6 +35,14 @@ is_digit b = nat_le 48 b && nat_le b 57
 abbrev pub are_digits : List ℕ → Bool
 are_digits ds = nat_lt 0 (length ds) && list_all is_digit ds
 
+-- the number that decimal digits write, where there is nothing else
+abbrev pub number_of_digits : List ℕ → Option ℕ
+number_of_digits ds = if list_all is_digit ds then Some (digits_value 10 ds) else None
+
+-- a number that fits into 64 bits
+abbrev pub in_64_bits : ℕ → Option ℕ
+in_64_bits n = if nat_lt n (2 ^ 64) then Some n else None
+
 -- an int: perhaps `+` or `-`, and one or more digits; it is beyond the limits outside i64
 unfoldable pub int_given : List ℕ → Option Given
 int_given w =

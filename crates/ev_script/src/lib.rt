@@ -21,7 +21,7 @@ pub use command::script_command;
 pub use fault::ScriptFault;
 pub use law::one_command;
 pub use line::Line;
-pub use number::are_digits;
+pub use number::{are_digits, long_digits, short_digits};
 pub use same::is_same;
 pub use token::Token;
 pub use tokens::Tokens;

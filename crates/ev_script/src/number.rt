@@ -1,8 +1,8 @@
 //! Digits and ints of a command line.
-ghost use Rattle.std.specs.Prelude.{◌≡◌, ◌<◌, ◌≤◌, ◌^◌, length, true, false, MatchOption, IfSome, if◌then◌else◌, pos, neg_ℤ};
+ghost use Rattle.std.specs.Prelude.{◌≡◌, ◌<◌, ◌≤◌, ◌^◌, length, true, IfSome, if◌then◌else◌, pos, neg_ℤ};
 ghost use Rattle.std.specs.List.{list_all};
 ghost use Rattle.std.specs.Str.Parse.{digits_value, starts_with_minus, without_leading_sign};
-ghost use Rattle.ev_script.specs.Form.{are_digits, int_given, is_digit};
+ghost use Rattle.ev_script.specs.Form.{are_digits, in_64_bits, int_given, is_digit, number_of_digits};
 
 use crate::form::Given;
 use ev_values::Value;
@@ -35,6 +35,17 @@ fn without_sign(word: &[u8]) -> &[u8]
     }
 }
 
+/// The number that digits are, however many; `None` where it doesn't fit into 64 bits.
+pub fn long_digits(bytes: &[u8]) -> Option<u64>
+    requires { are_digits bytes.now ≡ true }
+    ensures { result ≡ in_64_bits (digits_value 10 bytes.now) }
+{
+    let Ok(text) = std::str::from_utf8(bytes) else {
+        return None;
+    };
+    text.parse::<u64>().ok()
+}
+
 // The number of digits behind a sign, or what is beyond i64.
 fn parsed_int(word: &[u8]) -> Option<Given>
     requires { are_digits (without_leading_sign word.now) ≡ true }
@@ -49,10 +60,10 @@ fn parsed_int(word: &[u8]) -> Option<Given>
     }
 }
 
-// The number that at most 19 digits are; `None` where other bytes stand among them.
-pub(crate) fn short_digits(bytes: &[u8]) -> Option<u64>
+/// The number that at most 19 digits are; `None` where other bytes stand among them.
+pub fn short_digits(bytes: &[u8]) -> Option<u64>
     requires { length bytes.now ≤ 19 }
-    ensures value { MatchOption result (list_all is_digit bytes.now ≡ false) (λ n. (list_all is_digit bytes.now ≡ true) × (n ≡ digits_value 10 bytes.now)) }
+    ensures value { result ≡ number_of_digits bytes.now }
     ensures less { IfSome result (λ n. n < 10 ^ length bytes.now) }
     ensures small { IfSome result (λ n. n < 10 ^ 19) }
 {

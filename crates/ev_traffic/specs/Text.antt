@@ -27,11 +27,14 @@ abbrev pub direction_of : Loads → ℕ → ℕ → Direction
 direction_of loads from to =
     record { from = from; to = to; notices = loads.notices from to; flood = loads.flood from to; messages = loads.messages from to }
 
+-- the end of a line: ` notices N flood F messages M`
+unfoldable pub counts_end : ℕ → ℕ → ℕ → List ℕ
+counts_end notices flood messages =
+    labelled (codes " notices ") notices ++ labelled (codes " flood ") flood ++ labelled (codes " messages ") messages ++ codes "\n"
+
 -- `link FROM TO notices N flood F messages M`
 unfoldable pub direction_line : Direction → List ℕ
-direction_line d =
-    labelled (codes "link ") d.from ++ labelled (codes " ") d.to ++ labelled (codes " notices ") d.notices ++ labelled (codes " flood ") d.flood
-    ++ labelled (codes " messages ") d.messages ++ codes "\n"
+direction_line d = labelled (codes "link ") d.from ++ labelled (codes " ") d.to ++ counts_end d.notices d.flood d.messages
 
 -- the sum of a quantity over both directions of each link
 abbrev pub in_all : (ℕ → ℕ → ℕ) → List (ℕ × ℕ) → ℕ
@@ -39,8 +42,7 @@ in_all quantity links = sum_over (λ link. quantity link.0 link.1 + quantity lin
 
 -- `traffic notices N flood F messages M`
 unfoldable pub total_line : ℕ → ℕ → ℕ → List ℕ
-total_line notices flood messages =
-    labelled (codes "traffic notices ") notices ++ labelled (codes " flood ") flood ++ labelled (codes " messages ") messages ++ codes "\n"
+total_line notices flood messages = codes "traffic" ++ counts_end notices flood messages
 
 -- how wide a direction is drawn, from 1 to 9, by the share of flooding's notifications that it carried
 abbrev pub width : ℕ → ℕ → ℕ

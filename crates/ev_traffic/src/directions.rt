@@ -5,7 +5,7 @@ ghost use Rattle.ev_outside.specs.Pending.{outlet, Went};
 ghost use Rattle.ev_traffic.specs.Text.{direction_arrow, direction_line, direction_printed, link_printed, width};
 ghost use Rattle.ev_traffic.specs.Printed.{loads_by};
 
-use crate::line::put_labelled;
+use crate::line::{put_counts, put_labelled};
 use crate::loads::{Direction, LoadCounts};
 use ev_outside::{Pending, Sink};
 
@@ -16,10 +16,13 @@ fn put_line<K: Sink>(out: &mut Pending, sink: &mut K, direction: Direction)
 {
     put_labelled(out, sink, b"link ", direction.from);
     put_labelled(out, sink, b" ", direction.to);
-    put_labelled(out, sink, b" notices ", direction.notices);
-    put_labelled(out, sink, b" flood ", direction.flood);
-    put_labelled(out, sink, b" messages ", direction.messages);
-    out.put(sink, b"\n")
+    put_counts(
+        out,
+        sink,
+        direction.notices,
+        direction.flood,
+        direction.messages,
+    )
 }
 
 // How wide a direction is drawn.

@@ -6,7 +6,7 @@ ghost use Rattle.ev_traffic.specs.Text.{link_printed, total_line};
 ghost use Rattle.ev_traffic.specs.Printed.{loads_by};
 
 use crate::directions::put_links;
-use crate::line::put_labelled;
+use crate::line::put_counts;
 use crate::loads::LoadCounts;
 use crate::traffic::Totals;
 use ev_outside::{Pending, Sink};
@@ -16,10 +16,8 @@ fn put_totals<K: Sink>(out: &mut Pending, sink: &mut K, totals: &Totals)
     ensures { Went (outlet (K.taken sink.old) (K.faults sink.old) out.old) (outlet (K.taken sink.new) (K.faults sink.new) out.new)
         (total_line totals.now.notices totals.now.flood totals.now.messages) }
 {
-    put_labelled(out, sink, b"traffic notices ", totals.notices);
-    put_labelled(out, sink, b" flood ", totals.flood);
-    put_labelled(out, sink, b" messages ", totals.messages);
-    out.put(sink, b"\n")
+    out.put(sink, b"traffic");
+    put_counts(out, sink, totals.notices, totals.flood, totals.messages)
 }
 
 /// The lines of links, and the sums.

@@ -11,7 +11,7 @@ use Rattle.ev_script.specs.Tokens.{first_word, tokens}
 use Rattle.ev_model.specs.Parts.{ClientParts, NetParts, client_parts}
 use Rattle.ev_input.specs.Lines.{words}
 use Rattle.ev_input.specs.Places.{is_comment}
-use Rattle.ev_watch.specs.Answer.{◌>>=◌, need, want}
+use Rattle.ev_input.specs.Answer.{◌>>=◌, need, want}
 use Rattle.ev_watch.specs.Parts.{PatternParts, WatchingParts, all_of, client_named, has_label, has_name, has_room, is_short, listed, with_step}
 use Rattle.ev_watch.specs.Rules.{Answer, at_token, end_rule, is_token, line_rule, nothing, pattern_rule, read_from, step_rule, then_on, told_at, two_names, words_rule}
 use Rattle.ev_watch.specs.Steps.{step_filter}

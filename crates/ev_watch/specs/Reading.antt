@@ -4,6 +4,8 @@ use Rattle.ev_model.specs.Parts.{NetParts}
 use Rattle.ev_script.specs.declared.fault.ScriptFault.{ScriptFault}
 use Rattle.ev_script.specs.declared.fault.ScriptFault.TheVariants as scripts
 use Rattle.ev_input.specs.Commands.{document_fault}
+use Rattle.ev_input.specs.declared.fault.LineFault.{LineFault}
+use Rattle.ev_input.specs.declared.fault.LineFault.TheVariants as lines
 use Rattle.ev_input.specs.Net.{IsBadAt, IsNetOf}
 use Rattle.ev_watch.specs.Parts.{PatternParts}
 use Rattle.ev_watch.specs.Steps.{step_fault}
@@ -13,14 +15,9 @@ use Rattle.ev_watch.specs.declared.fault.PatternFault.TheVariants as faults
 use Rattle.ev_watch.specs.declared.fault.PatternKind.{PatternKind}
 
 -- the fault of a step that a fault of its subscription is; want of memory stays what it is
-abbrev pub Tells : PatternFault → ScriptFault → Type 0
-Tells told scripts.NoMemory = told ≡ faults.NoMemory
-Tells told e = told ≡ faults.Bad 0 (step_fault (document_fault e))
-
--- the fault of a line is told with the number of the line
-abbrev pub Places : PatternFault → ℕ → PatternFault → Type 0
-Places told line (faults.Bad untold kind) = told ≡ faults.Bad line kind
-Places told line fault = told ≡ fault
+abbrev pub Tells : LineFault PatternKind → ScriptFault → Type 0
+Tells told scripts.NoMemory = told ≡ lines.NoMemory
+Tells told e = told ≡ lines.Kind (step_fault (document_fault e))
 
 -- the patterns, as they are seen, are those that were read, or this is the fault that was, unless memory ran out
 abbrev pub ReadsPatterns : {X : Type 0} → (X → List PatternParts) → Result X PatternFault → Result (List PatternParts) (ℕ × PatternKind) → Type 0

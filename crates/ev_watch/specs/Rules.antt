@@ -10,7 +10,7 @@ use Rattle.ev_model.specs.Parts.{ClientParts}
 use Rattle.ev_input.specs.Lines.{words}
 use Rattle.ev_input.specs.Words.{two}
 use Rattle.ev_input.specs.Places.{is_comment}
-use Rattle.ev_watch.specs.Answer.{◌>>=◌, need, want}
+use Rattle.ev_input.specs.Answer.{◌>>=◌, need, want}
 use Rattle.ev_watch.specs.Parts.{PatternParts, WatchingParts, pattern_parts, watching, all_of, client_named, has_label, has_room, is_short}
 use Rattle.ev_watch.specs.Parts.{with_last_step, with_pattern}
 use Rattle.ev_watch.specs.Steps.{step_filter}

@@ -1,9 +1,8 @@
 //! Why an input with patterns is refused.
 ghost use Rattle.std.specs.Prelude.{◌≡◌};
 ghost use Rattle.ev_watch.specs.declared.fault.PatternFault.TheVariants as faults;
-ghost use Rattle.ev_watch.specs.Reading.{Places};
 
-use ev_input::Fault;
+use ev_input::{Fault, LineFault};
 use ev_memory::NoMemory;
 
 /// What is at fault with a line behind the line `patterns`, or with the end. The faults are tested in this order.
@@ -27,6 +26,9 @@ pub enum PatternKind {
     Operand,
 }
 
+/// What a rule answers, unless the line is at fault or memory ran out.
+pub(crate) type Ruled<T> = Result<T, LineFault<PatternKind>>;
+
 /// Why an input gives no net with patterns. Lines are numbered from 1 through the whole input. The end counts as the line
 /// behind the last; that of the document part is the line `patterns`.
 #[derive(Clone, Copy, Debug, PartialEq, Eq)]
@@ -47,26 +49,6 @@ pub enum PatternFault {
     },
     /// Memory ran out.
     NoMemory,
-}
-
-impl PatternFault {
-    /// What is at fault with a line, before the number of the line is told: 0 stands in its place.
-    pub(crate) fn of_line(kind: PatternKind) -> PatternFault
-        ensures { result ≡ faults.Bad 0 kind }
-    {
-        PatternFault::Bad { line: 0, kind }
-    }
-
-    /// The same, told with the number of the line.
-    pub(crate) fn on_line(self, line: u32) -> PatternFault
-        ensures { Places result line self }
-    {
-        match self {
-            PatternFault::Bad { line: _, kind } => PatternFault::Bad { line, kind },
-            PatternFault::Document { line, kind } => PatternFault::Document { line, kind },
-            PatternFault::NoMemory => PatternFault::NoMemory,
-        }
-    }
 }
 
 impl From<NoMemory> for PatternFault {

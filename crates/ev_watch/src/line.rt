@@ -5,15 +5,15 @@ ghost use Rattle.ev_script.specs.Command.{IsVersion};
 ghost use Rattle.ev_script.specs.Tokens.{first_word, tokens};
 ghost use Rattle.ev_input.specs.Lines.{words};
 ghost use Rattle.ev_input.specs.Places.{is_comment};
-ghost use Rattle.ev_watch.specs.Answer.{GivesAsByRule, StepsByRule};
+ghost use Rattle.ev_input.specs.Answer.{GivesAsByRule, StepsByRule};
 ghost use Rattle.ev_watch.specs.Rules.{at_token, end_rule, is_token, line_rule, pattern_rule, step_rule};
 
-use crate::fault::{PatternFault, PatternKind};
+use crate::fault::{PatternKind, Ruled};
 use crate::pattern::Pattern;
 use crate::step::step_filter;
 use crate::watching::Watching;
 use crate::words::{client_named, two_names};
-use ev_input::next_word;
+use ev_input::{LineFault, need, next_word, want};
 use ev_memory::NoMemory;
 use ev_model::Client;
 use ev_script::Line;
@@ -38,25 +38,15 @@ fn pattern(
     state: &mut Watching,
     word: &[u8],
     rest: &[u8],
-) -> Result<(), PatternFault>
+) -> Ruled<()>
     requires { length clients.now ≤ 1024 }
     ensures { StepsByRule result state.new (pattern_rule clients.now state.old word.now (words rest.now)) }
 {
-    if word != b"pattern".as_slice() {
-        return Err(PatternFault::of_line(PatternKind::Words));
-    }
-    let Some((name, label)) = two_names(rest) else {
-        return Err(PatternFault::of_line(PatternKind::Words));
-    };
-    let Some(client) = client_named(clients, name) else {
-        return Err(PatternFault::of_line(PatternKind::Name));
-    };
-    if state.has_label(client, label) {
-        return Err(PatternFault::of_line(PatternKind::Name));
-    }
-    if state.count() >= 1024 {
-        return Err(PatternFault::of_line(PatternKind::Count));
-    }
+    need(word == b"pattern".as_slice(), PatternKind::Words)?;
+    let (name, label) = want(two_names(rest), PatternKind::Words)?;
+    let client = want(client_named(clients, name), PatternKind::Name)?;
+    need(!state.has_label(client, label), PatternKind::Name)?;
+    need(state.count() < 1024, PatternKind::Count)?;
     state.begin(Pattern {
         client,
         label: name_of(alloc, label)?,
@@ -67,17 +57,13 @@ fn pattern(
 
 /// `step`, with what follows it.
 #[tactic(auto, unfolding(crate::specs::Rules::step_rule))]
-fn step(alloc: Global, version: u32, state: &mut Watching, line: &[u8]) -> Result<(), PatternFault>
+fn step(alloc: Global, version: u32, state: &mut Watching, line: &[u8]) -> Ruled<()>
     requires { IsVersion version }
     ensures { StepsByRule result state.new (step_rule version state.old line.now) }
 {
-    if !state.is_some() {
-        return Err(PatternFault::of_line(PatternKind::Order));
-    }
+    need(state.is_some(), PatternKind::Order)?;
     let filter = step_filter(alloc, version, line)?;
-    if !state.has_room() {
-        return Err(PatternFault::of_line(PatternKind::Count));
-    }
+    need(state.has_room(), PatternKind::Count)?;
     state.add_step(filter)?;
     Ok(())
 }
@@ -102,7 +88,7 @@ fn at_token(
     line: &[u8],
     word: &[u8],
     rest: &[u8],
-) -> Result<(), PatternFault>
+) -> Ruled<()>
     requires version { IsVersion version }
     requires few { length clients.now ≤ 1024 }
     ensures { StepsByRule result state.new (at_token version clients.now state.old line.now word.now (words rest.now) (first_word (tokens line.now))) }
@@ -112,13 +98,11 @@ fn at_token(
     if is_token(token, b"step".as_slice()) {
         return step(alloc, version, state, line);
     }
-    if state.is_short() {
-        return Err(PatternFault::of_line(PatternKind::Short));
-    }
+    need(!state.is_short(), PatternKind::Short)?;
     if is_token(token, b"pattern".as_slice()) {
         return pattern(alloc, clients, state, word, rest);
     }
-    Err(PatternFault::of_line(PatternKind::Order))
+    Err(LineFault::Kind(PatternKind::Order))
 }
 
 fn is_comment(word: &[u8]) -> bool
@@ -138,7 +122,7 @@ pub fn line(
     clients: &[Client],
     state: &mut Watching,
     line: &[u8],
-) -> Result<(), PatternFault>
+) -> Ruled<()>
     requires version { IsVersion version }
     requires few { length clients.now ≤ 1024 }
     ensures { StepsByRule result state.new (line_rule version clients.now state.old line.now) }
@@ -154,11 +138,9 @@ pub fn line(
 
 /// Takes the end, and gives all patterns, or tells its fault.
 #[tactic(auto, unfolding(crate::specs::Rules::end_rule))]
-pub fn end(state: Watching) -> Result<Vec<Pattern>, PatternFault>
+pub fn end(state: Watching) -> Ruled<Vec<Pattern>>
     ensures { GivesAsByRule (λ patterns. patterns.items) result (end_rule state) }
 {
-    if state.is_short() {
-        return Err(PatternFault::of_line(PatternKind::Short));
-    }
+    need(!state.is_short(), PatternKind::Short)?;
     Ok(state.into_patterns()?)
 }

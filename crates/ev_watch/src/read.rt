@@ -40,14 +40,20 @@ fn patterns(
     'lines: while let Some((text, after)) = next_line(rest) {
         match line(alloc, version, clients, &mut state, text) {
             Ok(()) => {}
-            Err(fault) => return Err(fault.on_line(number)),
+            Err(fault) => return Err(PatternFault::Bad {
+                line: number,
+                kind: fault.kind()?,
+            }),
         }
         number += 1;
         rest = after;
     }
     match end(state) {
         Ok(patterns) => Ok(patterns),
-        Err(fault) => Err(fault.on_line(number)),
+        Err(fault) => Err(PatternFault::Bad {
+            line: number,
+            kind: fault.kind()?,
+        }),
     }
 }
 

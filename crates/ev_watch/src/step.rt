@@ -2,11 +2,12 @@
 ghost use Rattle.std.specs.Prelude.{◌≡◌, ◌++◌, IfOk, Ok, drop};
 ghost use Rattle.ev_script.specs.Command.{IsVersion};
 ghost use Rattle.ev_script.specs.Tokens.{skip};
-ghost use Rattle.ev_watch.specs.Answer.{GivesByRule};
+ghost use Rattle.ev_input.specs.Answer.{GivesByRule};
 ghost use Rattle.ev_watch.specs.Reading.{Tells};
 ghost use Rattle.ev_watch.specs.Steps.{as_subscribe, filter_of, step_filter};
 
-use crate::fault::{PatternFault, PatternKind};
+use crate::fault::{PatternKind, Ruled};
+use ev_input::LineFault;
 use ev_memory::NoMemory;
 use ev_notice::Filter;
 use ev_script::{ScriptFault, script_command};
@@ -44,20 +45,20 @@ fn as_subscribe(alloc: Global, line: &[u8]) -> Result<Vec<u8>, NoMemory>
 }
 
 // A fault of a subscription, as one of a step.
-fn step_fault(fault: ScriptFault) -> PatternFault
+fn step_fault(fault: ScriptFault) -> LineFault<PatternKind>
     ensures { Tells result fault }
 {
     match fault {
-        ScriptFault::Value => PatternFault::of_line(PatternKind::Value),
-        ScriptFault::Operand => PatternFault::of_line(PatternKind::Operand),
-        ScriptFault::Count => PatternFault::of_line(PatternKind::Count),
-        ScriptFault::Syntax | ScriptFault::Repeat => PatternFault::of_line(PatternKind::Syntax),
-        ScriptFault::NoMemory => PatternFault::NoMemory,
+        ScriptFault::Value => LineFault::Kind(PatternKind::Value),
+        ScriptFault::Operand => LineFault::Kind(PatternKind::Operand),
+        ScriptFault::Count => LineFault::Kind(PatternKind::Count),
+        ScriptFault::Syntax | ScriptFault::Repeat => LineFault::Kind(PatternKind::Syntax),
+        ScriptFault::NoMemory => LineFault::NoMemory,
     }
 }
 
 // The filter of a subscription.
-fn filter_of(command: Command) -> Result<Filter, PatternFault>
+fn filter_of(command: Command) -> Ruled<Filter>
     ensures { GivesByRule result (filter_of (Ok command)) }
 {
     match command {
@@ -65,12 +66,12 @@ fn filter_of(command: Command) -> Result<Filter, PatternFault>
         Command::Unsubscribe(_)
         | Command::Advertise(_)
         | Command::Unadvertise(_)
-        | Command::Publish(_) => Err(PatternFault::of_line(PatternKind::Syntax)),
+        | Command::Publish(_) => Err(LineFault::Kind(PatternKind::Syntax)),
     }
 }
 
 /// The filter of a line `step` in documents of the version, read as that of a subscription.
-pub fn step_filter(alloc: Global, version: u32, line: &[u8]) -> Result<Filter, PatternFault>
+pub fn step_filter(alloc: Global, version: u32, line: &[u8]) -> Ruled<Filter>
     requires { IsVersion version }
     ensures { GivesByRule result (step_filter version line.now) }
 {

@@ -7,5 +7,5 @@ invariant-loop-command l = record {
   every_width : l.every.width ≡ length l.filters;
   ever_width : l.ever.width ≡ length l.filters;
   every : numbers_lasting l.filters l.every.members (drop l.command-index l.steps) ≡ numbers_lasting l.filters l.initial.every.members l.steps;
-  ever : numbers_added l.filters l.ever.members (drop l.command-index l.steps) ≡ numbers_added l.filters l.initial.ever.members l.steps;
+  ever : numbers_added l.ever.members (drop l.command-index l.steps) ≡ numbers_added l.initial.ever.members l.steps;
 }

@@ -6,7 +6,7 @@ use Rattle.ev_found.proofs.writing.put_next.Goals as goal
 
 pub returns-then-feed-clause-went : goal.returns-then-feed-clause-went
 returns-then-feed-clause-went g c =
-    let line = found_line c.args.names.now c.args.deliveries.now in
+    let line = found_line c.args.heard.names.now c.args.heard.deliveries.now in
     let before = c.args.detector.now in
     let t = told-now before.steps c.feed.new.self.steps before.fed c.feed.new.self.fed c.args.notice.now c.feed.result c.requires.some c.feed.ensures.steps c.feed.ensures.fed c.feed.ensures.ends in (
       line c.places.result.now,
@@ -16,7 +16,7 @@ returns-then-feed-clause-went g c =
 
 pub returns-else-feed-clause-went : goal.returns-else-feed-clause-went
 returns-else-feed-clause-went g c =
-    let line = found_line c.args.names.now c.args.deliveries.now in
+    let line = found_line c.args.heard.names.now c.args.heard.deliveries.now in
     let before = c.args.detector.now in
     let t = told-now before.steps c.feed.new.self.steps before.fed c.feed.new.self.fed c.args.notice.now c.feed.result c.requires.some c.feed.ensures.steps c.feed.ensures.fed c.feed.ensures.ends in
     ([], went-nothing _, nothing-ends line before.steps before.fed c.args.notice.now c.requires.some (sym t ∙ c.if-feed.false))

@@ -3,8 +3,7 @@ use Rattle.std.specs.Prelude.{None, Some}
 use Rattle.std.specs.Option.{is_some}
 use Rattle.ev_script.specs.Form.{verb_named}
 use Rattle.ev_script.specs.Tokens.{first_word, tokens}
-use Rattle.ev_input.specs.declared.fault.InputFault.{InputFault}
-use Rattle.ev_input.specs.Answer.{FailsByRule, StepsByRule}
+use Rattle.ev_input.specs.Answer.{StepsByRule}
 use Rattle.ev_input.specs.Lines.{words}
 use Rattle.ev_input.specs.Places.{at_section}
 use Rattle.ev_input.specs.Rules.{command_rule}
@@ -14,8 +13,7 @@ use Rattle.ev_input.proofs.places.in_script.Goals as goal
 pub returns-in-None : goal.returns-in-None
 returns-in-None c =
     let h : first_word (tokens c.args.line.now) ≡ None = ap (λ (z : List ℕ). first_word (tokens z)) (sym c.in_ok-cut.ensures) ∙ sym c.in-None.ensures in
-    subst (λ (e : InputFault). FailsByRule e (at_section c.args.state.now c.args.line.now (first_word (tokens c.args.line.now)) (words c.args.line.now))) (sym c.of_line.ensures)
-    (no_token c.args.state.now c.args.line.now (words c.args.line.now) (first_word (tokens c.args.line.now)) h c.requires.kept)
+    no_token c.args.state.now c.args.line.now (words c.args.line.now) (first_word (tokens c.args.line.now)) h c.requires.kept
 
 pub returns-then-is_some : goal.returns-then-is_some
 returns-then-is_some c =

@@ -7,5 +7,5 @@ use Rattle.ev_report.proofs.flooded.put_sections.Given as goal
 abbrev pub invariant-loop-i : goal.invariant-loop-i
 invariant-loop-i g l = (done : List ℕ)
     × Went (outlet (g.K.Sink.taken l.initial.sink) (g.K.Sink.faults l.initial.sink) l.initial.out) (outlet (g.K.Sink.taken l.sink) (g.K.Sink.faults l.sink) l.out) done
-    × (done ++ flood_sections l.clients l.texts (drop l.i l.clients) (drop l.i l.refused) (drop l.i l.rows)
-    ≡ flood_sections l.clients l.texts l.clients l.refused l.rows)
+    × (done ++ flood_sections l.published.clients.now l.published.texts.now (drop l.i l.published.clients.now) (drop l.i l.refused) (drop l.i l.rows)
+    ≡ flood_sections l.published.clients.now l.published.texts.now l.published.clients.now l.refused l.rows)

@@ -4,11 +4,4 @@ use Rattle.ev_traffic.proofs.directions.put_line.Goals as goal
 
 pub returns : goal.returns
 unfolding direction_line
-returns g c =
-    went-then _ _ _ _ _
-    (went-then _ _ _ _ _
-    (went-then _ _ _ _ _
-    (went-then _ _ _ _ _ (went-then _ _ _ _ _ c.put_labelled.ensures c.put_labelled-2.ensures) c.put_labelled-3.ensures)
-    c.put_labelled-4.ensures)
-    c.put_labelled-5.ensures)
-    c.put.ensures
+returns g c = went-then _ _ _ _ _ (went-then _ _ _ _ _ c.put_labelled.ensures c.put_labelled-2.ensures) c.put_counts.ensures

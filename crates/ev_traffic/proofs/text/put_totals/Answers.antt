@@ -4,7 +4,4 @@ use Rattle.ev_traffic.proofs.text.put_totals.Goals as goal
 
 pub returns : goal.returns
 unfolding total_line
-returns g c =
-    went-then _ _ _ _ _
-    (went-then _ _ _ _ _ (went-then _ _ _ _ _ c.put_labelled.ensures c.put_labelled-2.ensures) c.put_labelled-3.ensures)
-    c.put.ensures
+returns g c = went-then _ _ _ _ _ c.put.ensures c.put_counts.ensures

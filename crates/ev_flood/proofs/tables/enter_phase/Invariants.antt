@@ -1,6 +1,6 @@
 use Rattle.std.proofs.Common.{◌≡◌, true, length}
 use Rattle.ev_flood.specs.Tables.{IsRoom, IsReady, AllUpTo, SteadyUpTo}
-use Rattle.ev_flood.proofs.tables.enter_all.Given as goal
+use Rattle.ev_flood.proofs.tables.enter_phase.Given as goal
 
 abbrev pub invariant-loop-place : goal.invariant-loop-place
 invariant-loop-place l = record {
