@@ -17,7 +17,9 @@ fn without_repeats<const MOST: usize>(mut sorted: Vec<Constraints<MOST>>) -> Vec
 }
 
 /// The filters or the advertisements, each once, in canonical order. It takes no memory.
-pub(crate) fn distinct<const MOST: usize>(mut lists: Vec<Constraints<MOST>>) -> Vec<Constraints<MOST>>
+pub(crate) fn distinct<const MOST: usize>(
+    mut lists: Vec<Constraints<MOST>>,
+) -> Vec<Constraints<MOST>>
     ensures { result.items ≡ set_of list_before lists.entry.items }
 {
     lists.sort_unstable();

@@ -19,7 +19,6 @@ mod scripts;
 mod state;
 mod tally;
 mod trees;
-mod turns;
 mod version;
 mod words;
 

@@ -15,9 +15,9 @@ use crate::places::{end, line};
 use crate::state::{Place, State};
 use crate::tally::Tally;
 use crate::trees::Trees;
-use crate::turns::Turns;
 use crate::version::Version;
 use ev_model::{Net, Semantics};
+use ev_wire::Lists;
 use std::alloc::Global;
 
 const MOST_BYTES: usize = 4_194_304;
@@ -33,7 +33,7 @@ fn start(alloc: Global) -> State
         clients: Clients::new(alloc),
         client: 0,
         tally: Tally::new(),
-        schedule: Turns::new(alloc),
+        schedule: Lists::none(alloc),
     }
 }
 

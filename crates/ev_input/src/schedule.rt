@@ -18,7 +18,9 @@ pub fn command_turn(state: &mut State, line: u32, rest: &[u8]) -> Ruled<()>
 {
     let name = want(one_name(rest), Fault::Words)?;
     let client = want(state.clients.find(name), Fault::Name)?;
-    state.schedule.add(line, Turn::Command(client as u32 + 1))?;
+    state
+        .schedule
+        .push((line, Turn::Command(client as u32 + 1)))?;
     Ok(())
 }
 
@@ -31,7 +33,7 @@ pub fn take_turn(state: &mut State, line: u32, rest: &[u8]) -> Ruled<()>
     need(are_servers(state.trees.servers(), a, b), Fault::Range)?;
     let (server, from) = (a as u32, b as u32);
     need(state.trees.are_neighbours(server, from), Fault::Range)?;
-    state.schedule.add(line, Turn::Take { server, from })?;
+    state.schedule.push((line, Turn::Take { server, from }))?;
     Ok(())
 }
 
@@ -42,6 +44,6 @@ pub fn version_turn(state: &mut State, line: u32, rest: &[u8]) -> Ruled<()>
 {
     let a = want(one_number(rest), Fault::Words)?;
     need(is_server(state.trees.servers(), a), Fault::Range)?;
-    state.schedule.add(line, Turn::Version(a as u32))?;
+    state.schedule.push((line, Turn::Version(a as u32)))?;
     Ok(())
 }

@@ -2,9 +2,9 @@
 use crate::clients::Clients;
 use crate::tally::Tally;
 use crate::trees::Trees;
-use crate::turns::Turns;
 use crate::version::Version;
-use ev_wire::Semantics;
+use ev_model::Turn;
+use ev_wire::{Lists, Semantics};
 
 /// Where in the document the next content line stands.
 #[derive(Clone, Copy, Debug, PartialEq, Eq)]
@@ -43,5 +43,5 @@ pub struct State {
     /// What the commands take.
     pub tally: Tally,
     /// The turns, each with its line.
-    pub schedule: Turns,
+    pub schedule: Lists<(u32, Turn)>,
 }

@@ -45,7 +45,11 @@ impl Joined for (Name, Value) {
 impl<'a> Reader<'a> {
     /// At most so many members, joined.
     #[tactic(auto, using(crate::proofs::ItemsLoop::ends))]
-    pub(crate) fn joined<T: Joined>(&mut self, alloc: Global, most: usize) -> Result<Vec<T>, WireFault>
+    pub(crate) fn joined<T: Joined>(
+        &mut self,
+        alloc: Global,
+        most: usize,
+    ) -> Result<Vec<T>, WireFault>
         ensures { Reads (λ x. x.items) result (items_at T.front most [] self.old.rest.now) self.new.rest.now }
     {
         let mut members = Vec::new(alloc);

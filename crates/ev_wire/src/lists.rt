@@ -1,5 +1,7 @@
 //! Lists that contracts see whole: of filters, of advertisements, of bytes.
+use ev_memory::NoMemory;
 use ev_notice::{Advert, Filter};
+use std::alloc::Global;
 use std::marker::Model;
 
 /// A list; contracts see it.
@@ -26,13 +28,30 @@ impl<L> Model for Lists<L> {
 }
 
 impl<L> Lists<L> {
-    ghost use Rattle.std.specs.Prelude.{◌≡◌};
+    ghost use Rattle.std.specs.Prelude.{◌≡◌, ◌∷◌, ◌++◌, [], OnOk};
+
+    /// No member. It takes no memory.
+    pub fn none(alloc: Global) -> Self
+        ensures { result ≡ [] }
+    {
+        Lists {
+            lists: Vec::new(alloc),
+        }
+    }
 
     /// The list of these.
     pub fn of(lists: Vec<L>) -> Self
         ensures { result ≡ lists.items }
     {
         Lists { lists }
+    }
+
+    /// One member more, at the end.
+    pub fn push(&mut self, member: L) -> Result<(), NoMemory>
+        ensures { OnOk result (self.new ≡ self.old ++ member ∷ []) }
+    {
+        self.lists.push(member)?;
+        Ok(())
     }
 
     /// The members of the list.
