@@ -38,12 +38,11 @@ fn patterns(
     let mut number = first;
     let mut rest = bytes;
     'lines: while let Some((text, after)) = next_line(rest) {
-        match line(alloc, version, clients, &mut state, text) {
-            Ok(()) => {}
-            Err(fault) => return Err(PatternFault::Bad {
+        if let Err(fault) = line(alloc, version, clients, &mut state, text) {
+            return Err(PatternFault::Bad {
                 line: number,
                 kind: fault.kind()?,
-            }),
+            });
         }
         number += 1;
         rest = after;

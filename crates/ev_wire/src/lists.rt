@@ -28,7 +28,7 @@ impl<L> Model for Lists<L> {
 }
 
 impl<L> Lists<L> {
-    ghost use Rattle.std.specs.Prelude.{◌≡◌, ◌∷◌, ◌++◌, [], OnOk};
+    ghost use Rattle.std.specs.Prelude.{◌≡◌, []};
 
     /// No member. It takes no memory.
     pub fn none(alloc: Global) -> Self
@@ -46,14 +46,6 @@ impl<L> Lists<L> {
         Lists { lists }
     }
 
-    /// One member more, at the end.
-    pub fn push(&mut self, member: L) -> Result<(), NoMemory>
-        ensures { OnOk result (self.new ≡ self.old ++ member ∷ []) }
-    {
-        self.lists.push(member)?;
-        Ok(())
-    }
-
     /// The members of the list.
     pub fn as_slice(&self) -> &[L]
         ensures { result.now ≡ self.now }
@@ -66,5 +58,17 @@ impl<L> Lists<L> {
         ensures { result.items ≡ self }
     {
         self.lists
+    }
+}
+
+impl<L: Drop> Lists<L> {
+    ghost use Rattle.std.specs.Prelude.{◌≡◌, ◌∷◌, ◌++◌, [], OnOk};
+
+    /// One member more, at the end.
+    pub fn push(&mut self, member: L) -> Result<(), NoMemory>
+        ensures { OnOk result (self.new ≡ self.old ++ member ∷ []) }
+    {
+        self.lists.push(member)?;
+        Ok(())
     }
 }
