@@ -7,6 +7,7 @@ ghost use Rattle.ev_numserver.specs.Acting.{IsRouted, HasActed, HasChanged, IsCh
 
 use crate::clients::Clients;
 use crate::ledger::Ledger;
+use crate::moving::{added, withdrawn};
 use crate::spreading::spread;
 use ev_memory::NoMemory;
 use ev_message::{Load, Sending};
@@ -59,8 +60,10 @@ pub fn act_on<'a>(
     ensures err { OnErr result (ledger.new ≡ ledger.old) }
 {
     match (plan, ledger.semantics()) {
-        (Planned::Filters(moved), _) => ledger.move_filters(from, moved),
-        (Planned::Adverts(moved), Semantics::Advertisement) => ledger.move_adverts(from, moved),
+        (Planned::Filters(moved), _) => ledger.set_filters(from, withdrawn(moved), added(moved)),
+        (Planned::Adverts(moved), Semantics::Advertisement) => {
+            ledger.set_adverts(from, withdrawn(moved), added(moved))
+        }
         (Planned::Publish { .. }, _) => unreachable!(),
         _ => Ok(Vec::new(alloc)),
     }
