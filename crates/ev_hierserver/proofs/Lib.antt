@@ -6,4 +6,5 @@ pub mod Versions
 pub mod Commanded
 pub mod Silent
 pub mod Keeping
+pub mod Nexts
 pub mod Starting

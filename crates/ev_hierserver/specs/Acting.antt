@@ -1,15 +1,18 @@
 -- What a message does at a server of a hierarchy.
-use Rattle.std.specs.Prelude.{◌≡◌, ℕ, ◌==◌, ◌&&◌, ◌||◌, not, Bool, List, [], filter, map}
+use Rattle.std.specs.Prelude.{◌≡◌, ℕ, ◌==◌, ◌&&◌, ◌||◌, not, Bool, List, [], filter, map, Option, Some, None}
 use Rattle.ev_constraint.specs.Constraint.{ConstraintParts}
 use Rattle.ev_notice.specs.Notice.{Attribute}
 use Rattle.ev_routing.specs.Server.{Message, Subs, Advs, Noticed, is_among}
 use Rattle.ev_theory.specs.Real.{real}
 use Rattle.ev_model.specs.Parts.{NetParts}
 use Rattle.ev_message.specs.Parts.{SendingParts}
+use Rattle.ev_tables.specs.Found.{publication_at}
 use Rattle.ev_session.specs.Session.{SessionParts}
+use Rattle.ev_numsession.specs.declared.planned.Planned.{Planned}
+use Rattle.ev_numserver.specs.declared.acting.Outgoing.{Outgoing}
 use Rattle.ev_numserver.specs.Clients.{bare}
 use Rattle.ev_numserver.specs.Ledger.{LedgerParts, FiltersSet}
-use Rattle.ev_numserver.specs.Acting.{clients_on, delivered, delivery_under, sent_on}
+use Rattle.ev_numserver.specs.Acting.{clients_on, delivered, delivery_under, sent_on, HasChanged}
 
 -- of what is sent, that for one neighbour
 abbrev pub sent_up : ℕ → List SendingParts → List SendingParts
@@ -42,3 +45,11 @@ HasActedUp master from (Subs out add) route old new clients clients_new sent =
 HasActedUp master from (Advs out add) route old new clients clients_new sent = (new ≡ old) × (map bare clients_new ≡ map bare clients) × (sent ≡ [])
 HasActedUp master from (Noticed publisher ordinal n) route old new clients clients_new sent =
     (new ≡ old) × IsSpreadUp old.net master from publisher ordinal n route old.control.links clients clients_new sent
+
+-- what the next command of a client does there: of the messages of a change those to the master are sent, and a publication goes on and is delivered
+abbrev pub HasGoneUp : ℕ → ℕ → Planned → Option Outgoing → LedgerParts → LedgerParts → List SessionParts → List SessionParts → List SendingParts → Type 0
+HasGoneUp master from plan None old new clients clients_new sent =
+    ((all : List SendingParts) × HasChanged from plan old new all × (sent ≡ sent_up master all)) × (clients_new ≡ clients)
+HasGoneUp master from plan (Some out) old new clients clients_new sent =
+    (new ≡ old) × IsSpreadUp old.net master from (publication_at old.net out.number).id.publisher (publication_at old.net out.number).id.ordinal
+    (publication_at old.net out.number).notice out.route.now old.control.links clients clients_new sent

@@ -7,16 +7,18 @@ ghost use Rattle.ev_tables.specs.Found.{publication_at};
 ghost use Rattle.ev_message.specs.Message.{IsLoad, meaning};
 ghost use Rattle.ev_numserver.specs.Clients.{bare, StayPlanned};
 ghost use Rattle.ev_numserver.specs.Acting.{IsRouted, sent_on};
-ghost use Rattle.ev_hierserver.specs.Acting.{sent_up, goes, links_from, IsSpreadUp, HasActedUp};
+ghost use Rattle.ev_numserver.specs.Next.{CanGo};
+ghost use Rattle.ev_hierserver.specs.Acting.{sent_up, goes, links_from, IsSpreadUp, HasActedUp, HasGoneUp};
 
 use ev_memory::NoMemory;
 use ev_message::{Load, Message, Sending};
-use ev_numserver::{Clients, Ledger, spread};
+use ev_numserver::{Clients, Ledger, Outgoing, act_on, spread};
+use ev_numsession::Planned;
 use ev_tables::Tables;
 use std::alloc::Global;
 
 /// Drops what is for other neighbours than the master. It takes no memory.
-pub(crate) fn keep_up<'a>(sent: &mut Vec<Sending<'a>>, master: u32)
+fn keep_up<'a>(sent: &mut Vec<Sending<'a>>, master: u32)
     ensures { sent.new.items ≡ sent_up master sent.old.items }
 {
     sent.retain(|one| one.to == master);
@@ -53,27 +55,27 @@ fn onward<'a>(
     Ok(sent)
 }
 
-/// Sends the publication with a number on, to the master and by its route, and delivers it by its route.
-pub(crate) fn spread_up<'a>(
+/// Sends a publication on, to the master and by its route, and delivers it by its route.
+fn spread_up<'a>(
     alloc: Global,
-    tables: &'a Tables<'a>,
-    links: &[u32],
+    ledger: &Ledger<'a>,
     master: u32,
     clients: &mut Clients<'a>,
     from: u32,
-    number: u32,
-    route: &[u32],
+    outgoing: Outgoing<'_>,
 ) -> Result<Vec<Sending<'a>>, NoMemory>
-    requires rising { IsStrictlyIncreasing route.now }
-    requires known { number < length (known_publications 1 tables.now.clients) }
-    ensures spread { IfOk result (λ sent. IsSpreadUp tables.now master from (publication_at tables.now number).id.publisher
-        (publication_at tables.now number).id.ordinal (publication_at tables.now number).notice route.now links.now
-        clients.old.sessions clients.new.sessions sent.items) }
+    requires rising { IsStrictlyIncreasing outgoing.route.now }
+    requires known { outgoing.number < length (known_publications 1 ledger.now.net.clients) }
+    ensures spread { IfOk result (λ sent. IsSpreadUp ledger.now.net master from (publication_at ledger.now.net outgoing.entry.number).id.publisher
+        (publication_at ledger.now.net outgoing.entry.number).id.ordinal (publication_at ledger.now.net outgoing.entry.number).notice outgoing.entry.route.now
+        ledger.now.control.links clients.old.sessions clients.new.sessions sent.items) }
     ensures net { clients.new.net ≡ clients.old.net }
     ensures planned { StayPlanned clients.old.sessions clients.new.sessions }
     ensures err { OnErr result (map bare clients.new.sessions ≡ map bare clients.old.sessions) }
 {
-    let sent = onward(alloc, tables, links, master, from, number, route)?;
+    let Outgoing { number, route } = outgoing;
+    let tables = ledger.tables();
+    let sent = onward(alloc, tables, ledger.links(), master, from, number, route)?;
     spread(alloc, tables, &[], clients, from, number, route)?;
     Ok(sent)
 }
@@ -108,17 +110,42 @@ pub(crate) fn act<'a>(
         }
         Load::Adverts(_) => Ok(Vec::new(alloc)),
         Load::Publication(number) => {
-            let tables = ledger.tables();
+            let number = *number;
             spread_up(
                 alloc,
-                tables,
-                ledger.links(),
+                ledger,
                 master,
                 clients,
                 from,
-                *number,
-                route,
+                Outgoing { number, route },
             )
         }
     }
+}
+
+/// What the next command of a client does: a publication goes out, or the planned change is made, whose message goes to the
+/// master.
+pub(crate) fn act_next<'a>(
+    alloc: Global,
+    ledger: &mut Ledger<'a>,
+    clients: &mut Clients<'a>,
+    master: u32,
+    from: u32,
+    outgoing: Option<Outgoing<'_>>,
+    plan: &Planned,
+) -> Result<Vec<Sending<'a>>, NoMemory>
+    requires from { Has from ledger.old.interfaces }
+    requires can { CanGo ledger.old.net plan.now outgoing }
+    ensures gone { IfOk result (λ sent. HasGoneUp master from plan.now outgoing.entry ledger.old ledger.new clients.old.sessions clients.new.sessions sent.items) }
+    ensures interfaces { ledger.new.interfaces ≡ ledger.old.interfaces }
+    ensures net { clients.new.net ≡ clients.old.net }
+    ensures planned { StayPlanned clients.old.sessions clients.new.sessions }
+    ensures err { OnErr result ((ledger.new ≡ ledger.old) × (map bare clients.new.sessions ≡ map bare clients.old.sessions)) }
+{
+    let Some(outgoing) = outgoing else {
+        let mut sent = act_on(alloc, ledger, from, plan)?;
+        keep_up(&mut sent, master);
+        return Ok(sent);
+    };
+    spread_up(alloc, ledger, master, clients, from, outgoing)
 }

@@ -22,18 +22,19 @@ ghost use Rattle.ev_tables.specs.Found.{publication_at};
 ghost use Rattle.ev_message.specs.Message.{IsLoad, meaning};
 ghost use Rattle.ev_numserver.specs.Clients.{bare, client_numbers};
 ghost use Rattle.ev_numserver.specs.Core.{core_parts, published_from, without_inbox};
+ghost use Rattle.ev_numserver.specs.Next.{GoesOut};
 ghost use Rattle.ev_numserver.specs.Step.{last_stamp};
 ghost use Rattle.ev_numserver.specs.Staged.{IsStaged};
 ghost use Rattle.ev_numserver.specs.Routed.{IsRoute, RoutesMessage};
 ghost use Rattle.ev_hierserver.specs.Core.{hierarchy_parts, IsHierarchyState};
 ghost use Rattle.ev_hierserver.specs.Step.{MakesHierarchyStep};
 
-use crate::acting::{act, keep_up, spread_up};
+use crate::acting::{act, act_next};
 use ev_forwarding::Change;
 use ev_memory::NoMemory;
 use ev_message::{Load, Message};
 use ev_model::Delivery;
-use ev_numserver::{Clients, Ledger, Step, StepFault, act_on, at_home, interfaces_of};
+use ev_numserver::{Clients, Ledger, Outgoing, Step, StepFault, at_home, interfaces_of};
 use ev_numsession::Session;
 use ev_routing::LAST_LINK;
 use ev_tables::Tables;
@@ -92,11 +93,7 @@ fn master_of(tree: &Tree, server: u32) -> u32
 impl<'a> HierarchyCore<'a> {
     /// The core of a server of a net before its first step, over the tree of phase 0. All memory of what it can hold is taken
     /// here.
-    pub fn start(
-        alloc: Global,
-        tables: &'a Tables<'a>,
-        server: u32,
-    ) -> Result<HierarchyCore<'a>, NoMemory>
+    pub fn start(alloc: Global, tables: &'a Tables<'a>, server: u32) -> Result<Self, NoMemory>
         requires sound { IsSound tables.now }
         requires among { Has server (servers_in tables.now) }
         ensures net { IfOk result (λ parts. parts.core.net ≡ tables.now) }
@@ -140,6 +137,42 @@ impl<'a> HierarchyCore<'a> {
         Ok(last + 1)
     }
 
+    /// Takes the next command of a client that lives here and has one left: a publish that is accepted, of the publication that goes
+    /// out, or where none does no such publish.
+    fn take_next(
+        &mut self,
+        client: u32,
+        outgoing: Option<Outgoing<'_>>,
+    ) -> Result<Step<'a>, StepFault>
+        requires lives { Has client (client_numbers self.old.core.clients) }
+        requires left { (s : SessionParts) → Has s self.old.core.clients → s.client ≡ client → s.taken < length s.script }
+        requires goes { GoesOut self.old.core client outgoing }
+        ensures step { IfOk result (λ s. MakesHierarchyStep (Does (NextCommand client)) 0 self.old self.new s.stamp s.sent.items) }
+        ensures interfaces { OnOk result (self.new.core.interfaces ≡ self.old.core.interfaces) }
+        ensures published { OnOk result (self.new.core.published ≡ self.old.core.published) }
+        ensures exhausted { (s : ℕ) → IsErrOf result (StepFault.StampsExhausted s) ↔ ((self.old.core.clock ≡ last_stamp) × (s ≡ last_stamp)) }
+        ensures err { OnErr result (self.new ≡ self.old) }
+    {
+        let stamp = match self.next_stamp(0) {
+            Ok(stamp) => stamp,
+            Err(fault) => return Err(fault),
+        };
+        self.clients.rise();
+        let plan = self.clients.plan(client)?;
+        let sent = act_next(
+            self.alloc,
+            &mut self.ledger,
+            &mut self.clients,
+            self.master,
+            LAST_LINK + client,
+            outgoing,
+            &plan,
+        )?;
+        self.clients.commit(client, &plan);
+        self.clock = stamp;
+        Ok(Step { stamp, sent })
+    }
+
     /// Takes the next command of a client that lives here and has one left, where that is no publish that is accepted. The
     /// message of a change goes to the master, where what goes up changed.
     pub fn take_command(&mut self, client: u32) -> Result<Step<'a>, StepFault>
@@ -153,17 +186,7 @@ impl<'a> HierarchyCore<'a> {
         ensures exhausted { (s : ℕ) → IsErrOf result (StepFault.StampsExhausted s) ↔ ((self.old.core.clock ≡ last_stamp) × (s ≡ last_stamp)) }
         ensures err { OnErr result (self.new ≡ self.old) }
     {
-        let stamp = match self.next_stamp(0) {
-            Ok(stamp) => stamp,
-            Err(fault) => return Err(fault),
-        };
-        self.clients.rise();
-        let plan = self.clients.plan(client)?;
-        let mut sent = act_on(self.alloc, &mut self.ledger, LAST_LINK + client, &plan)?;
-        keep_up(&mut sent, self.master);
-        self.clients.commit(client, &plan);
-        self.clock = stamp;
-        Ok(Step { stamp, sent })
+        self.take_next(client, None)
     }
 
     /// Takes the next command of a client that lives here and has one left, a publish that is accepted: of the publication with
@@ -186,26 +209,7 @@ impl<'a> HierarchyCore<'a> {
         ensures exhausted { (s : ℕ) → IsErrOf result (StepFault.StampsExhausted s) ↔ ((self.old.core.clock ≡ last_stamp) × (s ≡ last_stamp)) }
         ensures err { OnErr result (self.new ≡ self.old) }
     {
-        let stamp = match self.next_stamp(0) {
-            Ok(stamp) => stamp,
-            Err(fault) => return Err(fault),
-        };
-        self.clients.rise();
-        let plan = self.clients.plan(client)?;
-        let tables = self.ledger.tables();
-        let sent = spread_up(
-            self.alloc,
-            tables,
-            self.ledger.links(),
-            self.master,
-            &mut self.clients,
-            LAST_LINK + client,
-            number,
-            route,
-        )?;
-        self.clients.commit(client, &plan);
-        self.clock = stamp;
-        Ok(Step { stamp, sent })
+        self.take_next(client, Some(Outgoing { number, route }))
     }
 
     /// Takes what a neighbour sent with its stamp. Where it is a publication, the route is that of its notice by what was

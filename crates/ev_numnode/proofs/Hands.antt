@@ -1,5 +1,5 @@
 -- Messages go to their lanes in the order of the lanes.
-use Rattle.std.proofs.Common.{◌≡◌, ℕ, zero, suc, ◌+◌, ◌<◌, ◌≤◌, ◌==◌, Bool, true, false, cond, List, [], ◌∷◌, ◌++◌, inl, inr, length, map, get_or, set, refl, sym, ap, subst, ◌∙◌, arith, add-one}
+use Rattle.std.proofs.Common.{◌≡◌, ℕ, zero, suc, ◌+◌, ◌<◌, ◌≤◌, ◌==◌, Bool, true, false, cond, List, [], ◌∷◌, ◌++◌, ◌⊎◌, inl, inr, length, map, get_or, set, refl, sym, ap, subst, ◌∙◌, arith, add-one}
 use Rattle.std.proofs.lemmas.List.{map-append}
 use Rattle.ev_sets.specs.Sets.{Has}
 use Rattle.ev_sets.specs.Numbers.{IsDistinct}
@@ -11,10 +11,11 @@ use Rattle.ev_message.specs.declared.load.Load.{Load}
 use Rattle.ev_message.specs.declared.stamped.StampedLoad.{StampedLoad}
 use Rattle.ev_message.specs.Message.{meaning, said}
 use Rattle.ev_lane.specs.declared.putting.LaneIn.{LaneIn}
-use Rattle.ev_lane.specs.Lane.{put_list}
+use Rattle.ev_lane.specs.Lane.{SameIn, free_places, mark_of, pushed_list, put_list, waiting_list}
+use Rattle.ev_lane.proofs.Later.{same_in_later}
 use Rattle.ev_numnode.specs.Acted.{Said}
 use Rattle.ev_wire.specs.MessageText.{Each}
-use Rattle.ev_numnode.specs.Links.{Both, AreInOrder, AreOfNet, IsHanded, IsGiven, first_for, rest_for, only_for, all_sent_as}
+use Rattle.ev_numnode.specs.Links.{Both, AreInOrder, AreOfNet, IsHanded, IsGiven, IsPut, first_for, rest_for, only_for, all_sent_as}
 
 earliest : (a : ℕ) (others ns : List ℕ) → AreInOrder (a ∷ others) ns → Has a ns
 earliest a others [] o = absurd o
@@ -161,3 +162,16 @@ module _ (net : NetParts) where
 
       means : s.sent.message ≡ meaning net item.load
       means = ap (λ (z : SendingParts). z.sent.message) (sym v) ∙ m ∙ ap (λ (n : NetParts). meaning n load) same-net ∙ ap (meaning net) (sym il)
+
+-- a lane on which the first was put, and which was flushed then
+pub handed-by : {net : NetParts} {stamp : ℕ} {sent : List SendingParts} (x z : Link) (w : LaneIn StampedLoad) → IsPut net stamp sent x z → SameIn z.enter w → put_list w ≡ put_list z.enter
+    → (waiting_list w ≡ []) ⊎ (free_places w ≡ 0) → mark_of w ≡ length (pushed_list w) → IsHanded net stamp sent x (record z { enter = w })
+handed-by {net} x z w p same put done mark = record {
+  put = record {
+    same = record { neighbour = p.same.neighbour; enter = same_in_later x.enter z.enter w p.same.enter same; leave = p.same.leave };
+    leave = p.leave;
+    one = p.one;
+    put = ap (map (said net)) put ∙ p.put;
+  };
+  flushed = (done, mark);
+}

@@ -4,13 +4,12 @@ use Rattle.ev_sets.specs.Sets.{Has}
 use Rattle.ev_run.specs.Machine.{Does, Takes}
 use Rattle.ev_routing.specs.Step.{NextCommand, Version}
 use Rattle.ev_message.specs.declared.stamped.StampedLoad.{StampedLoad}
-use Rattle.ev_message.specs.Message.{IsLoad, said}
 use Rattle.ev_message.specs.Parts.{SendingParts}
 use Rattle.ev_wire.specs.declared.command.Command.{Command}
 use Rattle.ev_wire.specs.MessageText.{Each}
 use Rattle.ev_model.specs.declared.turn.Act.{Act as EntryAct}
 use Rattle.ev_model.specs.declared.turn.Act.TheVariants as acts
-use Rattle.ev_model.specs.Parts.{NetParts, EntryParts, entry_parts}
+use Rattle.ev_model.specs.Parts.{EntryParts, entry_parts}
 use Rattle.ev_model.specs.Meaning.{act_of}
 use Rattle.ev_session.specs.Session.{SessionParts}
 use Rattle.ev_numserver.specs.Core.{CoreParts}
@@ -21,7 +20,7 @@ use Rattle.ev_numnode.specs.declared.held.ServerInHand.{ServerInHand}
 use Rattle.ev_numnode.specs.declared.link.Link.{Link}
 use Rattle.ev_numnode.specs.declared.what.Turned.{Turned}
 use Rattle.ev_numnode.specs.declared.what.Turned.TheVariants.{Made, Stale, Idle}
-use Rattle.ev_numnode.specs.Links.{Both, IsMoved, IsUnmoved, IsFlushed, HasMissed, HasSeen, ComesNext, IsNextAt, only_from}
+use Rattle.ev_numnode.specs.Links.{Both, IsMoved, IsUnmoved, IsFlushed, HasMissed, HasSeen, ComesNext, only_from}
 
 -- what an input takes from each neighbour
 abbrev pub taken_by_input : StampedInput → ℕ → List Said
@@ -72,19 +71,6 @@ abbrev pub IsTaking : ℕ → ℕ → ServerInHand → ServerInHand → List Ent
 IsTaking phase place old new before after Made = (m : Said) × IsTakingFrom phase place m old new before after
 IsTaking phase place old new before after Stale = ⊥
 IsTaking phase place old new before after Idle = IsStill old new before after × HasMissed place old.links.items new.links.items
-
--- what comes next from the neighbour at a place, of which this is said in a net
-pub record IsNextSaid (net : NetParts) (place : ℕ) (message : Said) (links : List Link) : Type 0 where
-  pub item : StampedLoad
-  pub next : IsNextAt place item links
-  pub told : message ≡ said net item
-  pub load : IsLoad net item.load
-
--- it was taken
-pub record IsTakingNext (phase place : ℕ) (old new : ServerInHand) (before after : List EntryParts) : Type 0 where
-  pub message : Said
-  pub said_next : IsNextSaid old.core.net place message old.links.items
-  pub taking : IsTakingFrom phase place message old new before after
 
 -- the next stamp would be 2^62, by the clock, or by what comes next from the neighbour at a place
 pub record IsWornAt (place clock stamp : ℕ) (links : List Link) : Type 0 where

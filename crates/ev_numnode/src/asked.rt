@@ -1,18 +1,17 @@
 //! What is asked of what a cell has in hand.
-ghost use Rattle.std.specs.Prelude.{◌≡◌, ◌↔◌, ◌<◌, ℕ, length, IfOk, IfSome, OnErr, IsErrOf, IsTrue};
+ghost use Rattle.std.specs.Prelude.{◌≡◌, ◌↔◌, ℕ, IfOk, IfSome, OnErr, IsErrOf, IsTrue};
 ghost use Rattle.ev_sets.specs.Sets.{Has};
 ghost use Rattle.ev_numserver.specs.Clients.{client_numbers};
 ghost use Rattle.ev_numnode.specs.Kept.{IsSomeServer};
 ghost use Rattle.ev_numnode.specs.Cell.{IsServerInHand};
-ghost use Rattle.ev_numnode.specs.Turns.{HasCommand, IsStill, IsWornAt};
+ghost use Rattle.ev_numnode.specs.Turns.{HasCommand, IsStill};
 ghost use Rattle.ev_numnode.specs.Asked.{IsWorn, SuitsHeld};
-ghost use Rattle.ev_numnode.specs.Ahead.{AnswersBy, IsJudged, IsTakingBy};
+ghost use Rattle.ev_numnode.specs.Ahead.{AnswersBy, IsJudged};
 
-use crate::choice::{Matched, choose_next, choose_of};
+use crate::choice::{Matched, choose_next};
 use crate::held::ServerInHand;
 use crate::link::place_in;
-use crate::taking::{look_at, next_at};
-use crate::turn::{take_seen, turn_command, turn_version};
+use crate::turn::{turn_command, turn_take, turn_version};
 use crate::what::{Turned, What};
 use ev_journal::Journal;
 use ev_numserver::{Core, StepFault};
@@ -29,35 +28,6 @@ pub(crate) fn is_of_phase(core: &Core<'_>, phase: u32, client: u32) -> bool
         Some((own, _)) => own == phase,
         None => false,
     }
-}
-
-/// Takes the next message from the neighbour at a place, where there is one.
-fn turn_take<R: Wait>(
-    rt: &R,
-    alloc: Global,
-    held: &mut ServerInHand<'_>,
-    journal: &mut Journal,
-    server: u32,
-    place: usize,
-    matched: Option<Matched<'_>>,
-) -> Result<Turned, StepFault>
-    requires server { held.old.core.server ≡ server }
-    requires place { place < length held.old.links.items }
-    requires held { IsServerInHand held.old }
-    requires stands { IsSomeServer held.old.core }
-    requires judged { IfSome matched (IsJudged held.old.publisher) }
-    ensures taken { (phase : ℕ) → IfOk result (IsTakingBy phase place matched.entry held.old held.new journal.old.entries journal.new.entries) }
-    ensures still { OnErr result (IsStill held.old held.new journal.old.entries journal.new.entries) }
-    ensures kept { journal.new.kept ≡ journal.old.kept }
-    ensures worn { (s : ℕ) → IsErrOf result (StepFault.StampsExhausted s) → IsWornAt place held.old.core.clock s held.new.links.items }
-    ensures held { IsServerInHand held.new }
-{
-    if !look_at(rt, &mut held.links, place) {
-        return Ok(Turned::Idle);
-    }
-    let choice = choose_of(held, matched, next_at(&held.links, place).load());
-    take_seen(rt, alloc, held, journal, server, place, choice.route())?;
-    Ok(choice.turned())
 }
 
 /// One step that is asked for, whose publication may have been matched ahead. After a fault all is as before, but that some of

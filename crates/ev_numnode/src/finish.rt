@@ -116,22 +116,6 @@ fn walk_once<R: Wait>(rt: &R, cells: &mut [Cell<'_>]) -> Result<bool, StepFault>
     Ok(made)
 }
 
-/// Makes rounds until one makes nothing.
-fn walk_rest<R: Wait>(rt: &R, cells: &mut [Cell<'_>]) -> Result<(), StepFault>
-    requires { (net : NetParts) × (phase : ℕ) × AreTogether net phase (cell_roots cells.old) }
-    ensures roots { cell_roots cells.new ≡ cell_roots cells.old }
-    ensures grown { HaveGrown cells.old cells.new }
-    ensures done { OnOk result (AreDone (sights cells.new)) }
-    ensures worn { (s : ℕ) → IsErrOf result (StepFault.StampsExhausted s) → IsWornSomewhere s (sights cells.new) }
-{
-    for _ in rt.forever() {
-        if !walk_once(rt, cells)? {
-            return Ok(());
-        }
-    }
-    unreachable!()
-}
-
 /// Takes the commands of the phase that are left, server by server.
 fn walk_commands<R: Wait>(rt: &R, cells: &mut [Cell<'_>]) -> Result<(), StepFault>
     ensures roots { cell_roots cells.new ≡ cell_roots cells.old }
@@ -142,6 +126,23 @@ fn walk_commands<R: Wait>(rt: &R, cells: &mut [Cell<'_>]) -> Result<(), StepFaul
         cells[k].take_commands(rt)?;
     }
     Ok(())
+}
+
+/// Takes the commands of the phase that are left, and then makes rounds until one makes nothing.
+fn walk_phase<R: Wait>(rt: &R, cells: &mut [Cell<'_>]) -> Result<(), StepFault>
+    requires { (net : NetParts) × (phase : ℕ) × AreTogether net phase (cell_roots cells.old) }
+    ensures roots { cell_roots cells.new ≡ cell_roots cells.old }
+    ensures grown { HaveGrown cells.old cells.new }
+    ensures done { OnOk result (AreDone (sights cells.new)) }
+    ensures worn { (s : ℕ) → IsErrOf result (StepFault.StampsExhausted s) → IsWornSomewhere s (sights cells.new) }
+{
+    walk_commands(rt, cells)?;
+    for _ in rt.forever() {
+        if !walk_once(rt, cells)? {
+            return Ok(());
+        }
+    }
+    unreachable!()
 }
 
 /// Each cell keeps what its type says.
@@ -184,22 +185,6 @@ fn settle_all(cells: &mut [Cell<'_>]) -> Result<(), NoMemory>
     Ok(())
 }
 
-/// Makes the rest of the phase, up to a fault.
-fn walk_phase<R: Wait>(rt: &R, cells: &mut [Cell<'_>]) -> Result<(), StepFault>
-    requires together { (net : NetParts) × (phase : ℕ) × AreTogether net phase (cell_roots cells.old) }
-    ensures roots { cell_roots cells.new ≡ cell_roots cells.old }
-    ensures grown { HaveGrown cells.old cells.new }
-    ensures done { OnOk result (AreDone (sights cells.new)) }
-    ensures finished { OnOk result ((net : NetParts) (phase : ℕ) → AreTogether net phase (cell_roots cells.old)
-        → (begun : ℕ → Begun (machine_in net phase)) → AreBegun net phase cells.new begun → IsFinished net phase cells.new begun) }
-    ensures worn { (s : ℕ) → IsErrOf result (StepFault.StampsExhausted s) → IsWornSomewhere s (sights cells.new) }
-{
-    walk_commands(rt, cells)?;
-    walk_rest(rt, cells)?;
-    tell_all(cells);
-    Ok(())
-}
-
 /// Makes the rest of the phase: all commands that are left, server by server, and then rounds, in which each server takes
 /// from each neighbour and publishes what is staged, until one makes nothing. Then all lanes are empty, nothing is staged,
 /// and no command of the phase is left. Each journal goes on. After a fault the steps that were made stand; where no stamp is left, all that was put is
@@ -216,11 +201,15 @@ pub fn finish_phase<R: Wait>(rt: &R, cells: &mut [Cell<'_>]) -> Result<(), StepF
         → (begun : ℕ → Begun (machine_in net phase)) → AreBegun net phase cells.new begun → AreAllInHand net phase cells.new begun }
 {
     match walk_phase(rt, cells) {
+        Ok(()) => {
+            tell_all(cells);
+            Ok(())
+        }
         Err(StepFault::StampsExhausted(stamp)) => {
             settle_all(cells)?;
             tell_all(cells);
             Err(StepFault::StampsExhausted(stamp))
         }
-        answer => answer,
+        Err(fault) => Err(fault),
     }
 }

@@ -23,7 +23,7 @@ impl Link {
     ghost use Rattle.std.specs.Prelude.{◌≡◌, ◌<◌, ◌^◌, length, OnOk};
     ghost use Rattle.ev_lane.specs.Lane.{put_list, spare};
     ghost use Rattle.ev_model.specs.Parts.{NetParts};
-    ghost use Rattle.ev_numnode.specs.Links.{AreOfNet, IsRoomed, IsPut, IsHanded, first_for, rest_for};
+    ghost use Rattle.ev_numnode.specs.Links.{AreOfNet, IsRoomed, IsPut, first_for, rest_for};
 
     /// Makes room for one item.
     fn room(&mut self) -> Result<(), NoMemory>
@@ -46,18 +46,6 @@ impl Link {
         }
         let Sending { to: _, message } = sent.remove(0);
         self.enter.put(StampedLoad::of(stamp, message.into_load()));
-    }
-
-    /// Puts the first of what is sent, if it is for this neighbour, and flushes.
-    fn hand(&mut self, sent: &mut Vec<Sending<'_>>, stamp: u64)
-        requires room { 0 < spare self.old.enter }
-        requires few { length (put_list self.old.enter) < 2 ^ 63 }
-        requires low { stamp < 2 ^ 62 }
-        ensures handed { (net : NetParts) → AreOfNet net sent.old.items → IsHanded net stamp (first_for self.old.neighbour sent.old.items) self.old self.new }
-        ensures rest { sent.new.items ≡ rest_for self.old.neighbour sent.old.items }
-    {
-        self.put_first(sent, stamp);
-        self.enter.flush();
     }
 }
 
@@ -83,7 +71,8 @@ pub(crate) fn hand_all(links: &mut [Link], mut sent: Vec<Sending<'_>>, stamp: u6
     ensures { (net : NetParts) → AreOfNet net sent.entry.items → Both (IsGiven net stamp sent.entry.items) links.old links.new }
 {
     for link in links.iter_mut() {
-        link.hand(&mut sent, stamp);
+        link.put_first(&mut sent, stamp);
+        link.enter.flush();
     }
 }
 

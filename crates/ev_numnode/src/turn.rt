@@ -7,20 +7,19 @@ ghost use Rattle.ev_model.specs.declared.turn.Act.TheVariants as acts;
 ghost use Rattle.ev_session.specs.Session.{SessionParts};
 ghost use Rattle.ev_numserver.specs.Clients.{client_numbers};
 ghost use Rattle.ev_numserver.specs.Step.{MakesStep, last_stamp};
-ghost use Rattle.ev_numserver.specs.Routed.{RoutesNext, RoutesMessage};
+ghost use Rattle.ev_numserver.specs.Routed.{RoutesNext};
 ghost use Rattle.ev_numversions.specs.Ends.{staged, published, IsSamePublisher};
 ghost use Rattle.ev_numnode.specs.Kept.{IsSomeServer};
-ghost use Rattle.ev_message.specs.Message.{meaning};
-ghost use Rattle.ev_message.specs.declared.stamped.StampedLoad.{StampedLoad as ItemParts};
-ghost use Rattle.ev_numnode.specs.Links.{IsInSight, IsNextAt};
 ghost use Rattle.ev_numnode.specs.Cell.{IsServerInHand, IsPublishedBy};
-ghost use Rattle.ev_numnode.specs.Turns.{HasCommand, IsCellTurn, IsStill, IsTakingNext, IsWornAt};
+ghost use Rattle.ev_numnode.specs.Turns.{HasCommand, IsCellTurn, IsStill, IsWornAt};
 ghost use Rattle.ev_numnode.specs.Asked.{Answers};
+ghost use Rattle.ev_numnode.specs.Ahead.{IsJudged, IsTakingBy};
 
+use crate::choice::{Matched, choose_of};
 use crate::desk::{take_command, take_load};
 use crate::held::ServerInHand;
 use crate::step::{enter, make_room};
-use crate::taking::{next_at, take_at};
+use crate::taking::{look_at, next_at, take_at};
 use crate::version::{are_touched, hand_over};
 use crate::what::{Turned, What};
 use ev_forwarding::Route;
@@ -70,31 +69,33 @@ pub(crate) fn turn_command(
     Ok(())
 }
 
-/// Takes the next message from the neighbour at a place, which is in sight; a publication goes by the route that is known, if
-/// one is. After a fault all is as before. Where the message isn't of the server's own run, which no cell puts, the answer is
-/// want of memory.
-pub(crate) fn take_seen<R: Wait>(
+/// Takes the next message from the neighbour at a place, where there is one; a publication goes by the route that was matched
+/// ahead for it, if that is the route of what is published. After a fault all is as before. Where the message isn't of the
+/// server's own run, which no cell puts, the answer is want of memory.
+pub(crate) fn turn_take<R: Wait>(
     rt: &R,
     alloc: Global,
     held: &mut ServerInHand<'_>,
     journal: &mut Journal,
     server: u32,
     place: usize,
-    known: Option<&Route>,
-) -> Result<(), StepFault>
+    matched: Option<Matched<'_>>,
+) -> Result<Turned, StepFault>
     requires server { held.old.core.server ≡ server }
     requires place { place < length held.old.links.items }
-    requires seen { IsInSight place held.old.links.items }
     requires held { IsServerInHand held.old }
     requires stands { IsSomeServer held.old.core }
-    requires known { IfSome known (λ r. (item : ItemParts) → IsNextAt place item held.old.links.items
-        → RoutesMessage held.old.core (meaning held.old.core.net item.load) r.now) }
-    ensures made { (phase : ℕ) → OnOk result (IsTakingNext phase place held.old held.new journal.old.entries journal.new.entries) }
+    requires judged { IfSome matched (IsJudged held.old.publisher) }
+    ensures taken { (phase : ℕ) → IfOk result (IsTakingBy phase place matched.entry held.old held.new journal.old.entries journal.new.entries) }
     ensures still { OnErr result (IsStill held.old held.new journal.old.entries journal.new.entries) }
     ensures kept { journal.new.kept ≡ journal.old.kept }
     ensures worn { (s : ℕ) → IsErrOf result (StepFault.StampsExhausted s) → IsWornAt place held.old.core.clock s held.new.links.items }
     ensures held { IsServerInHand held.new }
 {
+    if !look_at(rt, &mut held.links, place) {
+        return Ok(Turned::Idle);
+    }
+    let choice = choose_of(held, matched, next_at(&held.links, place).load());
     let outs = make_room(alloc, &mut held.links, journal)?;
     let from = held.links[place].neighbour;
     let next = next_at(&held.links, place);
@@ -108,7 +109,7 @@ pub(crate) fn take_seen<R: Wait>(
         from,
         next.stamp(),
         next.load(),
-        known,
+        choice.route(),
     )?;
     take_at(rt, &mut held.links, place);
     enter(
@@ -119,7 +120,7 @@ pub(crate) fn take_seen<R: Wait>(
         step,
         outs,
     );
-    Ok(())
+    Ok(choice.turned())
 }
 
 /// A step that sends nothing.

@@ -13,6 +13,7 @@ pub mod Turned
 pub mod Changed
 pub mod Plans
 pub mod Keeping
+pub mod Nexts
 pub mod Starting
 pub mod Putting
 pub mod Relinks

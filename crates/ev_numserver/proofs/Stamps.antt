@@ -1,5 +1,5 @@
 -- Stamps, and the one fault that they have.
-use Rattle.std.proofs.Common.{◌≡◌, ◌↔◌, ℕ, suc, max, ◌+◌, Err, IsErrOf, ap, sym, ◌∙◌, arith}
+use Rattle.std.proofs.Common.{◌≡◌, ◌↔◌, ℕ, suc, max, ◌+◌, Result, Ok, Err, IsErrOf, OnErr, ap, sym, ◌∙◌, arith}
 use Rattle.ev_numserver.specs.Step.{last_stamp}
 use Rattle.ev_numserver.specs.declared.stepped.StepFault.{StepFault}
 use Rattle.ev_numserver.specs.declared.stepped.StepFault.TheVariants.{StampsExhausted}
@@ -19,3 +19,8 @@ exhausted-of fault s told = (λ e. told.0 (ap Err (err-is e)), λ p. ap Err (err
 
 pub exhausted-none : {A : Type 0} (clock s : ℕ) (fault : StepFault) → IsErrOf {T = A} (Err fault) (StampsExhausted s) ↔ ((max clock 0 ≡ last_stamp) × (s ≡ last_stamp)) → IsErrOf {T = A} (Err fault) (StampsExhausted s) ↔ ((clock ≡ last_stamp) × (s ≡ last_stamp))
 exhausted-none clock s fault told = (λ e. let r = told.0 e in (sym (max-none clock) ∙ r.0, r.1), λ r. told.1 (max-none clock ∙ r.0, r.1))
+
+-- what holds anyway holds at a fault
+pub on-err : {T E P : Type 0} (r : Result T E) → P → OnErr r P
+on-err (Ok x) p = tt
+on-err (Err e) p = p

@@ -1,5 +1,5 @@
 -- What was told of a link by numbers is the message of the change.
-use Rattle.std.proofs.Common.{◌≡◌, ◌⊎◌, inl, inr, ℕ, ◌<◌, nat_lt, Bool, true, false, cond, List, [], ◌∷◌, length, refl, sym, ap, ap₂, subst, ◌∙◌}
+use Rattle.std.proofs.Common.{◌≡◌, ◌⊎◌, inl, inr, ℕ, ◌<◌, nat_lt, Bool, true, false, cond, Some, List, [], ◌∷◌, length, refl, sym, ap, ap₂, subst, ◌∙◌}
 use Rattle.ev_cover.specs.Laws.{sub_laws, ad_laws}
 use Rattle.ev_sets.specs.Laws.{CoverLaws}
 use Rattle.ev_sets.specs.Sets.{Has, IsRising, minus, same_list}
@@ -12,9 +12,11 @@ use Rattle.ev_stock.proofs.Shown.{has-picked}
 use Rattle.ev_wire.specs.Messages.{Lists}
 use Rattle.ev_routing.specs.Server.{Message, Subs, Advs}
 use Rattle.ev_theory.specs.Real.{real}
+use Rattle.ev_model.specs.Parts.{NetParts}
 use Rattle.ev_message.specs.Parts.{ChangeParts, IsChange}
-use Rattle.ev_numserver.specs.Due.{IsChangeBy}
-use Rattle.ev_numserver.specs.Showing.{TellsFilters, TellsAdverts}
+use Rattle.ev_message.specs.declared.load.Load.TheVariants as loads
+use Rattle.ev_numserver.specs.Due.{IsChangeBy, IsCarried}
+use Rattle.ev_numserver.specs.Showing.{TellsFilters, TellsAdverts, FiltersTold, AdvertsTold}
 
 module _ {T : Type 0} {covers before : T → T → Bool} (laws : CoverLaws covers before) where
   -- two sets of which neither has more are one
@@ -108,3 +110,18 @@ module _ (items : Lists) (t : Told) (ms : List (Message real)) where
       sym w.change
       ∙ (ap (λ (v : Bool). cond v [] (Advs (minus real.before_advert w.old w.new) (minus real.before_advert w.new w.old) ∷ [])) (moved ad_laws items w.old w.new t w.is_told c by)
       ∙ ap₂ (λ x y. Advs x y ∷ []) (sym w.is_told.withdrawn ∙ ap (picked items) (sym by.withdrawn)) (sym w.is_told.added ∙ ap (picked items) (sym by.added)))
+
+-- what is carried of a change
+pub filters-carried : (net : NetParts) (items : Lists) (t : Told) (ms : List (Message real)) → FiltersTold net items t ms → (c : ChangeParts) → IsChangeBy (length items) t c
+    → IsCarried net ms (Some (loads.Filters c))
+filters-carried net items t ms told c by = (
+  subst (λ (z : Lists). IsChange (length z) c) told.items_are (is-change sub_laws items told.tells.old told.tells.new t c told.tells.is_told by),
+  some-filters items t ms told.tells c by ∙ ap (λ (z : Lists). Subs (picked z c.withdrawn) (picked z c.added) ∷ []) told.items_are,
+)
+
+pub adverts-carried : (net : NetParts) (items : Lists) (t : Told) (ms : List (Message real)) → AdvertsTold net items t ms → (c : ChangeParts) → IsChangeBy (length items) t c
+    → IsCarried net ms (Some (loads.Adverts c))
+adverts-carried net items t ms told c by = (
+  (told.steered, subst (λ (z : Lists). IsChange (length z) c) told.items_are (is-change ad_laws items told.tells.old told.tells.new t c told.tells.is_told by)),
+  some-adverts items t ms told.tells c by ∙ ap (λ (z : Lists). Advs (picked z c.withdrawn) (picked z c.added) ∷ []) told.items_are,
+)

@@ -1,6 +1,11 @@
 -- How the code makes the messages of a change; no promise to a caller speaks of it.
-use Rattle.std.specs.Prelude.{◌≡◌, ◌<◌, ℕ, nat_lt, Bool, true, false, List, [], slice_get, Option, Some, None}
+use Rattle.std.specs.Prelude.{◌≡◌, ◌<◌, ℕ, nat_lt, Bool, true, false, List, [], ◌∷◌, slice_get, Option, Some, None}
 use Rattle.ev_sets.specs.Sets.{Has, IsRising}
+use Rattle.ev_routing.specs.Server.{Message}
+use Rattle.ev_theory.specs.Real.{real}
+use Rattle.ev_model.specs.Parts.{NetParts}
+use Rattle.ev_message.specs.declared.load.Load.{Load}
+use Rattle.ev_message.specs.Message.{IsLoad, meaning}
 use Rattle.ev_stock.specs.Sides.{Told}
 use Rattle.ev_message.specs.Parts.{ChangeParts}
 
@@ -18,6 +23,11 @@ pub record IsChangeBy (bound : ℕ) (told : Told) (change : ChangeParts) : Type 
 abbrev pub IsChangeOf : ℕ → Told → Option ChangeParts → Type 0
 IsChangeOf bound told None = (told.withdrawn ≡ []) × (told.added ≡ [])
 IsChangeOf bound told (Some change) = IsChangeBy bound told change
+
+-- what is carried, if something is, stands in a net for these messages
+abbrev pub IsCarried : NetParts → List (Message real) → Option Load → Type 0
+IsCarried net messages None = messages ≡ []
+IsCarried net messages (Some load) = IsLoad net load × (messages ≡ meaning net load ∷ [])
 
 -- an item with this number is held
 pub record IsHeldAt {T : Type 0} (items held : List T) (k : ℕ) : Type 0 where

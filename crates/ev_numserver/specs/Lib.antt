@@ -4,6 +4,7 @@ pub mod Staged
 pub mod Ledger
 pub mod Acting
 pub mod Routed
+pub mod Next
 pub mod Clients
 pub mod Kept
 pub mod Showing

@@ -11,6 +11,9 @@ use Rattle.ev_control.specs.Holdings.{Holding}
 use Rattle.ev_control.specs.Control.{Controlled, filter_change, advert_change}
 use Rattle.ev_stock.specs.Sides.{Told}
 use Rattle.ev_stock.specs.Stock.{IsTold}
+use Rattle.ev_wire.specs.declared.semantics.Semantics.TheVariants.{Advertisement}
+use Rattle.ev_model.specs.Parts.{NetParts}
+use Rattle.ev_catalogue.specs.Known.{known_filters, known_adverts}
 use Rattle.ev_numcontrol.specs.Control.{Controlled as Numbered, subs, advs}
 
 -- what interfaces hold, interface by interface
@@ -43,3 +46,14 @@ pub record TellsAdverts (items : Lists) (told : Told) (messages : List (Message 
   pub old_rising : IsRising list_before old
   pub new_rising : IsRising list_before new
   pub change : advert_change old new ≡ messages
+
+-- what was told of a link, of the filters of a net
+pub record FiltersTold (net : NetParts) (items : Lists) (told : Told) (messages : List (Message real)) : Type 0 where
+  pub items_are : items ≡ known_filters net.clients
+  pub tells : TellsFilters items told messages
+
+-- of its advertisements, under advertisement semantics
+pub record AdvertsTold (net : NetParts) (items : Lists) (told : Told) (messages : List (Message real)) : Type 0 where
+  pub items_are : items ≡ known_adverts net.clients
+  pub steered : net.semantics ≡ Advertisement
+  pub tells : TellsAdverts items told messages

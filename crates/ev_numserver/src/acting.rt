@@ -4,15 +4,26 @@ ghost use Rattle.ev_sets.specs.Sets.{Has};
 ghost use Rattle.ev_message.specs.Message.{IsLoad, meaning};
 ghost use Rattle.ev_numserver.specs.Clients.{bare, StayPlanned};
 ghost use Rattle.ev_numserver.specs.Acting.{IsRouted, HasActed, HasChanged, IsChangeIn};
+ghost use Rattle.ev_numserver.specs.Next.{CanGo, HasGone};
 
 use crate::clients::Clients;
 use crate::ledger::Ledger;
+use crate::moving::{added, withdrawn};
 use crate::spreading::spread;
 use ev_memory::NoMemory;
 use ev_message::{Load, Sending};
 use ev_numsession::Planned;
 use ev_wire::Semantics;
 use std::alloc::Global;
+
+/// A publication that a client's next command sends out.
+#[derive(Clone, Copy)]
+pub struct Outgoing<'r> {
+    /// Its number.
+    pub number: u32,
+    /// The interfaces that it goes to, rising.
+    pub route: &'r [u32],
+}
 
 /// What a message does that came from an interface with this load. A publication goes by its route. The answer is the messages that become due, by link.
 pub(crate) fn act<'a>(
@@ -59,9 +70,35 @@ pub fn act_on<'a>(
     ensures err { OnErr result (ledger.new ≡ ledger.old) }
 {
     match (plan, ledger.semantics()) {
-        (Planned::Filters(moved), _) => ledger.move_filters(from, moved),
-        (Planned::Adverts(moved), Semantics::Advertisement) => ledger.move_adverts(from, moved),
+        (Planned::Filters(moved), _) => ledger.set_filters(from, withdrawn(moved), added(moved)),
+        (Planned::Adverts(moved), Semantics::Advertisement) => {
+            ledger.set_adverts(from, withdrawn(moved), added(moved))
+        }
         (Planned::Publish { .. }, _) => unreachable!(),
         _ => Ok(Vec::new(alloc)),
     }
+}
+
+/// What the next command of a client does: a publication goes out, or the planned change is made.
+pub(crate) fn act_next<'a>(
+    alloc: Global,
+    ledger: &mut Ledger<'a>,
+    clients: &mut Clients<'a>,
+    from: u32,
+    outgoing: Option<Outgoing<'_>>,
+    plan: &Planned,
+) -> Result<Vec<Sending<'a>>, NoMemory>
+    requires from { Has from ledger.old.interfaces }
+    requires can { CanGo ledger.old.net plan.now outgoing }
+    ensures gone { IfOk result (λ sent. HasGone from plan.now outgoing.entry ledger.old ledger.new clients.old.sessions clients.new.sessions sent.items) }
+    ensures interfaces { ledger.new.interfaces ≡ ledger.old.interfaces }
+    ensures net { clients.new.net ≡ clients.old.net }
+    ensures planned { StayPlanned clients.old.sessions clients.new.sessions }
+    ensures err { OnErr result ((ledger.new ≡ ledger.old) × (map bare clients.new.sessions ≡ map bare clients.old.sessions)) }
+{
+    let Some(Outgoing { number, route }) = outgoing else {
+        return act_on(alloc, ledger, from, plan);
+    };
+    let tables = ledger.tables();
+    spread(alloc, tables, ledger.links(), clients, from, number, route)
 }

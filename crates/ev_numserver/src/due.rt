@@ -46,49 +46,63 @@ fn change_at<'a, T: Cover>(
     Ok(Some(change))
 }
 
-/// Puts the message at the end that was told on filters of the link at a place, if there is one.
-fn put_filters<'a>(
-    alloc: Global,
-    tables: &'a Tables<'a>,
-    to: u32,
-    filters: &Stock<'a, Sub>,
-    place: usize,
-    sent: &mut Vec<Sending<'a>>,
-) -> Result<(), NoMemory>
-    requires place { place < length filters.now.told }
-    requires items { filters.now.items ≡ known_filters tables.now.clients }
-    requires told { (t : Told) → slice_get filters.now.told place ≡ Some t → (ms : List (Carried real)) × TellsFilters filters.now.items t ms }
-    ensures { (t : Told) (ms : List (Carried real)) → slice_get filters.now.told place ≡ Some t → TellsFilters filters.now.items t ms
-        → OnOk result (sent.new.items ≡ sent.old.items ++ map (onto tables.now to) ms) }
-{
-    let Some(change) = change_at(alloc, filters, place)? else {
-        return Ok(());
-    };
-    let message = Message::of(tables, Load::Filters(change));
-    sent.push(Sending { to, message })?;
-    Ok(())
+/// Items of whose changes links are told: filters or advertisements.
+trait Telling: Cover {
+    ghost use Rattle.std.specs.Prelude.{◌≡◌, List, length};
+    ghost use Rattle.ev_model.specs.Parts.{NetParts};
+    ghost use Rattle.ev_routing.specs.Server.{Message as Carried};
+    ghost use Rattle.ev_theory.specs.Real.{real};
+    ghost use Rattle.ev_stock.specs.Sides.{Told};
+    ghost use Rattle.ev_numserver.specs.Due.{IsChangeOf, IsCarried};
+
+    /// What was told of a link, by numbers of items, stands in a net for these messages.
+    ghost tells: { NetParts → List Self → Told → List (Carried real) → Type 0 };
+
+    /// What a message carries of a change.
+    fn load(change: Option<Change>) -> Option<Load>
+        ensures { (net : NetParts) (items : List Self) (told : Told) (ms : List (Carried real)) → tells net items told ms
+            → IsChangeOf (length items) told change → IsCarried net ms result };
 }
 
-/// Puts the message at the end that was told on advertisements of the link at a place, if there is one.
-fn put_adverts<'a>(
+impl Telling for Sub {
+    ghost use Rattle.ev_numserver.specs.Showing.{FiltersTold};
+
+    ghost tells = { FiltersTold };
+
+    fn load(change: Option<Change>) -> Option<Load> {
+        Some(Load::Filters(change?))
+    }
+}
+
+impl Telling for Ad {
+    ghost use Rattle.ev_numserver.specs.Showing.{AdvertsTold};
+
+    ghost tells = { AdvertsTold };
+
+    fn load(change: Option<Change>) -> Option<Load> {
+        Some(Load::Adverts(change?))
+    }
+}
+
+/// Puts the message at the end that was told of the link at a place, if there is one.
+fn put_told<'a, T: Telling>(
     alloc: Global,
     tables: &'a Tables<'a>,
     to: u32,
-    adverts: &Stock<'a, Ad>,
+    stock: &Stock<'a, T>,
     place: usize,
     sent: &mut Vec<Sending<'a>>,
 ) -> Result<(), NoMemory>
-    requires place { place < length adverts.now.told }
-    requires items { adverts.now.items ≡ known_adverts tables.now.clients }
-    requires steered { tables.now.semantics ≡ Advertisement }
-    requires told { (t : Told) → slice_get adverts.now.told place ≡ Some t → (ms : List (Carried real)) × TellsAdverts adverts.now.items t ms }
-    ensures { (t : Told) (ms : List (Carried real)) → slice_get adverts.now.told place ≡ Some t → TellsAdverts adverts.now.items t ms
+    requires place { place < length stock.now.told }
+    requires told { (t : Told) → slice_get stock.now.told place ≡ Some t → (ms : List (Carried real)) × T.tells tables.now stock.now.items t ms }
+    ensures { (t : Told) (ms : List (Carried real)) → slice_get stock.now.told place ≡ Some t → T.tells tables.now stock.now.items t ms
         → OnOk result (sent.new.items ≡ sent.old.items ++ map (onto tables.now to) ms) }
 {
-    let Some(change) = change_at(alloc, adverts, place)? else {
+    let change = change_at(alloc, stock, place)?;
+    let Some(load) = T::load(change) else {
         return Ok(());
     };
-    let message = Message::of(tables, Load::Adverts(change));
+    let message = Message::of(tables, load);
     sent.push(Sending { to, message })?;
     Ok(())
 }
@@ -109,7 +123,7 @@ pub(crate) fn filter_messages<'a>(
 {
     let mut sent = Vec::new(alloc);
     for p in 0..links.len() {
-        put_filters(alloc, tables, links[p], filters, p, &mut sent)?;
+        put_told(alloc, tables, links[p], filters, p, &mut sent)?;
     }
     Ok(sent)
 }
@@ -140,9 +154,9 @@ pub(crate) fn advert_messages<'a>(
     for p in 0..links.len() {
         let link = links[p];
         if link == interface {
-            put_filters(alloc, tables, link, filters, p, &mut sent)?;
+            put_told(alloc, tables, link, filters, p, &mut sent)?;
         } else {
-            put_adverts(alloc, tables, link, adverts, p, &mut sent)?;
+            put_told(alloc, tables, link, adverts, p, &mut sent)?;
         }
     }
     Ok(sent)

@@ -17,7 +17,7 @@ mod staging;
 mod start;
 mod stepped;
 
-pub use acting::act_on;
+pub use acting::{Outgoing, act_on};
 pub use clients::Clients;
 pub use ledger::Ledger;
 pub use server::Core;

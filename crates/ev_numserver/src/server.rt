@@ -16,14 +16,14 @@ ghost use Rattle.ev_message.specs.Message.{IsLoad, meaning};
 ghost use Rattle.ev_numserver.specs.Clients.{bare, client_numbers};
 ghost use Rattle.ev_numserver.specs.Core.{core_parts, published_from, without_inbox};
 ghost use Rattle.ev_numserver.specs.Kept.{IsKept};
+ghost use Rattle.ev_numserver.specs.Next.{GoesOut};
 ghost use Rattle.ev_numserver.specs.Step.{MakesStep, last_stamp};
 ghost use Rattle.ev_numserver.specs.Staged.{IsStaged};
 ghost use Rattle.ev_numserver.specs.Routed.{IsRoute, RoutesMessage};
 
-use crate::acting::{act, act_on};
+use crate::acting::{Outgoing, act, act_next};
 use crate::clients::Clients;
 use crate::ledger::Ledger;
-use crate::spreading::spread;
 use crate::stepped::{Step, StepFault};
 use ev_forwarding::Change;
 use ev_message::{Load, Message};
@@ -97,6 +97,40 @@ impl<'a> Core<'a> {
         Ok(last + 1)
     }
 
+    /// Takes the next command of a client that lives here and has one left: a publish that is accepted, of the publication that goes
+    /// out, or where none does no such publish.
+    fn take_next(
+        &mut self,
+        client: u32,
+        outgoing: Option<Outgoing<'_>>,
+    ) -> Result<Step<'a>, StepFault>
+        requires lives { Has client (client_numbers self.old.clients) }
+        requires left { (s : SessionParts) → Has s self.old.clients → s.client ≡ client → s.taken < length s.script }
+        requires goes { GoesOut self.old client outgoing }
+        ensures step { IfOk result (λ s. MakesStep (Does (NextCommand client)) 0 self.old self.new s.stamp s.sent.items) }
+        ensures interfaces { OnOk result (self.new.interfaces ≡ self.old.interfaces) }
+        ensures exhausted { (s : ℕ) → IsErrOf result (StepFault.StampsExhausted s) ↔ ((self.old.clock ≡ last_stamp) × (s ≡ last_stamp)) }
+        ensures err { OnErr result (self.new ≡ self.old) }
+    {
+        let stamp = match self.next_stamp(0) {
+            Ok(stamp) => stamp,
+            Err(fault) => return Err(fault),
+        };
+        self.clients.rise();
+        let plan = self.clients.plan(client)?;
+        let sent = act_next(
+            self.alloc,
+            &mut self.ledger,
+            &mut self.clients,
+            LAST_LINK + client,
+            outgoing,
+            &plan,
+        )?;
+        self.clients.commit(client, &plan);
+        self.clock = stamp;
+        Ok(Step { stamp, sent })
+    }
+
     /// Takes the next command of a client that lives here and has one left, where that is no publish that is accepted.
     /// Messages of a change go to the links where what is sent changed.
     pub fn take_command(&mut self, client: u32) -> Result<Step<'a>, StepFault>
@@ -109,16 +143,7 @@ impl<'a> Core<'a> {
         ensures exhausted { (s : ℕ) → IsErrOf result (StepFault.StampsExhausted s) ↔ ((self.old.clock ≡ last_stamp) × (s ≡ last_stamp)) }
         ensures err { OnErr result (self.new ≡ self.old) }
     {
-        let stamp = match self.next_stamp(0) {
-            Ok(stamp) => stamp,
-            Err(fault) => return Err(fault),
-        };
-        self.clients.rise();
-        let plan = self.clients.plan(client)?;
-        let sent = act_on(self.alloc, &mut self.ledger, LAST_LINK + client, &plan)?;
-        self.clients.commit(client, &plan);
-        self.clock = stamp;
-        Ok(Step { stamp, sent })
+        self.take_next(client, None)
     }
 
     /// Takes the next command of a client that lives here and has one left, a publish that is accepted: of the publication with
@@ -140,25 +165,7 @@ impl<'a> Core<'a> {
         ensures exhausted { (s : ℕ) → IsErrOf result (StepFault.StampsExhausted s) ↔ ((self.old.clock ≡ last_stamp) × (s ≡ last_stamp)) }
         ensures err { OnErr result (self.new ≡ self.old) }
     {
-        let stamp = match self.next_stamp(0) {
-            Ok(stamp) => stamp,
-            Err(fault) => return Err(fault),
-        };
-        self.clients.rise();
-        let plan = self.clients.plan(client)?;
-        let tables = self.ledger.tables();
-        let sent = spread(
-            self.alloc,
-            tables,
-            self.ledger.links(),
-            &mut self.clients,
-            LAST_LINK + client,
-            number,
-            route,
-        )?;
-        self.clients.commit(client, &plan);
-        self.clock = stamp;
-        Ok(Step { stamp, sent })
+        self.take_next(client, Some(Outgoing { number, route }))
     }
 
     /// Takes what a neighbour sent with its stamp. Where it is a publication, the route is that of its notice by what was

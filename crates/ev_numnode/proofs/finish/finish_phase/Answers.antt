@@ -2,9 +2,13 @@ use Rattle.std.proofs.Common.{◌∙◌, sym, subst, arith}
 use Rattle.std.proofs.lemmas.Grind.{common_steps}
 use Rattle.ev_numnode.specs.Together.{AreTogether, IsWornSomewhere}
 use Rattle.ev_numnode.proofs.Emptied.{same-roots}
-use Rattle.ev_numnode.proofs.InHand.{all-in-hand}
+use Rattle.ev_numnode.proofs.InHand.{all-in-hand, finished}
 use Rattle.ev_numnode.proofs.Growing.{grown-on, grown-sights}
 use Rattle.ev_numnode.proofs.finish.finish_phase.Goals as goal
+
+pub returns-in-Ok-clause-finished : goal.returns-in-Ok-clause-finished
+returns-in-Ok-clause-finished g c net phase together begun is =
+    finished net phase c.walk_phase.new.cells (subst (AreTogether net phase) (sym c.walk_phase.ensures.roots) together) c.tell_all.ensures begun is c.in-Ok.ensures.done
 
 pub returns-in_err-settle_all-in-Err-StampsExhausted-clause-roots : goal.returns-in_err-settle_all-in-Err-StampsExhausted-clause-roots
 returns-in_err-settle_all-in-Err-StampsExhausted-clause-roots g c = same-roots _ _ c.settle_all.ensures.sights ∙ c.walk_phase.ensures.roots
@@ -17,7 +21,7 @@ returns-in_ok-settle_all-in-Err-StampsExhausted-clause-worn g c s e = subst (λ 
 
 pub returns-in_ok-settle_all-in-Err-StampsExhausted-clause-hand : goal.returns-in_ok-settle_all-in-Err-StampsExhausted-clause-hand
 returns-in_ok-settle_all-in-Err-StampsExhausted-clause-hand g c s e net phase together begun is =
-    all-in-hand net phase c.settle_all.new.cells (subst (AreTogether net phase) (sym (same-roots _ _ c.settle_all.ensures.sights ∙ c.walk_phase.ensures.roots)) together) c.tell_all.ensures begun is c.in_ok-settle_all-in-Err-StampsExhausted.ensures.order
+    all-in-hand net phase c.settle_all.new.cells (subst (AreTogether net phase) (sym (same-roots _ _ c.settle_all.ensures.sights ∙ c.walk_phase.ensures.roots)) together) c.tell_all-in-Err-StampsExhausted.ensures begun is c.in_ok-settle_all-in-Err-StampsExhausted.ensures.order
 
 pub returns-in_err-settle_all-in-Err-StampsExhausted-clause-grown : goal.returns-in_err-settle_all-in-Err-StampsExhausted-clause-grown
 returns-in_err-settle_all-in-Err-StampsExhausted-clause-grown g c =

@@ -1,18 +1,18 @@
-use Rattle.std.proofs.Common.{◌∙◌, sym, subst}
-use Rattle.ev_numnode.specs.Together.{AreTogether}
-use Rattle.ev_numnode.proofs.InHand.{finished}
+use Rattle.std.proofs.Common.{◌∙◌}
 use Rattle.ev_numnode.proofs.Growing.{grown-on}
 use Rattle.ev_numnode.proofs.finish.walk_phase.Goals as goal
 
-pub walk_rest-requires : goal.walk_rest-requires
-walk_rest-requires g c = (c.requires.together.0, c.requires.together.1, subst (AreTogether c.requires.together.0 c.requires.together.1) (sym c.walk_commands.ensures.roots) c.requires.together.2)
+pub loop-init : goal.loop-init
+loop-init g c = record { roots = c.walk_commands.ensures.roots; grown = c.walk_commands.ensures.grown }
 
-pub returns-clause-finished : goal.returns-clause-finished
-returns-clause-finished g c net phase together begun is =
-    finished net phase c.walk_rest.new.cells (subst (AreTogether net phase) (sym (c.walk_rest.ensures.roots ∙ c.walk_commands.ensures.roots)) together) c.tell_all.ensures begun is c.in_ok-walk_rest.ensures.done
+pub loop-preserved : goal.loop-preserved
+loop-preserved g c = record {
+  roots = c.walk_once.ensures.roots ∙ c.loop.invariant.roots;
+  grown = grown-on c.args.cells.now c.loop.cells c.walk_once.new.cells c.loop.invariant.grown c.walk_once.ensures.grown;
+}
 
-pub returns-in_err-walk_rest-clause-grown : goal.returns-in_err-walk_rest-clause-grown
-returns-in_err-walk_rest-clause-grown g c = grown-on c.args.cells.now c.walk_commands.new.cells c.walk_rest.new.cells c.walk_commands.ensures.grown c.walk_rest.ensures.grown
+pub returns-in_err-walk_once-clause-grown : goal.returns-in_err-walk_once-clause-grown
+returns-in_err-walk_once-clause-grown g c = grown-on c.args.cells.now c.loop.cells c.walk_once.new.cells c.loop.invariant.grown c.walk_once.ensures.grown
 
-pub returns-clause-grown : goal.returns-clause-grown
-returns-clause-grown g c = grown-on c.args.cells.now c.walk_commands.new.cells c.walk_rest.new.cells c.walk_commands.ensures.grown c.walk_rest.ensures.grown
+pub returns-then-not-branch-clause-grown : goal.returns-then-not-branch-clause-grown
+returns-then-not-branch-clause-grown g c = grown-on c.args.cells.now c.loop.cells c.walk_once.new.cells c.loop.invariant.grown c.walk_once.ensures.grown

@@ -6,7 +6,7 @@ use Rattle.ev_numserver.specs.Showing.{TellsFilters}
 use Rattle.ev_numserver.proofs.Going.{got-number}
 use Rattle.ev_numserver.proofs.Sendings.{sent-more}
 use Rattle.ev_numserver.proofs.due.advert_messages.Goals as goal
-use Rattle.ev_numserver.proofs.due.advert_messages.Goals.{then-link-interface+in_ok-put_filters, else-link-interface+in_ok-put_adverts}
+use Rattle.ev_numserver.proofs.due.advert_messages.Goals.{then-link-interface+in_ok-put_told, else-link-interface+in_ok-put_told-2}
 
 pub loop-p-preserved : goal.loop-p-preserved
 loop-p-preserved c messages filters adverts =
@@ -18,11 +18,11 @@ loop-p-preserved c messages filters adverts =
     let a = get-some c.args.adverts.now.told p (omega (arith, c.requires.links.1)) in
     let more = ap (λ (z : List SendingParts). z ++ map (onto c.args.tables.now link) (messages link)) (c.loop-p.invariant messages filters adverts) ∙ sym (sent-more c.args.tables.now messages links p link at) in
     elim c.if-link-interface.branch [
-      | then-link-interface+in_ok-put_filters w ↦
+      | then-link-interface+in_ok-put_told w ↦
           let tells = subst (λ z. TellsFilters c.args.filters.now.items f.0 (messages z)) (sym w.if-link-interface.true) (filters p f.0 (at ∙ ap Some w.if-link-interface.true) f.1) in
-          ap (λ (v : Vec SendingParts Global). v.items) w.sent-is ∙ (w.in_ok-put_filters.ensures f.0 (messages link) f.1 tells ∙ more)
-      | else-link-interface+in_ok-put_adverts w ↦
-          ap (λ (v : Vec SendingParts Global). v.items) w.sent-is ∙ (w.in_ok-put_adverts.ensures a.0 (messages link) a.1 (adverts p link a.0 at w.if-link-interface.false a.1) ∙ more)
+          ap (λ (v : Vec SendingParts Global). v.items) w.sent-is ∙ (w.in_ok-put_told.ensures f.0 (messages link) f.1 (record { items_are = c.requires.filter_items; tells = tells }) ∙ more)
+      | else-link-interface+in_ok-put_told-2 w ↦
+          ap (λ (v : Vec SendingParts Global). v.items) w.sent-is ∙ (w.in_ok-put_told-2.ensures a.0 (messages link) a.1 (record { items_are = c.requires.advert_items; steered = c.requires.steered; tells = adverts p link a.0 at w.if-link-interface.false a.1 }) ∙ more)
     ]
 
 pub returns : goal.returns
