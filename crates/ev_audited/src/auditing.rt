@@ -129,8 +129,8 @@ fn concluded(
     }
 }
 
-// The journal of the run that turns make, and how many deliveries there were, where the output is its text; by the tables of the run.
-fn run_over(
+// The journal of the run that turns make, and how many deliveries there were, where the output is its text.
+fn run(
     alloc: Global,
     tables: &Tables<'_>,
     turns: &[(u32, Turn)],
@@ -155,24 +155,6 @@ fn run_over(
     }
 }
 
-// The same by the net.
-fn run(
-    alloc: Global,
-    net: &Net,
-    turns: &[(u32, Turn)],
-    first: u32,
-    end: u32,
-    output: &[u8],
-) -> Result<(Vec<Entry>, u64), AuditFault>
-    requires sound { IsSound net.now }
-    requires first { first ≤ 268435458 }
-    requires short { length output.now ≤ 268435456 }
-    ensures { TellsRun (λ p. p.0.items) (λ p. p.1) net.now first end output.now turns.now result }
-{
-    let tables = Tables::of(alloc, net)?;
-    run_over(alloc, &tables, turns, first, end, output)
-}
-
 // The answer to what is claimed.
 fn of_claim(alloc: Global, claim: Claim, output: &[u8]) -> Result<Audited, AuditFault>
     requires sound { IsSound claim.net }
@@ -188,9 +170,12 @@ fn of_claim(alloc: Global, claim: Claim, output: &[u8]) -> Result<Audited, Audit
         turns,
         ..
     } = claim;
-    let (journal, deliveries) = match run(alloc, &net, &turns, line, end, output) {
-        Ok(left) => left,
-        Err(fault) => return Err(fault),
+    let (journal, deliveries) = {
+        let tables = Tables::of(alloc, &net)?;
+        match run(alloc, &tables, &turns, line, end, output) {
+            Ok(left) => left,
+            Err(fault) => return Err(fault),
+        }
     };
     let owed = owed(alloc, &net)?;
     Ok(Audited {
