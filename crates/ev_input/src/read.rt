@@ -45,20 +45,22 @@ fn read_lines(alloc: Global, bytes: &[u8]) -> Result<Net, InputFault>
     let mut number: u32 = 1;
     let mut rest = bytes;
     'lines: while let Some((text, after)) = next_line(rest) {
-        if let Err(fault) = line(alloc, &mut state, number, text) {
-            return Err(InputFault::Bad {
+        match line(alloc, &mut state, number, text) {
+            Ok(()) => {}
+            Err(fault) => return Err(InputFault::Bad {
                 line: number,
                 kind: fault.kind()?,
-            });
+            }),
         }
         number += 1;
         rest = after;
     }
-    if let Err(missing) = end(&state) {
-        return Err(InputFault::Bad {
+    match end(&state) {
+        Ok(()) => {}
+        Err(missing) => return Err(InputFault::Bad {
             line: number,
             kind: missing.kind()?,
-        });
+        }),
     }
     match net(alloc, state) {
         Ok(net) => Ok(net),
