@@ -1,5 +1,5 @@
 -- A client's next command: where it is permitted, and what its turn makes.
-use Rattle.std.proofs.Common.{◌≡◌, ℕ, suc, ◌-◌, ◌<◌, ◌≤◌, ◌==◌, not, true, false, List, [], ◌∷◌, ◌++◌, length, map, drop, slice_get, Option, Some, None, Result, Ok, Err, OnOk, OnErr, inl, inr, refl, sym, ap, subst, ◌∙◌, arith}
+use Rattle.std.proofs.Common.{◌≡◌, ℕ, suc, ◌-◌, ◌<◌, ◌≤◌, ◌==◌, not, true, false, List, [], ◌∷◌, ◌++◌, length, map, drop, slice_get, Option, Some, None, inl, inr, refl, sym, ap, subst, ◌∙◌, arith}
 use Rattle.std.specs.List.{range_with_len}
 use Rattle.ev_sets.specs.Sets.{Has}
 use Rattle.ev_sets.proofs.Roots.{filter-Has}
@@ -24,11 +24,9 @@ use Rattle.ev_numserver.specs.Clients.{client_numbers}
 use Rattle.ev_hierserver.specs.Core.{HierarchyParts}
 use Rattle.ev_numserver.specs.Staged.{is_some_there}
 use Rattle.ev_numserver.specs.Step.{last_stamp}
-use Rattle.ev_numnet.specs.declared.servers.Servers as code
-use Rattle.ev_numnet.specs.Seen.{seen, calm_in, calm_at, AreCalmCores}
+use Rattle.ev_numnet.specs.Seen.{calm_in, calm_at, AreCalmCores}
 use Rattle.ev_turns.specs.Sessions.{is_phase_below}
 use Rattle.std.proofs.lemmas.Bool.Decides.{nat_tests}
-use Rattle.ev_memory.specs.declared.NoMemory.{NoMemory}
 use Rattle.ev_hierturns.specs.Network.{network_parts, phase_in, net_of, servers_of, moment_by, taken_by, next_phase_by}
 use Rattle.ev_hierturns.specs.Turns.{IsMade, IsBarred}
 use Rattle.ev_hierturns.proofs.Lawful.{laws-of}
@@ -43,7 +41,6 @@ use Rattle.ev_numnet.specs.Acted.{Servers, IsActed}
 use Rattle.ev_hier.proofs.Acted.{network-step, IsNetworkStep}
 use Rattle.ev_hierturns.proofs.Barred.{Permits, permits}
 use Rattle.ev_hier.proofs.Grown.{is_made, is_kept}
-use Rattle.ev_hier.proofs.Tried.{IsSame, same_kept}
 use Rattle.ev_hier.proofs.Standing.{low_at}
 use Rattle.ev_hier.specs.Stepping.{hierarchy}
 
@@ -151,37 +148,6 @@ module _ (net : NetParts) (last own : ℕ) (now : Servers HierarchyParts) (kept 
       most : greatest (servers_of net) (moment_by net now.journal).network.clock (servers_of net).servers ≤ 1000000000
       most = greatest-below (servers_of net) 1000000000 (moment_by net now.journal).network.clock (servers_of net).servers
           (λ x h. let l = (low_at net now.journal kept.sound kept.legal).clocks x in omega (arith, l))
-
--- what an answer tells of a command: it was made, and the network is kept; or nothing changed
-pub record IsCommanded (net : NetParts) (client last own : ℕ) (old new : Servers HierarchyParts) (answer : Result (Unit {0}) NoMemory) : Type 0 where
-  pub made : OnOk answer (IsMade (turns.Command client) (network_parts net old.journal) (network_parts net new.journal))
-  pub kept_on : OnOk answer (IsNetwork net own new)
-  pub err : OnErr answer (IsNetwork net last new × (new.journal ≡ old.journal))
-
-pub commanded_now : (net : NetParts) (phase : ℕ) (old new : Servers HierarchyParts) (kept : IsNetwork net phase old) (client : ℕ) → next_phase_by net old.journal client ≡ Some phase
-    → (answer : Result (Unit {0}) NoMemory) → OnOk answer (IsActed hierarchy (home_of net client - 1) (Does (NextCommand client)) (acts.Command client) old new) → OnErr answer (IsSame old new)
-    → IsCommanded net client phase phase old new answer
-commanded_now net phase old new kept client next (Ok x) acted same = record {
-  made = command_made net phase old kept client new old (moment_by net old.journal).network phase next (ready_now net phase old kept) kept.cores kept.links refl refl acted;
-  kept_on = command_kept net phase old kept client new old (moment_by net old.journal).network phase next (ready_now net phase old kept) kept.cores kept.links refl refl acted;
-  err = tt;
-}
-commanded_now net phase old new kept client next (Err e) acted same = record { made = tt; kept_on = tt; err = (same_kept net phase old new kept same, same.journal) }
-
-pub on_ok_same : (net : NetParts) (client home : ℕ) (old new : code.Servers HierarchyParts) (answer : Result (Unit {0}) NoMemory) → home ≡ home_of net client
-    → OnOk answer (IsActed hierarchy (home - 1) (Does (NextCommand client)) (acts.Command client) (seen old) (seen new))
-    → OnOk answer (IsActed hierarchy (home_of net client - 1) (Does (NextCommand client)) (acts.Command client) (seen old) (seen new))
-on_ok_same net client home old new (Ok x) e acted = subst (λ z. IsActed hierarchy (z - 1) (Does (NextCommand client)) (acts.Command client) (seen old) (seen new)) e acted
-on_ok_same net client home old new (Err x) e acted = tt
-
-pub kept_either : (net : NetParts) (phase : ℕ) {client : ℕ} {old new : Servers HierarchyParts} (answer : Result (Unit {0}) NoMemory) → IsCommanded net client phase phase old new answer → IsNetwork net phase new
-kept_either net phase (Ok x) is = is.kept_on
-kept_either net phase (Err e) is = is.err.0
-
-pub journal_on_err : (net : NetParts) (phase : ℕ) {client : ℕ} {old new : Servers HierarchyParts} (answer : Result (Unit {0}) NoMemory) → IsCommanded net client phase phase old new answer
-    → OnErr answer (new.journal ≡ old.journal)
-journal_on_err net phase (Ok x) is = tt
-journal_on_err net phase (Err e) is = is.err.1
 
 -- quiet where nothing lies on a link and no core has anything staged
 pub quiet_where : (net : NetParts) (phase : ℕ) (now : Servers HierarchyParts) → IsNetwork net phase now → ((a b : ℕ) → now.messages a b ≡ []) → AreCalmCores hierarchy now.cores

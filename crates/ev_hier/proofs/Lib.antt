@@ -10,3 +10,4 @@ pub mod Sessions
 pub mod Starting
 pub mod HandedOn
 pub mod Told
+pub mod HierarchyLaws

@@ -1,8 +1,10 @@
 -- The clocks of the servers: a later phase raises all to the greatest, and what was set is set back.
-use Rattle.std.proofs.Common.{◌≡◌, ℕ, zero, suc, ◌+◌, ◌<◌, ◌≤◌, max, List, [], ◌∷◌, ◌++◌, length, map, take, slice_get, slice_set, slice_index_or, ◌⊎◌, Some, inl, inr, refl, sym, ap, subst, ◌∙◌, arith, add-one}
+use Rattle.std.proofs.Common.{◌≡◌, ℕ, zero, suc, ◌+◌, ◌<◌, ◌≤◌, max, List, [], ◌∷◌, ◌++◌, length, map, take, slice_get, slice_set, slice_index_or, ◌⊎◌, ◌^◌, Vec, Some, Result, Ok, Err, IfOk, OnOk, inl, inr, refl, sym, ap, subst, ◌∙◌, arith, add-one}
 use Rattle.std.proofs.lemmas.Option.{same_Some}
 use Rattle.std.proofs.lemmas.List.{map-append}
+use Rattle.std.specs.declared.alloc.Global.{Global}
 use Rattle.ev_sets.specs.Sets.{Has}
+use Rattle.ev_memory.specs.declared.NoMemory.{NoMemory}
 use Rattle.ev_run.specs.Runs.{greatest, raised}
 use Rattle.ev_run.proofs.Lists.{has-append}
 use Rattle.ev_theory.specs.Real.{real}
@@ -15,6 +17,7 @@ use Rattle.ev_numnet.specs.Stepping.{greatest_clock}
 use Rattle.ev_numnet.proofs.Beginning.{any-clock, greatest-is}
 use Rattle.ev_hier.specs.Clocks.{with_clock, with_clocks, clock_from}
 use Rattle.ev_hier.specs.Kept.{AreServers}
+use Rattle.ev_hier.specs.Ruling.{all_raised, WereRaised}
 use Rattle.ev_hier.specs.Stepping.{hierarchy}
 
 -- one clock more is set
@@ -130,3 +133,10 @@ module _ (net : NetParts) (state : Hierarchy real (net_of net)) (cores : List Hi
         refuses = is.refuses;
         masters = is.masters;
       }
+
+-- the clocks of before, where all were raised
+pub were-raised : (old new : List HierarchyParts) (answer : Result (Vec ℕ Global) NoMemory) → OnOk answer (new ≡ all_raised old)
+    → IfOk answer (λ before. before.items ≡ map (clock_from 0) old) → IfOk answer (λ before. (c : ℕ) → Has c before.items → c < 2 ^ 62)
+    → IfOk answer (λ before. WereRaised before old new)
+were-raised old new (Ok before) raised clocks low = record { clocks = clocks; raised = raised; low = low }
+were-raised old new (Err e) raised clocks low = tt

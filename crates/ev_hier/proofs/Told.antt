@@ -1,5 +1,5 @@
 -- After a step its messages lie last on the links of its server, and their texts are what is told of its entry.
-use Rattle.std.proofs.Common.{◌≡◌, ℕ, ◌-◌, ◌≤◌, cond, List, [], ◌∷◌, ◌++◌, inl, inr, length, map, drop, slice_get, Option, Some, None, refl, sym, ap, subst, ◌∙◌, arith, eq-eqb}
+use Rattle.std.proofs.Common.{◌≡◌, ℕ, ◌≤◌, cond, List, [], ◌∷◌, ◌++◌, inl, inr, length, map, drop, Option, Some, None, refl, sym, ap, subst, ◌∙◌, arith, eq-eqb}
 use Rattle.std.proofs.lemmas.List.{length-map, map-append}
 use Rattle.ev_sets.specs.Sets.{Has}
 use Rattle.ev_tree.specs.Hops.{side_size}
@@ -19,14 +19,12 @@ use Rattle.ev_hierarchy.specs.Masters.{HierarchyLaws}
 use Rattle.ev_hierarchy.specs.Step.{Hierarchy, HierarchyEntry, measure}
 use Rattle.ev_hierarchy.proofs.Spread.{measure-laws}
 use Rattle.ev_hierarchy.proofs.Told.{kept as kept-run}
-use Rattle.ev_wire.specs.declared.sent.Sent.{Sent}
 use Rattle.ev_message.specs.Parts.{SendingParts, sent_by}
 use Rattle.ev_model.specs.Parts.{NetParts, EntryParts}
 use Rattle.ev_numnet.specs.Links.{waiting_in, waiting_as, waiting_parts}
 use Rattle.ev_numnet.specs.Last.{LieLast, text_of_sending}
 use Rattle.ev_numnet.proofs.Sending.{receivers-told, sent-to, sent-of}
 use Rattle.ev_numnet.proofs.Told.{drop-append, alone, texts-are}
-use Rattle.ev_numnet.proofs.Last.{split-last, last-is}
 use Rattle.ev_turns.proofs.Within.{taken-low}
 use Rattle.ev_hierturns.specs.Network.{net_of, servers_of, entry_in, journal_in, opening_of, moment_by}
 use Rattle.ev_hierturns.specs.Told.{found_of, told_of}
@@ -192,21 +190,3 @@ module _ (net : NetParts) (phase : ℕ) (servers : Servers HierarchyParts) (kept
       let s = map-has (λ (s : SendingParts). s.to) to (sent_by net messages ((net_of net).links entry.server)) (subst (Has to) last_lie.receivers h) in
       let near : Has to ((net_of net).links entry.server) = subst (λ z. Has z ((net_of net).links entry.server)) (sym s.2) (sent-to net messages ((net_of net).links entry.server) s.0 s.1) in
       (laws.lawful.small to entry.server (laws.lawful.tree.both entry.server to near), laws.lawful.small entry.server to near)
-
--- of the last entry of a network's journal
-module _ (net : NetParts) (phase : ℕ) (servers : Servers HierarchyParts) (kept : IsNetwork net phase servers) (x : EntryParts) (server : ℕ) (outs : List ℕ) (here : slice_get servers.journal (length servers.journal - 1) ≡ Some x) (server-is : x.server ≡ server) (outs-are : x.outs ≡ outs) where
-  pub small_last : (to : ℕ) → Has to outs → (server ≤ 64) × (to ≤ 64)
-  small_last to h =
-      let b = split-last servers.journal x here in
-      subst (λ z. (z ≤ 64) × (to ≤ 64)) server-is (small_outs net phase servers kept b.0 x b.1 to (subst (Has to) (sym outs-are) h))
-
-  pub told_last : (told : List Sent) → ((sent : List SendingParts) → LieLast servers.messages server outs sent → told ≡ map text_of_sending sent)
-      → (before : List EntryParts) (entry : EntryParts) → servers.journal ≡ before ++ entry ∷ []
-      → told ≡ told_of net (found_of net servers.journal (length before) entry) entry
-  told_last told so before entry is =
-      let x-is : x ≡ entry = last-is servers.journal x here before entry is in
-      so (sent_then net phase servers kept before entry is)
-      (subst (λ z. LieLast servers.messages server z (sent_then net phase servers kept before entry is)) (ap (λ z. z.outs) (sym x-is) ∙ outs-are)
-      (subst (λ z. LieLast servers.messages z entry.outs (sent_then net phase servers kept before entry is)) (ap (λ z. z.server) (sym x-is) ∙ server-is)
-      (last_lie net phase servers kept before entry is)))
-      ∙ texts_then net phase servers kept before entry is

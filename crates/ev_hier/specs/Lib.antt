@@ -1,4 +1,4 @@
 pub mod Stepping
 pub mod Kept
 pub mod Clocks
-pub mod Sessions
+pub mod Ruling

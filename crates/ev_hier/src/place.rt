@@ -16,20 +16,24 @@ ghost use Rattle.ev_hierserver.specs.Step.{MakesHierarchyStep};
 ghost use Rattle.ev_hier.specs.Kept.{IsFirst};
 ghost use Rattle.ev_hier.specs.Clocks.{with_clock};
 
+use crate::clocks::{raise_all, set_clocks};
 use ev_forwarding::Forwarding;
 use ev_hierserver::HierarchyCore;
 use ev_memory::NoMemory;
 use ev_model::Delivery;
-use ev_numnet::{Server, Servers, Waiting, route, routed, unexhausted, unpublished};
+use ev_numnet::{
+    Networked, Ruled, Server, Servers, Waiting, route, routed, unexhausted, unpublished,
+};
 use ev_numserver::Step;
+use ev_numsession::Session;
 use ev_tables::Tables;
 use std::alloc::Global;
 use std::marker::Model;
 
-/// A server: its core, and the pairs of numbers and interfaces that it published; contracts see the core. After a fault it is
-/// as before.
+/// A server of a hierarchy: its core, and the pairs of numbers and interfaces that it published; contracts see the core. After
+/// a fault it is as before.
 #[derive(Drop)]
-pub(crate) struct Place<'a> {
+pub struct Place<'a> {
     core: HierarchyCore<'a>,
     forwarding: Forwarding,
 }
@@ -46,21 +50,6 @@ impl<'a> Model for Place<'a> {
 }
 
 impl<'a> Place<'a> {
-    /// A server of a net before its first step.
-    pub(crate) fn start(
-        alloc: Global,
-        tables: &'a Tables<'a>,
-        server: u32,
-    ) -> Result<Place<'a>, NoMemory>
-        requires sound { IsSound tables.now }
-        requires among { Has server (servers_in tables.now) }
-        ensures { IfOk result (λ place. IsFirst tables.now server place) }
-    {
-        let core = HierarchyCore::start(alloc, tables, server)?;
-        let forwarding = unpublished(alloc, tables, core.interfaces())?;
-        Ok(Place { core, forwarding })
-    }
-
     /// Its core.
     pub(crate) fn core(&self) -> &HierarchyCore<'a>
         ensures { result.now ≡ self.now }
@@ -95,6 +84,58 @@ impl<'a> Place<'a> {
         let tables = self.core.tables();
         let route = routed(alloc, tables, &self.forwarding, number)?;
         unexhausted(self.core.take_publish(client, number, route.interfaces()))
+    }
+}
+
+impl<'a> Ruled for Place<'a> {
+    ghost use Rattle.ev_hierturns.proofs.Scheduled.{hierarchy_trying, hierarchy_walking, hierarchy_telling};
+    ghost use Rattle.ev_hier.specs.Ruling.{hierarchy_ruling};
+
+    ghost trying = { hierarchy_trying };
+
+    ghost walking = { hierarchy_walking };
+
+    ghost telling = { hierarchy_telling };
+
+    ghost ruling = { hierarchy_ruling };
+
+    fn tree_phase(_phase: u32) -> u32
+        ensures { result ≡ 0 }
+    {
+        0
+    }
+}
+
+impl<'a> Networked<'a> for Place<'a> {
+    ghost use Rattle.ev_hierturns.proofs.Scheduled.{hierarchy_trying, hierarchy_telling};
+    ghost use Rattle.ev_numnet.specs.Ruling.{RulingLaws};
+    ghost use Rattle.ev_hier.specs.Ruling.{hierarchy_ruling, WereRaised};
+    ghost use Rattle.ev_hier.specs.Stepping.{hierarchy};
+
+    type Before = Vec<u64>;
+
+    ghost undone = { WereRaised };
+
+    fn laws()
+        ensures { RulingLaws hierarchy hierarchy_trying hierarchy_telling hierarchy_ruling }
+    {}
+
+    fn start(alloc: Global, tables: &'a Tables<'a>, server: u32) -> Result<Place<'a>, NoMemory> {
+        let core = HierarchyCore::start(alloc, tables, server)?;
+        let forwarding = unpublished(alloc, tables, core.interfaces())?;
+        Ok(Place { core, forwarding })
+    }
+
+    fn session(&self, client: u32) -> &Session<'a> {
+        self.core.session(client)
+    }
+
+    fn begin(servers: &mut Ranks<'a>, _last: u32, _own: u32) -> Result<Vec<u64>, NoMemory> {
+        raise_all(servers.alloc, &mut servers.places)
+    }
+
+    fn take_back(servers: &mut Ranks<'a>, before: Vec<u64>) {
+        set_clocks(&mut servers.places, &before);
     }
 }
 

@@ -25,3 +25,5 @@ pub mod HandedOn
 pub mod Picked
 pub mod Last
 pub mod Told
+pub mod ByLaws
+pub mod PeersLaws

@@ -10,10 +10,10 @@ use Rattle.ev_model.specs.Nets.{home_of, with_adverts}
 use Rattle.ev_session.specs.Session.{SessionParts}
 use Rattle.ev_numserver.specs.Clients.{bare}
 use Rattle.ev_numserver.specs.Core.{CoreParts}
-use Rattle.ev_turns.specs.Network.{network_parts, moment_by}
+use Rattle.ev_turns.specs.Network.{moment_by, taken_by, received_by}
 use Rattle.ev_numnet.specs.Kept.{IsNetwork}
 use Rattle.ev_numnet.specs.Acted.{Servers}
-use Rattle.ev_turns.specs.Sessions.{IsSessionOf}
+use Rattle.ev_numnet.specs.Ruling.{IsSessionAt}
 use Rattle.ev_numnet.proofs.Commanding.{taken_there, script_there, home_place}
 
 pub one-semantics : (a b : Semantics) → with_adverts a ≡ by_adverts b → b ≡ a
@@ -23,12 +23,12 @@ one-semantics Subscription Advertisement e = absurd cc
 one-semantics Advertisement Subscription e = absurd cc
 
 pub session_of : (net : NetParts) (phase : ℕ) (now : Servers CoreParts) (kept : IsNetwork net phase now) (client : ℕ) (core : CoreParts) → slice_get now.cores (home_of net client - 1) ≡ Some core
-    → (s : SessionParts) → Has (bare s) core.clients → s.client ≡ client → s.semantics ≡ core.control.semantics → IsSessionOf (network_parts net now.journal) client s
+    → (s : SessionParts) → Has (bare s) core.clients → s.client ≡ client → s.semantics ≡ core.control.semantics → IsSessionAt net client (taken_by net now.journal client) (received_by net now.journal client) s
 session_of net phase now kept client core at s h e semantics = record {
   semantics = semantics ∙ one-semantics net.semantics core.control.semantics (kept.cores.states (home_of net client - 1) core at).control.adverts;
   script = script_there net kept.sound phase (moment_by net now.journal).state now.cores kept.cores client core at (bare s) h e;
-  taken = taken_there net kept.sound phase (moment_by net now.journal).state now.cores kept.cores client core at (bare s) h e;
-  inbox = (kept.cores.states (home_of net client - 1) core at).inboxes (bare s) h
+  taken_is = taken_there net kept.sound phase (moment_by net now.journal).state now.cores kept.cores client core at (bare s) h e;
+  inbox_is = (kept.cores.states (home_of net client - 1) core at).inboxes (bare s) h
       ∙ ap (λ z. deliveries_of (((moment_by net now.journal).state.state (suc (home_of net client - 1))).inbox z)) e
       ∙ ap (λ z. deliveries_of (((moment_by net now.journal).state.state z).inbox client)) (home_place net kept.sound phase (moment_by net now.journal).state now.cores kept.cores client);
 }

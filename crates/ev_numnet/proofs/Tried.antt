@@ -19,9 +19,8 @@ use Rattle.ev_turns.specs.Network.{network_parts, moment_by}
 use Rattle.ev_turns.specs.Turns.{IsTurn, IsMade, IsBarred}
 use Rattle.ev_numnet.specs.Links.{waiting_in}
 use Rattle.ev_numnet.specs.Kept.{IsNetwork}
-use Rattle.ev_numnet.specs.declared.servers.Servers as code
-use Rattle.ev_numnet.specs.Seen.{seen, IsUnchanged}
 use Rattle.ev_numnet.specs.Acted.{Servers, IsActed}
+use Rattle.ev_numnet.specs.Ruling.{IsSame}
 use Rattle.ev_numnet.proofs.Acted.{network-step, IsNetworkStep}
 use Rattle.ev_turns.proofs.Barred.{permits}
 use Rattle.ev_numnet.proofs.Grown.{is_made, is_kept, stays_kept}
@@ -40,23 +39,6 @@ none-left [] zero e = refl
 none-left [] (suc k) e = refl
 none-left (y ∷ ys) zero e = absurd cc
 none-left (y ∷ ys) (suc k) e = none-left ys k e
-
--- nothing of the servers changed
-pub record IsSame (old new : Servers CoreParts) : Type 0 where
-  pub run : new.run ≡ old.run
-  pub cores : new.cores ≡ old.cores
-  pub messages : (a b : ℕ) → new.messages a b ≡ old.messages a b
-  pub journal : new.journal ≡ old.journal
-
--- what the code tells of that
-pub same_of : (old new : code.Servers CoreParts) (answer : Result Bool NoMemory) → IfOk answer (λ made. (made ≡ false) × IsUnchanged old new)
-    → IfOk answer (λ made. (made ≡ false) × IsSame (seen old) (seen new))
-same_of old new (Ok made) same = (same.0, record { run = same.1.run; cores = same.1.cores; messages = same.1.messages; journal = same.1.journal })
-same_of old new (Err e) same = tt
-
-pub same_on_err : {T : Type 0} (old new : code.Servers CoreParts) (answer : Result T NoMemory) → OnErr answer (IsUnchanged old new) → OnErr answer (IsSame (seen old) (seen new))
-same_on_err old new (Ok made) same = tt
-same_on_err old new (Err e) same = record { run = same.run; cores = same.cores; messages = same.messages; journal = same.journal }
 
 module _ (net : NetParts) (phase : ℕ) (old new : Servers CoreParts) (kept : IsNetwork net phase old) where
   abbrev state : State real

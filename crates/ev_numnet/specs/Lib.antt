@@ -7,3 +7,5 @@ pub mod Putting
 pub mod Begin
 pub mod Inboxes
 pub mod Last
+pub mod Ruling
+pub mod PeersRuling

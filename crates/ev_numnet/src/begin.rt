@@ -24,23 +24,6 @@ use ev_numheld::HeldLink;
 use ev_routing::LAST_LINK;
 use ev_tables::Tables;
 use std::alloc::Global;
-use std::marker::Model;
-
-/// What the beginning of a phase replaced at each server: its clock and, where the tree changed, what it had on its
-/// links.
-#[derive(Drop)]
-pub(crate) struct Before<'a> {
-    standings: Vec<Standing<'a>>,
-}
-
-impl<'a> Model for Before<'a> {
-    ghost use Rattle.std.specs.Prelude.{List};
-    ghost use Rattle.ev_numnet.specs.declared.relinking.Standing.{Standing};
-
-    ghost Value = { List Standing };
-
-    ghost view = { λ before. before.standings.items };
-}
 
 /// For each server that its clock is raised.
 fn raised<'a>(
@@ -180,33 +163,32 @@ fn exchange<'a>(places: &mut Vec<Place<'a>>, standings: &mut Vec<Standing<'a>>)
 }
 
 /// Begins a later phase, where nothing is on its way or staged: raises every clock to the greatest, and where its tree
-/// is another one sets each server on it. All that is new is made first.
+/// is another one sets each server on it. All that is new is made first; the answer is what it replaced at each server.
 pub(crate) fn begin<'a>(
     alloc: Global,
     tables: &'a Tables<'a>,
     places: &mut Vec<Place<'a>>,
     last: u32,
     phase: u32,
-) -> Result<Before<'a>, NoMemory>
+) -> Result<Vec<Standing<'a>>, NoMemory>
     requires sound { IsSound tables.now }
     requires state { (state : State real) × AreServers tables.now last state places.old.items × IsAtRestOn real (phased_net tables.now) last state }
     ensures begun { IfOk result (λ _. (state : State real) → AreServers tables.now last state places.old.items
         → IsAtRestOn real (phased_net tables.now) last state
         → AreServers tables.now phase (begun real (phased_net tables.now) last phase state) places.new.items) }
-    ensures back { IfOk result (λ before. IsUndoneBy before places.old.items places.new.items) }
+    ensures back { IfOk result (λ before. IsUndoneBy before.items places.old.items places.new.items) }
     ensures err { OnErr result (places.new.items ≡ places.old.items) }
 {
     let mut standings = beginning(alloc, tables, places, last, phase)?;
     exchange(places, &mut standings);
-    Ok(Before { standings })
+    Ok(standings)
 }
 
 /// Takes the beginning of a phase back, where no server made a step since. It takes no memory.
-pub(crate) fn take_back<'a>(places: &mut Vec<Place<'a>>, before: Before<'a>)
-    requires { (old : List CoreParts) × IsUndoneBy before old places.old.items }
-    ensures { (old : List CoreParts) (net : NetParts) (last : ℕ) (state : State real) → IsUndoneBy before.entry old places.old.items
+pub(crate) fn take_back<'a>(places: &mut Vec<Place<'a>>, mut before: Vec<Standing<'a>>)
+    requires { (old : List CoreParts) × IsUndoneBy before.items old places.old.items }
+    ensures { (old : List CoreParts) (net : NetParts) (last : ℕ) (state : State real) → IsUndoneBy before.entry.items old places.old.items
         → AreServers net last state old → AreServers net last state places.new.items }
 {
-    let mut standings = before.standings;
-    exchange(places, &mut standings);
+    exchange(places, &mut before);
 }

@@ -1,20 +1,17 @@
-//! Networks.
-ghost use Rattle.std.specs.Prelude.{◌≡◌, ◌≤◌, ◌==◌, ◌++◌, ◌∷◌, cond, List, [], length, IfOk, OnOk, OnErr};
-ghost use Rattle.ev_phases.specs.Moments.{opening_moment, found_of};
-ghost use Rattle.ev_theory.specs.Real.{real};
-ghost use Rattle.ev_model.specs.Meaning.{journal_of};
+//! Networks, whatever their kind.
+ghost use Rattle.std.specs.Prelude.{◌≡◌, ◌≤◌, ◌==◌, ◌++◌, ◌∷◌, ℕ, suc, cond, List, [], length, slice_get, Some, IfOk, OnOk, OnErr};
 ghost use Rattle.ev_model.specs.Parts.{EntryParts};
-ghost use Rattle.ev_model.specs.Nets.{phased_net, first_tree, clients_of, of_clients};
+ghost use Rattle.ev_model.specs.Nets.{first_tree, clients_of, of_clients};
 ghost use Rattle.ev_model.specs.Sound.{IsSound};
-ghost use Rattle.ev_numnet.specs.Kept.{AreServers};
+ghost use Rattle.ev_numnet.specs.Ruling.{refused_by};
 ghost use Rattle.ev_numnet.specs.Seen.{AreClients};
-ghost use Rattle.ev_turns.specs.Told.{told_of};
 
 use crate::inboxes::take_inboxes;
 use crate::keeping::{Keeping, Kept};
 use crate::links::Links;
 use crate::making::{command, home, session, take, version};
-use crate::place::{Peers, Place};
+use crate::place::Place;
+use crate::ruled::{Networked, Ruled};
 use crate::servers::Servers;
 use crate::telling::last_told;
 use ev_journal::Journal;
@@ -25,30 +22,33 @@ use ev_wire::Lists;
 use std::alloc::Global;
 use std::marker::{Model, PhantomData};
 
-/// The servers and links of a net, and the journal of what was done: whatever turns it is asked for, a legal run.
+/// The servers of a net, of some kind, their links, and the journal of what was done: whatever turns it is asked for, a legal
+/// run of that kind.
 ///
 /// Contracts see the net and the journal; what the servers hold, what is on the links and what was delivered follows from
 /// these. The entries of the journal stand in memory where they are to be shown (`Kept`), and else in proofs alone (`Passed`).
 #[derive(Drop)]
-pub struct Network<'a, K: Keeping> {
+pub struct RuledNetwork<'a, P: Ruled, K: Keeping> {
     pub(crate) tables: &'a Tables<'a>,
     pub(crate) phase: u32,
     pub(crate) clients: Vec<Lists<u32>>,
-    pub(crate) servers: Peers<'a>,
+    pub(crate) servers: Servers<'a, P>,
     keeping: PhantomData<K>,
 }
 
-impl<'a, K: Keeping> Model for Network<'a, K> {
+/// A network of peers: whatever turns it is asked for, a legal run of its net.
+pub type Network<'a, K> = RuledNetwork<'a, Place<'a>, K>;
+
+impl<'a, P: Ruled, K: Keeping> Model for RuledNetwork<'a, P, K> {
     ghost use Rattle.std.specs.Prelude.{◌≡◌};
     ghost use Rattle.ev_turns.specs.Network.{NetworkParts, network_parts};
-    ghost use Rattle.ev_numnet.specs.Kept.{IsNetwork};
     ghost use Rattle.ev_numnet.specs.Seen.{seen, AreClients};
 
     ghost Value = { NetworkParts };
 
     ghost view = { λ network. network_parts network.tables.now network.servers.journal.entries };
 
-    ghost invariant = { λ network. IsNetwork network.tables.now network.phase (seen network.servers) × AreClients network.tables.now network.clients.items
+    ghost invariant = { λ network. P.ruling.IsKept network.tables.now network.phase (seen network.servers) × AreClients network.tables.now network.clients.items
         × (network.servers.journal.kept ≡ K.keeps) };
 }
 
@@ -76,14 +76,19 @@ fn clients_at(alloc: Global, net: &Net, server: u32) -> Result<Lists<u32>, NoMem
 }
 
 /// The servers of a net before their first steps.
-fn places<'a>(alloc: Global, tables: &'a Tables<'a>, count: u32) -> Result<Vec<Place<'a>>, NoMemory>
+fn places<'a, P: Networked<'a>>(
+    alloc: Global,
+    tables: &'a Tables<'a>,
+    count: u32,
+) -> Result<Vec<P>, NoMemory>
     requires sound { IsSound tables.now }
     requires count { (count ≡ (first_tree tables.now.trees).count) × (count ≤ 64) }
-    ensures { IfOk result (λ places. AreServers tables.now 0 (opening_moment real (phased_net tables.now)).state places.items) }
+    ensures all { IfOk result (λ places. length places.items ≡ count) }
+    ensures first { IfOk result (λ places. (place : ℕ) (core : P) → slice_get places.items place ≡ Some core → P.ruling.IsFirst tables.now (suc place) core) }
 {
     let mut places = Vec::with_capacity(alloc, count as usize)?;
     for place in 0..count {
-        places.push(Place::start(alloc, tables, place + 1)?)?;
+        places.push(P::start(alloc, tables, place + 1)?)?;
     }
     Ok(places)
 }
@@ -101,15 +106,15 @@ pub fn all_clients(alloc: Global, net: &Net, count: u32) -> Result<Vec<Lists<u32
     Ok(clients)
 }
 
-impl<'a, K: Keeping> Network<'a, K> {
-    ghost use Rattle.ev_turns.specs.Network.{network_parts, IsLegal, received_by, refused_by};
-    ghost use Rattle.ev_turns.specs.Turns.{IsTurn};
+impl<'a, P: Networked<'a>, K: Keeping> RuledNetwork<'a, P, K> {
+    ghost use Rattle.ev_turns.specs.Network.{network_parts};
 
     /// The network of a net before its first turn, over the tables of its run.
-    pub fn start(alloc: Global, tables: &'a Tables<'a>) -> Result<Network<'a, K>, NoMemory>
+    pub fn start(alloc: Global, tables: &'a Tables<'a>) -> Result<RuledNetwork<'a, P, K>, NoMemory>
         requires { IsSound tables.now }
         ensures { IfOk result (λ network. network ≡ network_parts tables.now []) }
     {
+        P::laws();
         let net = tables.net();
         let count = net.tree(0).servers();
         let servers = Servers {
@@ -119,7 +124,7 @@ impl<'a, K: Keeping> Network<'a, K> {
             journal: Journal::new(alloc, K::keeps()),
             tables,
         };
-        Ok(Network {
+        Ok(RuledNetwork {
             tables,
             phase: 0,
             clients: all_clients(alloc, net, count)?,
@@ -132,8 +137,9 @@ impl<'a, K: Keeping> Network<'a, K> {
     pub fn made(&self) -> u64
         ensures count { result ≡ length self.now.journal }
         ensures sound { IsSound self.now.net }
-        ensures legal { IsLegal self.now.net self.now.journal }
+        ensures legal { P.trying.IsLegal self.now.net self.now.journal }
     {
+        P::laws();
         self.servers.journal.len()
     }
 
@@ -141,9 +147,10 @@ impl<'a, K: Keeping> Network<'a, K> {
     pub fn into_parts(self) -> Result<(Journal, Vec<Lists<Delivery>>), NoMemory>
         ensures journal { IfOk result (λ parts. parts.0.entries ≡ self.entry.journal) }
         ensures kept { IfOk result (λ parts. parts.0.kept ≡ K.keeps) }
-        ensures received { IfOk result (λ parts. parts.1.items ≡ of_clients self.entry.net (received_by self.entry.net self.entry.journal)) }
+        ensures received { IfOk result (λ parts. parts.1.items ≡ of_clients self.entry.net (P.ruling.received_by self.entry.net self.entry.journal)) }
     {
-        let Network {
+        P::laws();
+        let RuledNetwork {
             tables,
             mut servers,
             ..
@@ -155,33 +162,37 @@ impl<'a, K: Keeping> Network<'a, K> {
     /// What a client received, in order.
     pub fn received(&self, client: u32) -> &[Delivery]
         requires { (1 ≤ client) × (client ≤ length self.now.net.clients) }
-        ensures { result.now ≡ received_by self.now.net self.now.journal client }
+        ensures { result.now ≡ P.ruling.received_by self.now.net self.now.journal client }
     {
+        P::laws();
         session(self.tables.net(), &self.servers, client).received()
     }
 
     /// The ordinals of a client's publishes that were refused, rising.
     pub fn refused(&self, client: u32) -> &[u32]
         requires { (1 ≤ client) × (client ≤ length self.now.net.clients) }
-        ensures { result.now ≡ refused_by self.now.net self.now.journal client }
+        ensures { result.now ≡ refused_by P.ruling self.now.net self.now.journal client }
     {
+        P::laws();
         session(self.tables.net(), &self.servers, client).refused()
     }
 
     /// The texts of the messages of the last turn, by rising neighbour.
     pub fn last_told(&self) -> Result<Lists<Sent>, NoMemory>
         ensures { IfOk result (λ told. (before : List EntryParts) (entry : EntryParts) → self.now.journal ≡ before ++ entry ∷ []
-            → told ≡ told_of self.now.net (found_of real (phased_net self.now.net) (journal_of self.now.journal) (length before)) entry) }
+            → told ≡ P.telling.told_at self.now.net self.now.journal (length before) entry) }
     {
+        P::laws();
         last_told(self.tables, &self.servers)
     }
 
     /// Makes a turn where it is permitted, and answers whether it is. Where it is not, and after want of memory, the
     /// network is as before.
     pub fn turn(&mut self, turn: Turn) -> Result<bool, NoMemory>
-        ensures turn { IfOk result (λ made. IsTurn made turn self.old self.new) }
+        ensures turn { IfOk result (λ made. P.trying.IsTurn made turn self.old self.new) }
         ensures err { OnErr result (self.new ≡ self.old) }
     {
+        P::laws();
         let net = self.tables.net();
         match turn {
             Turn::Command(client) => command(net, &mut self.phase, &mut self.servers, client),
@@ -191,15 +202,14 @@ impl<'a, K: Keeping> Network<'a, K> {
     }
 }
 
-impl<'a> Network<'a, Kept> {
-    ghost use Rattle.ev_turns.specs.Network.{IsLegal};
-
+impl<'a, P: Networked<'a>> RuledNetwork<'a, P, Kept> {
     /// What was done, in the order of the turns: always a legal run of the net.
     pub fn journal(&self) -> &[Entry]
         ensures journal { result.now ≡ self.now.journal }
         ensures sound { IsSound self.now.net }
-        ensures legal { IsLegal self.now.net self.now.journal }
+        ensures legal { P.trying.IsLegal self.now.net self.now.journal }
     {
+        P::laws();
         self.servers.journal.entries()
     }
 }

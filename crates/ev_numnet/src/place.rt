@@ -15,7 +15,10 @@ ghost use Rattle.ev_numserver.specs.Step.{MakesStep, last_stamp};
 ghost use Rattle.ev_numnet.specs.Kept.{IsFirst};
 ghost use Rattle.ev_numnet.specs.Stepping.{IsSome, peers};
 
+use crate::begin::{begin, take_back};
+use crate::relinking::Standing;
 use crate::routing::{route, routed};
+use crate::ruled::{Networked, Ruled};
 use crate::server::Server;
 use crate::servers::Servers;
 use crate::waiting::Waiting;
@@ -23,14 +26,15 @@ use ev_forwarding::Forwarding;
 use ev_memory::NoMemory;
 use ev_model::Delivery;
 use ev_numserver::{Core, Step, StepFault};
+use ev_numsession::Session;
 use ev_tables::Tables;
 use std::alloc::Global;
 use std::marker::Model;
 
-/// A server: its core, and the pairs of numbers and interfaces that it published; contracts see the core. After a fault it is
-/// as before.
+/// A server of peers: its core, and the pairs of numbers and interfaces that it published; contracts see the core. After a
+/// fault it is as before.
 #[derive(Drop)]
-pub(crate) struct Place<'a> {
+pub struct Place<'a> {
     pub(crate) core: Core<'a>,
     pub(crate) forwarding: Forwarding,
 }
@@ -65,21 +69,6 @@ pub fn unpublished(
 }
 
 impl<'a> Place<'a> {
-    /// A server of a net before its first step.
-    pub(crate) fn start(
-        alloc: Global,
-        tables: &'a Tables<'a>,
-        server: u32,
-    ) -> Result<Place<'a>, NoMemory>
-        requires sound { IsSound tables.now }
-        requires among { Has server (servers_in tables.now) }
-        ensures { IfOk result (λ place. IsFirst tables.now server place) }
-    {
-        let core = Core::start(alloc, tables, server)?;
-        let forwarding = unpublished(alloc, tables, core.interfaces())?;
-        Ok(Place { core, forwarding })
-    }
-
     /// Its core.
     pub(crate) fn core(&self) -> &Core<'a>
         ensures { result.now ≡ self.now }
@@ -115,6 +104,60 @@ impl<'a> Place<'a> {
         let tables = self.core.tables();
         let route = routed(alloc, tables, &self.forwarding, number)?;
         unexhausted(self.core.take_publish(client, number, route.interfaces()))
+    }
+}
+
+impl<'a> Ruled for Place<'a> {
+    ghost use Rattle.ev_schedule.proofs.Peers.{peers_trying, peers_walking, peers_telling};
+    ghost use Rattle.ev_numnet.specs.PeersRuling.{peers_ruling};
+
+    ghost trying = { peers_trying };
+
+    ghost walking = { peers_walking };
+
+    ghost telling = { peers_telling };
+
+    ghost ruling = { peers_ruling };
+
+    fn tree_phase(phase: u32) -> u32
+        ensures { result ≡ phase }
+    {
+        phase
+    }
+}
+
+impl<'a> Networked<'a> for Place<'a> {
+    ghost use Rattle.ev_numnet.specs.Begin.{IsUndoneBy};
+    ghost use Rattle.ev_schedule.proofs.Peers.{peers_trying, peers_telling};
+    ghost use Rattle.ev_numnet.specs.PeersRuling.{peers_ruling};
+    ghost use Rattle.ev_numnet.specs.Ruling.{RulingLaws};
+    ghost use Rattle.ev_numnet.specs.Stepping.{peers};
+
+    type Before = Vec<Standing<'a>>;
+
+    ghost undone = { λ before. IsUndoneBy before.items };
+
+    fn laws()
+        ensures { RulingLaws peers peers_trying peers_telling peers_ruling }
+    {}
+
+    fn start(alloc: Global, tables: &'a Tables<'a>, server: u32) -> Result<Place<'a>, NoMemory> {
+        let core = Core::start(alloc, tables, server)?;
+        let forwarding = unpublished(alloc, tables, core.interfaces())?;
+        Ok(Place { core, forwarding })
+    }
+
+    fn session(&self, client: u32) -> &Session<'a> {
+        self.core.session(client)
+    }
+
+    fn begin(servers: &mut Peers<'a>, last: u32, own: u32) -> Result<Vec<Standing<'a>>, NoMemory> {
+        let tables = servers.tables;
+        begin(servers.alloc, tables, &mut servers.places, last, own)
+    }
+
+    fn take_back(servers: &mut Peers<'a>, before: Vec<Standing<'a>>) {
+        take_back(&mut servers.places, before);
     }
 }
 

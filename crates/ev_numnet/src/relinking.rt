@@ -33,7 +33,7 @@ impl<'a> Model for OnLinks<'a> {
 
 /// A server's clock, and what it holds from whom where that is another than its core has.
 #[derive(Drop)]
-pub(crate) struct Standing<'a> {
+pub struct Standing<'a> {
     pub(crate) clock: u64,
     pub(crate) links: Option<OnLinks<'a>>,
 }

@@ -1,11 +1,10 @@
 //! The messages of a journal.
 ghost use Rattle.std.specs.Prelude.{◌≡◌, IfOk};
 ghost use Rattle.ev_model.specs.Sound.{IsSound};
-ghost use Rattle.ev_turns.specs.Network.{IsLegal};
-ghost use Rattle.ev_turns.specs.Told.{told_by};
 
 use crate::keeping::Passed;
-use crate::network::Network;
+use crate::network::RuledNetwork;
+use crate::ruled::Networked;
 use ev_memory::NoMemory;
 use ev_model::{Entry, Sent};
 use ev_schedule::retold;
@@ -13,17 +12,17 @@ use ev_tables::Tables;
 use ev_wire::Lists;
 use std::alloc::Global;
 
-/// For each entry of a journal that is a legal run of the net of these tables, the texts of its messages by rising
-/// neighbour.
-pub fn retell(
+/// For each entry of a journal that is a legal run of the net of these tables, by the rules of a kind of servers, the texts of
+/// its messages by rising neighbour.
+pub fn retell<'a, P: Networked<'a>>(
     alloc: Global,
-    tables: &Tables<'_>,
+    tables: &'a Tables<'a>,
     journal: &[Entry],
 ) -> Result<Vec<Lists<Sent>>, NoMemory>
     requires sound { IsSound tables.now }
-    requires legal { IsLegal tables.now journal.now }
-    ensures { IfOk result (λ told. told.items ≡ told_by tables.now journal.now) }
+    requires legal { P.trying.IsLegal tables.now journal.now }
+    ensures { IfOk result (λ told. told.items ≡ P.telling.told_by tables.now journal.now) }
 {
-    let mut network: Network<'_, Passed> = Network::start(alloc, tables)?;
+    let mut network: RuledNetwork<'a, P, Passed> = RuledNetwork::start(alloc, tables)?;
     retold(alloc, &mut network, journal)
 }

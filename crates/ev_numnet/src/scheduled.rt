@@ -1,28 +1,28 @@
 //! A network as the walk schedule sees it.
 use crate::keeping::Keeping;
 use crate::making::next_phase;
-use crate::network::Network;
+use crate::network::RuledNetwork;
+use crate::ruled::Networked;
 use ev_memory::NoMemory;
 use ev_model::{Sent, Turn};
 use ev_schedule::Turning;
 use ev_wire::Lists;
 
-impl<'a, K: Keeping> Turning for Network<'a, K> {
-    ghost use Rattle.ev_schedule.proofs.Peers.{peers_trying, peers_walking, peers_telling};
-
+impl<'a, P: Networked<'a>, K: Keeping> Turning for RuledNetwork<'a, P, K> {
     ghost seen = { λ network. network };
 
-    ghost trying = { peers_trying };
+    ghost trying = { P.trying };
 
-    ghost walking = { peers_walking };
+    ghost walking = { P.walking };
 
-    ghost telling = { peers_telling };
+    ghost telling = { P.telling };
 
     fn tree_phase(&self, phase: u32) -> u32 {
-        phase
+        P::tree_phase(phase)
     }
 
     fn phase(&self) -> u32 {
+        P::laws();
         self.phase
     }
 
@@ -31,6 +31,7 @@ impl<'a, K: Keeping> Turning for Network<'a, K> {
     }
 
     fn next_phase(&self, client: u32) -> Option<u32> {
+        P::laws();
         next_phase(self.tables.net(), &self.servers, client)
     }
 

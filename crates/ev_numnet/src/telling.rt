@@ -1,21 +1,17 @@
 //! What the last step of a network sent.
 ghost use Rattle.std.specs.Prelude.{◌≡◌, ◌≤◌, ℕ, List, [], ◌∷◌, ◌++◌, length, map, IfOk};
 ghost use Rattle.ev_sets.specs.Sets.{Has};
-ghost use Rattle.ev_phases.specs.Moments.{found_of};
-ghost use Rattle.ev_theory.specs.Real.{real};
 ghost use Rattle.ev_control.specs.Control.{sent_to};
 ghost use Rattle.ev_message.specs.Parts.{SendingParts};
-ghost use Rattle.ev_model.specs.Meaning.{journal_of};
-ghost use Rattle.ev_model.specs.Nets.{phased_net};
 ghost use Rattle.ev_model.specs.Parts.{EntryParts};
-ghost use Rattle.ev_turns.specs.Told.{told_of};
-ghost use Rattle.ev_numnet.specs.Kept.{IsNetwork};
 ghost use Rattle.ev_numnet.specs.Last.{LieLast, text_of_sending};
 ghost use Rattle.ev_numnet.specs.Links.{WaitingParts, messages_at};
+ghost use Rattle.ev_numnet.specs.Ruling.{RulingLaws};
 ghost use Rattle.ev_numnet.specs.Seen.{seen};
 
 use crate::links::Links;
-use crate::place::Peers;
+use crate::ruled::Networked;
+use crate::servers::Servers;
 use crate::texts::text_of;
 use ev_memory::NoMemory;
 use ev_model::Sent;
@@ -69,10 +65,14 @@ pub fn last_on(
 }
 
 /// The texts of the messages of the last entry, by rising neighbour.
-pub(crate) fn last_told(tables: &Tables<'_>, servers: &Peers<'_>) -> Result<Lists<Sent>, NoMemory>
-    requires kept { (phase : ℕ) × IsNetwork tables.now phase (seen servers.now) }
+pub(crate) fn last_told<'a, P: Networked<'a>>(
+    tables: &Tables<'_>,
+    servers: &Servers<'a, P>,
+) -> Result<Lists<Sent>, NoMemory>
+    requires laws { RulingLaws P.stepping P.trying P.telling P.ruling }
+    requires kept { (phase : ℕ) × P.ruling.IsKept tables.now phase (seen servers.now) }
     ensures { IfOk result (λ told. (before : List EntryParts) (entry : EntryParts) → servers.now.journal.entries ≡ before ++ entry ∷ []
-        → told ≡ told_of tables.now (found_of real (phased_net tables.now) (journal_of servers.now.journal.entries) (length before)) entry) }
+        → told ≡ P.telling.told_at tables.now servers.now.journal.entries (length before) entry) }
 {
     let alloc = servers.alloc;
     match servers.journal.last() {

@@ -5,6 +5,7 @@ ghost use Rattle.ev_model.specs.Sound.{IsSound};
 
 use ev_memory::NoMemory;
 use ev_model::{Entry, Sent};
+use ev_numnet::retell;
 use ev_tables::Tables;
 use ev_wire::Lists;
 use std::alloc::Global;
@@ -55,7 +56,7 @@ impl Telling for Peers {
         tables: &Tables<'_>,
         journal: &[Entry],
     ) -> Result<Vec<Lists<Sent>>, NoMemory> {
-        ev_numnet::retell(alloc, tables, journal)
+        retell::<ev_numnet::Place<'_>>(alloc, tables, journal)
     }
 }
 
@@ -75,6 +76,6 @@ impl Telling for Hierarchy {
         tables: &Tables<'_>,
         journal: &[Entry],
     ) -> Result<Vec<Lists<Sent>>, NoMemory> {
-        ev_hier::retell(alloc, tables, journal)
+        retell::<ev_hier::Place<'_>>(alloc, tables, journal)
     }
 }

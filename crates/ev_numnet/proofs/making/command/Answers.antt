@@ -1,25 +1,33 @@
-use Rattle.std.proofs.Common.{refl, sym, ◌∙◌}
+use Rattle.std.proofs.Common.{length, sym, ap, ◌∙◌, rules, arith}
 use Rattle.ev_numnet.specs.Seen.{seen}
 use Rattle.ev_turns.proofs.Among.{not_both}
-use Rattle.ev_numnet.proofs.Commanding.{command_early, quiet_where, empty_where, calm_where, through_where, below_where}
 use Rattle.ev_numnet.proofs.making.command.Goals as goal
+use Rattle.ev_numnet.proofs.making.command.Goals.{then-client-eq0-via-then-client-eq0, then-client-eq0-via-else-client-eq0+then-client-len}
 
 pub returns-then-not-is_quiet-clause-turn : goal.returns-then-not-is_quiet-clause-turn
-returns-then-not-is_quiet-clause-turn c = (
-  refl,
-  command_early c.args.net.now c.args.phase.now (seen c.args.servers.now) c.requires.kept c.args.client c.in-Some.own (sym c.next_phase.ensures ∙ c.in-Some.is) (λ e. c.if-own-phase.false (sym e))
-      (λ l t q. not_both c.is_quiet.result (c.is_quiet.ensures.1 (empty_where c.args.net.now c.args.phase.now (seen c.args.servers.now) c.requires.kept q, calm_where c.args.net.now c.args.phase.now (seen c.args.servers.now) c.requires.kept q)) c.if-not-is_quiet.true),
-)
+returns-then-not-is_quiet-clause-turn g c =
+    c.requires.laws.command_early c.args.net.now c.args.phase.now (seen c.args.servers.now) c.requires.kept c.args.client c.in-Some.own (sym c.next_phase.ensures ∙ c.in-Some.is) (λ e. c.if-own-phase.false (sym e))
+    (λ may. not_both c.is_quiet.result (c.is_quiet.ensures.1 (may.empty, may.calm)) c.if-not-is_quiet.true)
 
 pub returns-then-not-none_below-clause-turn : goal.returns-then-not-none_below-clause-turn
-returns-then-not-none_below-clause-turn c = (
-  refl,
-  command_early c.args.net.now c.args.phase.now (seen c.args.servers.now) c.requires.kept c.args.client c.in-Some.own (sym c.next_phase.ensures ∙ c.in-Some.is) (λ e. c.if-own-phase.false (sym e))
-      (λ l t q. not_both c.none_below.result (c.none_below.ensures.1 (λ client a b. below_where c.args.net.now c.args.phase.now (seen c.args.servers.now) c.requires.kept c.in-Some.own t client (a, b))) c.if-not-none_below.true),
-)
+returns-then-not-none_below-clause-turn g c =
+    c.requires.laws.command_early c.args.net.now c.args.phase.now (seen c.args.servers.now) c.requires.kept c.args.client c.in-Some.own (sym c.next_phase.ensures ∙ c.in-Some.is) (λ e. c.if-own-phase.false (sym e))
+    (λ may. not_both c.none_below.result (c.none_below.ensures.1 may.through) c.if-not-none_below.true)
 
-pub first_command-requires-clause-quiet : goal.first_command-requires-clause-quiet
-first_command-requires-clause-quiet c = let e = c.is_quiet.ensures.0 c.if-not-is_quiet.false in quiet_where c.args.net.now c.args.phase.now (seen c.args.servers.now) c.requires.kept e.0 e.1
+pub returns-then-own-phase-2-clause-turn : goal.returns-then-own-phase-2-clause-turn
+returns-then-own-phase-2-clause-turn g c =
+    c.requires.laws.command_early c.args.net.now c.args.phase.now (seen c.args.servers.now) c.requires.kept c.args.client c.in-Some.own (sym c.next_phase.ensures ∙ c.in-Some.is) (λ e. c.if-own-phase.false (sym e))
+    (λ may. let later = may.later in omega (arith, later, c.if-own-phase-2.true))
 
-pub first_command-requires-clause-through : goal.first_command-requires-clause-through
-first_command-requires-clause-through c = through_where c.args.net.now c.args.phase.now (seen c.args.servers.now) c.requires.kept c.in-Some.own (c.none_below.ensures.0 c.if-not-none_below.false)
+pub returns-then-client-eq0-clause-turn : goal.returns-then-client-eq0-clause-turn
+returns-then-client-eq0-clause-turn g c =
+    c.requires.laws.command_none c.args.net.now c.args.phase.now (seen c.args.servers.now) c.requires.kept c.args.client
+    (λ within own next. elim c.then-client-eq0.branch [
+      | then-client-eq0-via-then-client-eq0 w ↦ (let e = w.if-client-eq0.true in omega (arith, within.0, e))
+      | then-client-eq0-via-else-client-eq0+then-client-len w ↦ (let past = w.if-client-len.true in let long = w.len.ensures in let view = ap (λ n. length n.clients) c.net.view_is in search (rules, within, past, long, view))
+    ])
+
+pub returns-in_default-clause-turn : goal.returns-in_default-clause-turn
+returns-in_default-clause-turn g c =
+    c.requires.laws.command_none c.args.net.now c.args.phase.now (seen c.args.servers.now) c.requires.kept c.args.client
+    (λ within own next. c.in_default.not-Some own (c.next_phase.ensures ∙ next))

@@ -1,65 +1,63 @@
 use Rattle.std.proofs.Common.{◌≤◌, ◌-◌, refl, sym, ap, subst, ◌∙◌}
 use Rattle.ev_sets.specs.Sets.{Has}
 use Rattle.ev_tree.specs.Tree.{links_of}
+use Rattle.ev_model.specs.Nets.{topology_at}
 use Rattle.ev_numnet.specs.Seen.{seen, CanAct}
-use Rattle.ev_turns.specs.Network.{moment_by}
 use Rattle.ev_turns.proofs.Among.{count_at, server_low, not_both}
-use Rattle.ev_numnet.proofs.Standing.{can_act, clocks_low, waiting_low, waiting_of_net}
-use Rattle.ev_numnet.proofs.Tried.{taken_none, taken_turn, same_of, same_on_err}
-use Rattle.ev_numnet.specs.Stepping.{peers}
+use Rattle.ev_numnet.proofs.ByLaws.{same_of, same_on_err}
 use Rattle.ev_numnet.proofs.making.take.Goals as goal
 
 pub returns-then-not-has_server-clause-turn : goal.returns-then-not-has_server-clause-turn
-returns-then-not-has_server-clause-turn c = (
-  refl,
-  taken_none c.args.net.now c.args.phase (seen c.args.servers.now) (seen c.args.servers.now) c.requires.kept c.args.server c.args.from
-      (λ a b. let low = server_low c.args.net.now c.args.server a in let all = c.requires.kept.cores.all in
-      not_both c.has_server.result (c.has_server.ensures.1 (low.0, subst (λ n. c.args.server ≤ n) (sym all) low.1)) c.if-not-has_server.true),
-)
+returns-then-not-has_server-clause-turn g c =
+    c.requires.laws.take_none c.args.net.now c.args.phase (seen c.args.servers.now) c.requires.kept c.args.server c.args.from
+    (λ a b. let low = server_low c.args.net.now c.args.server a in let all = (c.requires.laws.stands c.args.net.now c.args.phase (seen c.args.servers.now) c.requires.kept).all in
+    not_both c.has_server.result (c.has_server.ensures.1 (low.0, subst (λ n. c.args.server ≤ n) (sym all) low.1)) c.if-not-has_server.true)
+
+pub tree-requires : goal.tree-requires
+tree-requires g c = (c.requires.laws.stands c.args.net.now c.args.phase (seen c.args.servers.now) c.requires.kept).sound
 
 pub neighbours-neighbours-requires : goal.neighbours-neighbours-requires
-neighbours-neighbours-requires c =
+neighbours-neighbours-requires g c =
+    let stands = c.requires.laws.stands c.args.net.now c.args.phase (seen c.args.servers.now) c.requires.kept in
     let low = c.has_server.ensures.0 c.if-not-has_server.false in
-    let count = ap (λ z. z.count) c.tree.ensures ∙ count_at c.args.net.now c.requires.kept.sound c.args.phase in
-    (low.0, subst (λ n. c.args.server ≤ n) (c.requires.kept.cores.all ∙ sym count) low.1)
+    let count = ap (λ z. z.count) c.tree.ensures ∙ count_at c.args.net.now stands.sound c.tree_phase.result in
+    (low.0, subst (λ n. c.args.server ≤ n) (stands.all ∙ sym count) low.1)
 
 pub returns-then-not-is_among-clause-turn : goal.returns-then-not-is_among-clause-turn
-returns-then-not-is_among-clause-turn c =
-    let links = c.neighbours-neighbours.ensures.value ∙ ap (λ z. links_of z c.args.server) c.tree.ensures in (
-      refl,
-      taken_none c.args.net.now c.args.phase (seen c.args.servers.now) (seen c.args.servers.now) c.requires.kept c.args.server c.args.from
-          (λ a b. not_both c.is_among.result (c.is_among.ensures.1 (subst (Has c.args.from) (sym links) b)) c.if-not-is_among.true),
-    )
+returns-then-not-is_among-clause-turn g c =
+    let links = c.neighbours-neighbours.ensures.value ∙ ap (λ z. links_of z c.args.server) (c.tree.ensures ∙ ap (topology_at c.args.net.now) c.tree_phase.ensures) in
+    c.requires.laws.take_none c.args.net.now c.args.phase (seen c.args.servers.now) c.requires.kept c.args.server c.args.from
+    (λ a b. not_both c.is_among.result (c.is_among.ensures.1 (subst (Has c.args.from) (sym links) b)) c.if-not-is_among.true)
 
 pub take-requires : goal.take-requires
-take-requires c = λ k. (
+take-requires g c = λ k. (
   (refl, tt),
   (
-    ((let low = c.has_server.ensures.0 c.if-not-has_server.false in
-        let links = c.neighbours-neighbours.ensures.value ∙ ap (λ z. links_of z c.args.server) c.tree.ensures in
-        subst (λ z. CanAct peers c.args.server z c.args.servers.now.places.items) (sym links)
-        (can_act c.args.net.now c.requires.kept.sound c.args.phase (moment_by c.args.net.now c.args.servers.now.journal.entries).state c.args.servers.now.places.items c.requires.kept.cores
-        c.args.server low.0 (subst (λ n. c.args.server ≤ n) c.requires.kept.cores.all low.1) (clocks_low c.args.net.now c.args.phase (seen c.args.servers.now) c.requires.kept)))),
+    (let stands = c.requires.laws.stands c.args.net.now c.args.phase (seen c.args.servers.now) c.requires.kept in
+        let low = c.has_server.ensures.0 c.if-not-has_server.false in
+        let links = c.neighbours-neighbours.ensures.value ∙ ap (λ z. links_of z c.args.server) (c.tree.ensures ∙ ap (topology_at c.args.net.now) c.tree_phase.ensures) in
+        subst (λ z. CanAct g.P.Server.stepping c.args.server z c.args.servers.now.places.items) (sym links)
+        (stands.able c.args.server low.0 (subst (λ n. c.args.server ≤ n) stands.all low.1))),
     (
-      ((c.is_among.ensures.0 c.if-not-is_among.false)),
+      (c.is_among.ensures.0 c.if-not-is_among.false),
       (
-        ((λ frame h. waiting_low c.args.net.now c.args.phase (seen c.args.servers.now) c.requires.kept c.args.from c.args.server frame h)),
-        ((λ w core h at.
-            waiting_of_net c.args.net.now c.args.phase (seen c.args.servers.now) c.requires.kept c.args.from c.args.server w h
-            ∙ sym (c.requires.kept.cores.nets (c.args.server - 1) core at))),
+        (λ w h. (c.requires.laws.stands c.args.net.now c.args.phase (seen c.args.servers.now) c.requires.kept).low c.args.from c.args.server w h),
+        (λ w core h at.
+            let stands = c.requires.laws.stands c.args.net.now c.args.phase (seen c.args.servers.now) c.requires.kept in
+            stands.waiting c.args.from c.args.server w h ∙ sym (stands.nets (c.args.server - 1) core at)),
       ),
     ),
   ),
 )
 
 pub returns-clause-turn : goal.returns-clause-turn
-returns-clause-turn c =
+returns-clause-turn g c =
     let low = c.has_server.ensures.0 c.if-not-has_server.false in
-    (taken_turn c.args.net.now c.args.phase (seen c.args.servers.now) (seen c.take.new.self) c.requires.kept c.args.server c.args.from low.0 c.take.result
-    c.take.ensures.acted (λ e. same_of c.args.servers.now c.take.new.self c.take.result (c.take.ensures.none e)) (same_on_err c.args.servers.now c.take.new.self c.take.result c.take.ensures.err)).turned
+    (c.requires.laws.take_turn c.args.net.now c.args.phase (seen c.args.servers.now) (seen c.take.new.self) c.requires.kept c.args.server c.args.from low.0 c.take.result
+    c.take.ensures.acted (λ e. same_of c.args.servers.now c.take.new.self c.take.result (c.take.ensures.none e)) (same_on_err c.args.servers.now c.take.new.self c.take.result c.take.ensures.err)).0
 
 pub returns-clause-kept : goal.returns-clause-kept
-returns-clause-kept c =
+returns-clause-kept g c =
     let low = c.has_server.ensures.0 c.if-not-has_server.false in
-    (taken_turn c.args.net.now c.args.phase (seen c.args.servers.now) (seen c.take.new.self) c.requires.kept c.args.server c.args.from low.0 c.take.result
-    c.take.ensures.acted (λ e. same_of c.args.servers.now c.take.new.self c.take.result (c.take.ensures.none e)) (same_on_err c.args.servers.now c.take.new.self c.take.result c.take.ensures.err)).kept_on
+    (c.requires.laws.take_turn c.args.net.now c.args.phase (seen c.args.servers.now) (seen c.take.new.self) c.requires.kept c.args.server c.args.from low.0 c.take.result
+    c.take.ensures.acted (λ e. same_of c.args.servers.now c.take.new.self c.take.result (c.take.ensures.none e)) (same_on_err c.args.servers.now c.take.new.self c.take.result c.take.ensures.err)).1
