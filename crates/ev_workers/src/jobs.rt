@@ -79,7 +79,8 @@ fn start_all<'s, B: Drop + Send + 's, J: Job<B> + Send + 's, E, R: Threads + Wai
     mut jobs: Vec<J>,
     done: Vec<B>,
 ) -> Vec<B>
-    requires { (done.items ≡ []) × (length jobs.items ≤ vec_capacity done) }
+    requires empty { done.items ≡ [] }
+    requires room { length jobs.items ≤ vec_capacity done }
     ensures kept { Pairwise J.keeps jobs.items result.items }
     ensures capacity { vec_capacity result ≡ vec_capacity done }
 {
@@ -99,7 +100,8 @@ pub(crate) fn run_all<B: Drop + Send, J: Job<B> + Send, R: Threads + Wait>(
     jobs: Vec<J>,
     done: Vec<B>,
 ) -> Vec<B>
-    requires { (done.items ≡ []) × (length jobs.items ≤ vec_capacity done) }
+    requires empty { done.items ≡ [] }
+    requires room { length jobs.items ≤ vec_capacity done }
     ensures kept { Pairwise J.keeps jobs.items result.items }
     ensures capacity { vec_capacity result ≡ vec_capacity done }
 {

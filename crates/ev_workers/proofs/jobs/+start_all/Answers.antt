@@ -14,7 +14,7 @@ pairs-back K jobs rest job all done back e f p k = subst (λ js. Pairwise K js a
 pub push_reserved-requires : goal.push_reserved-requires
 push_reserved-requires g t c =
     let s = pairs-long g.J.Job.keeps c.pop.new.self.items c.start_all-done.result.items c.start_all-done.ensures.kept in
-    omega (arith, s, c.in-Some.ensures.cases, c.start_all-done.result.ok.0, c.pop.new.self.ok.0, c.args.jobs.ok.0, c.start_all-done.ensures.capacity, c.requires.1)
+    omega (arith, s, c.in-Some.ensures.cases, c.start_all-done.result.ok.0, c.pop.new.self.ok.0, c.args.jobs.ok.0, c.start_all-done.ensures.capacity, c.requires.room)
 
 pub returns-clause-kept : goal.returns-clause-kept
 returns-clause-kept g t c =
