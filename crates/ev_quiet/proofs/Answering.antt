@@ -1,5 +1,5 @@
 -- The answer to each thing that is wanted.
-use Rattle.std.proofs.Common.{◌≡◌, ◌≤◌, ◌⊎◌, inl, inr, ℕ, Bool, true, List, ◌++◌, length, Result, Ok, Err, refl, ap, subst}
+use Rattle.std.proofs.Common.{◌≡◌, ◌≤◌, ◌⊎◌, inl, inr, ℕ, Bool, true, List, ◌+◌, ◌++◌, length, Result, Ok, Err, refl, ap, subst, arith}
 use Rattle.std.specs.Result.{IfOk, IsOk, IsErrOf}
 use Rattle.ev_outside.specs.Whole.{Gave}
 use Rattle.ev_outside.specs.declared.whole.ReadAll.{ReadAll}
@@ -10,15 +10,16 @@ use Rattle.ev_input.specs.declared.fault.InputFault.TheVariants as inputs
 use Rattle.ev_quiet.specs.declared.unanswered.Unanswered.{Unanswered}
 use Rattle.ev_quiet.specs.declared.unanswered.Unanswered.TheVariants as whys
 use Rattle.ev_quiet.specs.declared.words.Query.{Query}
-use Rattle.ev_quiet.specs.declared.words.Wanted.TheVariants.{Audit, Document, Patterns}
+use Rattle.ev_quiet.specs.declared.words.Wanted.{Wanted}
+use Rattle.ev_quiet.specs.declared.words.Wanted.TheVariants.{About, Audit, Document, Generate, Patterns}
 use Rattle.ev_quiet.specs.Faults.{IsAtFault, MustBeRefused, CanBeDone}
-use Rattle.ev_quiet.specs.Answers.{IsPrintedOf}
+use Rattle.ev_quiet.specs.Answers.{IsPrintedOf, most_for, reads_document}
 use Rattle.ev_quiet.specs.Answering.{IsAnswer, Says, of_unread, widened}
-use Rattle.ev_quiet.specs.Auditing.{AuditsSource}
-use Rattle.ev_quiet.specs.Searching.{SearchesSource}
+use Rattle.ev_quiet.specs.Auditing.{AuditsInput, AuditsSource}
+use Rattle.ev_quiet.specs.Searching.{SearchesInput, SearchesSource}
 use Rattle.ev_quiet.specs.Showing.{PrintedParts}
-use Rattle.ev_quiet.proofs.Confirmed.{audit-done, audit-refused, audit-wrong}
-use Rattle.ev_quiet.proofs.Searched.{search-bad, search-done, search-refused}
+use Rattle.ev_quiet.proofs.Confirmed.{audit-done, audit-refused, audit-wrong, unread-audit}
+use Rattle.ev_quiet.proofs.Searched.{search-bad, search-done, search-refused, unread-answer}
 use Rattle.ev_quiet.proofs.Sources.{same-given, long-fault, unread-refused, unread-done}
 
 -- Answers about documents.
@@ -120,3 +121,30 @@ claim-answer a b ended r h = record {
   wrong = λ line kind t. audit-wrong a b ended r line kind h t;
   done = λ t. audit-done a b ended r h t;
 }
+
+-- What could not be read, and what was.
+
+pub unread-wanted : (wanted : Wanted) (a b : List ℕ) (ended : Bool) (limit : ℕ) (e : ReadAll) → reads_document wanted ≡ true → limit + 1 ≡ most_for wanted
+    → (e ≡ reads.TooLong → Gave a b (λ given. length given ≡ limit + 1)) → (e ≡ reads.Failed → Gave a b (λ given. length given ≤ limit)) → (ended ≡ true → ⊥)
+    → IsAnswer wanted a b ended (Err (of_unread e))
+unread-wanted (Document query) a b ended limit e is most long within never =
+    let s : limit ≡ 4194304 = omega (arith, most) in
+    unread-document query a b ended e (subst (λ (k : ℕ). e ≡ reads.TooLong → Gave a b (λ given. length given ≡ k + 1)) s long)
+    (subst (λ (k : ℕ). e ≡ reads.Failed → Gave a b (λ given. length given ≤ k)) s within) never
+unread-wanted (Generate seed summary) a b ended limit e is most long within never = absurd cc
+unread-wanted Patterns a b ended limit e is most long within never =
+    let s : limit ≡ 4194304 = omega (arith, most) in
+    pattern-answer a b ended _ (unread-answer a b ended e (subst (λ (k : ℕ). e ≡ reads.TooLong → Gave a b (λ given. length given ≡ k + 1)) s long)
+    (subst (λ (k : ℕ). e ≡ reads.Failed → Gave a b (λ given. length given ≤ k)) s within) never)
+unread-wanted Audit a b ended limit e is most long within never =
+    let s : limit ≡ 268435456 = omega (arith, most) in
+    claim-answer a b ended _ (unread-audit a b ended e (subst (λ (k : ℕ). e ≡ reads.TooLong → Gave a b (λ given. length given ≡ k + 1)) s long)
+    (subst (λ (k : ℕ). e ≡ reads.Failed → Gave a b (λ given. length given ≤ k)) s within) never)
+unread-wanted (About page) a b ended limit e is most long within never = absurd cc
+
+-- what is searched and what is audited was read
+pub searched-read : (input : List ℕ) (r : Result PrintedParts Unanswered) → SearchesInput input r → IsErrOf r whys.ReadFault → ⊥
+searched-read input r h e = subst (SearchesInput input) e h
+
+pub audited-read : (input : List ℕ) (r : Result PrintedParts Unanswered) → AuditsInput input r → IsErrOf r whys.ReadFault → ⊥
+audited-read input r h e = subst (AuditsInput input) e h

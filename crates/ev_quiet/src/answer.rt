@@ -1,9 +1,9 @@
 //! What is answered over a source.
-ghost use Rattle.std.specs.Prelude.{◌≡◌, ◌≤◌, ◌++◌, ℕ, Bool, List, true, false, length, IfOk, OnOk, IsErrOf};
+ghost use Rattle.std.specs.Prelude.{◌≡◌, ◌≤◌, ◌<◌, ◌+◌, ◌++◌, ℕ, Bool, List, true, false, length, IfOk, OnOk, IsErrOf};
 ghost use Rattle.std.specs.Io.KnownBytes.{Consumes, IsAtEnd};
 ghost use Rattle.ev_outside.specs.Cause.{Rose};
 ghost use Rattle.ev_outside.specs.Whole.{Gave};
-ghost use Rattle.ev_quiet.specs.Words.{IsQuietQuery, IsQuietWish};
+ghost use Rattle.ev_quiet.specs.Words.{IsQuietWish};
 ghost use Rattle.ev_quiet.specs.Answers.{IsPrintedBy, reads_document, most_for};
 ghost use Rattle.ev_quiet.specs.Answering.{IsAnswer};
 
@@ -12,26 +12,29 @@ use crate::generated::of_seed;
 use crate::page::of_page;
 use crate::patterns::of_patterns;
 use crate::printed::{Printed, of_document};
-use crate::reading::document;
 use crate::unanswered::{Unanswered, widened};
-use crate::words::{Query, Wanted};
+use crate::words::Wanted;
 use ev_memory::NoMemory;
-use ev_outside::Source;
+use ev_outside::{Source, read_all};
 use std::alloc::Global;
 
-// What is wanted of the document that the source gives.
-fn of_query<S: Source>(alloc: Global, query: Query, source: &mut S) -> Result<Printed, Unanswered>
-    requires { IsQuietQuery query }
-    ensures answers { IsAnswer (Wanted.Document query) (S.given source.old) (S.given source.new) (S.ended source.new) result }
-    ensures sure { OnOk result (S.faults source.new ≡ S.faults source.old) }
-    ensures failed { IsErrOf result Unanswered.ReadFault → Rose (S.faults source.old) (S.faults source.new) }
-    ensures at_most { Gave (S.given source.old) (S.given source.new) (λ given. length given ≤ 4194305) }
-    ensures told { (given : List ℕ) → S.given source.new ≡ S.given source.old ++ given → Consumes (S.left source.old) (S.left source.new) given }
-    ensures end { S.ended source.new ≡ true → IsAtEnd (S.left source.new) }
+// Whether an input is read for it.
+fn reads_document(wanted: Wanted) -> bool
+    ensures { result ≡ reads_document wanted }
 {
-    match document(alloc, source) {
-        Ok(bytes) => widened(of_document(alloc, query, &bytes)),
-        Err(fault) => Err(Unanswered::from(fault)),
+    match wanted {
+        Wanted::Document(_) | Wanted::Patterns | Wanted::Audit => true,
+        _ => false,
+    }
+}
+
+// How many bytes are read for it at the most.
+fn most_bytes(wanted: Wanted) -> usize
+    ensures { result + 1 ≡ most_for wanted }
+{
+    match wanted {
+        Wanted::Audit => 268_435_456,
+        _ => 4_194_304,
     }
 }
 
@@ -44,6 +47,23 @@ fn unasked(printed: Result<Printed, NoMemory>) -> Result<Printed, Unanswered>
     match printed {
         Ok(printed) => Ok(printed),
         Err(NoMemory) => Err(Unanswered::NoMemory),
+    }
+}
+
+// What is wanted, by the bytes of the input where one is read.
+fn of_bytes(alloc: Global, wanted: Wanted, bytes: &[u8]) -> Result<Printed, Unanswered>
+    requires quiet { IsQuietWish wanted }
+    requires few { length bytes.now < most_for wanted }
+    ensures read { reads_document wanted ≡ true → (given : List ℕ) → IsAnswer wanted given (given ++ bytes.now) true result }
+    ensures unread { reads_document wanted ≡ false → (given : List ℕ) (ended : Bool) → IsAnswer wanted given given ended result }
+    ensures at_hand { IsErrOf result Unanswered.ReadFault → ⊥ }
+{
+    match wanted {
+        Wanted::Document(query) => widened(of_document(alloc, query, bytes)),
+        Wanted::Generate { seed, summary } => unasked(of_seed(alloc, seed, summary)),
+        Wanted::Patterns => of_patterns(alloc, bytes),
+        Wanted::Audit => of_audit(alloc, bytes),
+        Wanted::About(page) => unasked(of_page(alloc, page)),
     }
 }
 
@@ -63,11 +83,11 @@ pub fn answer<S: Source>(
         → Consumes (S.left source.old) (S.left source.new) given }
     ensures end { reads_document wanted ≡ true → S.ended source.new ≡ true → IsAtEnd (S.left source.new) }
 {
-    match wanted {
-        Wanted::Document(query) => of_query(alloc, query, source),
-        Wanted::Generate { seed, summary } => unasked(of_seed(alloc, seed, summary)),
-        Wanted::Patterns => of_patterns(alloc, source),
-        Wanted::Audit => of_audit(alloc, source),
-        Wanted::About(page) => unasked(of_page(alloc, page)),
+    if !reads_document(wanted) {
+        return of_bytes(alloc, wanted, &[]);
+    }
+    match read_all(alloc, source, most_bytes(wanted)) {
+        Ok(bytes) => of_bytes(alloc, wanted, &bytes),
+        Err(fault) => Err(Unanswered::from(fault)),
     }
 }

@@ -1,15 +1,10 @@
 //! Whether the output of an input is that of a whole run.
-ghost use Rattle.std.specs.Prelude.{◌≡◌, ◌≤◌, ◌++◌, ℕ, List, true, length, IfOk, OnOk, IsErrOf};
-ghost use Rattle.std.specs.Io.KnownBytes.{Consumes, IsAtEnd};
-ghost use Rattle.ev_outside.specs.Cause.{Rose};
+ghost use Rattle.std.specs.Prelude.{◌≡◌, ◌≤◌, ℕ, List, length, IfOk};
 ghost use Rattle.ev_model.specs.Parts.{EntryParts};
 ghost use Rattle.ev_audit.specs.Claim.{EndsLine, with_output};
-ghost use Rattle.ev_outside.specs.Whole.{Gave};
 ghost use Rattle.ev_quiet.specs.declared.words.Schedule.{Schedule};
 ghost use Rattle.ev_quiet.specs.Headline.{Headline};
 ghost use Rattle.ev_quiet.specs.Audits.{CanConfirm, audit_text, traced};
-ghost use Rattle.ev_quiet.specs.declared.words.Wanted.{Wanted};
-ghost use Rattle.ev_quiet.specs.Answering.{IsAnswer};
 ghost use Rattle.ev_quiet.specs.Auditing.{AuditsInput};
 
 use crate::body::Body;
@@ -23,10 +18,7 @@ use ev_input::law::net_is_sound;
 use ev_journal::Journal;
 use ev_memory::NoMemory;
 use ev_merge::Record;
-use ev_outside::{Source, read_all};
 use std::alloc::Global;
-
-const MOST_BYTES: usize = 268_435_456;
 
 // How much a confirmed run has, as a text.
 fn counts_text(alloc: Global, entries: u64, owed: u64, deliveries: u64) -> Result<Vec<u8>, NoMemory>
@@ -58,8 +50,8 @@ fn confirmed(alloc: Global, audited: Audited) -> Result<Printed, NoMemory>
     Printed::make(alloc, Body::Nothing, text, Record::of(Journal::of(journal)))
 }
 
-// The answer to an input of at most 268,435,456 bytes.
-fn of_input(alloc: Global, bytes: &[u8]) -> Result<Printed, Unanswered>
+/// Whether the output is that of a whole run, by an input of at most 268,435,456 bytes, or why nothing is written.
+pub fn of_audit(alloc: Global, bytes: &[u8]) -> Result<Printed, Unanswered>
     requires { length bytes.now ≤ 268435456 }
     ensures { AuditsInput bytes.now result }
 {
@@ -74,22 +66,6 @@ fn of_input(alloc: Global, bytes: &[u8]) -> Result<Printed, Unanswered>
         Ok(printed) => Ok(printed),
         Err(NoMemory) => Err(Unanswered::NoMemory),
     }
-}
-
-/// Whether the output is that of a whole run, by the input that the source gives, or why nothing is written.
-pub fn of_audit<S: Source>(alloc: Global, source: &mut S) -> Result<Printed, Unanswered>
-    ensures answers { IsAnswer Wanted.Audit (S.given source.old) (S.given source.new) (S.ended source.new) result }
-    ensures sure { OnOk result (S.faults source.new ≡ S.faults source.old) }
-    ensures failed { IsErrOf result Unanswered.ReadFault → Rose (S.faults source.old) (S.faults source.new) }
-    ensures at_most { Gave (S.given source.old) (S.given source.new) (λ given. length given ≤ 268435457) }
-    ensures told { (given : List ℕ) → S.given source.new ≡ S.given source.old ++ given → Consumes (S.left source.old) (S.left source.new) given }
-    ensures end { S.ended source.new ≡ true → IsAtEnd (S.left source.new) }
-{
-    let bytes = match read_all(alloc, source, MOST_BYTES) {
-        Ok(bytes) => bytes,
-        Err(fault) => return Err(Unanswered::from(fault)),
-    };
-    of_input(alloc, &bytes)
 }
 
 /// What is printed of a document in the order received with its trace is confirmed, whatever the schedule: put behind its document, whose last line is ended,

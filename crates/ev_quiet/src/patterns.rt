@@ -1,14 +1,9 @@
 //! Where patterns occur in what the walk of a document brings.
-ghost use Rattle.std.specs.Prelude.{◌≡◌, ◌≤◌, ◌++◌, ℕ, All, List, true, length, IfOk, OnOk, IsErrOf};
-ghost use Rattle.std.specs.Io.KnownBytes.{Consumes, IsAtEnd};
-ghost use Rattle.ev_outside.specs.Cause.{Rose};
-ghost use Rattle.ev_outside.specs.Whole.{Gave};
+ghost use Rattle.std.specs.Prelude.{ℕ, All, List, length, IfOk};
 ghost use Rattle.ev_model.specs.Sound.{IsSound};
 ghost use Rattle.ev_input.specs.Net.{IsNetOf};
 ghost use Rattle.ev_watch.specs.Watch.{IsSoundPattern};
 ghost use Rattle.ev_quiet.specs.Promise.{AreOfNotices};
-ghost use Rattle.ev_quiet.specs.declared.words.Wanted.{Wanted};
-ghost use Rattle.ev_quiet.specs.Answering.{IsAnswer};
 ghost use Rattle.ev_quiet.specs.Searching.{IsSearched, SearchesInput};
 
 use crate::body::Body;
@@ -16,7 +11,6 @@ use crate::law::promise;
 use crate::notices::settle;
 use crate::printed::Printed;
 use crate::ran::walked;
-use crate::reading::document;
 use crate::unanswered::Unanswered;
 use ev_found::Found;
 use ev_input::Fault;
@@ -25,7 +19,6 @@ use ev_memory::NoMemory;
 use ev_merge::Ran;
 use ev_model::Net;
 use ev_numnet::Passed;
-use ev_outside::Source;
 use ev_watch::law::patterns_are_sound;
 use ev_watch::{Pattern, Watch, read_patterns};
 use std::alloc::Global;
@@ -50,8 +43,8 @@ fn searched(alloc: Global, net: Net, patterns: Vec<Pattern>) -> Result<Printed, 
     Printed::make(alloc, Body::Found(found), Vec::new(alloc), journal)
 }
 
-// The answer to an input.
-fn of_input(alloc: Global, bytes: &[u8]) -> Result<Printed, Unanswered>
+/// Where patterns occur, by an input, or why nothing is written.
+pub fn of_patterns(alloc: Global, bytes: &[u8]) -> Result<Printed, Unanswered>
     ensures { SearchesInput bytes.now result }
 {
     promise();
@@ -72,20 +65,4 @@ fn of_input(alloc: Global, bytes: &[u8]) -> Result<Printed, Unanswered>
         Ok(printed) => Ok(printed),
         Err(NoMemory) => Err(Unanswered::NoMemory),
     }
-}
-
-/// Where patterns occur, by the input that the source gives, or why nothing is written.
-pub fn of_patterns<S: Source>(alloc: Global, source: &mut S) -> Result<Printed, Unanswered>
-    ensures answers { IsAnswer Wanted.Patterns (S.given source.old) (S.given source.new) (S.ended source.new) result }
-    ensures sure { OnOk result (S.faults source.new ≡ S.faults source.old) }
-    ensures failed { IsErrOf result Unanswered.ReadFault → Rose (S.faults source.old) (S.faults source.new) }
-    ensures at_most { Gave (S.given source.old) (S.given source.new) (λ given. length given ≤ 4194305) }
-    ensures told { (given : List ℕ) → S.given source.new ≡ S.given source.old ++ given → Consumes (S.left source.old) (S.left source.new) given }
-    ensures end { S.ended source.new ≡ true → IsAtEnd (S.left source.new) }
-{
-    let bytes = match document(alloc, source) {
-        Ok(bytes) => bytes,
-        Err(fault) => return Err(Unanswered::from(fault)),
-    };
-    of_input(alloc, &bytes)
 }

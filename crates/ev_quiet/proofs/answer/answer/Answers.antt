@@ -1,15 +1,17 @@
-use Rattle.std.proofs.Common.{refl, sym, subst}
-use Rattle.ev_quiet.specs.declared.words.Wanted.{Wanted}
-use Rattle.ev_quiet.specs.declared.words.Wanted.TheVariants.{About, Generate}
+use Rattle.std.proofs.Common.{◌≡◌, true, false, Err, sym, ap, subst}
 use Rattle.ev_quiet.specs.Answering.{IsAnswer}
+use Rattle.ev_quiet.specs.Answers.{reads_document}
+use Rattle.ev_quiet.proofs.Answering.{unread-wanted}
 use Rattle.ev_quiet.proofs.answer.answer.Goals as goal
 
-pub returns-in-Generate-clause-answers : goal.returns-in-Generate-clause-answers
-returns-in-Generate-clause-answers g c =
-    subst (λ (w : Wanted). IsAnswer w (g.S.Source.given c.args.source.now) (g.S.Source.given c.args.source.now) (g.S.Source.ended c.args.source.now) c.unasked.result) (sym c.in-Generate.is)
-    (c.unasked.ensures.answers (Generate c.in-Generate.seed c.in-Generate.summary) _ _ refl c.of_seed.ensures)
+pub returns-then-not-reads_document-clause-answers : goal.returns-then-not-reads_document-clause-answers
+returns-then-not-reads_document-clause-answers g c =
+    let no : reads_document c.args.wanted ≡ false = (let t = c.if-not-reads_document.true in let e = c.reads_document.ensures in cc) in
+    c.of_bytes.ensures.unread no _ _
 
-pub returns-in-About-clause-answers : goal.returns-in-About-clause-answers
-returns-in-About-clause-answers g c =
-    subst (λ (w : Wanted). IsAnswer w (g.S.Source.given c.args.source.now) (g.S.Source.given c.args.source.now) (g.S.Source.ended c.args.source.now) c.unasked-in-About.result) (sym c.in-About.is)
-    (c.unasked-in-About.ensures.answers (About c.in-About.page) _ _ refl c.of_page.ensures)
+pub returns-in-Err-clause-answers : goal.returns-in-Err-clause-answers
+returns-in-Err-clause-answers g c =
+    let reads : reads_document c.args.wanted ≡ true = (let t = c.if-not-reads_document.false in let e = c.reads_document.ensures in cc) in
+    subst (λ z. IsAnswer c.args.wanted (g.S.Source.given c.args.source.now) (g.S.Source.given c.read_all.new.source) (g.S.Source.ended c.read_all.new.source) (Err z)) (sym c.from.ensures)
+    (unread-wanted c.args.wanted _ _ _ c.most_bytes.result c.in-Err.fault reads c.most_bytes.ensures
+    (λ e. c.in-Err.ensures.too_long.0 (ap Err e)) (λ e. c.in-Err.ensures.failed_within (ap Err e)) (λ e. (let h = c.in-Err.ensures.ended.1 e in absurd cc)))

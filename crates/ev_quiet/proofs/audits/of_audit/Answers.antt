@@ -1,19 +1,20 @@
-use Rattle.std.proofs.Common.{Err, refl, sym, ap, subst}
-use Rattle.ev_quiet.specs.declared.words.Wanted.TheVariants.{Audit}
-use Rattle.ev_quiet.specs.Answering.{IsAnswer}
+use Rattle.std.proofs.Common.{Err, List, sym, ap, subst}
+use Rattle.ev_model.specs.Parts.{EntryParts}
+use Rattle.ev_quiet.specs.Audits.{IsAuditOf, traced}
 use Rattle.ev_quiet.specs.Auditing.{AuditsInput}
-use Rattle.ev_quiet.proofs.Answering.{claim-answer}
-use Rattle.ev_quiet.proofs.Confirmed.{audit-answer, unread-audit}
+use Rattle.ev_quiet.proofs.Confirmed.{confirmed-of, not-confirmed}
 use Rattle.ev_quiet.proofs.audits.of_audit.Goals as goal
 
-pub returns-in-Err-clause-answers : goal.returns-in-Err-clause-answers
-returns-in-Err-clause-answers g c =
-    subst (λ z. IsAnswer Audit (g.S.Source.given c.args.source.now) (g.S.Source.given c.read_all.new.source) (g.S.Source.ended c.read_all.new.source) (Err z)) (sym c.from.ensures)
-    (claim-answer _ _ _ _
-    (unread-audit _ _ _ c.in-Err.fault (λ e. c.in-Err.ensures.too_long.0 (ap Err e)) (λ e. c.in-Err.ensures.failed_within (ap Err e)) (λ e. (let h = c.in-Err.ensures.ended.1 e in absurd cc))))
+pub returns-in-Err : goal.returns-in-Err
+returns-in-Err c =
+    subst (λ z. AuditsInput c.args.bytes.now (Err z)) (sym c.from.ensures)
+    (not-confirmed c.args.bytes.now c.requires c.in-Err.fault (λ line kind e. c.in-Err.ensures.document line kind (ap Err e)) (λ line kind e. c.in-Err.ensures.refuted line kind (ap Err e)))
 
-pub returns-clause-answers : goal.returns-clause-answers
-returns-clause-answers g c =
-    claim-answer _ _ _ c.of_input.result
-    (audit-answer _ _ _ c.in-Ok.bytes.items c.of_input.result c.in-Ok.ensures.ok (c.in-Ok.ensures.ended.0 refl)
-    (subst (λ z. AuditsInput z c.of_input.result) c.deref.ensures.value c.of_input.ensures))
+pub returns-in-Ok-confirmed : goal.returns-in-Ok-confirmed
+returns-in-Ok-confirmed c =
+    let a = c.in-Ok.ensures.audited in
+    let net = c.in-Ok.audited.net in
+    let journal : List EntryParts = c.in-Ok.audited.journal.items in
+    subst (λ (z : List EntryParts). IsAuditOf c.args.bytes.now c.in-Ok-confirmed.printed.text z) (sym c.in-Ok-confirmed.ensures.journal)
+    (confirmed-of c.args.bytes.now c.in-Ok-confirmed.printed.text net journal c.in-Ok.audited.owed c.in-Ok.audited.deliveries c.requires a (c.net_is_sound.ensures a.document net a.input.well_formed) c.settle.ensures
+    (c.promise.ensures.clients traced a.document net journal a.input.well_formed) (c.promise.ensures.run traced net journal) c.in-Ok-confirmed.ensures.text)

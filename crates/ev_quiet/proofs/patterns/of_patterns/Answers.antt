@@ -1,19 +1,17 @@
-use Rattle.std.proofs.Common.{Err, refl, sym, ap, subst}
-use Rattle.ev_quiet.specs.declared.words.Wanted.TheVariants.{Patterns}
-use Rattle.ev_quiet.specs.Answering.{IsAnswer}
-use Rattle.ev_quiet.specs.Searching.{SearchesInput}
-use Rattle.ev_quiet.proofs.Searched.{source-answer, unread-answer}
-use Rattle.ev_quiet.proofs.Answering.{pattern-answer}
+use Rattle.std.proofs.Common.{arith}
+use Rattle.ev_quiet.specs.declared.words.Schedule.TheVariants.{Walk}
+use Rattle.ev_quiet.specs.Words.{plain}
+use Rattle.ev_quiet.proofs.Searched.{patterns-of}
 use Rattle.ev_quiet.proofs.patterns.of_patterns.Goals as goal
 
-pub returns-in-Err-clause-answers : goal.returns-in-Err-clause-answers
-returns-in-Err-clause-answers g c =
-    subst (λ z. IsAnswer Patterns (g.S.Source.given c.args.source.now) (g.S.Source.given c.document.new.source) (g.S.Source.ended c.document.new.source) (Err z)) (sym c.from.ensures)
-    (pattern-answer _ _ _ _
-    (unread-answer _ _ _ c.in-Err.fault (λ e. c.in-Err.ensures.long (ap Err e)) (λ e. c.in-Err.ensures.failed_within (ap Err e)) (λ e. (let h = c.in-Err.ensures.ended.1 e in absurd cc))))
+pub searched-requires-clause-sound : goal.searched-requires-clause-sound
+searched-requires-clause-sound c = c.net_is_sound.ensures c.in-Ok.ensures.watch.document c.in-Ok.field-0.net c.in-Ok.ensures.watch.well_formed
 
-pub returns-clause-answers : goal.returns-clause-answers
-returns-clause-answers g c =
-    pattern-answer _ _ _ c.of_input.result
-    (source-answer _ _ _ c.in-Ok.bytes.items c.of_input.result c.in-Ok.ensures.all (c.in-Ok.ensures.ended.0 refl)
-    (subst (λ z. SearchesInput z c.of_input.result) c.deref.ensures.value c.of_input.ensures))
+pub returns-in-Ok-searched : goal.returns-in-Ok-searched
+returns-in-Ok-searched c =
+    let net = c.in-Ok.field-0.net in
+    let w = c.in-Ok.ensures.watch in
+    let journal = c.in-Ok-searched.printed.journal in
+    patterns-of c.args.bytes.now c.in-Ok-searched.printed.text net c.in-Ok.field-0.patterns.items journal (omega arith) w (c.net_is_sound.ensures w.document net w.well_formed) c.settle.ensures
+    c.in-Ok-searched.ensures (c.promise.ensures.clients plain w.document net journal w.well_formed)
+    (λ whole. c.promise.ensures.network Walk plain net journal whole c.in-Ok-searched.ensures.goes_by)
