@@ -92,8 +92,7 @@ fn push_filter(
     push_labelled(out, b"subscribe a", attribute)?;
     push_test(out, operator, operand)?;
     push_prefix(out, wanted, first)?;
-    push_text(out, b"\n")?;
-    Ok(())
+    push_text(out, b"\n")
 }
 
 /// A subscription, of what is drawn.

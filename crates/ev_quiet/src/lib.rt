@@ -36,4 +36,4 @@ pub use status::{Status, fault_text};
 pub use text::printed_run;
 pub use top::{Outcome, quiet};
 pub use unanswered::{Unanswered, widened};
-pub use words::{Query, Schedule, Shown, Wanted, is_quiet, read_words};
+pub use words::{Query, Schedule, Shown, Wanted, Word, is_quiet, read_words};

@@ -7,7 +7,8 @@ ghost use Rattle.ev_quiet.specs.Outcomes.{IsOutcome};
 
 use crate::status::Status;
 use crate::top::{Outcome, quiet};
-use ev_outside::{StdSink, StdSource, Word};
+use crate::words::Word;
+use ev_outside::{StdSink, StdSource};
 use std::alloc::Global;
 use std::io::{Read, Write};
 

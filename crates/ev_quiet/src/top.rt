@@ -11,9 +11,9 @@ use crate::answer::answer;
 use crate::printed::Printed;
 use crate::status::Status;
 use crate::unanswered::Unanswered;
-use crate::words::{Wanted, read_words};
+use crate::words::{Wanted, Word, read_words};
 use ev_merge::Record;
-use ev_outside::{Sink, Source, Word};
+use ev_outside::{Sink, Source};
 use std::alloc::Global;
 
 /// How a run ended, and its journal in the order of the turns: that of the run for `walk`, `hier`, `replay`, `traffic`,

@@ -6,7 +6,7 @@ ghost use Rattle.ev_quiet.specs.Words.{plain, run_by, traffic_by, wanted_by, wit
 
 use crate::seed::seed;
 use ev_help::Page;
-use ev_outside::Word;
+use ev_wire::Bytes;
 
 /// Which turns a run makes.
 #[derive(Clone, Copy, Debug, PartialEq, Eq)]
@@ -68,11 +68,14 @@ pub enum Wanted {
     About(Page),
 }
 
+/// A word of a command line, as its bytes.
+pub type Word = Bytes;
+
 // Whether it is this word.
 fn is_word(word: &Word, text: &[u8]) -> bool
     ensures { result ≡ bytes_eq word.now text.now }
 {
-    word.bytes() == text
+    word.as_slice() == text
 }
 
 // With one option more.
@@ -160,7 +163,7 @@ fn is_summary(word: &Word) -> bool
 fn joined_seed(word: &Word) -> Option<u64>
     ensures { result ≡ joined_seed word.now }
 {
-    match word.bytes() {
+    match word.as_slice() {
         [b'-', b'-', b's', b'e', b'e', b'd', b'=', number @ ..] => seed(number),
         _ => None,
     }
@@ -171,7 +174,7 @@ fn parted_seed(label: &Word, number: &Word) -> Option<u64>
     ensures { result ≡ parted_seed label.now number.now }
 {
     if is_word(label, b"--seed") {
-        seed(number.bytes())
+        seed(number.as_slice())
     } else {
         None
     }

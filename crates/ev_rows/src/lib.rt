@@ -1,16 +1,20 @@
 //! Rows of worked questions with their answers. A program of such rows reads them on its standard
 //! input, a row a line: the question, ` => `, and the answer that is wanted. A line that begins
-//! with `#`, or that is empty, is none. Beside them why a program of rows printed nothing more.
+//! with `#`, or that is empty, is none. Beside them why a program of rows printed nothing more, and a
+//! source and a sink in memory that fail at given calls.
 #![tactic(auto)]
 
 mod failure;
 mod fault;
+mod memory;
 mod parts;
+mod piece;
 mod rows;
 mod texts;
 
 pub use failure::Failure;
 pub use fault::RowFault;
+pub use memory::{MemorySink, MemorySource};
 pub use parts::{
     first_word, number, put, put_number, put_truth, spelled, truth, truths, two_parts,
 };

@@ -2,9 +2,8 @@
 ghost use Rattle.std.specs.Prelude.{◌<◌};
 
 use crate::row::Row;
-use ev_outside::{MemorySink, MemorySource, Word};
-use ev_quiet::{fault_text, is_quiet, quiet};
-use ev_rows::Failure;
+use ev_quiet::{Word, fault_text, is_quiet, quiet};
+use ev_rows::{Failure, MemorySink, MemorySource};
 use std::alloc::Global;
 
 /// Room for what is written.
@@ -26,7 +25,7 @@ pub struct Tried {
 fn words(alloc: Global, line: &str) -> Result<Vec<Word>, Failure> {
     let mut words = Vec::new(alloc);
     for word in line.split_whitespace() {
-        words.push(Word::make(alloc, word)?)?;
+        words.push(Word::of(word.as_bytes().to_vec(alloc)?))?;
     }
     Ok(words)
 }

@@ -1,8 +1,8 @@
 //! One call of the program over devices in memory.
 use crate::row::Row;
-use ev_outside::{Gate, MemorySink, MemorySource, NoGate, Word};
-use ev_quiet::{Shown, fault_text, net, printed_run};
-use ev_rows::Failure;
+use ev_outside::{Gate, NoGate};
+use ev_quiet::{Shown, Word, fault_text, net, printed_run};
+use ev_rows::{Failure, MemorySink, MemorySource};
 use ev_siena::{run_net, siena};
 use std::alloc::Global;
 use std::sync::Wait;
@@ -30,7 +30,7 @@ pub struct Tried {
 fn words(alloc: Global, line: &str) -> Result<Vec<Word>, Failure> {
     let mut words = Vec::new(alloc);
     for word in line.split_whitespace() {
-        words.push(Word::make(alloc, word)?)?;
+        words.push(Word::of(word.as_bytes().to_vec(alloc)?))?;
     }
     Ok(words)
 }

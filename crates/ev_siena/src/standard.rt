@@ -6,8 +6,8 @@ ghost use Rattle.ev_quiet.specs.Answers.{reads, most_read, CanAnswer};
 ghost use Rattle.ev_quiet.specs.Outcomes.{IsOutcome};
 
 use crate::top::siena;
-use ev_outside::{Gate, StdSink, StdSource, Word};
-use ev_quiet::{Over, Status};
+use ev_outside::{Gate, StdSink, StdSource};
+use ev_quiet::{Over, Status, Word};
 use std::alloc::Global;
 use std::io::{Read, Write};
 use std::sync::Wait;

@@ -10,9 +10,9 @@ ghost use Rattle.ev_quiet.specs.Outcomes.{IsOutcome};
 ghost use Rattle.ev_siena.specs.Wishes.{with_threads};
 
 use crate::threaded::of_document;
-use ev_outside::{Gate, Sink, Source, Word};
+use ev_outside::{Gate, Sink, Source};
 use ev_quiet::{
-    Outcome, Printed, Query, Schedule, Shown, Status, Unanswered, Wanted, document, quiet,
+    Outcome, Printed, Query, Schedule, Shown, Status, Unanswered, Wanted, Word, document, quiet,
     read_words, widened,
 };
 use std::alloc::Global;

@@ -2,8 +2,8 @@
 //! flooding owes it, where patterns occur in what it receives, or how much the document has.
 #![tactic(auto)]
 
-use ev_outside::{NoGate, Word};
-use ev_quiet::{Status, fault_text, is_quiet, quiet_with_devices};
+use ev_outside::NoGate;
+use ev_quiet::{Status, Word, fault_text, is_quiet, quiet_with_devices};
 use ev_siena::with_devices;
 use std::alloc::Global;
 use std::env::Args;
@@ -15,7 +15,8 @@ use std::rt::Env;
 fn words_of(alloc: Global, arguments: Args) -> Option<Vec<Word>> {
     let mut words = Vec::new(alloc);
     for argument in arguments.skip(1) {
-        words.push(Word::make(alloc, argument.as_str()).ok()?).ok()?;
+        let word = argument.as_str().as_bytes().to_vec(alloc).ok()?;
+        words.push(Word::of(word)).ok()?;
     }
     Some(words)
 }
