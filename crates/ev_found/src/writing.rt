@@ -113,7 +113,8 @@ fn put_occurrences<K: Sink>(
     requires nothing { detector.fed ≡ [] }
     requires published { ArePublished notices.now heard.deliveries.now }
     ensures { Went (outlet (K.taken sink.old) (K.faults sink.old) out.old) (outlet (K.taken sink.new) (K.faults sink.new) out.new)
-        (flat_map (found_line heard.entry.names.now heard.entry.deliveries.now) (all_occurrences detector.steps (notices_of notices.now heard.entry.deliveries.now))) }
+        (flat_map (found_line heard.entry.names.now heard.entry.deliveries.now)
+            (all_occurrences detector.steps (notices_of notices.now heard.entry.deliveries.now))) }
 {
     for delivery in heard.deliveries {
         put_next(

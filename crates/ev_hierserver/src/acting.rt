@@ -136,7 +136,8 @@ pub(crate) fn act_next<'a>(
 ) -> Result<Vec<Sending<'a>>, NoMemory>
     requires from { Has from ledger.old.interfaces }
     requires can { CanGo ledger.old.net plan.now outgoing }
-    ensures gone { IfOk result (λ sent. HasGoneUp master from plan.now outgoing.entry ledger.old ledger.new clients.old.sessions clients.new.sessions sent.items) }
+    ensures gone { IfOk result (λ sent. HasGoneUp master from plan.now outgoing.entry ledger.old ledger.new
+        clients.old.sessions clients.new.sessions sent.items) }
     ensures interfaces { ledger.new.interfaces ≡ ledger.old.interfaces }
     ensures net { clients.new.net ≡ clients.old.net }
     ensures planned { StayPlanned clients.old.sessions clients.new.sessions }

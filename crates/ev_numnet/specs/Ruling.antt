@@ -106,12 +106,14 @@ pub record RulingLaws {P : Type 0} (kind : Stepping P) (trying : Trying) (tellin
   pub session : (net : NetParts) (phase : ℕ) (now : Servers P) → ruling.IsKept net phase now → (client : ℕ) (core : P)
       → slice_get now.cores (home_of net client - 1) ≡ Some core → (s : SessionParts) → Has (bare s) (kind.core core).clients → s.client ≡ client
       → s.semantics ≡ ruling.semantics core → IsSessionAt net client (ruling.taken_by net now.journal client) (ruling.received_by net now.journal client) s
-  pub inboxes : (net : NetParts) (phase : ℕ) (now : Servers P) → ruling.IsKept net phase now → HaveInboxes kind net (ruling.received_by net now.journal) 0 now.cores
+  pub inboxes : (net : NetParts) (phase : ℕ) (now : Servers P) → ruling.IsKept net phase now
+      → HaveInboxes kind net (ruling.received_by net now.journal) 0 now.cores
   -- a taking: not without a server and a link, and else it is made where something lies on the link
   pub take_none : (net : NetParts) (phase : ℕ) (now : Servers P) → ruling.IsKept net phase now → (server from : ℕ)
       → (Has server (servers_in net) → Has from (links_of (topology_at net (trying.tree_phase phase)) server) → ⊥)
       → trying.IsTurn false (turns.Take server from) (network_parts net now.journal) (network_parts net now.journal)
-  pub take_turn : (net : NetParts) (phase : ℕ) (old new : Servers P) → ruling.IsKept net phase old → (server from : ℕ) → 1 ≤ server → (answer : Result Bool NoMemory)
+  pub take_turn : (net : NetParts) (phase : ℕ) (old new : Servers P) → ruling.IsKept net phase old
+      → (server from : ℕ) → 1 ≤ server → (answer : Result Bool NoMemory)
       → ((of : NetParts) (m : Stamped (Message real)) → slice_get (old.messages from server) 0 ≡ Some (waiting_in of m)
       → IfOk answer (λ made. (made ≡ true) × IsActed kind (server - 1) (Takes from m) (acts.Take from) old new))
       → (old.messages from server ≡ [] → IfOk answer (λ made. (made ≡ false) × IsSame old new))

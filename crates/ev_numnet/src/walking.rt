@@ -10,7 +10,8 @@ impl<'a, P: Networked<'a>, K: Keeping> RuledNetwork<'a, P, K> {
     ghost use Rattle.ev_turns.specs.Network.{IsLater};
 
     /// Makes what is left of the phase in hand, or else of the next phase that has something left, and answers whether
-    /// there was something: false exactly where all commands are taken, all links are empty and nothing is staged. After want of memory the turns that were made stand: a beginning of these.
+    /// there was something: false exactly where all commands are taken, all links are empty and nothing is staged.
+    /// After want of memory the turns that were made stand: a beginning of these.
     pub fn walk_phase(&mut self) -> Result<bool, NoMemory>
         ensures walked { IfOk result (λ some. P.walking.IsPhaseOf some self.old self.new) }
         ensures begun { OnErr result (P.walking.IsPhaseBegun self.old self.new) }
