@@ -1,11 +1,23 @@
 //! The questions of rows, and what answers them.
+use crate::held::Held;
 use crate::{compared, made, spelled, texts};
 use ev_rows::{Answers, RowFault, first_word};
 use std::alloc::Global;
 
-/// Answers questions of values, of what is made of them, and of their texts.
+/// Answers questions of values, of what is made of them, of their texts, and of the filters that are held.
 #[derive(Drop)]
-pub struct Values;
+pub struct Values {
+    held: Held,
+}
+
+impl Values {
+    /// No filter is held.
+    pub fn new(alloc: Global) -> Values {
+        Values {
+            held: Held::new(alloc),
+        }
+    }
+}
 
 /// The answer to a question of two things.
 fn compared(alloc: Global, verb: &str, rest: &str) -> Result<Vec<u8>, RowFault> {
@@ -30,6 +42,7 @@ impl Answers for Values {
     fn answer(&mut self, alloc: Global, question: &str) -> Result<Vec<u8>, RowFault> {
         let (verb, rest) = first_word(question);
         match verb {
+            "new" | "add" | "remove" | "route" => self.held.answer(alloc, verb, rest),
             "name" => spelled::name(alloc, rest),
             "names" => spelled::names(alloc, rest),
             "text" => spelled::text(alloc, rest),

@@ -4,7 +4,7 @@ use ev_forwarding::{Forwarding, is_rising, law};
 use ev_matcher::{Matcher, Scratch};
 use ev_memory::NoMemory;
 use ev_notice::{Filter, Notice};
-use ev_rows::{RowFault, filter, first_word, notice, number, put_number};
+use ev_rows::{RowFault, filter, first_word, notice, number, put_number, truth};
 use std::alloc::Global;
 
 /// The most filters that rows hold at once.
@@ -69,8 +69,23 @@ impl Held {
         }
     }
 
+    /// The answer to a question of the filters that are held, which a change of them leaves empty.
+    pub fn answer(&mut self, alloc: Global, verb: &str, rest: &str) -> Result<Vec<u8>, RowFault> {
+        match verb {
+            "new" => *self = Held::new(alloc),
+            "add" => self.add(alloc, rest)?,
+            "remove" => {
+                let was_there = self.remove(alloc, rest)?;
+                return truth(alloc, was_there);
+            }
+            "route" => return self.route(alloc, rest),
+            _ => return Err(RowFault::Form),
+        }
+        Ok(Vec::new(alloc))
+    }
+
     /// An interface holds the filter of a text too.
-    pub fn add(&mut self, alloc: Global, rest: &str) -> Result<(), RowFault> {
+    fn add(&mut self, alloc: Global, rest: &str) -> Result<(), RowFault> {
         let (interface, text) = first_word(rest);
         self.interfaces.push(number(interface)?)?;
         self.filters.push(filter(alloc, text)?)?;
@@ -78,7 +93,7 @@ impl Held {
     }
 
     /// It holds it no more; whether it did.
-    pub fn remove(&mut self, alloc: Global, rest: &str) -> Result<bool, RowFault> {
+    fn remove(&mut self, alloc: Global, rest: &str) -> Result<bool, RowFault> {
         let (interface, text) = first_word(rest);
         let (interface, filter) = (number(interface)?, filter(alloc, text)?);
         for place in 0..self.filters.len() {
@@ -95,7 +110,7 @@ impl Held {
     }
 
     /// The interfaces with a filter that the notice of a text matches, rising.
-    pub fn route(&self, alloc: Global, rest: &str) -> Result<Vec<u8>, RowFault> {
+    fn route(&self, alloc: Global, rest: &str) -> Result<Vec<u8>, RowFault> {
         let notice = notice(alloc, rest)?;
         if self.filters.len() > MOST {
             return Err(RowFault::Form);

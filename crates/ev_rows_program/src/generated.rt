@@ -12,7 +12,7 @@ const RUNS: [(&str, &str); 3] = [
 ];
 
 /// How many lines begin with these bytes.
-fn lines_with(text: &[u8], first: &[u8]) -> u32 {
+pub fn lines_with(text: &[u8], first: &[u8]) -> u32 {
     let mut count = 0u32;
     for line in text.split(|byte| *byte == b'\n') {
         if line.starts_with(first) {

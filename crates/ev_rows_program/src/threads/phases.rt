@@ -1,5 +1,5 @@
 //! Runs over many phases.
-use crate::tried::{free, in_threads, is_written};
+use super::tried::{free, in_threads, is_written};
 use ev_decimal::push_labelled;
 use ev_memory::NoMemory;
 use ev_rows::Failure;

@@ -1,6 +1,6 @@
 //! A match ahead that a version overtakes.
-use crate::tried::{held, print_verdict};
-use crate::waiting::{add, counted, wait_for};
+use super::tried::{held, print_written};
+use super::waiting::{add, counted, wait_for};
 use ev_outside::{Gate, Place, Spot, Worker};
 use ev_rows::Failure;
 use std::alloc::Global;
@@ -86,7 +86,7 @@ pub fn print_overtaken<R: Print + Threads + Wait + Sync>(
         late: AtomicU64::new(0),
     };
     let came = held(rt, alloc, "run", DOCUMENT.as_bytes(), &gate)?;
-    print_verdict(rt, "A version overtakes a match ahead", &came, TEXT)?;
+    print_written(rt, "A version overtakes a match ahead", &came, TEXT)?;
     println!(rt;
         "stale matches: {}, held too long: {}",
         counted(&gate.stale),

@@ -1,5 +1,5 @@
-//! Runs rows of words and documents through the program over devices in memory, and prints of each whether what it told
-//! and wrote is as wanted.
+//! Runs rows of words and documents through the program over devices in memory, on one thread and with two workers a
+//! server, free and held at gates, and prints of each whether what it told and wrote is as wanted.
 #![tactic(auto)]
 
 mod audits;
@@ -17,6 +17,7 @@ mod replays;
 mod row;
 mod runs;
 mod steps;
+mod threads;
 mod traffic;
 mod tried;
 mod usage;
@@ -63,5 +64,6 @@ fn print_others(rt: &impl Print, alloc: Global) -> Result<(), Failure> {
 
 fn main(rt: HostRuntime) -> Result<(), Failure> {
     print_tables(&rt, rt.alloc())?;
-    print_others(&rt, rt.alloc())
+    print_others(&rt, rt.alloc())?;
+    threads::print_all(&rt, rt.alloc())
 }

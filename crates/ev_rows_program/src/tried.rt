@@ -22,7 +22,7 @@ pub struct Tried {
 }
 
 /// The words of a line.
-fn words(alloc: Global, line: &str) -> Result<Vec<Word>, Failure> {
+pub fn words(alloc: Global, line: &str) -> Result<Vec<Word>, Failure> {
     let mut words = Vec::new(alloc);
     for word in line.split_whitespace() {
         words.push(Word::of(word.as_bytes().to_vec(alloc)?))?;

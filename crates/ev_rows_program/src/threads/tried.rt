@@ -1,7 +1,8 @@
-//! One call of the program over devices in memory.
+//! One call of the program with threads, over devices in memory.
 use crate::row::Row;
+use crate::tried::{Tried, print_verdict, words};
 use ev_outside::{Gate, NoGate};
-use ev_quiet::{Shown, Word, fault_text, net, printed_run};
+use ev_quiet::{Shown, fault_text, net, printed_run};
 use ev_rows::{Failure, MemorySink, MemorySource};
 use ev_siena::{run_net, siena};
 use std::alloc::Global;
@@ -16,24 +17,6 @@ const PLAIN: Shown = Shown {
     sorted: false,
     trace: false,
 };
-
-/// What a call told and wrote.
-#[derive(Drop)]
-pub struct Tried {
-    /// The line to standard error, or nothing.
-    pub fault: Vec<u8>,
-    /// What was written.
-    pub text: Vec<u8>,
-}
-
-/// The words of a line.
-fn words(alloc: Global, line: &str) -> Result<Vec<Word>, Failure> {
-    let mut words = Vec::new(alloc);
-    for word in line.split_whitespace() {
-        words.push(Word::of(word.as_bytes().to_vec(alloc)?))?;
-    }
-    Ok(words)
-}
 
 /// Runs the words over a document, with its workers held at a gate.
 pub fn held<R: Threads + Wait + Sync, G: Gate + Sync>(
@@ -83,33 +66,19 @@ pub fn in_threads<R: Threads + Wait + Sync>(
     Ok(Tried { fault, text })
 }
 
-/// The bytes as text, where they are one.
-pub fn shown(bytes: &[u8]) -> &str {
-    std::str::from_utf8(bytes).unwrap_or("no text")
-}
-
 /// Whether this was written, and nothing told.
 pub fn is_written(came: &Tried, text: &[u8]) -> bool {
     came.fault.is_empty() && came.text.as_slice() == text
 }
 
-/// Prints whether what was told and written is what must come, and where it isn't, what came.
-pub fn print_verdict(
+/// Prints whether this was written and nothing told, and where it wasn't, what came.
+pub fn print_written(
     rt: &impl Print,
     name: &str,
     came: &Tried,
     text: &[u8],
 ) -> Result<(), Failure> {
-    if is_written(came, text) {
-        println!(rt; "{name}: as wanted")?;
-    } else {
-        print!(rt;
-            "{name}: differs\n{}{}",
-            shown(&came.fault),
-            shown(&came.text)
-        )?;
-    }
-    Ok(())
+    print_verdict(rt, name, came, b"", text)
 }
 
 /// Runs rows, and prints of each whether it came as wanted.
@@ -120,7 +89,7 @@ pub fn print_rows<R: Print + Threads + Wait + Sync>(
 ) -> Result<(), Failure> {
     for row in rows {
         let came = free(rt, alloc, row.words, row.document.as_bytes())?;
-        print_verdict(rt, row.name, &came, row.text.as_bytes())?;
+        print_written(rt, row.name, &came, row.text.as_bytes())?;
     }
     Ok(())
 }

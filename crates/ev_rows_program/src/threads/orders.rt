@@ -1,6 +1,6 @@
 //! Four workers in every order of their first turns.
-use crate::tried::{free, held, is_written};
-use crate::waiting::{add, counted, wait_for};
+use super::tried::{free, held, is_written};
+use super::waiting::{add, counted, wait_for};
 use ev_outside::{Gate, Place, Worker};
 use ev_rows::Failure;
 use std::alloc::Global;

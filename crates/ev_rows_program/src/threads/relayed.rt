@@ -1,6 +1,6 @@
 //! A notification that a worker for links takes while a phase goes on.
-use crate::tried::{held, print_verdict};
-use crate::waiting::{add, counted, wait_for};
+use super::tried::{held, print_written};
+use super::waiting::{add, counted, wait_for};
 use ev_outside::{Gate, Place, Spot, Worker};
 use ev_rows::Failure;
 use std::alloc::Global;
@@ -64,7 +64,7 @@ pub fn print_relayed<R: Print + Threads + Wait + Sync>(
         late: AtomicU64::new(0),
     };
     let came = held(rt, alloc, "run", DOCUMENT.as_bytes(), &gate)?;
-    print_verdict(rt, "A worker for links takes a notification", &came, TEXT)?;
+    print_written(rt, "A worker for links takes a notification", &came, TEXT)?;
     println!(rt;
         "its turns: {}, held too long: {}",
         counted(&gate.taken),

@@ -1,6 +1,6 @@
 //! Two workers that meet.
-use crate::tried::{held, print_verdict};
-use crate::waiting::{add, counted, wait_for};
+use super::tried::{held, print_written};
+use super::waiting::{add, counted, wait_for};
 use ev_outside::{Gate, Place, Spot, Worker};
 use ev_rows::Failure;
 use std::alloc::Global;
@@ -57,7 +57,7 @@ pub fn print_meeting<R: Print + Threads + Wait + Sync>(
         met: AtomicU64::new(0),
     };
     let came = held(rt, alloc, "run", DOCUMENT.as_bytes(), &gate)?;
-    print_verdict(rt, "Two workers for commands that meet", &came, TEXT)?;
+    print_written(rt, "Two workers for commands that meet", &came, TEXT)?;
     println!(rt; "workers that met: {}", counted(&gate.met))?;
     Ok(())
 }

@@ -1,6 +1,6 @@
 //! Runs whose outcome may move, and their audits.
-use crate::documents::{DOCUMENTS, Document};
-use crate::tried::free;
+use super::documents::{DOCUMENTS, Document};
+use super::tried::free;
 use ev_rows::Failure;
 use std::alloc::Global;
 use std::sync::Wait;

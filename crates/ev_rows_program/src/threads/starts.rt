@@ -1,5 +1,5 @@
 //! Many starts and ends of workers.
-use crate::tried::{free, is_written};
+use super::tried::{free, is_written};
 use ev_rows::Failure;
 use std::alloc::Global;
 use std::sync::Wait;
