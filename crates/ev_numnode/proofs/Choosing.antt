@@ -5,7 +5,6 @@ use Rattle.ev_routing.specs.Step.{NextCommand}
 use Rattle.ev_model.specs.Parts.{EntryParts}
 use Rattle.ev_forwarding.specs.declared.route.Route.{Route}
 use Rattle.ev_message.specs.declared.load.Load.{Load}
-use Rattle.ev_message.specs.declared.stamped.StampedLoad.{StampedLoad}
 use Rattle.ev_message.specs.Message.{IsLoad, meaning}
 use Rattle.ev_numserver.specs.Core.{CoreParts}
 use Rattle.ev_numserver.specs.Routed.{RoutesMessage}
@@ -31,13 +30,11 @@ not-known choice route is same = let e : Other ≡ Agreed route = sym is ∙ sam
 
 module _ (publisher : Publisher) (core : CoreParts) where
   -- the route that is known by it is that of the step
-  pub known-of : (matched : Option Matched) (load : Load) (choice : Choice) (known : Option (Bor Route)) (Comes : StampedLoad → Type 0) → IsChoiceOfBy core publisher matched load choice
-      → IfSome known (λ route. choice ≡ Agreed route) → ((item : StampedLoad) → Comes item → load ≡ item.load)
-      → IfSome known (λ route. (item : StampedLoad) → Comes item → RoutesMessage core (meaning core.net item.load) route.now)
-  known-of matched load choice None Comes is same loads = tt
-  known-of None load choice (Some route) Comes is same loads = absurd (not-known choice route is same)
-  known-of (Some h) load choice (Some route) Comes is same loads = λ item comes.
-      subst (λ l. RoutesMessage core (meaning core.net l) route.now) (loads item comes) (subst (IsChoiceOf core publisher h.ahead.now load) same is).1
+  pub known-of : (matched : Option Matched) (load : Load) (choice : Choice) (known : Option (Bor Route)) → IsChoiceOfBy core publisher matched load choice
+      → IfSome known (λ route. choice ≡ Agreed route) → IfSome known (λ route. RoutesMessage core (meaning core.net load) route.now)
+  known-of matched load choice None is same = tt
+  known-of None load choice (Some route) is same = absurd (not-known choice route is same)
+  known-of (Some h) load choice (Some route) is same = (subst (IsChoiceOf core publisher h.ahead.now load) same is).1
 
 module _ (phase : ℕ) (old new : ServerInHand) (before after : List EntryParts) where
   chosen-command : (ahead : Ahead) (client : ℕ) (choice : Choice) → IsChoiceNext old.core old.publisher ahead client choice

@@ -17,6 +17,7 @@ pub mod Turning
 pub mod Handed
 pub mod Entering
 pub mod Sooner
+pub mod Gained
 pub mod Due
 pub mod Keeping
 pub mod Rows

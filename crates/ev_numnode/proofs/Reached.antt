@@ -7,7 +7,7 @@ use Rattle.std.proofs.lemmas.Bool.Decides.{nat_tests}
 use Rattle.ev_sets.specs.Sets.{Has, IsRising}
 use Rattle.ev_run.proofs.Lists.{Same, Is, Not, compare}
 use Rattle.ev_routing.proofs.Listing.{has-either, has-left, has-right}
-use Rattle.std.specs.Prelude.{Option, None, Result, Ok, Err, IfOk, IfSome}
+use Rattle.std.specs.Prelude.{Result, Ok, Err, IfOk}
 use Rattle.ev_catalogue.specs.Known.{known_filters}
 use Rattle.ev_forwarding.specs.Published.{Published}
 use Rattle.ev_numserver.specs.Core.{CoreParts}
@@ -135,7 +135,3 @@ wide-of core width all f e wide is = record {
 pub if-ok : {A E : Type 0} {P Q : A → Type 0} → ((x : A) → P x → Q x) → (r : Result A E) → IfOk r P → IfOk r Q
 if-ok step (Ok x) p = step x p
 if-ok step (Err e) p = tt
-
-pub if-some : {A : Type 0} {P Q : A → Type 0} → ((x : A) → P x → Q x) → (o : Option A) → IfSome o P → IfSome o Q
-if-some step (Some x) p = step x p
-if-some step None p = tt

@@ -1,13 +1,12 @@
 -- What a turn finds on the lanes, and what it leaves.
-use Rattle.std.proofs.Common.{◌≡◌, ℕ, ◌<◌, ◌≤◌, ◌^◌, List, [], ◌∷◌, ◌++◌, length, map, get_or, Some, slice_get, sym, ap, subst, ◌∙◌, arith}
+use Rattle.std.proofs.Common.{◌≡◌, ℕ, ◌<◌, ◌≤◌, ◌^◌, List, [], ◌∷◌, ◌++◌, length, map, Vec, Global, sym, ap, subst, ◌∙◌, arith}
 use Rattle.std.proofs.lemmas.List.{length-map}
 use Rattle.std.specs.Prelude.{Result, Ok, Err, OnErr}
-use Rattle.std.proofs.lemmas.Option.{same_Some}
-use mathlib.Core.List.{IsPrefix}
+use Rattle.ev_sets.specs.Sets.{Has}
 use Rattle.ev_sets.specs.Numbers.{IsDistinct}
 use Rattle.ev_run.specs.Machine.{Input, Does, Takes, Did, Took}
 use Rattle.ev_routing.specs.Server.{Message}
-use Rattle.ev_routing.specs.Step.{Task}
+use Rattle.ev_routing.specs.Step.{Task, Version}
 use Rattle.ev_theory.specs.Real.{real}
 use Rattle.ev_message.specs.Parts.{SendingParts}
 use Rattle.ev_message.specs.Message.{meaning, said}
@@ -26,13 +25,14 @@ use Rattle.ev_numnode.specs.declared.held.ServerInHand.{ServerInHand}
 use Rattle.ev_numnode.specs.declared.link.Link.{Link}
 use Rattle.ev_numnode.specs.Acted.{Said}
 use Rattle.ev_numnode.specs.Kept.{IsSomeServer}
-use Rattle.ev_numnode.specs.Links.{Both, AreInOrder, IsSameLink, IsUnmoved, IsRoomed, IsGiven, IsItemTaken, IsMoved, IsFlushed, IsInSight, IsNextAt, AreOfNet, only_from}
+use Rattle.ev_numnode.specs.Links.{Both, AreInOrder, IsSameLink, IsUnmoved, IsRoomed, IsGiven, IsItemTaken, IsMoved, IsFlushed, IsInSight, AreOfNet, only_from}
 use Rattle.ev_numnode.specs.Cell.{IsServerInHand, IsPublishedBy}
 use Rattle.ev_numnode.specs.Turns.{IsCellTurn, IsStill, IsOfPhase}
 use Rattle.ev_numnode.proofs.Walks.{both-map, both-each, both-comp, each-after}
 use Rattle.ev_numnode.proofs.Hands.{names, tos}
 use Rattle.ev_numnode.proofs.Going.{going-net, going-order}
-use Rattle.ev_numnode.proofs.Places.{both-before, both-behind, read-found, found as found-at}
+use Rattle.ev_numnode.proofs.Places.{both-before}
+use Rattle.ev_numnode.proofs.Unmoved.{unmoved-roomed}
 use Rattle.ev_numnode.proofs.Moved.{names-same, moved-given, moved-taken, moved-after, few-after}
 
 same-of : (xs ys : List Link) → Both IsUnmoved xs ys → Both IsSameLink xs ys
@@ -118,18 +118,27 @@ still old new before after core links journal publisher shown = record {
   published = shown;
 }
 
+-- what a step leaves on the lanes, where it takes nothing
+pub did-links : (xs ys zs : List Link) (net : NetParts) (stamp : ℕ) (sent : List SendingParts) → Both IsUnmoved xs ys → Both (IsGiven net stamp sent) ys zs → Both (IsMoved net stamp sent (λ n. [])) xs zs
+did-links xs ys zs net stamp sent u g = both-comp IsUnmoved (IsGiven net stamp sent) (IsMoved net stamp sent (λ n. [])) (moved-given net stamp sent) xs ys zs u g
+
+-- one entry more, by a server's own number
+entry-after : (before mid after : List EntryParts) (server own stamp : ℕ) (act : EntryAct) (outs : List ℕ) → own ≡ server → mid ≡ before → after ≡ mid ++ entry_parts stamp server act outs ∷ [] → after ≡ before ++ entry_parts stamp own act outs ∷ []
+entry-after before mid after server own stamp act outs number journal entry =
+    entry ∙ ap (λ z. z ++ entry_parts stamp server act outs ∷ []) journal ∙ ap (λ z. before ++ entry_parts stamp z act outs ∷ []) (sym number)
+
 -- a task was made
-pub did : (phase : ℕ) (task : Task) (act : EntryAct) (old new : ServerInHand) (links : List Link) (before after : List EntryParts) (stamp : ℕ) (sent : List SendingParts) → Did task ≡ act_of act → IsOfPhase phase old.core (Does task)
+pub did : (phase : ℕ) (task : Task) (act : EntryAct) (old new : ServerInHand) (links : List Link) (before mid after : List EntryParts) (server stamp : ℕ) (sent : List SendingParts) → Did task ≡ act_of act → IsOfPhase phase old.core (Does task)
     → MakesStep (Does task) 0 old.core new.core stamp sent → Both IsUnmoved old.links.items links → Both (IsGiven old.core.net stamp sent) links new.links.items
-    → after ≡ before ++ entry_parts stamp old.core.server act (map (λ s. s.to) sent) ∷ [] → IsSamePublisher old.publisher new.publisher → IsCellTurn phase (Does task) act old new before after
-did phase task act old new links before after stamp sent told due step u g entry publisher = record {
+    → old.core.server ≡ server → mid ≡ before → after ≡ mid ++ entry_parts stamp server act (map (λ s. s.to) sent) ∷ [] → IsSamePublisher old.publisher new.publisher → IsCellTurn phase (Does task) act old new before after
+did phase task act old new links before mid after server stamp sent told due step u g number journal entry publisher = record {
   told = told;
   due = due;
   stamp = stamp;
   sent = sent;
   step = step;
-  entry = entry;
-  links = both-comp IsUnmoved (IsGiven old.core.net stamp sent) (IsMoved old.core.net stamp sent (λ n. [])) (moved-given old.core.net stamp sent) old.links.items links new.links.items u g;
+  entry = entry-after before mid after server old.core.server stamp act (map (λ s. s.to) sent) number journal entry;
+  links = did-links old.links.items links new.links.items old.core.net stamp sent u g;
   flushed = both-each (IsGiven old.core.net stamp sent) IsFlushed (λ x y r. r.flushed) links new.links.items g;
   publisher = publisher;
 }
@@ -142,64 +151,39 @@ took-links xs ys ws zs from item net stamp sent u t g =
     (both-comp (IsItemTaken from item) (IsGiven net stamp sent) (IsMoved net stamp sent (only_from from (said net item))) (moved-taken net stamp sent from item) ys ws zs t g)
 
 -- a message was taken
-pub took : (phase from : ℕ) (act : EntryAct) (old new : ServerInHand) (links middle : List Link) (item : StampedLoad) (before after : List EntryParts) (stamp : ℕ) (sent : List SendingParts) → Took from ≡ act_of act
+pub took : (phase from : ℕ) (act : EntryAct) (old new : ServerInHand) (links middle : List Link) (item : StampedLoad) (before mid after : List EntryParts) (server stamp : ℕ) (sent : List SendingParts) → Took from ≡ act_of act
     → MakesStep (Takes from (meaning old.core.net item.load)) item.stamp old.core new.core stamp sent → Both IsUnmoved old.links.items links → Both (IsItemTaken from item) links middle → Both (IsGiven old.core.net stamp sent) middle new.links.items
-    → after ≡ before ++ entry_parts stamp old.core.server act (map (λ s. s.to) sent) ∷ [] → IsSamePublisher old.publisher new.publisher → IsCellTurn phase (Takes from (said old.core.net item)) act old new before after
-took phase from act old new links middle item before after stamp sent told step u t g entry publisher = record {
+    → old.core.server ≡ server → mid ≡ before → after ≡ mid ++ entry_parts stamp server act (map (λ s. s.to) sent) ∷ [] → IsSamePublisher old.publisher new.publisher → IsCellTurn phase (Takes from (said old.core.net item)) act old new before after
+took phase from act old new links middle item before mid after server stamp sent told step u t g number journal entry publisher = record {
   told = told;
   due = tt;
   stamp = stamp;
   sent = sent;
   step = step;
-  entry = entry;
+  entry = entry-after before mid after server old.core.server stamp act (map (λ s. s.to) sent) number journal entry;
   links = took-links old.links.items links middle new.links.items from item old.core.net stamp sent u t g;
   flushed = both-each (IsGiven old.core.net stamp sent) IsFlushed (λ x y r. r.flushed) middle new.links.items g;
   publisher = publisher;
 }
 
--- the link at a place, of which something is in sight and stays so while room is made
-pub record Found (place : ℕ) (xs zs : List Link) (d : Link) : Type 0 where
-  pub link : Link
-  pub found : slice_get xs place ≡ Some link
-  pub name : d.neighbour ≡ link.neighbour
-  pub there : slice_get zs place ≡ Some d
-  pub leave : d.leave ≡ link.leave
-
-pub found-roomed : (place : ℕ) (xs zs : List Link) (d : Link) → place < length xs → Both IsRoomed xs zs → place < length zs → d ≡ get_or zs place d → Found place xs zs d
-found-roomed place xs zs d lt r le e =
-    let x = get_or xs place d in
-    let ex = found-at xs place d lt in
-    let z = both-behind IsRoomed place xs zs x r ex in
-    let same : d ≡ z.0 = read-found zs place d z.0 le e z.1 in
-    record {
-      link = x;
-      found = ex;
-      name = ap (λ (v : Link). v.neighbour) same ∙ z.2.unmoved.same.neighbour;
-      there = z.1 ∙ ap (λ v. Some v) (sym same);
-      leave = ap (λ (v : Link). v.leave) same ∙ z.2.leave;
-    }
-
--- what is in sight stays so, and what comes next still does
+-- what is in sight stays so
 pub sight-roomed : (place : ℕ) (xs zs : List Link) → Both IsRoomed xs zs → IsInSight place xs → IsInSight place zs
 sight-roomed place xs zs r seen z e =
     let x = both-before IsRoomed place xs zs z r e in
     subst (λ (b : LaneOut StampedLoad). 0 < length (coming_list b)) (sym x.2.leave) (seen x.0 x.1)
 
-pub next-before : (place : ℕ) (xs zs : List Link) (item : StampedLoad) → Both IsRoomed xs zs → IsNextAt place item zs → IsNextAt place item xs
-next-before place xs zs item r (z, e, n) =
-    let x = both-before IsRoomed place xs zs z r e in
-    (x.0, x.1, subst (λ (b : LaneOut StampedLoad). IsPrefix (item ∷ []) (coming_list b)) x.2.leave n)
-
--- one item comes next
-pub one-next : (place : ℕ) (xs : List Link) (a b : StampedLoad) → IsNextAt place a xs → IsNextAt place b xs → a ≡ b
-one-next place xs a b (x, e, (us, p)) (y, f, (ws, q)) =
-    let same : x ≡ y = same_Some x y (sym e ∙ f) in
-    let lists : a ∷ us ≡ b ∷ ws = p ∙ ap (λ (l : Link). coming_list l.leave) same ∙ sym q in cc
-
 pub on_err : {T E P : Type 0} (r : Result T E) → P → OnErr r P
 on_err (Ok x) p = tt
 on_err (Err e) p = p
 
--- what a step leaves on the lanes, where it takes nothing
-pub did-links : (xs ys zs : List Link) (net : NetParts) (stamp : ℕ) (sent : List SendingParts) → Both IsUnmoved xs ys → Both (IsGiven net stamp sent) ys zs → Both (IsMoved net stamp sent (λ n. [])) xs zs
-did-links xs ys zs net stamp sent u g = both-comp IsUnmoved (IsGiven net stamp sent) (IsMoved net stamp sent (λ n. [])) (moved-given net stamp sent) xs ys zs u g
+-- lanes that a publish leaves alone after room was made
+pub unmoved-kept : (old roomed later : Vec Link Global) → Both IsRoomed old.items roomed.items → later ≡ roomed → Both IsUnmoved old.items later.items
+unmoved-kept old roomed later room same = subst (λ (l : Vec Link Global). Both IsUnmoved old.items l.items) (sym same) (unmoved-roomed old.items roomed.items room)
+
+-- a step that sends nothing
+pub silent-net : (net : NetParts) (sent : List SendingParts) → sent ≡ [] → AreOfNet net sent
+silent-net net sent none s h = absurd (subst (Has s) none h)
+
+pub published-silent : (core next : CoreParts) (stamp own : ℕ) (sent : List SendingParts) → own ≡ stamp → sent ≡ [] → MakesStep (Does Version) 0 core next stamp [] → MakesStep (Does Version) 0 core next own sent
+published-silent core next stamp own sent same none step =
+    subst (λ s. MakesStep (Does Version) 0 core next own s) (sym none) (subst (λ n. MakesStep (Does Version) 0 core next n []) (sym same) step)

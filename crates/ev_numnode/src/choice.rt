@@ -2,6 +2,7 @@
 ghost use Rattle.std.specs.Prelude.{◌≡◌, IfSome};
 ghost use Rattle.ev_sets.specs.Sets.{Has};
 ghost use Rattle.ev_numserver.specs.Clients.{client_numbers};
+ghost use Rattle.ev_numversions.specs.declared.publisher.Publisher.{Publisher as PublisherParts};
 ghost use Rattle.ev_numnode.specs.Cell.{IsPublishedBy};
 ghost use Rattle.ev_numnode.specs.Ahead.{IsChoiceNextBy, IsChoiceOfBy, IsJudged};
 
@@ -100,19 +101,18 @@ pub(crate) fn choose_next<'a>(
 
 /// For what a message carries.
 pub(crate) fn choose_of<'a>(
-    held: &ServerInHand<'_>,
+    core: &Core<'_>,
     matched: Option<Matched<'a>>,
     load: &Load,
 ) -> Choice<'a>
-    requires published { IsPublishedBy held.now.publisher held.now.core }
-    requires judged { IfSome matched (IsJudged held.now.publisher) }
-    ensures { IsChoiceOfBy held.now.core held.now.publisher matched.entry load.now result }
+    ensures { (publisher : PublisherParts) → IsPublishedBy publisher core.now → IfSome matched.entry (IsJudged publisher)
+        → IsChoiceOfBy core.now publisher matched.entry load.now result }
 {
     let Some(matched) = matched else {
         return Choice::Other;
     };
-    match publication_in(held.core.tables(), load) {
-        Some(number) => matched.choose(&held.core, number),
+    match publication_in(core.tables(), load) {
+        Some(number) => matched.choose(core, number),
         None => Choice::Other,
     }
 }

@@ -3,7 +3,7 @@
 ghost use Rattle.std.specs.Prelude.{◌≡◌, ◌≤◌, ◌⊎◌, ◌++◌, ◌∷◌, [], ℕ, List, map, OnOk, OnErr, IsTrue};
 ghost use Rattle.ev_sets.specs.Sets.{Has};
 ghost use Rattle.ev_forwarding.specs.declared.change.Change.{Change as ChangeParts};
-ghost use Rattle.ev_forwarding.specs.Published.{IsKnown};
+ghost use Rattle.ev_forwarding.specs.Published.{IsKnown, pair_in};
 ghost use Rattle.ev_model.specs.Parts.{EntryParts};
 ghost use Rattle.ev_catalogue.specs.Known.{known_filters};
 ghost use Rattle.ev_numheld.specs.Held.{held_in, AreHeldIn};
@@ -108,6 +108,34 @@ fn are_reached(reached: &[u32], interfaces: &[u32]) -> bool
     true
 }
 
+/// Takes away what is held from links, puts these changes, and publishes that.
+fn republish<R: Wait>(
+    rt: &R,
+    alloc: Global,
+    publisher: &mut Publisher,
+    handed: &mut Vec<Change>,
+    core: &Core<'_>,
+    links: &[Link],
+    changes: &[Change],
+) -> Result<(), NoMemory>
+    requires handed { staged publisher.old ≡ published publisher.old ++ handed.old.items }
+    requires wide { IsWideFor core.now (forwarding_of publisher.old) }
+    requires small { (link : ℕ) → Has link (neighbours_in links.now) → link ≤ 64 }
+    requires known { (change : ChangeParts) → Has change changes.now → IsKnown (forwarding_of publisher.old) (pair_in change) }
+    ensures same { IsSamePublisher publisher.old publisher.new }
+    ensures published { OnErr result (published publisher.new ≡ published publisher.old) }
+    ensures handed { OnErr result (staged publisher.new ≡ published publisher.new ++ handed.new.items) }
+    ensures calm { OnOk result ((staged publisher.new ≡ published publisher.new) × (handed.new.items ≡ [])) }
+    ensures all { OnOk result ((gone : List ChangeParts) × (published publisher.new ≡ published publisher.old ++ ((handed.old.items ++ gone) ++ changes.now))
+        × AreTaken (known_filters core.now.net.clients) core.now.control (neighbours_in links.now) gone) }
+{
+    withdraw_all(alloc, publisher, handed, core, links)?;
+    hand_over(publisher, handed, changes)?;
+    publisher.publish(rt)?;
+    handed.clear();
+    Ok(())
+}
+
 /// Sets a server on other links, of which this is given, over these lanes. It takes no message and makes no entry; what is
 /// held is published. After a fault all is as before, but that some changes may have been handed to the publisher, which
 /// has published none of them. Where the server's clients had other interfaces then, which no change of tree gives them, the
@@ -139,16 +167,15 @@ pub(crate) fn put_on<'a, R: Wait>(
     }
     let _calm = held.core.staged();
     relinked.is_known();
-    withdraw_all(
+    republish(
+        rt,
         alloc,
         &mut held.publisher,
         &mut held.handed,
         &held.core,
         &held.links,
+        relinked.staged(),
     )?;
-    hand_over(&mut held.publisher, &mut held.handed, relinked.staged())?;
-    held.publisher.publish(rt)?;
-    held.handed.clear();
     let _before = held.core.relink(relinked);
     held.links = links;
     Ok(())

@@ -95,20 +95,21 @@ pub(crate) fn turn_take<R: Wait>(
     if !look_at(rt, &mut held.links, place) {
         return Ok(Turned::Idle);
     }
-    let choice = choose_of(held, matched, next_at(&held.links, place).load());
     let outs = make_room(alloc, &mut held.links, journal)?;
     let from = held.links[place].neighbour;
     let next = next_at(&held.links, place);
-    if !next.load().is_of(held.core.tables()) {
+    let load = next.load();
+    if !load.is_of(held.core.tables()) {
         return Err(StepFault::NoMemory);
     }
+    let choice = choose_of(&held.core, matched, load);
     let step = take_load(
         alloc,
         &mut held.core,
         &held.publisher,
         from,
         next.stamp(),
-        next.load(),
+        load,
         choice.route(),
     )?;
     take_at(rt, &mut held.links, place);

@@ -61,3 +61,15 @@ pub returns-in-Version-clause-answers : goal.returns-in-Version-clause-answers
 returns-in-Version-clause-answers g c =
     subst (λ w. IfOk c.turn_version.result (AnswersBy c.args.phase w c.args.matched c.args.held.now c.turn_version.new.held c.args.journal.now.entries c.turn_version.new.journal.entries)) (sym c.in-Version.is)
     (version-by c.args.phase c.args.held.now c.turn_version.new.held c.args.journal.now.entries c.turn_version.new.journal.entries c.args.matched c.turn_version.result (c.turn_version.ensures.answers c.args.phase))
+
+pub returns-in-Version-clause-worn : goal.returns-in-Version-clause-worn
+returns-in-Version-clause-worn g c s e = subst (λ w. IsWorn w s c.args.held.now c.turn_version.new.held) (sym c.in-Version.is) (c.turn_version.ensures.worn s e)
+
+pub is_of_phase-requires-clause-lives : goal.is_of_phase-requires-clause-lives
+is_of_phase-requires-clause-lives g c = subst (λ w. SuitsHeld w c.args.held.now) c.in-Command.is c.requires.suits
+
+pub choose_next-choice-requires-clause-lives : goal.choose_next-choice-requires-clause-lives
+choose_next-choice-requires-clause-lives g c = subst (λ w. SuitsHeld w c.args.held.now) c.in-Command.is c.requires.suits
+
+pub turn_command-requires-clause-lives : goal.turn_command-requires-clause-lives
+turn_command-requires-clause-lives g c = subst (λ w. SuitsHeld w c.args.held.now) c.in-Command.is c.requires.suits

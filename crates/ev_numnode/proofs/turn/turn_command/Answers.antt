@@ -1,8 +1,8 @@
-use Rattle.std.proofs.Common.{◌++◌, ◌∷◌, [], map, refl, sym, ap, ◌∙◌, arith}
+use Rattle.std.proofs.Common.{[], refl, ◌∙◌, arith}
+use Rattle.std.proofs.lemmas.Grind.{common_steps}
 use Rattle.ev_run.specs.Machine.{Does}
 use Rattle.ev_routing.specs.Step.{NextCommand}
 use Rattle.ev_model.specs.declared.turn.Act.TheVariants as acts
-use Rattle.ev_model.specs.Parts.{entry_parts}
 use Rattle.ev_numnode.proofs.Shown.{same-one}
 use Rattle.ev_numnode.proofs.Unmoved.{unmoved-roomed}
 use Rattle.ev_numnode.proofs.Turning.{still, held-still, held-after, did, did-links, room-left, distinct-left, neighbours-left, long-left, sends-of, sends-in-order, on_err}
@@ -42,14 +42,33 @@ enter-requires-clause-outs c =
 
 pub returns-clause-made : goal.returns-clause-made
 returns-clause-made c phase due =
-    did phase (NextCommand c.args.client) (acts.Command c.args.client) c.args.held.now _ c.make_room.new.links.items c.args.journal.now.entries c.enter.new.journal.entries c.in_ok-step.step.stamp c.in_ok-step.step.sent.items refl due
+    did phase (NextCommand c.args.client) (acts.Command c.args.client) c.args.held.now _ c.make_room.new.links.items c.args.journal.now.entries c.make_room.new.journal.entries c.enter.new.journal.entries c.args.server c.in_ok-step.step.stamp c.in_ok-step.step.sent.items refl due
     c.in_ok-step.ensures.step (unmoved-roomed _ _ c.make_room.ensures.roomed) (c.enter.ensures.given c.args.held.now.core.net (sends-of c.args.held.now.core c.take_command.new.core c.requires.stands (Does (NextCommand c.args.client)) 0 _ c.in_ok-step.step.sent.items c.in_ok-step.ensures.step))
-    (c.enter.ensures.entry ∙ ap (λ z. z ++ entry_parts c.in_ok-step.step.stamp c.args.server (acts.Command c.args.client) (map (λ s. s.to) c.in_ok-step.step.sent.items) ∷ []) c.make_room.ensures.journal
-    ∙ ap (λ z. c.args.journal.now.entries ++ entry_parts c.in_ok-step.step.stamp z (acts.Command c.args.client) (map (λ s. s.to) c.in_ok-step.step.sent.items) ∷ []) (sym c.requires.server))
-    (same-one _)
+    c.requires.server c.make_room.ensures.journal c.enter.ensures.entry (same-one _)
 
 pub returns-clause-held : goal.returns-clause-held
 returns-clause-held c =
     held-after c.args.held.now _ (Does (NextCommand c.args.client)) 0 c.in_ok-step.step.stamp c.in_ok-step.step.sent.items c.args.held.now.core.net (λ n. []) c.requires.held c.in_ok-step.ensures.step c.in_ok-step.ensures.low
     (did-links c.args.held.now.links.items c.make_room.new.links.items c.enter.new.links.items c.args.held.now.core.net c.in_ok-step.step.stamp c.in_ok-step.step.sent.items (unmoved-roomed _ _ c.make_room.ensures.roomed) (c.enter.ensures.given c.args.held.now.core.net (sends-of c.args.held.now.core c.take_command.new.core c.requires.stands (Does (NextCommand c.args.client)) 0 _ c.in_ok-step.step.sent.items c.in_ok-step.ensures.step)))
     c.take_command.ensures.published c.requires.held.handed
+
+pub returns-in_err-step-clause-worn : goal.returns-in_err-step-clause-worn
+returns-in_err-step-clause-worn c s e = c.in_err-step.ensures.worn s (grind (arith, common_steps, e, c.from_residual-in_err-step.ensures.1))
+
+pub returns-in_err-outs-clause-kept : goal.returns-in_err-outs-clause-kept
+returns-in_err-outs-clause-kept c = c.make_room.ensures.kept
+
+pub returns-in_err-step-clause-kept : goal.returns-in_err-step-clause-kept
+returns-in_err-step-clause-kept c = c.make_room.ensures.kept
+
+pub returns-clause-kept : goal.returns-clause-kept
+returns-clause-kept c = c.enter.ensures.kept ∙ c.make_room.ensures.kept
+
+pub enter-requires-clause-spare : goal.enter-requires-clause-spare
+enter-requires-clause-spare c = c.in_ok-outs.ensures.spare
+
+pub enter-requires-clause-low : goal.enter-requires-clause-low
+enter-requires-clause-low c = c.in_ok-step.ensures.low
+
+pub enter-requires-clause-entry : goal.enter-requires-clause-entry
+enter-requires-clause-entry c = c.in_ok-outs.ensures.entry
