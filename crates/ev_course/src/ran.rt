@@ -2,7 +2,7 @@
 ghost use Rattle.std.specs.Prelude.{◌≡◌, ◌≤◌, ℕ, [], length, map, vec_capacity, IfOk};
 ghost use Rattle.ev_wire.specs.MessageText.{Each};
 ghost use Rattle.ev_model.specs.Nets.{phases_of, of_clients};
-ghost use Rattle.ev_turns.specs.Network.{network_parts, refused_by};
+ghost use Rattle.ev_turns.specs.Network.{network_parts, received_by, refused_by};
 ghost use Rattle.ev_turns.specs.Sessions.{IsSessionOf};
 ghost use Rattle.ev_numnode.specs.Entered.{AreThrough};
 ghost use Rattle.ev_numnode.specs.Together.{keepings};
@@ -131,6 +131,33 @@ fn refused(alloc: Global, end: &End<'_, '_>) -> Result<Vec<Lists<u32>>, NoMemory
     Ok(lists)
 }
 
+/// What a run leaves with this journal, at whose end these are the cores. It takes the inboxes out of them.
+fn leave(
+    alloc: Global,
+    net: &Net,
+    mut cores: Vec<Core<'_>>,
+    journal: Record,
+) -> Result<Ran, NoMemory>
+    requires { IsEndOf net.now cores.items journal.entries }
+    ensures entries { IfOk result (λ ran. ran.journal.entries ≡ journal.entries) }
+    ensures kept { IfOk result (λ ran. ran.journal.kept ≡ journal.kept) }
+    ensures refused { IfOk result (λ ran. ran.refused.items ≡ of_clients net.now (refused_by net.now ran.journal.entries)) }
+    ensures received { IfOk result (λ ran. ran.received.items ≡ of_clients net.now (received_by net.now ran.journal.entries)) }
+{
+    let end = End {
+        net,
+        cores: &cores,
+        journal: &journal,
+    };
+    let refused = refused(alloc, &end)?;
+    let received = take_inboxes(alloc, net, &mut cores)?;
+    Ok(Ran {
+        journal,
+        refused,
+        received,
+    })
+}
+
 /// What a run leaves whose cells stand between two phases with no command left: what the servers did, by stamp and then by
 /// server, and what each client has. It takes the cells apart, and may wait for a viewer that is inside a match. Where the cells
 /// let their entries pass nothing is merged.
@@ -148,21 +175,7 @@ pub fn collect<R: Wait>(
     ensures kept { IfOk result (λ ran. ran.journal.kept ≡ keeps) }
 {
     whole_run();
-    let Parts {
-        mut cores,
-        journals,
-    } = Parts::of(alloc, rt, cells)?;
+    let Parts { cores, journals } = Parts::of(alloc, rt, cells)?;
     let journal = Record::merged(alloc, journals, keeps)?;
-    let end = End {
-        net,
-        cores: &cores,
-        journal: &journal,
-    };
-    let refused = refused(alloc, &end)?;
-    let received = take_inboxes(alloc, net, &mut cores)?;
-    Ok(Ran {
-        journal,
-        refused,
-        received,
-    })
+    leave(alloc, net, cores, journal)
 }

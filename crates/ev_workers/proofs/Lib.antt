@@ -10,3 +10,4 @@ pub mod Rosters
 pub mod Sends
 pub mod Back
 pub mod Finished
+pub mod Takings

@@ -1,4 +1,6 @@
 //! What a worker gives back.
+ghost use Rattle.std.specs.Prelude.{◌≡◌, IsFalse, Some};
+
 use ev_model::Entry;
 use ev_numnode::Root;
 use ev_numserver::StepFault;
@@ -14,4 +16,15 @@ pub struct Ended<'a> {
     pub viewer: Viewer,
     /// Why it ended early, if it did.
     pub fault: Option<StepFault>,
+}
+
+/// Whether a fault is want of memory.
+pub(crate) fn lacked_memory(fault: &Option<StepFault>) -> bool
+    ensures { IsFalse result → fault.now ≡ Some StepFault.NoMemory → ⊥ }
+{
+    match fault {
+        Some(StepFault::NoMemory) => true,
+        Some(StepFault::StampsExhausted(_)) => false,
+        None => false,
+    }
 }

@@ -9,7 +9,7 @@ ghost use Rattle.ev_workers.specs.Hands.{IsLockFor, lock_root};
 ghost use Rattle.ev_workers.specs.Journals.{HasTaken};
 
 use crate::crew::{Both, Crew, Eyes, Seat, Spare};
-use crate::ended::Ended;
+use crate::ended::{Ended, lacked_memory};
 use ev_model::Entry;
 use ev_numnode::{Cell, Root};
 use ev_numserver::StepFault;
@@ -74,22 +74,11 @@ fn unlock<'a>(lock: TurnLock<Cell<'a>>, spare: Spare<'a>, done: Both<Ended<'a>>)
     (lock.close(passes), eyes)
 }
 
-/// Whether a worker met no want of memory.
-fn had_memory(ended: &Ended<'_>) -> bool
-    ensures { IsTrue result → ended.now.fault ≡ Some StepFault.NoMemory → ⊥ }
-{
-    match ended.fault {
-        None => true,
-        Some(StepFault::NoMemory) => false,
-        Some(StepFault::StampsExhausted(_)) => true,
-    }
-}
-
 /// Whether neither worker of a server met want of memory.
 fn had_both(done: &Both<Ended<'_>>) -> bool
     ensures { IsTrue result → done.now.commands.fault ≡ Some StepFault.NoMemory → ⊥ }
 {
-    had_memory(&done.commands) && had_memory(&done.links)
+    !lacked_memory(&done.commands.fault) && !lacked_memory(&done.links.fault)
 }
 
 /// Puts the last cells into locks first, each with a crew, and answers whether there was memory. Where there was none all

@@ -2,7 +2,7 @@
 ghost use Rattle.ev_workers.specs.Hands.{AreHands};
 
 use crate::desk::Desk;
-use crate::ended::Ended;
+use crate::ended::{Ended, lacked_memory};
 use crate::hands::Hands;
 use crate::stand::{Did, Stand};
 use ev_numserver::StepFault;
@@ -20,15 +20,6 @@ pub(crate) struct Post<'l, 'a, R: Wait, G: Gate> {
     pub(crate) over: bool,
     pub(crate) fault: Option<StepFault>,
     ghost free: { AreHands desk.lock.now hands },
-}
-
-/// Whether a fault is want of memory.
-fn lacked_memory(fault: &Option<StepFault>) -> bool {
-    match fault {
-        Some(StepFault::NoMemory) => true,
-        Some(StepFault::StampsExhausted(_)) => false,
-        None => false,
-    }
 }
 
 impl<'l, 'a, R: Wait, G: Gate> Post<'l, 'a, R, G> {

@@ -1,13 +1,24 @@
-use Rattle.std.proofs.Common.{sym, subst, ◌∙◌}
+use Rattle.std.proofs.Common.{◌≡◌, List, sym, subst, ◌∙◌}
+use Rattle.std.specs.Prelude.{Bool, Result, Ok, Err, IfOk}
 use Rattle.ev_journal.specs.Journal.{JournalParts}
-use Rattle.ev_turns.specs.Network.{received_by}
+use Rattle.ev_model.specs.Nets.{of_clients}
+use Rattle.ev_model.specs.Parts.{NetParts, EntryParts}
+use Rattle.ev_turns.specs.Network.{received_by, refused_by}
 use Rattle.ev_merge.specs.Merging.{AreServerJournals, IsMergeOf}
-use Rattle.ev_numnet.specs.Inboxes.{HaveInboxes}
-use Rattle.ev_numnet.specs.Stepping.{peers}
-use Rattle.ev_course.specs.Course.{IsEndOf, cores_of}
+use Rattle.ev_merge.specs.declared.ran.Ran.{Ran}
+use Rattle.ev_numnode.specs.Cell.{CellParts}
+use Rattle.ev_course.specs.Course.{IsEndOf, IsRanBy, IsWholeMerge}
 use Rattle.ev_course.proofs.Parts.{each-of}
-use Rattle.ev_course.proofs.Sessions.{have-all}
 use Rattle.ev_course.proofs.ran.collect.Goals as goal
+
+ran-of : {E : Type 0} (net : NetParts) (cells : List CellParts) (entries : List EntryParts) (r : Result Ran E) → IsWholeMerge net cells entries → IfOk r (λ ran. ran.journal.entries ≡ entries)
+    → IfOk r (λ ran. ran.refused.items ≡ of_clients net (refused_by net ran.journal.entries)) → IfOk r (λ ran. ran.received.items ≡ of_clients net (received_by net ran.journal.entries)) → IfOk r (IsRanBy net cells)
+ran-of net cells entries (Ok ran) whole same refused received = record { whole = subst (IsWholeMerge net cells) (sym same) whole; refused = refused; received = received }
+ran-of net cells entries (Err e) whole same refused received = tt
+
+kept-of : {E : Type 0} (kept keeps : Bool) (r : Result Ran E) → kept ≡ keeps → IfOk r (λ ran. ran.journal.kept ≡ kept) → IfOk r (λ ran. ran.journal.kept ≡ keeps)
+kept-of kept keeps (Ok ran) e same = same ∙ e
+kept-of kept keeps (Err f) e same = tt
 
 pub merged-requires-clause-servers : goal.merged-requires-clause-servers
 merged-requires-clause-servers g c =
@@ -17,35 +28,21 @@ merged-requires-clause-servers g c =
 pub merged-requires-clause-kept : goal.merged-requires-clause-kept
 merged-requires-clause-kept g c = each-of (λ (j : JournalParts). j.kept) c.in_ok-cores.field-0.journals.items _ c.args.keeps c.in_ok-cores.ensures.kept c.requires.keeps
 
-pub refused-requires : goal.refused-requires
-refused-requires g c =
+pub leave-requires : goal.leave-requires
+leave-requires g c =
     let s = c.requires.stand in
     let entries = c.in_ok-journal.journal.entries in
     let whole = c.whole_run.ensures.whole c.args.net.now s.0 s.1 c.args.cells.items entries s.3 s.2 c.requires.through
     (subst (λ js. IsMergeOf js entries) c.in_ok-cores.ensures.journals c.in_ok-journal.ensures.merge) in
-    subst (λ cores. IsEndOf c.args.net.now cores entries) (sym (c.deref.ensures.value ∙ c.in_ok-cores.ensures.cores)) whole.ends
-
-pub take_inboxes-requires-clause-inboxes : goal.take_inboxes-requires-clause-inboxes
-take_inboxes-requires-clause-inboxes g c =
-    let s = c.requires.stand in
-    let entries = c.in_ok-journal.journal.entries in
-    let whole = c.whole_run.ensures.whole c.args.net.now s.0 s.1 c.args.cells.items entries s.3 s.2 c.requires.through
-    (subst (λ js. IsMergeOf js entries) c.in_ok-cores.ensures.journals c.in_ok-journal.ensures.merge) in (
-      received_by c.args.net.now entries,
-      subst (HaveInboxes peers c.args.net.now (received_by c.args.net.now entries) 0) (sym (c.deref_mut.ensures.value ∙ c.in_ok-cores.ensures.cores))
-          (have-all c.args.net.now (cores_of c.args.cells.items) entries whole.ends),
-    )
+    subst (λ cores. IsEndOf c.args.net.now cores entries) (sym c.in_ok-cores.ensures.cores) whole.ends
 
 pub returns-clause-ran : goal.returns-clause-ran
 returns-clause-ran g c =
     let s = c.requires.stand in
     let entries = c.in_ok-journal.journal.entries in
-    let given = received_by c.args.net.now entries in
     let whole = c.whole_run.ensures.whole c.args.net.now s.0 s.1 c.args.cells.items entries s.3 s.2 c.requires.through
     (subst (λ js. IsMergeOf js entries) c.in_ok-cores.ensures.journals c.in_ok-journal.ensures.merge) in
-    record {
-      whole = whole;
-      refused = c.in_ok-refused.ensures;
-      received = c.in_ok-received.ensures given
-          (subst (HaveInboxes peers c.args.net.now given 0) (sym (c.deref_mut.ensures.value ∙ c.in_ok-cores.ensures.cores)) (have-all c.args.net.now (cores_of c.args.cells.items) entries whole.ends));
-    }
+    ran-of c.args.net.now c.args.cells.items entries c.leave.result whole c.leave.ensures.entries c.leave.ensures.refused c.leave.ensures.received
+
+pub returns-clause-kept : goal.returns-clause-kept
+returns-clause-kept g c = kept-of c.in_ok-journal.journal.kept c.args.keeps c.leave.result c.in_ok-journal.ensures.kept c.leave.ensures.kept
