@@ -33,7 +33,7 @@ fn take_inbox<'a, P: Server<'a>>(net: &Net, places: &mut Vec<P>, client: u32) ->
 }
 
 /// Hands on what each client received, whose inboxes are empty then.
-pub fn take_inboxes<'a, P: Server<'a>>(
+pub(crate) fn take_inboxes<'a, P: Server<'a>>(
     net: &Net,
     servers: &mut Servers<'a, P>,
 ) -> Result<Vec<Lists<Delivery>>, NoMemory>

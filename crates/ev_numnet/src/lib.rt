@@ -26,7 +26,6 @@ mod texts;
 mod waiting;
 mod walking;
 
-pub use inboxes::take_inboxes;
 pub use keeping::{Keeping, Kept, Passed};
 pub use links::Links;
 pub use network::{Network, RuledNetwork};
@@ -36,5 +35,4 @@ pub use routing::{route, routed};
 pub use ruled::{Networked, Ruled};
 pub use server::{Server, greatest_clock};
 pub use servers::Servers;
-pub use telling::last_on;
 pub use waiting::Waiting;

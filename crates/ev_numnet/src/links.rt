@@ -17,9 +17,15 @@ const LAST_SERVER: usize = 64;
 const QUEUES: usize = (LAST_SERVER + 1) * (LAST_SERVER + 1);
 
 /// The messages on the links between servers; contracts see a queue for each two numbers.
-#[derive(Drop)]
 pub struct Links<'a> {
     queues: Vec<Queue<'a>>,
+}
+
+// A function of its own, as that of a server.
+impl Drop for Links<'_> {
+    fn drop(self) {
+        let Self { queues: _ } = self;
+    }
 }
 
 impl<'a> Model for Links<'a> {

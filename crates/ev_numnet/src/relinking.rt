@@ -32,10 +32,16 @@ impl<'a> Model for OnLinks<'a> {
 }
 
 /// A server's clock, and what it holds from whom where that is another than its core has.
-#[derive(Drop)]
 pub struct Standing<'a> {
     pub(crate) clock: u64,
     pub(crate) links: Option<OnLinks<'a>>,
+}
+
+// A function of its own, as that of a server.
+impl Drop for Standing<'_> {
+    fn drop(self) {
+        let Self { clock: _, links: _ } = self;
+    }
 }
 
 impl<'a> OnLinks<'a> {

@@ -45,7 +45,7 @@ fn last_sent(
 }
 
 /// The texts of the messages that lie last on these links of a server, one for each.
-pub fn last_on(
+pub(crate) fn last_on(
     alloc: Global,
     tables: &Tables<'_>,
     links: &Links<'_>,
