@@ -114,7 +114,7 @@ fn put_occurrences<K: Sink>(
     requires published { ArePublished notices.now heard.deliveries.now }
     ensures { Went (outlet (K.taken sink.old) (K.faults sink.old) out.old) (outlet (K.taken sink.new) (K.faults sink.new) out.new)
         (flat_map (found_line heard.entry.names.now heard.entry.deliveries.now)
-            (all_occurrences detector.steps (notices_of notices.now heard.entry.deliveries.now))) }
+        (all_occurrences detector.steps (notices_of notices.now heard.entry.deliveries.now))) }
 {
     for delivery in heard.deliveries {
         put_next(
