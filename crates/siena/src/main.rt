@@ -1,10 +1,14 @@
-//! The program: it reads a document of servers, clients and what these do, and prints what each client receives, what
+//! Layer: program.
+//! Job: `main`: hands the words of the command line, standard input and standard output to the top call.
+//! Users: nobody; it is the program.
+//!
+//! The program reads a document of servers, clients and what these do, and prints what each client receives, what
 //! flooding owes it, where patterns occur in what it receives, or how much the document has.
 #![tactic(auto)]
 
-use ev_outside::NoGate;
-use ev_quiet::{Status, Word, fault_text, is_quiet, quiet_with_devices};
-use ev_siena::with_devices;
+use base_devices::NoGate;
+use program_sequential::{Status, Word, fault_text, is_quiet, quiet_with_devices};
+use program_threaded::with_devices;
 use std::alloc::Global;
 use std::env::Args;
 use std::io::ErrorKind;

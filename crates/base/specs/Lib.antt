@@ -1,0 +1,5 @@
+pub mod Text
+pub mod Laws
+pub mod Numbers
+pub mod Sets
+pub mod Signature

@@ -1,0 +1,129 @@
+//! Rows of one width in one vector of words.
+ghost use Rattle.std.specs.Prelude.{◌≡◌, ◌↔◌, ℕ, ◌*◌, ◌^◌, ◌<◌, not, nat_lt, length, replicate, slice_set, [], IfOk};
+ghost use Rattle.base.specs.Sets.{Has};
+ghost use Rattle.base_bits.specs.Rows.{is_in};
+ghost use Rattle.base_bits.specs.Grid.{row_of, with_number, without_number, IsJoinedFrom, AreJoined, spot};
+ghost use Rattle.base_bits.specs.Words.{bit};
+
+use crate::picked::picked_by_both;
+use crate::row::Row;
+use crate::words;
+use base::NoMemory;
+use std::alloc::Global;
+use std::marker::Model;
+
+/// Rows of one width, which are numbered from 0 on. Each is a set of numbers below the width.
+#[derive(Drop)]
+pub struct Grid {
+    /// The first words of all rows, then the second ones, and so on.
+    words: Vec<u64>,
+    span: usize,
+    count: u32,
+    width: u32,
+}
+
+impl Model for Grid {
+    ghost use Rattle.base_bits.specs.Grid.{Table, table_code, table_of, IsGrid};
+
+    ghost Value = { Table };
+
+    ghost coded = { table_code };
+
+    ghost view = { λ g. table_of g.words.items g.count g.width };
+
+    ghost invariant = { λ g. IsGrid g.words.items g.span g.count g.width };
+}
+
+/// The place of the bit of a number in a row, where there are so many rows.
+fn place(count: u32, row: u32, i: u32) -> usize
+    requires { row < count }
+    ensures { result ≡ spot count row i }
+{
+    let word = (i / 64) as usize * count as usize + row as usize;
+    word * 64 + (i % 64) as usize
+}
+
+/// The words of the union of the rows whose numbers two sets have in common.
+fn joined_words(
+    alloc: Global,
+    words: &[u64],
+    count: u32,
+    a: &[u64],
+    b: &[u64],
+    span: usize,
+) -> Result<Vec<u64>, NoMemory>
+    requires long { length words.now ≡ span * count }
+    requires same { length a.now ≡ length b.now }
+    requires within { (i : ℕ) → bit a.now i ≡ 1 → i < count }
+    requires few { length a.now < 2 ^ 32 }
+    ensures { IfOk result (λ joined. AreJoined words.now count a.now b.now span span joined.items) }
+{
+    let mut joined = vec![in alloc; 0; span]?;
+    for k in 0..span {
+        joined[k] = picked_by_both(words, k * count as usize, a, b);
+    }
+    Ok(joined)
+}
+
+impl Grid {
+    /// So many rows without a member.
+    pub fn new(alloc: Global, rows: u32, width: u32) -> Result<Self, NoMemory>
+        ensures width { IfOk result (λ grid. grid.width ≡ width) }
+        ensures rows { IfOk result (λ grid. grid.rows ≡ replicate rows (record { width = width; members = [] })) }
+    {
+        let span = width.div_ceil(64) as usize;
+        let words = vec![in alloc; 0; span * rows as usize]?;
+        Ok(Grid {
+            words,
+            span,
+            count: rows,
+            width,
+        })
+    }
+
+    /// Puts a number into a row, and tells whether it was no member.
+    pub fn insert(&mut self, row: u32, i: u32) -> bool
+        requires row { row < length self.old.rows }
+        requires number { i < self.old.width }
+        ensures fresh { result ≡ not (is_in i (row_of self.old.rows row).members) }
+        ensures width { self.new.width ≡ self.old.width }
+        ensures rows { self.new.rows ≡ slice_set self.old.rows row (with_number i (row_of self.old.rows row)) }
+    {
+        let at = place(self.count, row, i);
+        let had = words::has(&self.words, at);
+        words::put(&mut self.words, at);
+        !had
+    }
+
+    /// Takes a number out of a row, and tells whether it was a member.
+    pub fn remove(&mut self, row: u32, i: u32) -> bool
+        requires row { row < length self.old.rows }
+        requires number { i < self.old.width }
+        ensures had { result ≡ is_in i (row_of self.old.rows row).members }
+        ensures width { self.new.width ≡ self.old.width }
+        ensures rows { self.new.rows ≡ slice_set self.old.rows row (without_number i (row_of self.old.rows row)) }
+    {
+        let at = place(self.count, row, i);
+        let had = words::has(&self.words, at);
+        words::take(&mut self.words, at);
+        had
+    }
+
+    /// The union of the rows whose numbers two sets have in common.
+    pub fn joined(&self, alloc: Global, numbers: &Row, others: &Row) -> Result<Row, NoMemory>
+        requires numbers { numbers.now.width ≡ length self.now.rows }
+        requires others { others.now.width ≡ numbers.now.width }
+        ensures width { IfOk result (λ row. row.width ≡ self.now.width) }
+        ensures members { IfOk result (λ row. (i : ℕ) → Has i row.members ↔ IsJoinedFrom self.now.rows numbers.now.members others.now.members i) }
+    {
+        let words = joined_words(
+            alloc,
+            &self.words,
+            self.count,
+            numbers.words(),
+            others.words(),
+            self.span,
+        )?;
+        Ok(Row::of_words(words, self.width))
+    }
+}

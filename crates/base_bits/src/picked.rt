@@ -1,0 +1,32 @@
+//! Unions of words that the bits of other words pick.
+ghost use Rattle.std.specs.Prelude.{◌≡◌, ◌↔◌, ℕ, ◌+◌, ◌*◌, ◌^◌, ◌<◌, ◌≤◌, length};
+ghost use Rattle.std.specs.Int.{bit_at};
+ghost use Rattle.base_bits.specs.Words.{bit, IsPicked, IsPickedByBoth};
+
+/// The union of those of the words from a place on whose turn is a bit that is set.
+fn picked(words: &[u64], from: usize, bits: u64) -> u64
+    requires { (p : ℕ) → bit_at bits p ≡ 1 → from + p < length words.now }
+    ensures { (q : ℕ) → (bit_at result q ≡ 1) ↔ IsPicked words.now from bits q }
+{
+    let mut all = 0;
+    let mut left = bits;
+    while left != 0 {
+        all |= words[from + left.trailing_zeros() as usize];
+        left &= left - 1;
+    }
+    all
+}
+
+/// The union of those of the words from a place on whose turn is a number that two sets have in common.
+pub(crate) fn picked_by_both(words: &[u64], from: usize, a: &[u64], b: &[u64]) -> u64
+    requires length { length a.now ≡ length b.now }
+    requires within { (i : ℕ) → bit a.now i ≡ 1 → from + i < length words.now }
+    requires fits { from + 64 * length a.now ≤ 2 ^ 64 }
+    ensures { (q : ℕ) → (bit_at result q ≡ 1) ↔ IsPickedByBoth words.now from a.now b.now q }
+{
+    let mut all = 0;
+    for k in 0..a.len() {
+        all |= picked(words, from + 64 * k, a[k] & b[k]);
+    }
+    all
+}

@@ -1,0 +1,13 @@
+pub mod Lines
+pub mod Answer
+pub mod Words
+pub mod Near
+pub mod Drawn
+pub mod Tally
+pub mod Drafts
+pub mod Commands
+pub mod Rules
+pub mod Places
+pub mod Net
+pub mod Meaning
+pub mod Cut

@@ -1,5 +1,0 @@
-use Rattle.ev_audit.proofs.Apart.{AreAlike}
-use Rattle.ev_audit.proofs.differing.difference.Given as goal
-
-abbrev pub invariant-loop-i : goal.invariant-loop-i
-invariant-loop-i l = AreAlike l.claimed l.text l.i

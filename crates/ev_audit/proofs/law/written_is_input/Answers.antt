@@ -1,5 +1,0 @@
-use Rattle.ev_audit.proofs.Inputs.{written_input}
-use Rattle.ev_audit.proofs.law.written_is_input.Goals as goal
-
-pub returns : goal.returns
-returns c = λ document output net w ends. written_input document output net w ends

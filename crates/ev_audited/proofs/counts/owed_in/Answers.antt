@@ -1,9 +1,0 @@
-use Rattle.std.proofs.Common.{◌≡◌, ap, ◌∙◌, arith}
-use Rattle.ev_audited.specs.Verdict.{owed_of}
-use Rattle.ev_audited.proofs.Runs.{sum_next}
-use Rattle.ev_audited.proofs.counts.owed_in.Goals as goal
-
-pub loop-list-preserved : goal.loop-list-preserved
-loop-list-preserved c =
-    let one : c.owed_of.result ≡ owed_of c.list-item.result = c.owed_of.ensures.value ∙ ap owed_of c.as_slice.ensures in
-    omega (arith, c.in-Some.ensures, one, c.loop-list.invariant, sum_next owed_of c.args.lists.now c.loop-list.list-index c.list-item.result c.loop-list-test.true c.list-item.is)

@@ -1,6 +1,0 @@
-use Rattle.std.proofs.Common.{◌≡◌, ◌+◌, drop}
-use Rattle.ev_audited.specs.Verdict.{owed_in}
-use Rattle.ev_audited.proofs.counts.owed_in.Given as goal
-
-abbrev pub invariant-loop-list : goal.invariant-loop-list
-invariant-loop-list l = l.owed + owed_in (drop l.list-index l.lists) ≡ owed_in l.lists

@@ -1,6 +1,0 @@
-use Rattle.ev_audited.proofs.Making.{IsMadeTo}
-use Rattle.ev_audited.proofs.traced.make_compared.Given as goal
-
--- so far the turns were made, and the text of their entries was compared behind the head
-abbrev pub invariant-loop-line : goal.invariant-loop-line
-invariant-loop-line l = IsMadeTo l.line-index l.turns l.fn.tables l.network l.initial.text l.text

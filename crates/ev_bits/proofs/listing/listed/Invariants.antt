@@ -1,5 +1,0 @@
-use Rattle.ev_bits.proofs.Lists.{IsListedUpTo}
-use Rattle.ev_bits.proofs.listing.listed.Given as goal
-
-abbrev pub invariant-loop-k : goal.invariant-loop-k
-invariant-loop-k l = IsListedUpTo l.words l.k l.list.items

@@ -1,5 +1,0 @@
-pub mod Sorting
-pub mod Filters
-pub mod Stepping
-pub mod Counting
-pub mod Asked

@@ -1,6 +1,0 @@
-use Rattle.std.proofs.Common.{◌≤◌, length, sym, subst}
-use Rattle.ev_catalogue.proofs.Counting.{known_filters_few}
-use Rattle.ev_catalogue.proofs.catalogue.matcher_of.Goals as goal
-
-pub of-requires : goal.of-requires
-of-requires c = subst (λ z. length z ≤ 4096) (sym c.requires.filters) (known_filters_few c.args.net.now.clients c.requires.sound.controls)

@@ -1,6 +1,0 @@
-use Rattle.std.proofs.Common.{◌≡◌, take}
-use Rattle.ev_catalogue.specs.Related.{overlap_rows}
-use Rattle.ev_catalogue.proofs.related.overlap_rows.Given as goal
-
-abbrev pub invariant-loop-ad : goal.invariant-loop-ad
-invariant-loop-ad l = l.rows.items ≡ overlap_rows l.filters (take l.ad-index l.adverts)

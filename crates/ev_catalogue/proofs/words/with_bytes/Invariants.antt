@@ -1,8 +1,0 @@
-use Rattle.std.proofs.Common.{◌≡◌, drop}
-use Rattle.ev_pool.specs.Signature.{marks_from}
-use Rattle.ev_catalogue.specs.Words.{byte_signs}
-use Rattle.ev_catalogue.proofs.words.with_bytes.Given as goal
-
-abbrev pub invariant-loop-byte : goal.invariant-loop-byte
-invariant-loop-byte l =
-    marks_from (λ s. s) l.marks (byte_signs l.name (drop l.byte-index l.bytes)) ≡ marks_from (λ s. s) l.fn.marks (byte_signs l.name l.bytes)

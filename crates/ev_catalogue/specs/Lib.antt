@@ -1,5 +1,0 @@
-pub mod Known
-pub mod Numbered
-pub mod Numbering
-pub mod Related
-pub mod Words

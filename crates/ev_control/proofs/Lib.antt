@@ -1,7 +1,0 @@
-pub mod Holdings
-pub mod Taken
-pub mod Named
-pub mod Telling
-pub mod Routed
-pub mod Relinking
-pub mod Places

@@ -1,5 +1,0 @@
-pub mod Same
-pub mod Apart
-pub mod Shelves
-pub mod Satisfied
-pub mod Uses

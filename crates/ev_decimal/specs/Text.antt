@@ -1,7 +1,0 @@
--- Numbers in a text.
-use Rattle.std.specs.Prelude.{ℕ, List, ◌++◌}
-use Rattle.std.specs.Fmt.{decimal}
-
--- a number behind a label
-unfoldable pub labelled : List ℕ → ℕ → List ℕ
-labelled label number = label ++ decimal number

@@ -1,6 +1,0 @@
-use Rattle.std.proofs.Common.{◌≡◌, drop}
-use Rattle.ev_flood.specs.Held.{unadvertised}
-use Rattle.ev_flood.proofs.adverts.is_withdrawn.Given as goal
-
-abbrev pub invariant-loop-command : goal.invariant-loop-command
-invariant-loop-command l = unadvertised l.advert (drop l.command-index l.script) ≡ unadvertised l.advert l.script

@@ -1,6 +1,0 @@
-use Rattle.std.proofs.Common.{◌≡◌, ◌++◌, drop, filter, not}
-use Rattle.ev_flood.specs.Held.{unadvertised}
-use Rattle.ev_flood.proofs.adverts.lasting.Given as goal
-
-abbrev pub invariant-loop-advert : goal.invariant-loop-advert
-invariant-loop-advert l = l.kept.items ++ filter (λ a. not (unadvertised a l.script)) (drop l.advert-index l.adverts) ≡ filter (λ a. not (unadvertised a l.script)) l.adverts

@@ -1,6 +1,0 @@
-use Rattle.std.proofs.Common.{◌≡◌, ◌++◌, drop, filter, not}
-use Rattle.ev_flood.specs.Tables.{is_found}
-use Rattle.ev_flood.proofs.meeting.without.Given as goal
-
-abbrev pub invariant-loop-place : goal.invariant-loop-place
-invariant-loop-place l = l.left.items ++ filter (λ x. not (is_found x l.others)) (drop l.place-index l.places) ≡ filter (λ x. not (is_found x l.others)) l.places

@@ -1,6 +1,0 @@
-use Rattle.std.proofs.Common.{◌≡◌, ◌≤◌, ◌+◌, drop}
-use Rattle.ev_flood.specs.Held.{below}
-use Rattle.ev_flood.proofs.phase.below.Given as goal
-
-abbrev pub invariant-loop-of_command : goal.invariant-loop-of_command
-invariant-loop-of_command g l = (l.count + below l.phase (drop l.of_command-index l.script) ≡ below l.phase l.script) × (l.count ≤ l.of_command-index)

@@ -1,6 +1,0 @@
-use Rattle.std.proofs.Common.{sym, ◌∙◌}
-use Rattle.ev_theory.proofs.Meaning.{allows_plain}
-use Rattle.ev_flood.proofs.publication.is_allowed_by.Goals as goal
-
-pub returns : goal.returns
-returns c = c.allows.ensures ∙ sym (allows_plain c.args.notice.now c.args.advert.now c.attributes.ensures.whole.values)

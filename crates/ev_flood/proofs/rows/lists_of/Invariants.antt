@@ -1,5 +1,0 @@
-use Rattle.std.proofs.Common.{◌≡◌, ◌++◌, map}
-use Rattle.ev_flood.proofs.rows.lists_of.Given as goal
-
-abbrev pub invariant-loop-rows : goal.invariant-loop-rows
-invariant-loop-rows l = l.lists.items ++ map (λ rows. rows.items) l.rows-iterator.rest.items ≡ map (λ rows. rows.items) l.fn.all.items

@@ -1,9 +1,0 @@
-use Rattle.std.proofs.Common.{◌≡◌, length, take}
-use Rattle.ev_flood.specs.Rows.{HaveRows}
-use Rattle.ev_flood.proofs.rows.rows_of_each.Given as goal
-
-abbrev pub invariant-loop-k : goal.invariant-loop-k
-invariant-loop-k l = record {
-  count : length l.all.items ≡ length l.clients;
-  rows : HaveRows l.clients (take l.k l.publications) l.all.items;
-}

@@ -1,8 +1,0 @@
--- Lists of a phase that are at hand.
-use Rattle.std.specs.Prelude.{◌≡◌}
-use Rattle.ev_flood.specs.declared.phase.PhaseAdverts.{PhaseAdverts}
-use Rattle.ev_flood.specs.Held.{Script, every_adverts}
-
--- a client's advertisements of the phase that they tell
-pub record AreClientAdverts (script : Script) (lists : PhaseAdverts) : Type 0 where
-  pub at_every : lists.every.items ≡ every_adverts lists.phase script

@@ -1,5 +1,0 @@
-pub mod Ordering
-pub mod Solving
-pub mod Filling
-pub mod Answering
-pub mod Nets

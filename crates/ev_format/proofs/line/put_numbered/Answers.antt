@@ -1,5 +1,0 @@
-use Rattle.ev_outside.proofs.Outlets.{went-then}
-use Rattle.ev_format.proofs.line.put_numbered.Goals as goal
-
-pub returns : goal.returns
-returns g c = went-then _ _ _ _ _ (went-then _ _ _ _ _ c.put.ensures (rw c.from.ensures at c.put_number.ensures)) c.put-2.ensures

@@ -1,4 +1,0 @@
-pub mod Edges
-pub mod DocumentText
-pub mod Limits
-pub mod Writing

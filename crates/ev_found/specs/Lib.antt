@@ -1,3 +1,0 @@
-pub mod Published
-pub mod Found
-pub mod All

@@ -1,4 +1,0 @@
-pub mod Stepping
-pub mod Kept
-pub mod Clocks
-pub mod Ruling

@@ -1,4 +1,0 @@
-pub mod Core
-pub mod Step
-pub mod Acting
-pub mod Kept

@@ -1,5 +1,0 @@
-use Rattle.ev_index.proofs.Tallies.{Appends-append}
-use Rattle.ev_index.proofs.law.appends_law.Goals as goal
-
-pub returns : goal.returns
-returns c = Appends-append

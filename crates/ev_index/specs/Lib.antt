@@ -1,4 +1,0 @@
-pub mod Pairs
-pub mod Groups
-pub mod Sides
-pub mod Lines

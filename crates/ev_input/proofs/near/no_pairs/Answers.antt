@@ -1,5 +1,0 @@
-use Rattle.ev_input.proofs.Pairs.{none_there}
-use Rattle.ev_input.proofs.near.no_pairs.Goals as goal
-
-pub returns-clause-none : goal.returns-clause-none
-returns-clause-none c = λ k. none_there 4225 k

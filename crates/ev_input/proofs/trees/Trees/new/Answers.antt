@@ -1,5 +1,0 @@
-use Rattle.ev_input.proofs.Drawing.{nothing_drawn}
-use Rattle.ev_input.proofs.trees.Trees.new.Goals as goal
-
-pub invariant_of-result : goal.invariant_of-result
-invariant_of-result c = rw (c.new.ensures.items, c.new-2.ensures.items) (nothing_drawn c.args.servers c.new-3.result c.new-4.result c.requires c.new-3.ensures.count c.new-3.ensures.none c.new-4.ensures)

@@ -1,9 +1,0 @@
-//! A client as the lines so far give it.
-use ev_model::Client;
-
-/// A client with its script so far, and whether it has one yet.
-#[derive(Drop)]
-pub struct Draft {
-    pub client: Client,
-    pub has_script: bool,
-}

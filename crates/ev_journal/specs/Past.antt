@@ -1,9 +1,0 @@
--- Entries that passed.
-use Rattle.std.specs.Prelude.{List, [], ◌∷◌, ◌++◌}
-use Rattle.ev_model.specs.Parts.{EntryParts}
-use Rattle.ev_journal.specs.declared.past.Past.{Past, Nothing, Then'}
-
--- the entries that passed, the first one first
-abbrev pub entries_before : Past → List EntryParts
-entries_before Nothing = []
-entries_before (Then' s before entry) = entries_before before ++ entry ∷ []

@@ -1,5 +1,0 @@
-use Rattle.ev_merge.proofs.Runs.{journal-seen, seen-journal}
-use Rattle.ev_merge.proofs.law.journal_in_runs.Goals as goal
-
-pub returns : goal.returns
-returns c = λ net server entries. (seen-journal net server entries, journal-seen net server entries)

@@ -1,6 +1,0 @@
-use Rattle.std.proofs.Common.{ℕ, ◌<◌, get_or}
-use Rattle.ev_sets.specs.Sets.{Has}
-use Rattle.ev_message.proofs.numbers.are_apart.Given as goal
-
-abbrev pub invariant-loop-number : goal.invariant-loop-number
-invariant-loop-number l = (j : ℕ) → j < l.number-index → Has (get_or l.one j 0) l.other → ⊥

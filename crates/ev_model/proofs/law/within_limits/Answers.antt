@@ -1,5 +1,0 @@
-use Rattle.ev_model.proofs.Counted.{stays-low}
-use Rattle.ev_model.proofs.law.within_limits.Goals as goal
-
-pub returns : goal.returns
-returns c = stays-low

@@ -1,6 +1,0 @@
-use Rattle.std.proofs.Common.{◌≡◌, max, drop}
-use Rattle.ev_model.specs.Nets.{most_barriers}
-use Rattle.ev_model.proofs.net.Net.phases.Given as goal
-
-abbrev pub invariant-loop-client : goal.invariant-loop-client
-invariant-loop-client l = max l.most (most_barriers (drop l.client-index l.client-items)) ≡ most_barriers l.client-items

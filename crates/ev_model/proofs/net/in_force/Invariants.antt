@@ -1,6 +1,0 @@
-use Rattle.std.proofs.Common.{◌≡◌, drop}
-use Rattle.ev_phases.specs.Trees.{tree_after}
-use Rattle.ev_model.proofs.net.in_force.Given as goal
-
-abbrev pub invariant-loop-from : goal.invariant-loop-from
-invariant-loop-from l = tree_after l.tree (drop l.from-index l.later) l.phase ≡ tree_after l.initial.tree l.later l.phase

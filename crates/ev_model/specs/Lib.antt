@@ -1,7 +1,0 @@
-pub mod Parts
-pub mod Meaning
-pub mod Nets
-pub mod Sound
-pub mod Adding
-pub mod Lists
-pub mod Limits

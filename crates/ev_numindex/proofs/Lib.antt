@@ -1,4 +1,0 @@
-pub mod Keys
-pub mod Codes
-pub mod Meets
-pub mod Finds

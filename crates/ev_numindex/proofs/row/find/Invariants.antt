@@ -1,8 +1,0 @@
-use Rattle.std.proofs.Common.{◌<◌, ℕ}
-use Rattle.std.specs.Prelude.{slice_index_or}
-use Rattle.ev_numindex.specs.declared.row.Row.{Row}
-use Rattle.ev_numindex.specs.Rows.{HasAt}
-use Rattle.ev_numindex.proofs.row.find.Given as goal
-
-abbrev pub invariant-loop-i : goal.invariant-loop-i
-invariant-loop-i l = (k : ℕ) → k < l.i → (d : Row) → HasAt l.kind l.op l.key l.id (slice_index_or l.rows k d) → ⊥

@@ -1,5 +1,0 @@
-use Rattle.ev_numnet.proofs.Turning.{AreGoing}
-use Rattle.ev_numnet.proofs.begin.exchange.Given as goal
-
-abbrev pub invariant-loop-i : goal.invariant-loop-i
-invariant-loop-i l = AreGoing l.i l.fn.standings.items l.fn.places.items l.standings.items l.places.items

@@ -1,9 +1,0 @@
-use Rattle.std.proofs.Common.{◌≡◌, ℕ, length, slice_get, Some, None}
-use Rattle.ev_numnet.specs.declared.relinking.Standing.{Standing}
-use Rattle.ev_numnet.proofs.begin.raised.Given as goal
-
-abbrev pub invariant-loop : goal.invariant-loop
-invariant-loop l = record {
-  long : length l.standings.items ≡ l.index;
-  raised : (place : ℕ) (standing : Standing) → slice_get l.standings.items place ≡ Some standing → (standing.clock ≡ l.clock) × (standing.links ≡ None);
-}

@@ -1,6 +1,0 @@
-use Rattle.std.proofs.Common.{◌≡◌, ◌<◌, ℕ, true}
-use Rattle.ev_numnet.specs.Seen.{calm_at}
-use Rattle.ev_numnet.proofs.calm.are_calm.Given as goal
-
-abbrev pub invariant-loop-i : goal.invariant-loop-i
-invariant-loop-i g l = (k : ℕ) → k < l.i → calm_at g.P.Server.stepping l.places k ≡ true

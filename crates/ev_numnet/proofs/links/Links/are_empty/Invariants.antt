@@ -1,6 +1,0 @@
-use Rattle.std.proofs.Common.{◌≡◌, ℕ, ◌<◌, []}
-use Rattle.ev_numnet.specs.Links.{messages_at}
-use Rattle.ev_numnet.proofs.links.Links.are_empty.Given as goal
-
-abbrev pub invariant-loop-from : goal.invariant-loop-from
-invariant-loop-from l = (a b : ℕ) → a < l.from → messages_at l.self a b ≡ []

@@ -1,6 +1,0 @@
-use Rattle.std.proofs.Common.{◌≡◌, ℕ, ◌<◌, []}
-use Rattle.ev_numnet.specs.Links.{messages_at}
-use Rattle.ev_numnet.proofs.links.Links.is_silent.Given as goal
-
-abbrev pub invariant-loop-to : goal.invariant-loop-to
-invariant-loop-to l = (b : ℕ) → b < l.to → messages_at l.self l.from b ≡ []

@@ -1,7 +1,0 @@
-use Rattle.std.proofs.Common.{◌≡◌, ℕ, take, true}
-use Rattle.ev_sets.specs.Sets.{Has}
-use Rattle.ev_numnet.specs.Links.{has_room, AreSame}
-use Rattle.ev_numnet.proofs.links.Links.make_rooms.Given as goal
-
-abbrev pub invariant-loop-to : goal.invariant-loop-to
-invariant-loop-to l = ((link : ℕ) → Has link (take l.to-index l.links) → has_room l.self l.from link ≡ true) × AreSame l.initial.self l.self

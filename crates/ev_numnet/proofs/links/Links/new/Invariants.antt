@@ -1,7 +1,0 @@
-use Rattle.std.proofs.Common.{◌≡◌, false, [], length}
-use Rattle.ev_sets.specs.Sets.{Has}
-use Rattle.ev_numnet.specs.Links.{QueueParts, queue_parts}
-use Rattle.ev_numnet.proofs.links.Links.new.Given as goal
-
-abbrev pub invariant-loop : goal.invariant-loop
-invariant-loop l = ((q : QueueParts) → Has q l.queues.items → q ≡ queue_parts [] false) × (length l.queues.items ≡ l.counter)

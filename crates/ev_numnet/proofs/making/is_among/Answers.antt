@@ -1,5 +1,0 @@
-use Rattle.ev_turns.proofs.Among.{any_has}
-use Rattle.ev_numnet.proofs.making.is_among.Goals as goal
-
-pub returns : goal.returns
-returns c = any_has c.args.number c.args.list.now c.contains.result c.contains.ensures.value

@@ -1,7 +1,0 @@
-use Rattle.std.proofs.Common.{sym, subst}
-use Rattle.ev_numserver.specs.Core.{CoreParts}
-use Rattle.ev_numnet.specs.Kept.{IsPlace}
-use Rattle.ev_numnet.proofs.place.Place.exchange.Goals as goal
-
-pub invariant_of-self : goal.invariant_of-self
-invariant_of-self c = subst (λ (z : CoreParts). IsPlace z c.self-2.inside.forwarding) (sym c.raise.ensures) c.self-2.invariant

@@ -1,6 +1,0 @@
-use Rattle.ev_numnet.specs.Links.{messages_at}
-use Rattle.ev_numnet.proofs.Last.{AreToldTo}
-use Rattle.ev_numnet.proofs.telling.last_on.Given as goal
-
-abbrev pub invariant-loop-to : goal.invariant-loop-to
-invariant-loop-to l = AreToldTo l.to-index (messages_at l.links) l.server l.outs l.told.items

@@ -1,6 +1,0 @@
-use Rattle.std.proofs.Common.{◌≡◌, ◌<◌, ℕ, Some, slice_get}
-use Rattle.ev_numnode.specs.Cell.{CellParts, IsKept}
-use Rattle.ev_numnode.proofs.finish.tell_all.Given as goal
-
-abbrev pub invariant-loop-cell : goal.invariant-loop-cell
-invariant-loop-cell l = (k : ℕ) (hand : CellParts) → k < l.cell-index → slice_get l.cells k ≡ Some hand → IsKept hand.root.net.value hand.root hand.journal hand.held

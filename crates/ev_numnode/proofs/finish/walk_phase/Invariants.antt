@@ -1,9 +1,0 @@
-use Rattle.std.proofs.Common.{◌≡◌}
-use Rattle.ev_numnode.specs.Together.{cell_roots, HaveGrown}
-use Rattle.ev_numnode.proofs.finish.walk_phase.Given as goal
-
-abbrev pub invariant-loop : goal.invariant-loop
-invariant-loop g l = record {
-  roots : cell_roots l.cells ≡ cell_roots l.fn.cells;
-  grown : HaveGrown l.fn.cells l.cells;
-}

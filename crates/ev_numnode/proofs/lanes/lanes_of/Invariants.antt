@@ -1,6 +1,0 @@
-use Rattle.std.proofs.Common.{map}
-use Rattle.ev_numnode.specs.Lanes.{AreLanes}
-use Rattle.ev_numnode.proofs.lanes.lanes_of.Given as goal
-
-abbrev pub invariant-loop-server : goal.invariant-loop-server
-invariant-loop-server l = AreLanes l.tree l.server 0 (map (λ r. r.items) l.rows.items)

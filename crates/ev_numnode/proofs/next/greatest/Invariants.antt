@@ -1,6 +1,0 @@
-use Rattle.std.proofs.Common.{◌≡◌, ◌<◌, ◌^◌, max, drop}
-use Rattle.ev_numnode.specs.Entered.{greatest_cell_clock}
-use Rattle.ev_numnode.proofs.next.greatest.Given as goal
-
-abbrev pub invariant-loop-cell : goal.invariant-loop-cell
-invariant-loop-cell l = (max l.greatest (greatest_cell_clock (drop l.cell-index l.cells)) ≡ greatest_cell_clock l.cells) × (l.greatest < 2 ^ 62)

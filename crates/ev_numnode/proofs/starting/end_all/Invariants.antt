@@ -1,8 +1,0 @@
-use Rattle.std.proofs.Common.{length}
-use Rattle.ev_numnode.proofs.starting.end_all.Given as goal
-
-abbrev pub invariant-loop-one : goal.invariant-loop-one
-invariant-loop-one g l = Unit {0}
-
-abbrev pub decreases-loop-one : goal.decreases-loop-one
-decreases-loop-one g l = length l.started.items

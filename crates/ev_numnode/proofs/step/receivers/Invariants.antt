@@ -1,8 +1,0 @@
-use Rattle.std.proofs.Common.{◌≡◌, ◌≤◌, length, map, take, vec_capacity}
-use Rattle.ev_numnode.proofs.step.receivers.Given as goal
-
-abbrev pub invariant-loop-s : goal.invariant-loop-s
-invariant-loop-s l = record {
-  written : l.outs.items ≡ map (λ s. s.to) (take l.s-index l.sent);
-  room : length l.sent ≤ vec_capacity l.outs;
-}

@@ -1,4 +1,0 @@
-use Rattle.ev_numnode.proofs.version.is_touched.Given as goal
-
-abbrev pub invariant-loop-other : goal.invariant-loop-other
-invariant-loop-other l = Unit {0}

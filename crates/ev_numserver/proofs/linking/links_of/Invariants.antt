@@ -1,7 +1,0 @@
-use Rattle.std.proofs.Common.{◌≡◌, map, take}
-use Rattle.ev_control.specs.declared.control.HeldLink.{HeldLink}
-use Rattle.ev_numheld.specs.Held.{held_in}
-use Rattle.ev_numserver.proofs.linking.links_of.Given as goal
-
-abbrev pub invariant-loop-one : goal.invariant-loop-one
-invariant-loop-one l = l.links.items ≡ map (λ (h : HeldLink). h.link) (take l.one-index (held_in l.held))

@@ -1,5 +1,0 @@
-use Rattle.std.proofs.Common.{arith}
-use Rattle.ev_numserver.proofs.staging.put_takes.Goals as goal
-
-pub push_reserved-requires : goal.push_reserved-requires
-push_reserved-requires c = omega (arith, c.requires.room, c.loop-number.invariant.len, c.loop-number.invariant.capacity, c.loop-number-test.true)

@@ -1,5 +1,0 @@
-use Rattle.ev_numversions.proofs.Chains.{sees}
-use Rattle.ev_numversions.proofs.matching.try_match.Goals as goal
-
-pub enter_as-requires : goal.enter_as-requires
-enter_as-requires c = sees _ _

@@ -1,7 +1,0 @@
-use Rattle.std.proofs.Common.{◌≡◌, map}
-use Rattle.std.specs.List.{range_with_len}
-use Rattle.ev_hierturns.specs.Network.{refused_by}
-use Rattle.ev_quiet.proofs.hierarchy.refused.Given as goal
-
-abbrev pub invariant-loop-place : goal.invariant-loop-place
-invariant-loop-place g l = l.lists.items ≡ map (refused_by l.network.net l.network.journal) (range_with_len 1 l.place)

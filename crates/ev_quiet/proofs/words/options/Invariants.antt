@@ -1,6 +1,0 @@
-use Rattle.std.proofs.Common.{◌≡◌, drop}
-use Rattle.ev_quiet.specs.Words.{options, plain}
-use Rattle.ev_quiet.proofs.words.options.Given as goal
-
-abbrev pub invariant-loop-word : goal.invariant-loop-word
-invariant-loop-word l = options l.shown (drop l.word-index l.words) ≡ options plain l.words

@@ -1,6 +1,0 @@
-use Rattle.std.proofs.Common.{◌≡◌, ◌+◌, drop}
-use Rattle.ev_report.specs.Counts.{total}
-use Rattle.ev_report.proofs.counting.total.Given as goal
-
-abbrev pub invariant-loop-list : goal.invariant-loop-list
-invariant-loop-list g l = l.count + total (drop l.list-index l.lists) ≡ total l.lists

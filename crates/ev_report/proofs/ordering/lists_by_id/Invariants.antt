@@ -1,6 +1,0 @@
-use Rattle.std.proofs.Common.{◌≡◌, take, map}
-use Rattle.ev_report.specs.Deliveries.{by_id}
-use Rattle.ev_report.proofs.ordering.lists_by_id.Given as goal
-
-abbrev pub invariant-loop-list : goal.invariant-loop-list
-invariant-loop-list l = l.lists.items ≡ map by_id (take l.list-index l.received)

@@ -1,6 +1,0 @@
-use Rattle.std.proofs.Common.{◌≡◌, ◌++◌, drop}
-use Rattle.ev_report.specs.Published.{script_texts}
-use Rattle.ev_report.proofs.publish.texts_of.Given as goal
-
-abbrev pub invariant-loop-command : goal.invariant-loop-command
-invariant-loop-command l = l.texts.items ++ script_texts (drop l.command-index l.script) ≡ script_texts l.script

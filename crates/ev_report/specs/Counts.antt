@@ -1,6 +1,0 @@
--- The members of lists, counted.
-use Rattle.std.specs.Prelude.{ℕ, List, length}
-use Rattle.ev_sets.specs.Numbers.{sum_over}
-
-abbrev pub total : {A : Type 0} → List (List A) → ℕ
-total lists = sum_over length lists

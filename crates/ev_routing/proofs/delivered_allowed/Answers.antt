@@ -1,5 +1,0 @@
-use Rattle.ev_routing.proofs.Flooded.{allowed-run}
-use Rattle.ev_routing.proofs.delivered_allowed.Goals as goal
-
-pub returns : goal.returns
-returns hold c run = allowed-run hold.M.Matching.theory hold.M.Matching.laws run

@@ -1,7 +1,0 @@
-use Rattle.ev_tree.specs.Hops.{side_size}
-use Rattle.ev_routing.proofs.Along.{tree}
-use Rattle.ev_routing.proofs.Flows.{relinked-settled}
-use Rattle.ev_routing.proofs.flow_agrees.Goals as goal
-
-pub returns : goal.returns
-returns hold c net good = relinked-settled hold.M.Matching.theory net (side_size net.hop net.servers) (tree hold.M.Matching.theory hold.M.Matching.laws net good)

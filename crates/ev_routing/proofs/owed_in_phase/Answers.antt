@@ -1,5 +1,0 @@
-use Rattle.ev_routing.proofs.Flooded.{owed-in-phase}
-use Rattle.ev_routing.proofs.owed_in_phase.Goals as goal
-
-pub returns : goal.returns
-returns hold c run = owed-in-phase hold.M.Matching.theory hold.M.Matching.laws run

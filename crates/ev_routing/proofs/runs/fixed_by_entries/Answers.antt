@@ -1,6 +1,0 @@
-use Rattle.ev_run.proofs.Fixed.{run-once}
-use Rattle.ev_routing.specs.Routing.{routing_machine}
-use Rattle.ev_routing.proofs.runs.fixed_by_entries.Goals as goal
-
-pub returns : goal.returns
-returns hold c net run other otherwise g = run-once (routing_machine hold.M.Matching.theory net) run.start run.first run.entries run.end other run.last otherwise run.legal g

@@ -1,6 +1,0 @@
-use Rattle.ev_run.proofs.Tried.{by-turns}
-use Rattle.ev_routing.specs.Routing.{routing_machine}
-use Rattle.ev_routing.proofs.runs.fixed_by_turns.Goals as goal
-
-pub returns : goal.returns
-returns hold c net run others other otherwise = by-turns (routing_machine hold.M.Matching.theory net) run.start run.first run.entries others run.end other run.last otherwise run.legal

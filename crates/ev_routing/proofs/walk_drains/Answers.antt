@@ -1,5 +1,0 @@
-use Rattle.ev_routing.proofs.Walked.{walk-drains}
-use Rattle.ev_routing.proofs.walk_drains.Goals as goal
-
-pub returns : goal.returns
-returns hold c run = walk-drains hold.M.Matching.theory hold.M.Matching.laws run

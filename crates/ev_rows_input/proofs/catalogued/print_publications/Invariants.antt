@@ -1,6 +1,0 @@
-use Rattle.std.proofs.Common.{◌≡◌, length}
-use Rattle.ev_catalogue.specs.Known.{known_filters}
-use Rattle.ev_rows_input.proofs.catalogued.print_publications.Given as goal
-
-abbrev pub invariant-loop-publication : goal.invariant-loop-publication
-invariant-loop-publication g l = l.row.width ≡ length (known_filters l.catalogue.clients)

@@ -1,8 +1,0 @@
-use Rattle.std.proofs.Common.{◌+◌}
-use Rattle.ev_merge.specs.Merging.{IsJournalOf}
-use Rattle.ev_rows_model.proofs.Pushing.{AllBelow}
-use Rattle.ev_rows_model.proofs.merging.journal.Given as goal
-
--- a journal so far, and the next stamp is above all
-abbrev pub invariant-loop-more : goal.invariant-loop-more
-invariant-loop-more l = IsJournalOf l.server l.entries.items × AllBelow (l.first + l.more) l.entries.items

@@ -1,5 +1,0 @@
-use Rattle.ev_run.proofs.Tried.{by-turns}
-use Rattle.ev_run.proofs.fixed_by_turns.Goals as goal
-
-pub returns : goal.returns
-returns hold c run others other otherwise = by-turns hold.M.LocalStep.machine run.start run.first run.entries others run.end other run.last otherwise run.legal

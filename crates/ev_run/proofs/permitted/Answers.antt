@@ -1,5 +1,0 @@
-use Rattle.ev_run.proofs.Tried.{permitted-happens, happens-permitted}
-use Rattle.ev_run.proofs.permitted.Goals as goal
-
-pub returns : goal.returns
-returns hold c = record { happens = permitted-happens hold.M.LocalStep.machine; only = happens-permitted hold.M.LocalStep.machine }

@@ -1,5 +1,0 @@
-use Rattle.ev_script.proofs.UniqueLaws.{command_once}
-use Rattle.ev_script.proofs.law.one_command.Goals as goal
-
-pub returns : goal.returns
-returns c = command_once

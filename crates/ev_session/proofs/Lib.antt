@@ -1,5 +1,0 @@
-pub mod Settling
-pub mod Listing
-pub mod Planning
-pub mod Sessions
-pub mod Turning

@@ -1,6 +1,0 @@
-use Rattle.std.proofs.Common.{◌∙◌}
-use Rattle.ev_constraint.proofs.Needles.{is_found}
-use Rattle.ev_textlists.proofs.bytes.has_part.Goals as goal
-
-pub returns : goal.returns
-returns c = c.is_some.ensures ∙ is_found c.args.x.now c.args.u.now c.find.result c.find.ensures

@@ -1,9 +1,0 @@
-use Rattle.std.proofs.Common.{sym, arith}
-use Rattle.ev_textlists.proofs.Packed.{less-head, greater-head}
-use Rattle.ev_textlists.proofs.key.compare.Goals as goal
-
-pub returns-then-head-other : goal.returns-then-head-other
-returns-then-head-other c = sym (less-head c.args.x.now c.args.y.now c.are_bytes.ensures c.are_bytes-2.ensures (omega (arith, c.requires.head, c.requires.other, c.if-head-other.true)))
-
-pub returns-then-other-head : goal.returns-then-other-head
-returns-then-other-head c = sym (greater-head c.args.x.now c.args.y.now c.are_bytes.ensures c.are_bytes-2.ensures (omega (arith, c.requires.head, c.requires.other, c.if-other-head.true)))

@@ -1,6 +1,0 @@
-use Rattle.std.proofs.Common.{◌≡◌}
-use Rattle.ev_textlists.specs.Keys.{number_of}
-use Rattle.ev_textlists.proofs.key.head_of.Given as goal
-
-abbrev pub invariant-loop-i : goal.invariant-loop-i
-invariant-loop-i l = l.head ≡ number_of l.i l.x

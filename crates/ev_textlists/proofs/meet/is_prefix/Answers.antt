@@ -1,7 +1,0 @@
-use Rattle.std.proofs.Common.{ap}
-use Rattle.ev_textlists.specs.declared.marks.Mark.{Mark}
-use Rattle.ev_textlists.proofs.Marking.{no-prefix}
-use Rattle.ev_textlists.proofs.meet.is_prefix.Goals as goal
-
-pub returns-then-mark-ne-SHORT : goal.returns-then-mark-ne-SHORT
-returns-then-mark-ne-SHORT c = no-prefix c.args.x.now c.args.key.now c.args.first c.args.pair c.args.mark.first c.requires.first c.requires.pair (ap (λ (m : Mark). m.first) c.requires.marked) c.if-mark-first.true c.if-mark-pair.true c.if-mark-ne-SHORT.true

@@ -1,8 +1,0 @@
-use Rattle.ev_theory.proofs.Meaning.{matches_plain, allows_plain}
-use Rattle.ev_theory.proofs.real.plain.Goals as goal
-
-pub returns-clause-matching : goal.returns-clause-matching
-returns-clause-matching c n v = matches_plain n v
-
-pub returns-clause-allowing : goal.returns-clause-allowing
-returns-clause-allowing c n a v = allows_plain n a v

@@ -1,2 +1,0 @@
-pub mod Real
-pub mod Lone

@@ -1,7 +1,0 @@
-use Rattle.ev_outside.proofs.Outlets.{went-then}
-use Rattle.ev_decimal.specs.Text.{labelled}
-use Rattle.ev_traffic.proofs.line.put_labelled.Goals as goal
-
-pub returns : goal.returns
-unfolding labelled
-returns g c = went-then _ _ _ _ _ c.put.ensures (rw (c.as_bytes.ensures.value, c.format.ensures.text) at c.put-2.ensures)

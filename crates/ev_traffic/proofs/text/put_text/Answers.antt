@@ -1,5 +1,0 @@
-use Rattle.ev_outside.proofs.Outlets.{went-then}
-use Rattle.ev_traffic.proofs.text.put_text.Goals as goal
-
-pub returns : goal.returns
-returns g c = went-then _ _ _ _ _ c.put_links.ensures c.put_totals.ensures

@@ -1,7 +1,0 @@
-use Rattle.ev_outside.proofs.Outlets.{went-then}
-use Rattle.ev_traffic.specs.Text.{total_line}
-use Rattle.ev_traffic.proofs.text.put_totals.Goals as goal
-
-pub returns : goal.returns
-unfolding total_line
-returns g c = went-then _ _ _ _ _ c.put.ensures c.put_counts.ensures

@@ -1,5 +1,0 @@
-use Rattle.ev_tree.proofs.Paths.{one-path}
-use Rattle.ev_tree.proofs.law.one_path.Goals as goal
-
-pub returns : goal.returns
-returns c servers links hop good = one-path servers links hop good

@@ -1,7 +1,0 @@
-use Rattle.std.proofs.Common.{◌≡◌, ◌++◌, take, drop}
-use Rattle.ev_wire.specs.NoticeText.{later}
-use Rattle.ev_wire.specs.FilterText.{constraint_text, AreNamed}
-use Rattle.ev_wire.proofs.constraint.push_later.Given as goal
-
-abbrev pub invariant-loop-constraint : goal.invariant-loop-constraint
-invariant-loop-constraint l = record { text : l.out.items ≡ l.fn.out.items ++ later constraint_text (take l.constraint-index l.rest); named : AreNamed (drop l.constraint-index l.rest) → AreNamed l.rest }

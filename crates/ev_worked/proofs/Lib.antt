@@ -1,6 +1,0 @@
-pub mod Owing
-pub mod Lawful
-pub mod LawfulNets
-pub mod Replayed
-pub mod Phased
-pub mod SettledNotOwed

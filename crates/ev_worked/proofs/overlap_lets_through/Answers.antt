@@ -1,5 +1,0 @@
-use Rattle.std.proofs.Common.{refl}
-use Rattle.ev_worked.proofs.overlap_lets_through.Goals as goal
-
-pub returns : goal.returns
-returns c = refl

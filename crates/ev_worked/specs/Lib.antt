@@ -1,5 +1,0 @@
-pub mod Ranges
-pub mod Trace
-pub mod SmallNets
-pub mod Phased
-pub mod Hierarchies

@@ -1,9 +1,0 @@
-use Rattle.std.proofs.Common.{◌≡◌}
-use mathlib.Core.List.{IsPrefix}
-use Rattle.ev_workers.proofs.hand.make_takings.Given as goal
-
-abbrev pub invariant-loop : goal.invariant-loop
-invariant-loop g l = record {
-  root : l.cell.root ≡ l.initial.cell.root;
-  grows : IsPrefix l.initial.cell.journal l.cell.journal;
-}

@@ -1,8 +1,0 @@
-use Rattle.std.proofs.Common.{refl, ◌∙◌}
-use Rattle.ev_workers.proofs.roster.rounds.Goals as goal
-
-pub loop-init : goal.loop-init
-loop-init g c = refl
-
-pub loop-preserved : goal.loop-preserved
-loop-preserved g c = c.round.ensures ∙ c.loop.invariant

@@ -1,4 +1,0 @@
-pub mod Journals
-pub mod Work
-pub mod Hands
-pub mod Crews

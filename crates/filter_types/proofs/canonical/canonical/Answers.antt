@@ -1,0 +1,5 @@
+use Rattle.filter_types.proofs.CanonicalLaws.{settled}
+use Rattle.filter_types.proofs.canonical.canonical.Goals as goal
+
+pub returns : goal.returns
+returns c = settled _ _ _ c.sort_unstable.ensures.permutation c.sort_unstable.ensures.sorted c.without_repeats.ensures

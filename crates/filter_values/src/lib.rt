@@ -1,0 +1,16 @@
+//! Layer: filter.
+//! Job: names, texts and values: what a notification carries, read exactly or refused.
+//! Users: every layer above but law.
+//!
+//! A name and a text are refused with the first fault and its place; copies are equal.
+#![tactic(auto)]
+
+pub mod law;
+mod name;
+mod text;
+mod value;
+
+pub use base::NoMemory;
+pub use name::{Name, NameFault, is_name};
+pub use text::{Text, TextFault, is_open_byte, is_text};
+pub use value::{Kind, Value};

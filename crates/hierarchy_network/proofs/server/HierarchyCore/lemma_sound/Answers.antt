@@ -1,0 +1,10 @@
+use Rattle.std.proofs.Common.{ℕ, List, subst}
+use Rattle.filter_constraints.specs.Constraint.{ConstraintParts}
+use Rattle.base.specs.Sets.{Has}
+use Rattle.net_tables.specs.Known.{known_filters}
+use Rattle.server_spec.specs.Control.{subs}
+use Rattle.hierarchy_network.specs.Core.{HierarchyParts}
+use Rattle.hierarchy_network.proofs.server.HierarchyCore.lemma_sound.Goals as goal
+
+pub returns : goal.returns
+returns c = subst (λ (z : HierarchyParts). (i : ℕ) (f : List ConstraintParts) → Has f (subs z.core.control i) → Has f (known_filters z.core.net.clients)) c.self.view_is c.lemma_sound.ensures.known

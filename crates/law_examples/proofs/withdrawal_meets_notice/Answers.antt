@@ -1,0 +1,11 @@
+use Rattle.std.proofs.Common.{refl}
+use Rattle.law_examples.proofs.withdrawal_meets_notice.Goals as goal
+
+pub returns-clause-trace : goal.returns-clause-trace
+returns-clause-trace c = refl
+
+pub returns-clause-wide : goal.returns-clause-wide
+returns-clause-wide c = refl
+
+pub returns-clause-narrow : goal.returns-clause-narrow
+returns-clause-narrow c = refl

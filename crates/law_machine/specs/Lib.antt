@@ -1,0 +1,11 @@
+pub mod Links
+pub mod Machine
+pub mod Network
+pub mod Runs
+pub mod Journals
+pub mod History
+pub mod Load
+pub mod Begin
+pub mod Content
+pub mod Walk
+pub mod Counting

@@ -1,0 +1,17 @@
+pub mod Trees
+pub mod Moments
+pub mod Runs
+pub mod Turns
+pub mod Walk
+pub mod AtMoments
+pub mod Owing
+pub mod Routes
+pub mod Sequence
+pub mod Flooding
+pub mod Economy
+pub mod Settled
+pub mod Looking
+pub mod OneTree
+pub mod Bounds
+pub mod Cells
+pub mod Example

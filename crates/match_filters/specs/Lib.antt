@@ -1,0 +1,6 @@
+pub mod Hits
+pub mod Matching
+pub mod Table
+pub mod Index
+pub mod Shelves
+pub mod Slots

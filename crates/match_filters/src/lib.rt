@@ -1,0 +1,20 @@
+//! Layer: match.
+//! Job: which filters of a fixed list a notification matches, by counting what its attributes satisfy.
+//! Users: match_routes, and the layers net, sequential, thread, output and test.
+//!
+//! The filters of a run are known before it begins, so none is ever withdrawn. The constraints of all filters are in an
+//! index by name, each with the number of its filter, and a filter matches where each of its constraints is satisfied:
+//! where it is hit as often as it has constraints. What is counted is kept in a `Scratch` of the caller, so that
+//! threads share one matcher. Counting as a way to match comes from Carzaniga and Wolf, 'Forwarding in a content-based
+//! network', 2003.
+#![tactic(auto)]
+
+mod count;
+mod fill;
+mod index;
+mod matcher;
+mod pairs;
+mod scratch;
+
+pub use matcher::Matcher;
+pub use scratch::Scratch;

@@ -1,0 +1,13 @@
+pub mod Tallies
+pub mod Groups
+pub mod Rows
+pub mod Begins
+pub mod Orders
+pub mod Lines
+pub mod Keys
+pub mod Codes
+pub mod Finds
+pub mod Meets
+pub mod Appended
+pub mod Parts
+pub mod Apart

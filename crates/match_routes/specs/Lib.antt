@@ -1,0 +1,4 @@
+pub mod Installed
+pub mod Routes
+pub mod Rows
+pub mod Columns

@@ -1,0 +1,20 @@
+//! Layer: match.
+//! Job: an index of str constraints from which none is ever removed.
+//! Users: match_filters, and thread_workers in a proof.
+//!
+//! A pattern is marked by where its pairs of neighbouring bytes are, so that a text is tested against the few patterns
+//! whose marks it has. The other operators have a line each, whose keys are mostly compared by one number.
+#![tactic(auto)]
+
+mod bytes;
+mod group;
+mod key;
+mod marked;
+mod marks;
+mod meet;
+mod order;
+mod orders;
+mod patterns;
+mod texts;
+
+pub use texts::Texts;

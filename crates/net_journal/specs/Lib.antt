@@ -1,0 +1,4 @@
+pub mod Past
+pub mod Journal
+pub mod Merging
+pub mod Record

@@ -1,0 +1,7 @@
+pub mod Meaning
+pub mod Adding
+pub mod Places
+pub mod SoundNets
+pub mod Walking
+pub mod Counted
+pub mod TreesByPhase

@@ -1,0 +1,9 @@
+pub mod Real
+pub mod Lone
+pub mod Parts
+pub mod Meaning
+pub mod Nets
+pub mod Sound
+pub mod Adding
+pub mod Lists
+pub mod Limits

@@ -1,0 +1,98 @@
+//! How the filters and advertisements of a net are related, as rows that are made where they are asked for.
+ghost use Rattle.std.specs.Prelude.{◌≡◌, ◌<◌, ◌^◌, length, IfOk};
+ghost use Rattle.filter_types.specs.Cover.{overlaps};
+ghost use Rattle.net_tables.specs.Related.{overlap_row, overlap_rows};
+
+use crate::catalogue::Catalogue;
+use crate::words::text_words;
+use base::NoMemory;
+use base_bits::Row;
+use base_order::{Order, put_if};
+use filter_covering::{Ad, Sub};
+use filter_types::{Advert, overlaps};
+use std::alloc::Global;
+
+// Filters that share their constraints with these.
+fn copied_subs(alloc: Global, subs: &[Sub]) -> Result<Vec<Sub>, NoMemory>
+    ensures { IfOk result (λ copies. copies.items ≡ subs.now) }
+{
+    let mut copies = Vec::with_capacity(alloc, subs.len())?;
+    for sub in subs {
+        copies.push(Sub(sub.0.copy(alloc)?))?;
+    }
+    Ok(copies)
+}
+
+// Advertisements that share their constraints with these.
+fn copied_ads(alloc: Global, ads: &[Ad]) -> Result<Vec<Ad>, NoMemory>
+    ensures { IfOk result (λ copies. copies.items ≡ ads.now) }
+{
+    let mut copies = Vec::with_capacity(alloc, ads.len())?;
+    for ad in ads {
+        copies.push(Ad(ad.0.copy(alloc)?))?;
+    }
+    Ok(copies)
+}
+
+// Whether the filter overlaps the advertisement.
+fn is_met(sub: &Sub, advert: &Advert) -> bool
+    ensures { result ≡ overlaps sub.now advert.now }
+{
+    overlaps(&sub.0, advert)
+}
+
+// The numbers of the filters that overlap an advertisement.
+fn overlap_row(alloc: Global, filters: &[Sub], advert: &Advert) -> Result<Row, NoMemory>
+    requires { length filters.now < 2 ^ 32 }
+    ensures { IfOk result (λ row. row ≡ overlap_row filters.now advert.now) }
+{
+    let mut row = Row::new(alloc, filters.len() as u32)?;
+    for i in 0..filters.len() {
+        let holds = is_met(&filters[i], advert);
+        put_if(&mut row, i as u32, holds);
+    }
+    Ok(row)
+}
+
+// The same for each advertisement.
+fn overlap_rows(alloc: Global, filters: &[Sub], adverts: &[Ad]) -> Result<Vec<Row>, NoMemory>
+    requires { length filters.now < 2 ^ 32 }
+    ensures { IfOk result (λ rows. rows.items ≡ overlap_rows filters.now adverts.now) }
+{
+    let mut rows = Vec::with_capacity(alloc, adverts.len())?;
+    for ad in adverts {
+        rows.push(overlap_row(alloc, filters, &ad.0)?)?;
+    }
+    Ok(rows)
+}
+
+impl<'a> Catalogue<'a> {
+    ghost use Rattle.std.specs.Prelude.{◌≡◌, IfOk};
+    ghost use Rattle.net_tables.specs.Known.{known_filters, known_adverts};
+    ghost use Rattle.net_tables.specs.Related.{overlap_rows};
+
+    /// The filters by their numbers, with the rows that tell which covers which.
+    pub fn filter_order(&self, alloc: Global) -> Result<Order<Sub>, NoMemory>
+        ensures { IfOk result (λ order. order ≡ known_filters self.now.clients) }
+    {
+        self.lemma_sound();
+        let words = text_words(alloc, self.filters())?;
+        Order::narrowed(alloc, copied_subs(alloc, self.filters())?, words)
+    }
+
+    /// The advertisements by their numbers, with the rows that tell which covers which.
+    pub fn advert_order(&self, alloc: Global) -> Result<Order<Ad>, NoMemory>
+        ensures { IfOk result (λ order. order ≡ known_adverts self.now.clients) }
+    {
+        self.lemma_sound();
+        Order::new(alloc, copied_ads(alloc, self.adverts())?)
+    }
+
+    /// For each advertisement the row of the numbers of the filters that overlap it.
+    pub fn overlaps(&self, alloc: Global) -> Result<Vec<Row>, NoMemory>
+        ensures { IfOk result (λ rows. rows.items ≡ overlap_rows (known_filters self.now.clients) (known_adverts self.now.clients)) }
+    {
+        self.lemma_sound();
+        overlap_rows(alloc, self.filters(), self.adverts())
+    }
+}

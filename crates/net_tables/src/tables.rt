@@ -1,0 +1,111 @@
+//! The tables of a run: the catalogue of its net with the rows of covering and overlap.
+ghost use Rattle.std.specs.Prelude.{◌≡◌, ◌<◌, length, IfOk};
+ghost use Rattle.net_model.specs.Sound.{IsSound};
+ghost use Rattle.net_tables.specs.Known.{known_filters, known_adverts, known_publications};
+ghost use Rattle.net_tables.specs.Related.{overlap_rows};
+ghost use Rattle.net_tables.specs.Found.{IsFound, publication_at};
+
+use crate::Catalogue;
+use crate::found::{Found, find_all};
+use base::NoMemory;
+use base_bits::Row;
+use base_order::Order;
+use filter_covering::{Ad, Sub};
+use filter_text::Semantics;
+use net_model::Net;
+use std::alloc::Global;
+use std::marker::Model;
+
+/// The catalogue of a net, for its filters and advertisements the rows that tell which covers which and which overlap, and
+/// each publication with the filters that it matches. Contracts see the net, of which all is a function.
+#[derive(Drop)]
+pub struct Tables<'a> {
+    catalogue: Catalogue<'a>,
+    filters: Order<Sub>,
+    adverts: Order<Ad>,
+    overlaps: Vec<Row>,
+    publications: Vec<Found>,
+}
+
+impl<'a> Model for Tables<'a> {
+    ghost use Rattle.net_model.specs.Parts.{NetParts};
+    ghost use Rattle.net_tables.specs.Tables.{AreTables};
+    ghost use Rattle.net_tables.specs.Found.{AreFound};
+
+    ghost Value = { NetParts };
+
+    ghost view = { λ t. t.catalogue };
+
+    ghost invariant = { λ t. AreTables t.catalogue t.filters t.adverts t.overlaps.items × AreFound t.catalogue t.publications.items };
+}
+
+impl<'a> Tables<'a> {
+    /// The tables of a net. All their memory is taken here.
+    pub fn of(alloc: Global, net: &'a Net) -> Result<Tables<'a>, NoMemory>
+        requires { IsSound net.now }
+        ensures { IfOk result (λ tables. tables ≡ net.now) }
+    {
+        let catalogue = Catalogue::of(alloc, net)?;
+        let filters = catalogue.filter_order(alloc)?;
+        let adverts = catalogue.advert_order(alloc)?;
+        let overlaps = catalogue.overlaps(alloc)?;
+        let publications = find_all(alloc, &catalogue)?;
+        Ok(Tables {
+            catalogue,
+            filters,
+            adverts,
+            overlaps,
+            publications,
+        })
+    }
+
+    /// The net.
+    pub fn net(&self) -> &'a Net
+        ensures { result.now ≡ self.now }
+    {
+        self.catalogue.net()
+    }
+
+    /// The catalogue.
+    pub fn catalogue(&self) -> &Catalogue<'a>
+        ensures { result.now ≡ self.now }
+    {
+        &self.catalogue
+    }
+
+    /// Whether advertisements steer the filters.
+    pub fn semantics(&self) -> Semantics
+        ensures { result ≡ self.now.semantics }
+    {
+        self.catalogue.net().semantics
+    }
+
+    /// The filters by their numbers.
+    pub fn filters(&self) -> &Order<Sub>
+        ensures { result.now ≡ known_filters self.now.clients }
+    {
+        &self.filters
+    }
+
+    /// The advertisements by their numbers.
+    pub fn adverts(&self) -> &Order<Ad>
+        ensures { result.now ≡ known_adverts self.now.clients }
+    {
+        &self.adverts
+    }
+
+    /// For each advertisement the row of the filters that overlap it.
+    pub fn overlaps(&self) -> &[Row]
+        ensures { result.now ≡ overlap_rows (known_filters self.now.clients) (known_adverts self.now.clients) }
+    {
+        &self.overlaps
+    }
+
+    /// The publication with a number.
+    pub fn found(&self, number: u32) -> &Found
+        requires { number < length (known_publications 1 self.now.clients) }
+        ensures { IsFound self.now (publication_at self.now number) result.now }
+    {
+        &self.publications[number as usize]
+    }
+}

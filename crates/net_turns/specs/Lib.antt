@@ -1,0 +1,10 @@
+pub mod Network
+pub mod Turns
+pub mod Stopping
+pub mod Walked
+pub mod Sessions
+pub mod Trying
+pub mod Reading
+pub mod Told
+pub mod Retold
+pub mod Kinds

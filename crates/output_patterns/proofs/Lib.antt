@@ -1,0 +1,12 @@
+pub mod Occurrences
+pub mod Scanning
+pub mod Laws
+pub mod Feeding
+pub mod Parting
+pub mod Stepping
+pub mod Reading
+pub mod Sound
+pub mod Labels
+pub mod Chain
+pub mod Occurring
+pub mod Lookup

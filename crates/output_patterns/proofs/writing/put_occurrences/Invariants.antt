@@ -1,0 +1,16 @@
+use Rattle.std.proofs.Common.{◌≡◌, take}
+use Rattle.std.specs.List.{flat_map}
+use Rattle.base_devices.specs.Pending.{outlet, Went}
+use Rattle.output_patterns.specs.Scan.{all_occurrences}
+use Rattle.output_patterns.specs.Published.{notices_of}
+use Rattle.output_patterns.specs.Found.{found_line}
+use Rattle.output_patterns.proofs.writing.put_occurrences.Given as goal
+
+-- what occurs in the deliveries so far went
+abbrev pub invariant-loop-delivery : goal.invariant-loop-delivery
+invariant-loop-delivery g l =
+    (l.detector.steps ≡ l.initial.detector.steps)
+    × (l.detector.fed ≡ notices_of l.notices (take l.delivery-index l.heard.deliveries.now))
+    × Went (outlet (g.K.Sink.taken l.initial.sink) (g.K.Sink.faults l.initial.sink) l.initial.out)
+    (outlet (g.K.Sink.taken l.sink) (g.K.Sink.faults l.sink) l.out)
+    (flat_map (found_line l.heard.names.now l.heard.deliveries.now) (all_occurrences l.initial.detector.steps (notices_of l.notices (take l.delivery-index l.heard.deliveries.now))))

@@ -1,0 +1,12 @@
+pub mod Pattern
+pub mod Scan
+pub mod Heard
+pub mod Parts
+pub mod Cut
+pub mod Steps
+pub mod Rules
+pub mod Watch
+pub mod Reading
+pub mod Published
+pub mod Found
+pub mod All

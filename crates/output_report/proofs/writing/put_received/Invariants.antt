@@ -1,0 +1,10 @@
+use Rattle.std.proofs.Common.{take}
+use Rattle.std.specs.List.{flat_map}
+use Rattle.base_devices.specs.Pending.{outlet, Went}
+use Rattle.output_report.specs.Deliveries.{delivery_line}
+use Rattle.output_report.proofs.writing.put_received.Given as goal
+
+-- the lines so far went
+abbrev pub invariant-loop-delivery : goal.invariant-loop-delivery
+invariant-loop-delivery g l = Went (outlet (g.K.Sink.taken l.initial.sink) (g.K.Sink.faults l.initial.sink) l.initial.out)
+    (outlet (g.K.Sink.taken l.sink) (g.K.Sink.faults l.sink) l.out) (flat_map (delivery_line l.clients) (take l.delivery-index l.received))

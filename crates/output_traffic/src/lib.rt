@@ -1,0 +1,21 @@
+//! Layer: output.
+//! Job: what each link of a net carried in a run, beside what plain flooding would have sent over it: definition, laws, text and graph.
+//! Users: program_sequential.
+//!
+//! The text and the graph are written piece by piece.
+#![tactic(auto)]
+
+mod carried;
+mod counts;
+mod directions;
+mod flood;
+mod graph;
+pub mod law;
+mod line;
+mod links;
+mod loads;
+mod text;
+mod traffic;
+
+pub use carried::Carried;
+pub use traffic::Traffic;

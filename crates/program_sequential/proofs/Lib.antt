@@ -1,0 +1,17 @@
+pub mod Inboxes
+pub mod SameNets
+pub mod Flooded
+pub mod Settled
+pub mod Phased
+pub mod Headlines
+pub mod Hierarchies
+pub mod HierarchyClients
+pub mod HierarchyRuns
+pub mod Schedules
+pub mod Ended
+pub mod Sources
+pub mod Heard
+pub mod Searched
+pub mod Confirmed
+pub mod Carrying
+pub mod Answering

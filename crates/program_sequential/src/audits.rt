@@ -1,0 +1,74 @@
+//! Whether the output of an input is that of a whole run.
+ghost use Rattle.std.specs.Prelude.{◌≡◌, ◌≤◌, ℕ, List, length, IfOk};
+ghost use Rattle.net_model.specs.Parts.{EntryParts};
+ghost use Rattle.audit_claim.specs.Claim.{EndsLine, with_output};
+ghost use Rattle.program_sequential.specs.declared.words.Schedule.{Schedule};
+ghost use Rattle.program_sequential.specs.Headline.{Headline};
+ghost use Rattle.program_sequential.specs.Audits.{CanConfirm, audit_text, traced};
+ghost use Rattle.program_sequential.specs.Auditing.{AuditsInput};
+
+use crate::body::Body;
+use crate::law::lemma_promise;
+use crate::notices::lemma_notices;
+use crate::printed::Printed;
+use crate::unanswered::Unanswered;
+use audit_verdict::{Audited, audit};
+use base::{NoMemory, push_number};
+use document_reader::law::lemma_net_sound;
+use net_journal::{Journal, Record};
+use std::alloc::Global;
+
+// How much a confirmed run has, as a text.
+fn counts_text(alloc: Global, entries: u64, owed: u64, deliveries: u64) -> Result<Vec<u8>, NoMemory>
+    ensures { IfOk result (λ text. text.items ≡ audit_text entries owed deliveries) }
+{
+    let mut out = Vec::new(alloc);
+    out.extend_from_slice(b"audit yes entries ")?;
+    push_number(&mut out, entries)?;
+    out.extend_from_slice(b" owed ")?;
+    push_number(&mut out, owed)?;
+    out.extend_from_slice(b" deliveries ")?;
+    push_number(&mut out, deliveries)?;
+    out.extend_from_slice(b"\n")?;
+    Ok(out)
+}
+
+// What is printed of a confirmed run.
+fn confirmed(alloc: Global, audited: Audited) -> Result<Printed, NoMemory>
+    ensures text { IfOk result (λ p. p.text ≡ audit_text (length audited.journal.items) audited.owed audited.deliveries) }
+    ensures journal { IfOk result (λ p. p.journal ≡ audited.journal.items) }
+{
+    let Audited {
+        net: _,
+        journal,
+        owed,
+        deliveries,
+    } = audited;
+    let text = counts_text(alloc, journal.len() as u64, owed, deliveries)?;
+    Printed::make(alloc, Body::Nothing, text, Record::of(Journal::of(journal)))
+}
+
+/// Whether the output is that of a whole run, by an input of at most 268,435,456 bytes, or why nothing is written.
+pub fn of_audit(alloc: Global, bytes: &[u8]) -> Result<Printed, Unanswered>
+    requires { length bytes.now ≤ 268435456 }
+    ensures { AuditsInput bytes.now result }
+{
+    lemma_promise();
+    lemma_net_sound();
+    let audited = match audit(alloc, bytes) {
+        Ok(audited) => audited,
+        Err(fault) => return Err(Unanswered::from(fault)),
+    };
+    lemma_notices(&audited.net);
+    match confirmed(alloc, audited) {
+        Ok(printed) => Ok(printed),
+        Err(NoMemory) => Err(Unanswered::NoMemory),
+    }
+}
+
+/// What is printed of a document in the order received with its trace is confirmed, whatever the schedule: put behind its document, whose last line is ended,
+/// and the line `output`, where all that is not too long.
+pub fn printed_is_confirmed()
+    ensures { (schedule : Schedule) (input text : List ℕ) (journal : List EntryParts) → Headline schedule traced input text journal → EndsLine input
+        → length (with_output input text) ≤ 268435456 → CanConfirm (with_output input text) }
+{}

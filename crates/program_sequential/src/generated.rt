@@ -1,0 +1,39 @@
+//! Makes the text that is printed for a seed.
+ghost use Rattle.std.specs.Prelude.{IfOk};
+ghost use Rattle.program_sequential.specs.Printed.{IsSummaryOf};
+ghost use Rattle.program_sequential.specs.Answers.{IsGenerated};
+
+use crate::body::Body;
+use crate::printed::Printed;
+use crate::ran::walked;
+use crate::reading::net;
+use crate::summary::run_summary;
+use base::NoMemory;
+use document_generate::generate;
+use sequential_network::Kept;
+use std::alloc::Global;
+
+// The summary of the walk of a document that has a net. One that has none, as no generated document is, would be told as
+// out of memory, which is the one answer that needs no cause.
+fn summary(alloc: Global, bytes: &[u8]) -> Result<Printed, NoMemory>
+    ensures { IfOk result (λ p. IsSummaryOf bytes.now p.text p.journal) }
+{
+    let Ok(net) = net(alloc, bytes) else {
+        return Err(NoMemory);
+    };
+    let ran = walked::<Kept>(alloc, &net)?;
+    let text = run_summary(alloc, &net, &ran)?;
+    Printed::make(alloc, Body::Nothing, text, ran.journal)
+}
+
+/// The document that a seed makes, or the summary of its walk.
+pub fn of_seed(alloc: Global, seed: u64, summarized: bool) -> Result<Printed, NoMemory>
+    ensures { IfOk result (λ p. IsGenerated seed summarized p.text p.journal) }
+{
+    let document = generate(alloc, seed)?;
+    if summarized {
+        summary(alloc, &document)
+    } else {
+        Printed::alone(alloc, document)
+    }
+}

@@ -1,0 +1,115 @@
+//! The reasons why nothing is written, whatever was asked for.
+ghost use Rattle.std.specs.Prelude.{◌≡◌};
+ghost use Rattle.program_sequential.specs.Answering.{of_audit_fault, of_input_fault, of_pattern_fault, of_unread, status_of, widened};
+
+use crate::printed::Printed;
+use crate::status::Status;
+use audit_verdict::{AuditFault, AuditKind};
+use base_devices::ReadAll;
+use document_reader::{Fault, InputFault};
+use output_patterns::{PatternFault, PatternKind};
+
+/// Why nothing is written.
+#[derive(Clone, Copy, Debug, PartialEq, Eq)]
+pub enum Unanswered {
+    /// The document is refused, or a turn of its schedule isn't permitted; or the input is too long.
+    BadInput {
+        /// The line.
+        line: u32,
+        /// Its fault.
+        kind: Fault,
+    },
+    /// A line behind the line `patterns` is at fault.
+    BadPattern {
+        /// The line.
+        line: u32,
+        /// Its fault.
+        kind: PatternKind,
+    },
+    /// The output that is audited is not that of a whole run.
+    Refuted {
+        /// The first line at which that shows.
+        line: u32,
+        /// What shows there.
+        kind: AuditKind,
+    },
+    /// The input could not be read.
+    ReadFault,
+    /// Memory ran out.
+    NoMemory,
+}
+
+impl Unanswered {
+    /// The status that tells it.
+    pub fn status(self) -> Status
+        ensures { result ≡ status_of self }
+    {
+        match self {
+            Unanswered::BadInput { line, kind } => Status::BadInput { line, kind },
+            Unanswered::BadPattern { line, kind } => Status::BadPattern { line, kind },
+            Unanswered::Refuted { line, kind } => Status::Refuted { line, kind },
+            Unanswered::ReadFault => Status::ReadFault,
+            Unanswered::NoMemory => Status::NoMemory,
+        }
+    }
+}
+
+impl From<InputFault> for Unanswered {
+    ghost from_gives = { λ fault e. e ≡ of_input_fault fault };
+
+    fn from(fault: InputFault) -> Self {
+        match fault {
+            InputFault::Bad { line, kind } => Unanswered::BadInput { line, kind },
+            InputFault::NoMemory => Unanswered::NoMemory,
+        }
+    }
+}
+
+impl From<ReadAll> for Unanswered {
+    ghost from_gives = { λ fault e. e ≡ of_unread fault };
+
+    fn from(fault: ReadAll) -> Self {
+        match fault {
+            ReadAll::TooLong => Unanswered::BadInput {
+                line: 0,
+                kind: Fault::TooLong,
+            },
+            ReadAll::Failed => Unanswered::ReadFault,
+            ReadAll::NoMemory => Unanswered::NoMemory,
+        }
+    }
+}
+
+impl From<PatternFault> for Unanswered {
+    ghost from_gives = { λ fault e. e ≡ of_pattern_fault fault };
+
+    fn from(fault: PatternFault) -> Self {
+        match fault {
+            PatternFault::Document { line, kind } => Unanswered::BadInput { line, kind },
+            PatternFault::Bad { line, kind } => Unanswered::BadPattern { line, kind },
+            PatternFault::NoMemory => Unanswered::NoMemory,
+        }
+    }
+}
+
+impl From<AuditFault> for Unanswered {
+    ghost from_gives = { λ fault e. e ≡ of_audit_fault fault };
+
+    fn from(fault: AuditFault) -> Self {
+        match fault {
+            AuditFault::Document { line, kind } => Unanswered::BadInput { line, kind },
+            AuditFault::Refuted { line, kind } => Unanswered::Refuted { line, kind },
+            AuditFault::NoMemory => Unanswered::NoMemory,
+        }
+    }
+}
+
+/// An answer about a document, among all answers.
+pub fn widened(answer: Result<Printed, InputFault>) -> Result<Printed, Unanswered>
+    ensures { result ≡ widened answer }
+{
+    match answer {
+        Ok(printed) => Ok(printed),
+        Err(fault) => Err(Unanswered::from(fault)),
+    }
+}

@@ -1,0 +1,48 @@
+//! The top call for all words over standard input and output.
+ghost use Rattle.std.specs.Prelude.{◌≡◌, ◌≢◌, ◌≤◌, ◌<◌, ◌⊎◌, [], true, false, length};
+ghost use Rattle.std.specs.Io.KnownBytes.{Consumes, IsAtEnd};
+ghost use Rattle.program_sequential.specs.Words.{wanted_by};
+ghost use Rattle.program_sequential.specs.Answers.{reads, most_read, CanAnswer};
+ghost use Rattle.program_sequential.specs.Outcomes.{IsOutcome};
+
+use crate::top::siena;
+use base_devices::{Gate, StdSink, StdSource};
+use program_sequential::{Over, Status, Word};
+use std::alloc::Global;
+use std::io::{Read, Write};
+use std::sync::Wait;
+use std::thread::Threads;
+
+/// Does what the words say over a reader and a writer as standard input and output, of which this program has read and
+/// written nothing before. A call with `run` returns where its threads do.
+pub fn with_devices<E: Threads + Wait + Sync, R: Read, W: Write, G: Gate + Sync>(
+    alloc: Global,
+    rt: &E,
+    words: &[Word],
+    input: R,
+    output: W,
+    gate: &G,
+) -> Over<R, W>
+    ensures outcome { IsOutcome (wanted_by words.now) [] result.source.given.bytes result.source.ended
+        [] result.sink.taken.bytes result.outcome.status result.outcome.journal.entries }
+    ensures sure { result.outcome.status ≡ Status.Done → (result.source.faults ≡ 0) × (result.sink.faults ≡ 0) }
+    ensures unread { reads (wanted_by words.now) ≡ false → result.source.given.bytes ≡ [] }
+    ensures at_most { length result.source.given.bytes ≤ most_read (wanted_by words.now) }
+    ensures told { reads (wanted_by words.now) ≡ true
+        → Consumes (R.remaining input) (R.remaining result.source.input) result.source.given.bytes }
+    ensures end { reads (wanted_by words.now) ≡ true → result.source.ended ≡ true → IsAtEnd (R.remaining result.source.input) }
+    ensures unwritten { result.outcome.status ≢ Status.Done → result.outcome.status ≢ Status.WriteFault → result.sink.taken.bytes ≡ [] }
+    ensures read_fault { result.outcome.status ≡ Status.ReadFault → 0 < result.source.faults }
+    ensures write_fault { result.outcome.status ≡ Status.WriteFault → 0 < result.sink.faults }
+    ensures complete { CanAnswer (wanted_by words.now) [] result.source.given.bytes result.source.ended → result.sink.faults ≡ 0
+        → (result.outcome.status ≡ Status.Done) ⊎ (result.outcome.status ≡ Status.NoMemory) }
+{
+    let mut source = StdSource::make(input);
+    let mut sink = StdSink::make(output);
+    let outcome = siena(alloc, rt, words, &mut source, &mut sink, gate);
+    Over {
+        outcome,
+        source,
+        sink,
+    }
+}

@@ -1,0 +1,40 @@
+//! Layer: sequential.
+//! Job: all servers on one thread, with the queues of links; the journal is a legal run of the net, whatever turns are asked for.
+//! Users: thread_outcome, and the layers hierarchy, audit and program.
+//!
+//! It has the cores of its servers with their installed forwarding tables, and the links between them. The tables of
+//! the run are made before it; a turn compares no filters and writes no text.
+#![tactic(auto)]
+
+mod begin;
+mod calm;
+mod forwarding_server;
+mod inboxes;
+mod keeping;
+mod links;
+mod making;
+mod network;
+mod queue;
+mod relinking;
+mod replaying;
+mod retelling;
+mod routing;
+mod ruled;
+mod scheduled;
+mod server;
+mod servers;
+mod telling;
+mod texts;
+mod waiting;
+mod walking;
+
+pub use forwarding_server::{ForwardingServer, unexhausted, unpublished};
+pub use keeping::{Keeping, Kept, Passed};
+pub use links::Links;
+pub use network::{Network, RuledNetwork};
+pub use retelling::retell;
+pub use routing::{route, routed};
+pub use ruled::{Networked, Ruled};
+pub use server::{Server, greatest_clock};
+pub use servers::Servers;
+pub use waiting::Waiting;

@@ -1,0 +1,15 @@
+pub mod Core
+pub mod Step
+pub mod Pending
+pub mod Ledger
+pub mod Acting
+pub mod Routed
+pub mod Next
+pub mod Clients
+pub mod Kept
+pub mod Showing
+pub mod Due
+pub mod Keeps
+pub mod Start
+pub mod Linked
+pub mod Putting

@@ -1,0 +1,10 @@
+pub mod Holdings
+pub mod Control
+pub mod Routing
+pub mod Inbox
+pub mod Session
+pub mod Plan
+pub mod Turn
+pub mod Own
+pub mod Flow
+pub mod Rows

@@ -1,0 +1,15 @@
+//! The type of a row: what is asked, and what must come.
+
+/// Words and a document, with what the program must tell and write.
+pub struct Row {
+    /// What it is for.
+    pub name: &'static str,
+    /// The words, with spaces between them.
+    pub words: &'static str,
+    /// The document.
+    pub document: &'static str,
+    /// The line to standard error, or nothing.
+    pub fault: &'static str,
+    /// What is written.
+    pub text: &'static str,
+}

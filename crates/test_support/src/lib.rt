@@ -1,0 +1,27 @@
+//! Layer: test.
+//! Job: rows of questions with their answers, and a source and a sink in memory that fail at given calls.
+//! Users: the test layer.
+//!
+//! A program of such rows reads them on its standard input, a row a line: the question, ` => `, and the answer that is
+//! wanted. A line that begins with `#`, or that is empty, is none. The crate also says why a program of rows printed
+//! nothing more.
+#![tactic(auto)]
+
+mod failure;
+mod fault;
+mod memory;
+mod parts;
+mod piece;
+mod rows;
+mod texts;
+
+pub use failure::Failure;
+pub use fault::RowFault;
+pub use memory::{MemorySink, MemorySource};
+pub use parts::{
+    first_word, number, put, put_number, put_truth, spelled, truth, truths, two_parts,
+};
+pub use rows::{Answers, try_rows};
+pub use texts::{
+    advert, adverts, filter, filters, first_constraint, first_value, notice, put_filter,
+};

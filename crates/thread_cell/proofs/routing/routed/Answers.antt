@@ -1,0 +1,14 @@
+use Rattle.std.proofs.Common.{IfOk, subst}
+use Rattle.base_bits.specs.Rows.{Numbers}
+use Rattle.match_routes.specs.Routes.{IsRouteBy}
+use Rattle.net_tables.specs.Found.{IsFound, publication_at}
+use Rattle.thread_versions.specs.Ends.{installed}
+use Rattle.thread_versions.specs.Pairs.{pairs_after}
+use Rattle.server_core.proofs.RoutesByPairs.{route-answered}
+use Rattle.thread_cell.proofs.routing.routed.Goals as goal
+
+pub returns : goal.returns
+returns c =
+    let is = subst (λ n. IsFound n (publication_at n c.args.number) c.found-found.result.now) c.tables.ensures c.found-found.ensures in
+    route-answered c.args.core.now (pairs_after (installed c.args.publisher.now)) c.requires.installed.pairs.pairs_are c.requires.installed.pairs.known (publication_at c.args.core.now.net c.args.number) c.found-found.result.now is c.route.result
+    (subst (λ (m : Numbers). IfOk c.route.result (λ r. IsRouteBy m.members (pairs_after (installed c.args.publisher.now)) r)) c.matched.ensures c.route.ensures)

@@ -1,0 +1,9 @@
+use Rattle.std.proofs.Common.{◌-◌}
+use Rattle.thread_versions.proofs.Alike.{AreSameBelow}
+use Rattle.thread_versions.proofs.comparing.have_same_members.Given as goal
+
+abbrev pub invariant-loop-number : goal.invariant-loop-number
+invariant-loop-number l = AreSameBelow l.one.members l.other.members l.at
+
+abbrev pub decreases-loop-number : goal.decreases-loop-number
+decreases-loop-number l = l.one.width - l.at

@@ -1,0 +1,52 @@
+//! The type of a match ahead: matched numbers with the route that was found.
+ghost use Rattle.std.specs.Prelude.{◌≡◌};
+ghost use Rattle.thread_versions.specs.Pairs.{pairs_after, route_of};
+
+use crate::comparing::have_same_members;
+use crate::history::Front;
+use base_bits::Row;
+use match_routes::Route;
+
+/// Matched numbers with their route by the first `seen` published changes.
+#[derive(Drop)]
+pub struct Ahead {
+    pub(crate) matched: Row,
+    pub(crate) route: Route,
+    pub(crate) front: Front,
+    ghost routed: { route ≡ route_of matched.members (pairs_after front.seen.log) },
+}
+
+impl Ahead {
+    ghost use Rattle.std.specs.Prelude.{◌↔◌, length, IsTrue};
+    ghost use Rattle.match_routes.specs.Routes.{IsRouteBy};
+    ghost use Rattle.thread_versions.specs.Ends.{matched_in, route_in, seen_in};
+
+    /// The numbers.
+    pub fn matched(&self) -> &Row
+        ensures { result.now.members ≡ matched_in self.now }
+    {
+        &self.matched
+    }
+
+    /// Whether these are the numbers.
+    pub fn is_of(&self, matched: &Row) -> bool
+        ensures { IsTrue result ↔ (matched_in self.now ≡ matched.now.members) }
+    {
+        have_same_members(&self.matched, matched)
+    }
+
+    /// Their route by the changes that were seen.
+    pub fn route(&self) -> &Route
+        ensures same { result.now ≡ route_in self.now }
+        ensures routed { IsRouteBy (matched_in self.now) (pairs_after (seen_in self.now)) (route_in self.now) }
+    {
+        &self.route
+    }
+
+    /// How many published changes were seen.
+    pub fn seen(&self) -> u128
+        ensures { result ≡ length (seen_in self.now) }
+    {
+        u128::from(self.front.count)
+    }
+}

@@ -1,0 +1,13 @@
+pub mod Lists
+pub mod Counted
+pub mod Waiting
+pub mod Trying
+pub mod Later
+pub mod Pairs
+pub mod Passes
+pub mod Rows
+pub mod WorkersByThread
+pub mod Sends
+pub mod Back
+pub mod Finished
+pub mod Takings

@@ -1,0 +1,4 @@
+pub mod Journals
+pub mod Work
+pub mod WorkerHandles
+pub mod ServerWorkers
