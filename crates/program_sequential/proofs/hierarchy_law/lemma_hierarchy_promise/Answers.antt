@@ -5,9 +5,9 @@ use Rattle.program_sequential.proofs.hierarchy_law.lemma_hierarchy_promise.Goals
 
 pub returns-clause-clients : goal.returns-clause-clients
 returns-clause-clients c = λ shown input net journal of whole notices.
-    let p = c.lemma_promise.ensures net journal whole in
+    let p = c.promise.ensures net journal whole in
     let run = run_of net p.laws journal p.legal in
     clients-promised net journal whole notices p (c.last_moment.ensures run) (c.never_twice.ensures.delivered run) shown input of
 
 pub returns-clause-network : goal.returns-clause-network
-returns-clause-network c = λ shown net journal whole walk. record { walk = walk; gives = refl; traced = refl; run = c.lemma_promise.ensures net journal whole }
+returns-clause-network c = λ shown net journal whole walk. record { walk = walk; gives = refl; traced = refl; run = c.promise.ensures net journal whole }
