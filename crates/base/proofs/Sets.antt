@@ -3,7 +3,7 @@ use Rattle.std.proofs.Common.{◌≡◌, Bool, true, false, cond, not, List, [],
 use Rattle.base.specs.Laws.{CoverLaws}
 use Rattle.base.specs.Sets.{Has, same, same_list, member, IsRising, put_in, union, minus, set_of, roots, is_root}
 use Rattle.base.proofs.Roots.{Has-filter, filter-Has, roots-iff}
-use Rattle.std.specs.List.{Contains, list_any, range_with_len}
+use Rattle.std.specs.List.{Contains, flat_map, list_any, range_with_len}
 use Rattle.base.specs.Numbers.{IsDistinct}
 use Rattle.std.specs.List.Sorted.{IsStrictlyIncreasing}
 use Rattle.std.proofs.Common.{IsTrue, Some, ap, eq-eqb, get_or, length, map, nat_lt, slice_get, suc, zero, ℕ, ◌++◌, ◌+◌, ◌-◌, ◌<◌, ◌==◌, ◌≤◌}
@@ -290,6 +290,16 @@ has-append-left x (y ∷ xs) ys (inr h) = inr (has-append-left x xs ys h)
 pub has-append-right : {X : Type 0} (s : X) (xs ys : List X) → Has s ys → Has s (xs ++ ys)
 has-append-right s [] ys h = h
 has-append-right s (x ∷ xs) ys h = inr (has-append-right s xs ys h)
+
+-- a member of lists one behind the other is a member of one of them
+pub has-flat_map : {A B : Type 0} (f : A → List B) (xs : List A) (y : B) → Has y (flat_map f xs) → (x : A) × Has x xs × Has y (f x)
+has-flat_map f [] y h = absurd h
+has-flat_map f (x ∷ xs) y h = elim (has-append y (f x) (flat_map f xs) h) [ inl a ↦ (x, inl refl, a) | inr b ↦ (let r = has-flat_map f xs y b in (r.0, inr r.1, r.2)) ]
+
+pub flat_map-has : {A B : Type 0} (f : A → List B) (xs : List A) (x : A) (y : B) → Has x xs → Has y (f x) → Has y (flat_map f xs)
+flat_map-has f [] x y h m = absurd h
+flat_map-has f (z ∷ xs) x y (inl q) m = has-append-left y (f z) (flat_map f xs) (subst (λ w. Has y (f w)) q m)
+flat_map-has f (z ∷ xs) x y (inr h) m = has-append-right y (f z) (flat_map f xs) (flat_map-has f xs x y h m)
 
 pub has-contains : {X : Type 0} (x : X) (xs : List X) → Has x xs → Contains xs x
 has-contains x [] h = absurd h

@@ -14,11 +14,12 @@ use Rattle.law_routing.specs.Change.{client_sets, on_tree}
 use Rattle.law_routing.proofs.Along.{tree}
 use Rattle.law_routing.proofs.Listing.{has-one}
 use Rattle.law_routing.proofs.Flows.{settled-flow, settled-flow_ad}
+use Rattle.law_routing.proofs.Rooted.{held-roots}
 use Rattle.law_phases.specs.Trees.{Tree, State, off, tree_at, net_at, machine_at, at_phase, is_one_tree}
 use Rattle.law_phases.specs.Moments.{begun}
 use Rattle.law_phases.specs.Runs.{PhasedRun}
 use Rattle.law_phases.specs.AtMoments.{states, phases}
-use Rattle.law_phases.specs.Looking.{HoldsSame}
+use Rattle.law_phases.specs.Looking.{HoldsSame, HoldsRoots}
 use Rattle.law_phases.proofs.Nets.{net-on, net-laws}
 use Rattle.law_phases.proofs.Whole.{rest-at-end, quiet-rests}
 use Rattle.base.proofs.Sets.{has-append, has-map}
@@ -151,3 +152,9 @@ module _ (th : Theory) (laws : TheoryLaws th) (run : PhasedRun th) (n : ℕ) (qu
         settled-flow th z (side_size z.hop z.servers) (tree th laws z good) (states th run n).state on-links t u near,
         settled-flow_ad th z (side_size z.hop z.servers) (tree th laws z good) (states th run n).state on-links t u near,
       )
+
+  -- and, without advertisements, the roots of all that the clients beyond subscribe to
+  pub quiet-roots : run.net.adverts ≡ false → (t u : ℕ) → Has u ((net_at th run.net (phases th run n)).links t) → HoldsRoots th run n t u
+  quiet-roots plain t u near =
+      held-roots th laws (net_at th run.net (phases th run n)) (net-laws th run.net run.laws (phases th run n)) plain
+      (at_phase th run.net (phases th run n) (states th run n)) (quiet-rests th laws run n quiet) t u near

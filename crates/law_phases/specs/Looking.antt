@@ -1,12 +1,13 @@
 -- What servers know of each other, and what flows.
 use Rattle.std.specs.Prelude.{◌≡◌, ℕ, ◌≤◌, true, List, length}
-use Rattle.base.specs.Sets.{Has}
+use Rattle.base.specs.Sets.{Has, roots}
 use Rattle.law_routing.specs.Theory.{Theory}
 use Rattle.law_routing.specs.Server.{sent, sent_adverts, interfaces}
 use Rattle.law_routing.specs.Rest.{IsOnwardWay, IsAtRest}
+use Rattle.law_routing.specs.Beyond.{filters_beyond}
 use Rattle.law_routing.specs.AsOf.{calm, back, as_of}
 use Rattle.law_routing.specs.Flow.{flow, flow_ad}
-use Rattle.law_phases.specs.Trees.{State, net_at, tree_at, is_one_tree}
+use Rattle.law_phases.specs.Trees.{State, on, net_at, tree_at, is_one_tree}
 use Rattle.law_phases.specs.Moments.{begun}
 use Rattle.law_phases.specs.Runs.{PhasedRun}
 use Rattle.law_phases.specs.AtMoments.{states, seen, phase_seen, net_then, net_seen, states_on, IsQuietAt, EndsQuiet}
@@ -65,6 +66,16 @@ module _ (theory : Theory) (run : PhasedRun theory) where
   abbrev pub filters_flowing : ℕ → ℕ → ℕ → List theory.Filter
   filters_flowing n server neighbour =
       flow theory (net_then theory run n) (λ v. ((states theory run n).state v).subs) (λ v. ((states theory run n).state v).advs) server neighbour
+
+  -- the union of the lists of the clients that live at a neighbour or beyond it, after n entries, on the tree in force
+  abbrev pub filters_listed_beyond : ℕ → ℕ → ℕ → List theory.Filter
+  filters_listed_beyond n server neighbour =
+      filters_beyond theory (net_then theory run n) (on theory (net_then theory run n) (states theory run n)) server neighbour
+
+  -- COVERING: after n entries a server holds of a neighbour exactly the covering roots of that
+  abbrev pub HoldsRoots : ℕ → ℕ → ℕ → Type 0
+  HoldsRoots n server neighbour =
+      ((states theory run n).state server).subs neighbour ≡ roots theory.covers theory.before (filters_listed_beyond n server neighbour)
 
   -- the advertisements
   abbrev pub adverts_flowing : ℕ → ℕ → ℕ → List theory.Advert

@@ -26,7 +26,7 @@ ghost use Rattle.law_phases.specs.Sequence.{AreByPhase, HappensBefore, PassesBef
 ghost use Rattle.law_phases.specs.Economy.{AreClients, CarriesNoMore, CarriesAsManyWhereDue};
 ghost use Rattle.law_phases.specs.Settled.{IsWayFromHome, IsSettledFromHome, IsSettledTo, IsSettledOn, IsAllReceivedBy, IsDeliveredOnceBy};
 ghost use Rattle.law_phases.specs.Looking.{IsLinkAt, back_at, calm_at, as_of_at, filters_sent, adverts_sent, LooksBack};
-ghost use Rattle.law_phases.specs.Looking.{IsQuietLink, filters_flowing, adverts_flowing, IsSameTree, HoldsStill, IsInterface};
+ghost use Rattle.law_phases.specs.Looking.{IsQuietLink, HoldsRoots, filters_flowing, adverts_flowing, IsSameTree, HoldsStill, IsInterface};
 ghost use Rattle.law_phases.specs.OneTree.{HasOneTree, IsRunOnTree, state_on_tree, walk_off_tree};
 ghost use Rattle.law_phases.specs.Bounds.{KeepsBounds};
 ghost use Rattle.law_phases.specs.Cells.{IsBetween, PhaseDone, end_after, entries_after, journals_after};
@@ -272,6 +272,13 @@ pub fn quiet_flows<M: Matching>()
         → ((states M.theory run n).state server).subs neighbour ≡ filters_flowing M.theory run n server neighbour }
     ensures adverts { (run : PhasedRun M.theory) (n server neighbour : ℕ) → IsQuietLink M.theory run n server neighbour
         → ((states M.theory run n).state server).advs neighbour ≡ adverts_flowing M.theory run n server neighbour }
+{}
+
+/// At a quiet moment, under subscription semantics, each server holds of a neighbour, on the tree in force, exactly the covering roots of the union of the
+/// lists of the clients that live at the neighbour or beyond it.
+pub fn holds_roots<M: Matching>()
+    ensures { (run : PhasedRun M.theory) → run.net.adverts ≡ false → (n server neighbour : ℕ) → IsQuietLink M.theory run n server neighbour
+        → HoldsRoots M.theory run n server neighbour }
 {}
 
 /// A later tree that is the one in force again changes no set: what a server holds of each of its interfaces, and has installed, is as before. So it

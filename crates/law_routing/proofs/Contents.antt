@@ -19,7 +19,7 @@ use Rattle.law_routing.proofs.Spreading.{reception_of, table_update}
 use Rattle.law_routing.proofs.Listing.{has-one}
 
 module _ (th : Theory) (orders : TheoryLaws th) (net : Net th) (numbered : NetLaws th net) where
-  rising-gather : (sets : ℕ → List th.Filter) (l : ℕ) (is : List ℕ) → IsRising th.before (union_except th.before sets l is)
+  pub rising-gather : (sets : ℕ → List th.Filter) (l : ℕ) (is : List ℕ) → IsRising th.before (union_except th.before sets l is)
   rising-gather sets l [] = tt
   rising-gather sets l (i ∷ is) = go (i == l) (rising-gather sets l is)
     where

@@ -36,3 +36,4 @@ pub mod Drained
 pub mod Commanded
 pub mod Walked
 pub mod Changed
+pub mod Rooted

@@ -6,7 +6,7 @@
 #![tactic(auto)]
 
 ghost use Rattle.std.specs.Prelude.{Bool, false, ◌≡◌, ◌≤◌, ◌<◌, ◌⊎◌, ◌↔◌, ℕ, suc, List, [], ◌∷◌, length, take};
-ghost use Rattle.base.specs.Sets.{Has};
+ghost use Rattle.base.specs.Sets.{Has, roots};
 ghost use Rattle.base_tree.specs.Hops.{AreHops, side_size};
 ghost use Rattle.law_machine.specs.Runs.{MachineLaws};
 ghost use Rattle.law_machine.specs.Content.{ContentLaws};
@@ -16,8 +16,9 @@ ghost use Rattle.law_routing.specs.Theory.{Theory, TheoryLaws};
 ghost use Rattle.law_routing.specs.Net.{Net, NetLaws, Subscribe, Unsubscribe, Advertise, Unadvertise};
 ghost use Rattle.law_routing.specs.Clients.{filters_step, adverts_step, refused_after, IsRefused};
 ghost use Rattle.law_routing.specs.Server.{Publication, ServerState, sent};
-ghost use Rattle.law_routing.specs.Routing.{routing_machine, opening, measure};
-ghost use Rattle.law_routing.specs.Rest.{IsOnwardWay, end_of, HasWay};
+ghost use Rattle.law_routing.specs.Routing.{Network, routing_machine, opening, measure};
+ghost use Rattle.law_routing.specs.Rest.{IsAtRest, IsOnwardWay, end_of, HasWay};
+ghost use Rattle.law_routing.specs.Beyond.{filters_beyond};
 ghost use Rattle.law_routing.specs.AsOf.{calm, back};
 ghost use Rattle.law_routing.specs.Order.{IsAuthentic};
 ghost use Rattle.law_routing.specs.Start.{IsStart};
@@ -260,6 +261,14 @@ pub fn rest_flows<M: Matching>()
     ensures filters { (net : Net M.theory) → NetLaws M.theory net → (state : ℕ → ServerState M.theory) → AgreesOnLinks M.theory net state
         → (server neighbour : ℕ) → Has neighbour (net.links server)
         → (state server).subs neighbour ≡ flow M.theory net (λ v. (state v).subs) (λ v. (state v).advs) server neighbour }
+{}
+
+/// At rest, under subscription semantics, each server holds of a neighbour exactly the covering roots of the union of the lists of
+/// the clients that live at the neighbour or beyond it.
+pub fn rest_holds_roots<M: Matching>()
+    ensures { (net : Net M.theory) → NetLaws M.theory net → net.adverts ≡ false → (network : Network M.theory net) → IsAtRest M.theory net network
+        → (server neighbour : ℕ) → Has neighbour (net.links server)
+        → (network.state server).subs neighbour ≡ roots M.theory.covers M.theory.before (filters_beyond M.theory net network server neighbour) }
 {}
 
 /// Servers set on a tree by their clients' sets alone agree on its links.

@@ -4,9 +4,9 @@ use Rattle.base.specs.Sets.{Has}
 use Rattle.filter_types.specs.Notice.{Attribute}
 use Rattle.law_routing.specs.Owed.{IsPublication, IsMomentOfPhase, IsAdvertisedThroughout, IsOwed, IsAllowed}
 use Rattle.law_routing.specs.Server.{Publication}
-use Rattle.law_phases.specs.Owing.{IsOwedByScripts, IsAllowedByScripts}
+use Rattle.law_phases.specs.Owing.{IsOwedByScripts, IsDueByScripts, IsAllowedByScripts}
 use Rattle.net_model.specs.Real.{real}
-use Rattle.law_hierarchy.specs.HierarchyRun.{HierarchyRun, IsOwedTo, IsAllowedTo, inbox_of}
+use Rattle.law_hierarchy.specs.HierarchyRun.{HierarchyRun, IsOwedTo, IsFloodOwedTo, IsAllowedTo, inbox_of}
 use Rattle.law_hierarchy.specs.Masters.{HierarchyLaws}
 use Rattle.hierarchy_turns.specs.Network.{net_of, run_of, IsLegal}
 use Rattle.hierarchy_turns.specs.Promise.{DeliversStably}
@@ -15,7 +15,7 @@ use Rattle.net_model.specs.Nets.{phased_net, clients_of, home_of}
 use Rattle.output_flood.specs.Flooding.{net_in}
 
 module _ (net : NetParts) (k l : ℕ) where
-  published : (q o p : ℕ) (n : List Attribute) → IsPublication real (net_in net k) q o p n → IsPublication real (net_in net l) q o p n
+  pub published : (q o p : ℕ) (n : List Attribute) → IsPublication real (net_in net k) q o p n → IsPublication real (net_in net l) q o p n
   published q o p n h = record {
     index = h.index;
     command = h.command;
@@ -55,6 +55,14 @@ module _ (net : NetParts) (laws : HierarchyLaws real (net_of net)) (journal : Li
     accepted = record { phase = o.phase; published = published net o.phase 0 p.publisher p.ordinal o.phase p.notice o.published; here = o.here };
     owed = owed net o.phase 0 p.publisher o.phase p.notice client o.owed;
     lives = o.lives;
+  }
+
+  -- what is due flooding owes
+  pub to-flood-owed : (p : Publication real) (client : ℕ) → IsDueByScripts real (phased_net net) p client → IsFloodOwedTo real run p client
+  to-flood-owed p client d = record {
+    accepted = record { phase = d.phase; published = published net d.phase 0 p.publisher p.ordinal d.phase p.notice d.published; here = d.here };
+    wanted = λ count m. d.due.wanted count (moment-back net d.phase 0 d.phase client count m);
+    lives = d.lives;
   }
 
   pub from-allowed : (p : Publication real) (client : ℕ) → IsAllowedTo real run p client → IsAllowedByScripts real (phased_net net) p client

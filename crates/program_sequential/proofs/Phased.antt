@@ -12,8 +12,7 @@ use Rattle.law_phases.proofs.Pieces.{published-at}
 use Rattle.net_model.specs.Real.{real, real_laws}
 use Rattle.filter_text.specs.declared.id.Id.{Id}
 use Rattle.net_model.specs.Meaning.{deliveries_of}
-use Rattle.program_sequential.specs.Promise.{id_of}
-use Rattle.program_sequential.specs.Network.{ids_of}
+use Rattle.program_sequential.specs.Promise.{id_of, ids_of}
 use Rattle.base.proofs.Sets.{get-has}
 
 -- an id stands where its publication does

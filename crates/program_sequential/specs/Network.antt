@@ -1,19 +1,16 @@
 -- What the network is promised to have done: by its journal.
-use Rattle.std.specs.Prelude.{◌≡◌, ◌↔◌, ℕ, ◌≤◌, List, map}
+use Rattle.std.specs.Prelude.{◌≡◌, ◌↔◌, ℕ, List}
 use Rattle.base.specs.Sets.{Has}
 use Rattle.law_routing.specs.Server.{Publication}
 use Rattle.law_phases.specs.Trees.{PhasedNetLaws}
 use Rattle.law_phases.specs.Runs.{PhasedRun}
-use Rattle.law_phases.specs.Owing.{IsPublishedIn, IsDueByScripts}
 use Rattle.law_phases.specs.Routes.{Routed, IsSentTo, IsWanted, IsDelivered, IsInForce}
-use Rattle.law_phases.specs.Sequence.{StandsBefore, HappensBefore, AreGivenInOrder}
+use Rattle.law_phases.specs.Sequence.{HappensBefore, AreGivenInOrder}
 use Rattle.law_phases.specs.Economy.{CarriesNoMore, CarriesAsManyWhereDue}
 pub use Rattle.law_phases.specs.Settled.{IsSettledOn}
 use Rattle.law_phases.specs.Settled.{IsAllReceivedBy, IsDeliveredOnceBy}
 use Rattle.law_phases.specs.Bounds.{KeepsBounds}
 use Rattle.net_model.specs.Real.{real}
-use Rattle.filter_text.specs.declared.delivery.Delivery.{Delivery}
-use Rattle.filter_text.specs.declared.id.Id.{Id}
 use Rattle.net_model.specs.Parts.{NetParts, EntryParts}
 use Rattle.net_model.specs.Meaning.{journal_of}
 use Rattle.net_model.specs.Nets.{phased_net}
@@ -22,7 +19,7 @@ use Rattle.output_traffic.specs.Flood.{clients_in}
 use Rattle.net_turns.specs.Network.{moment_by, IsLegal, IsDrainedBy, refused_by, received_by}
 use Rattle.program_sequential.specs.declared.words.Schedule.{Schedule}
 use Rattle.program_sequential.specs.declared.words.Shown.{Shown}
-use Rattle.program_sequential.specs.Runs.{GoesBy, IsClient}
+use Rattle.program_sequential.specs.Runs.{GoesBy}
 use Rattle.program_sequential.specs.Printed.{trace_of}
 use Rattle.program_sequential.specs.Promise.{ClientLists, id_of, times, AreOfNotices}
 
@@ -41,7 +38,7 @@ run_of net laws journal legal = record {
   legal = legal;
 }
 
--- a link carries a notice only where a client beyond it had a filter that matches, at the moment that the sender knew of by its last version
+-- a link carries a notice only where a client beyond it had a filter that matches, at the moment that the sender knew of by its last table update
 abbrev pub CarriesWanted : PhasedRun real → Type 0
 CarriesWanted run = (routed : Routed real run) (neighbour : ℕ) → IsSentTo real run routed neighbour → IsWanted real run routed neighbour
 
@@ -55,25 +52,10 @@ abbrev pub GivesSettledOnce : PhasedRun real → ClientLists → Type 0
 GivesSettledOnce run lists = (publication : Publication real) (client : ℕ) → IsSettledOn real run publication client
     → times (id_of publication) (lists.received client) ≡ 1
 
--- and after any n entries, by which its messages on that way are taken, it stood in the client's inbox exactly once
+-- and after any n entries, by which its messages on that way are received, it stood in the client's inbox exactly once
 abbrev pub GivesSettledBy : PhasedRun real → Type 0
 GivesSettledBy run = (publication : Publication real) (client : ℕ) (on_way : IsSettledOn real run publication client) (n : ℕ)
     → IsAllReceivedBy real run n publication client on_way → IsDeliveredOnceBy real run n publication client
-
--- each publication that is due to a client, which asks less than that it is owed, was delivered to it exactly once
-abbrev pub GivesDueOnce : NetParts → ClientLists → Type 0
-GivesDueOnce net lists = (publication : Publication real) (client : ℕ) → IsDueByScripts real (phased_net net) publication client
-    → times (id_of publication) (lists.received client) ≡ 1
-
--- the ids of deliveries
-abbrev pub ids_of : List Delivery → List Id
-ids_of deliveries = map (λ d. d.id) deliveries
-
--- BARRIER ORDER: of two deliveries to a client the second is of no earlier phase
-abbrev pub GivesByPhase : NetParts → ClientLists → Type 0
-GivesByPhase net lists = (client : ℕ) (one other : Publication real) (phase next : ℕ) → IsClient net client
-    → StandsBefore (ids_of (lists.received client)) (id_of one) (id_of other)
-    → IsPublishedIn real (phased_net net) phase one → IsPublishedIn real (phased_net net) next other → phase ≤ next
 
 -- CAUSAL ORDER: a publication stood in each inbox, after any n entries, before all that happened behind it
 abbrev pub GivesCausally : PhasedRun real → Type 0
@@ -81,7 +63,7 @@ GivesCausally run = (one : Publication real) (between : List (Publication real))
     → (n server client : ℕ) → AreGivenInOrder real run n server client one other
 
 -- WHAT THE NETWORK IS PROMISED TO HAVE DONE: its journal is legal and drained and gives these lists and this trace; a link carries only what a filter held
--- beyond it, as last published, matches; a settled publication was delivered exactly once; what an entry delivers goes by the filters in force; and the
+-- beyond it, as last announced, matches; a settled publication was delivered exactly once; what an entry delivers goes by the filters in force; and the
 -- entries are bounded by the commands and the servers, the stamps by the entries
 pub record RunPromise (shown : Shown) (net : NetParts) (journal : List EntryParts) (lists : ClientLists) (trace : List ℕ) : Type 0 where
   pub laws : PhasedNetLaws real (phased_net net)
@@ -92,8 +74,6 @@ pub record RunPromise (shown : Shown) (net : NetParts) (journal : List EntryPart
   pub carries_wanted : CarriesWanted (run_of net laws journal legal)
   pub settled_once : GivesSettledOnce (run_of net laws journal legal) lists
   pub settled_by : GivesSettledBy (run_of net laws journal legal)
-  pub due_once : GivesDueOnce net lists
-  pub by_phase : GivesByPhase net lists
   pub causal : GivesCausally (run_of net laws journal legal)
   pub never_more : CarriesNoMore real (run_of net laws journal legal) (clients_in net)
   pub as_many : CarriesAsManyWhereDue real (run_of net laws journal legal) (clients_in net)

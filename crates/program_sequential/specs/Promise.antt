@@ -1,11 +1,12 @@
 -- What the clients are promised: by the net of a document and the printed text alone.
-use Rattle.std.specs.Prelude.{◌≡◌, ℕ, suc, ◌≤◌, ◌==◌, ◌&&◌, Bool, true, cond, List, [], ◌∷◌, ◌++◌, slice_get, Some}
+use Rattle.std.specs.Prelude.{◌≡◌, ℕ, suc, ◌≤◌, ◌==◌, ◌&&◌, Bool, true, cond, List, [], ◌∷◌, ◌++◌, map, slice_get, Some}
 use Rattle.std.specs.List.{flat_map}
 use Rattle.base.specs.Sets.{Has}
 use Rattle.filter_types.specs.Notice.{IsNotice}
 use Rattle.law_routing.specs.Server.{Publication}
 use Rattle.law_routing.specs.Order.{IsStrictlyRising}
-use Rattle.law_phases.specs.Owing.{IsOwedByScripts, IsAllowedByScripts}
+use Rattle.law_phases.specs.Owing.{IsPublishedIn, IsOwedByScripts, IsDueByScripts, IsAllowedByScripts}
+use Rattle.law_phases.specs.Sequence.{StandsBefore}
 use Rattle.net_model.specs.Real.{real}
 use Rattle.filter_text.specs.NoticeText.{IsNoticeText}
 use Rattle.filter_text.specs.declared.command.Command.{Command}
@@ -63,6 +64,11 @@ abbrev pub GivesOwedOnce : NetParts → ClientLists → Type 0
 GivesOwedOnce net lists = (client : ℕ) (publication : Publication real) → IsOwedByScripts real (phased_net net) publication client
     → times (id_of publication) (lists.received client) ≡ 1
 
+-- each publication that is due to a client, which asks less than owed, was delivered to it exactly once
+abbrev pub GivesDueOnce : NetParts → ClientLists → Type 0
+GivesDueOnce net lists = (publication : Publication real) (client : ℕ) → IsDueByScripts real (phased_net net) publication client
+    → times (id_of publication) (lists.received client) ≡ 1
+
 -- nothing was delivered that flooding does not allow, and each text is that of the notice published
 abbrev pub GivesAllowed : NetParts → ClientLists → Type 0
 GivesAllowed net lists = (client : ℕ) (d : Delivery) → IsClient net client → Has d (lists.received client) → IsAllowedDelivery net client d
@@ -74,6 +80,16 @@ GivesOnce lists = (client : ℕ) (id : Id) → times id (lists.received client) 
 -- the deliveries of one publisher stand in the order of its ordinals
 abbrev pub GivesInOrder : ClientLists → Type 0
 GivesInOrder lists = (client publisher : ℕ) → IsStrictlyRising (ordinals_in publisher (lists.received client))
+
+-- the ids of deliveries
+abbrev pub ids_of : List Delivery → List Id
+ids_of deliveries = map (λ d. d.id) deliveries
+
+-- BARRIER ORDER: of two deliveries to a client the second is of no earlier phase
+abbrev pub GivesByPhase : NetParts → ClientLists → Type 0
+GivesByPhase net lists = (client : ℕ) (one other : Publication real) (phase next : ℕ) → IsClient net client
+    → StandsBefore (ids_of (lists.received client)) (id_of one) (id_of other)
+    → IsPublishedIn real (phased_net net) phase one → IsPublishedIn real (phased_net net) next other → phase ≤ next
 
 -- the publishes that were refused are those that the client's advertisements do not allow
 abbrev pub RefusesByScripts : NetParts → ClientLists → Type 0
@@ -107,15 +123,17 @@ AreOfNotices (client ∷ clients) = IsScriptOfNotices client.script × AreOfNoti
 
 -- WHAT THE CLIENTS ARE PROMISED: the text is that of lists of refused publishes and of deliveries, with the trace behind; what is published is a notice
 -- of well-formed values; the refused publishes are those of the scripts; each publication that flooding owes was delivered exactly once, nothing that it
--- does not allow, nothing twice, each text being that of the notice published, in the order of each publisher; and each client of stable inputs has
--- flooding's deliveries
+-- does not allow, nothing twice, each text being that of the notice published, in the order of each publisher and of the phases; what is due, which asks
+-- less than owed, was delivered exactly once too; and each client of stable inputs has flooding's deliveries
 pub record ClientPromise (shown : Shown) (input text : List ℕ) (net : NetParts) (lists : ClientLists) (trace : List ℕ) : Type 0 where
   pub printed : text ≡ lists_text net lists shown.sorted ++ trace
   pub notices : AreOfNotices net.clients
   pub refusals : RefusesByScripts net lists
   pub owed_once : GivesOwedOnce net lists
+  pub due_once : GivesDueOnce net lists
   pub allowed : GivesAllowed net lists
   pub never_twice : GivesOnce lists
   pub in_order : GivesInOrder lists
+  pub by_phase : GivesByPhase net lists
   pub stable : GivesFlooded input net lists
   pub all_stable : PrintsFlood input net lists

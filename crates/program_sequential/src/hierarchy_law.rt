@@ -12,8 +12,8 @@ ghost use Rattle.program_sequential.specs.Promise.{AreOfNotices, ClientPromise};
 use net_model::Real;
 
 /// A whole run of a hierarchy over a net that publishes notices gives its clients what a run of peers gives: what flooding owes
-/// them, once, and nothing that it does not allow, by the text of the notice published and in the order of each publisher; where
-/// all that is allowed is owed its sorted deliveries are what flooding prints of the document. And its network has done all that
+/// them, once, and nothing that it does not allow, by the text of the notice published, in the order of each publisher and of the
+/// phases; where all that is allowed is owed its sorted deliveries are what flooding prints of the document. And its network has done all that
 /// one of a hierarchy does.
 pub fn lemma_hierarchy_promise()
     ensures clients { (shown : Shown) (input : List ℕ) (net : NetParts) (journal : List EntryParts) → IsNetOf input net → IsWholeRun net journal
@@ -24,6 +24,9 @@ pub fn lemma_hierarchy_promise()
         → HierarchyWalkPromise shown net journal (hierarchy_lists net journal) (hierarchy_trace shown.trace net journal) }
 {
     hierarchy_turns::law::promise();
+    net_model::law::lemma_lawful_net();
     law_hierarchy::never_twice::<Real>();
+    law_hierarchy::flood_owed_once::<Real>();
+    law_hierarchy::delivered_by_phase::<Real>();
     law_hierarchy::last_moment::<Real>();
 }

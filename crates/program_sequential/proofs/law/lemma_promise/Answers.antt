@@ -27,6 +27,9 @@ returns-clause-clients c = λ shown input net journal of whole.
       owed_once = λ client publication owed.
           times-delivered (net_then real run (length run.journal)) (id_of publication) (inbox_of real run client)
           ∙ (c.owed_once.ensures run whole.drained publication client owed).1;
+      due_once = λ publication client due.
+          times-delivered (net_then real run (length run.journal)) (id_of publication) (inbox_of real run client)
+          ∙ (c.due_once.ensures run whole.drained publication client due).1;
       allowed = λ client d is h.
           let m = has-map delivery_of (inbox_of real run client) d h in
           let a = c.delivered_allowed.ensures run (length run.journal) (home_of net client) client m.0 (client-lives net client is) m.1 in record {
@@ -44,6 +47,10 @@ returns-clause-clients c = λ shown input net journal of whole.
       in_order = λ client publisher.
           subst IsStrictlyRising (sym (ordinals-delivered (net_then real run (length run.journal)) publisher (inbox_of real run client)))
           (c.delivered_in_order.ensures run (length run.journal) publisher (home_of net client) client);
+      by_phase = λ client one other phase next is.
+          by-phase-ids run.net run.laws (inbox_of real run client) (c.delivered_by_phase.ensures run (length run.journal) (home_of net client) client)
+          (λ p has. (let a = c.delivered_allowed.ensures run (length run.journal) (home_of net client) client p (client-lives net client is) has in (a.0, a.1)))
+          one other phase next;
       stable = λ text flood place rows at owed.
           c.flood_as_delivered.ensures.client net whole.sound flood.rows flood.refused (flooding-in input net text of flood) run refl whole.drained place rows at owed;
       all_stable = λ text flood owed.
@@ -65,13 +72,6 @@ returns-clause-run c = λ shown net journal whole.
           times-delivered (net_then real run (length run.journal)) (id_of publication) (inbox_of real run client)
           ∙ (c.settled_delivery.ensures run publication client (settled-to run whole.drained publication client settled)).1;
       settled_by = c.settled_by.ensures run;
-      due_once = λ publication client due.
-          times-delivered (net_then real run (length run.journal)) (id_of publication) (inbox_of real run client)
-          ∙ (c.due_once.ensures run whole.drained publication client due).1;
-      by_phase = λ client one other phase next is.
-          by-phase-ids run.net laws (inbox_of real run client) (c.delivered_by_phase.ensures run (length run.journal) (home_of net client) client)
-          (λ p has. (let a = c.delivered_allowed.ensures run (length run.journal) (home_of net client) client p (client-lives net client is) has in (a.0, a.1)))
-          one other phase next;
       causal = c.causal_order.ensures.knowing run;
       never_more = c.economy.ensures.never_more run (clients_in net) (are-clients net);
       as_many = c.economy.ensures.as_many run whole.drained (clients_in net) (are-clients net);
