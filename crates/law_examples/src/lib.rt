@@ -1,6 +1,9 @@
 //! Layer: law, above the theorems.
 //! Job: worked runs: the definitions of the network computed in small nets over ranges of numbers, and in hierarchies over numbers.
 //! Users: nobody; it is there to be read.
+//!
+//! Each contract is an equation between the trace of a walk or a replay and its lines, or states what a client receives
+//! or a server holds.
 #![tactic(auto)]
 
 ghost use Rattle.std.specs.Prelude.{◌≡◌, ◌<◌, ℕ, List, [], ◌∷◌, ◌++◌, take, drop, map};

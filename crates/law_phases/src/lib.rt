@@ -1,6 +1,13 @@
 //! Layer: law.
 //! Job: runs over trees by phase: a journal goes over one tree after the other, and the laws of runs hold of the whole. Pure.
 //! Users: law_examples, and the layers from net upward.
+//!
+//! A net has a first tree and later ones with their first phases (`PhasedNet`). A run begins at the opening and goes
+//! over one tree after the other (`PhasedRun`). The first command of a later phase finds the network set on the tree of
+//! that phase, where that is another one, and otherwise with raised clocks.
+//!
+//! Where all phases have one tree, runs, moments and the walk are those of `law_routing` (`one_tree`). So nets of one
+//! tree need no second theory.
 #![tactic(auto)]
 
 ghost use Rattle.std.specs.Prelude.{true, false, ◌≡◌, ◌↔◌, ◌≤◌, ◌<◌, ℕ, suc, List, [], ◌∷◌, ◌++◌, length, take, slice_get, Option, Some};

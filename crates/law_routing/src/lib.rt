@@ -2,7 +2,10 @@
 //! Job: the step of one server with filters, advertisements and notifications, and the laws of every run of such servers. Pure.
 //! Users: the law layer, and the layers from net upward.
 //!
-//! The laws hold over any theory of filters (`Matching`): none of them looks into a filter.
+//! The laws hold over any theory of filters (`Matching`): none of them looks into a filter. They hold for the program's
+//! filters because `net_model` implements `Matching` for them. They hold under both semantics and for every legal run
+//! from any start (`LegalRun`), drained or not. The module `runs` repeats the laws of `law_machine` for the servers of
+//! any net.
 #![tactic(auto)]
 
 ghost use Rattle.std.specs.Prelude.{Bool, false, ◌≡◌, ◌≤◌, ◌<◌, ◌⊎◌, ◌↔◌, ℕ, suc, List, [], ◌∷◌, length, take};
