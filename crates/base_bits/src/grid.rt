@@ -81,7 +81,7 @@ impl Grid {
         })
     }
 
-    /// Puts a number into a row, and tells whether it was no member.
+    /// Puts a number into a row, and answers whether it was no member.
     pub fn insert(&mut self, row: u32, i: u32) -> bool
         requires row { row < length self.old.rows }
         requires number { i < self.old.width }
@@ -95,7 +95,7 @@ impl Grid {
         !had
     }
 
-    /// Takes a number out of a row, and tells whether it was a member.
+    /// Takes a number out of a row, and answers whether it was a member.
     pub fn remove(&mut self, row: u32, i: u32) -> bool
         requires row { row < length self.old.rows }
         requires number { i < self.old.width }

@@ -16,7 +16,7 @@ pub fn put_if(row: &mut Row, i: u32, holds: bool)
     }
 }
 
-/// Puts a number in where it holds, and else takes it out; tells whether it was in.
+/// Puts a number in where it holds, and else takes it out; answers whether it was in.
 pub fn set_to(row: &mut Row, i: u32, holds: bool) -> bool
     requires { i < row.old.width }
     ensures was { result ≡ is_in i row.old.members }

@@ -48,11 +48,11 @@ pub enum Fault {
     MuchControl,
     /// The publications may make too many deliveries.
     MuchNotice,
-    /// A turn of the schedule isn't permitted when it comes. No reading of a document tells it.
+    /// A turn of the schedule isn't permitted when it comes. No reading of a document answers it.
     BadTurn,
 }
 
-/// Why a line is not taken, before its number is told: its fault, of one of these kinds, or out of memory.
+/// Why a line is not accepted, before its number is known: its fault, of one of these kinds, or out of memory.
 #[derive(Clone, Copy, Debug, PartialEq, Eq)]
 pub enum LineFault<K> {
     /// The line is at fault.

@@ -16,7 +16,7 @@ use std::marker::Model;
 pub(crate) enum Source {
     /// Its bytes.
     Written(Bytes),
-    /// The message that it tells.
+    /// The message that it represents.
     Told(MessageText),
 }
 

@@ -79,7 +79,7 @@ pub fn held_from_below<M: Matching>()
     ensures adverts { (run : HierarchyRun M.theory) (server m interface : ℕ) → ((states M.theory run m).state server).advs interface ≡ [] }
 {}
 
-/// What a server has published of a lower neighbour or a client is what it held of it at its last calm moment.
+/// What a server has installed of a lower neighbour or a client is what it held of it at its last calm moment.
 pub fn installed_is_held<M: Matching>()
     ensures { (run : HierarchyRun M.theory) (server m interface : ℕ) → Has interface (interfaces M.theory run.net server)
         → is_master M.theory run.net server interface ≡ false

@@ -94,6 +94,6 @@ module _ (machine : Machine) where
     IsPlan [] = Unit {0}
     IsPlan (next ∷ plan) = IsQuietAct next.1 × IsPlan plan
 
-    -- what falls with each taking and each table update
+    -- what falls with each reception and each table update
     abbrev pub work_left : NetworkState machine → ℕ
     work_left network = 2 * load machine measure network + pending_count machine measure network

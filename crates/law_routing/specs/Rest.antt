@@ -9,7 +9,7 @@ use Rattle.law_routing.specs.Server.{sent, sent_adverts, client_interface}
 use Rattle.law_routing.specs.Routing.{routing_machine, Network}
 
 module _ (theory : Theory) (net : Net theory) where
-  -- the filters of a client, after those of its commands that were taken
+  -- the filters of a client, after those of its commands that were executed
   abbrev pub filters_of : Network theory net → ℕ → List theory.Filter
   filters_of network client = filters_after theory [] (take ((network.state (net.home client)).done client) (net.script client))
 

@@ -99,7 +99,8 @@ pub fn sent_where_wanted<M: Matching>()
         → IsOnward M.theory run routed neighbour → IsWanted M.theory run routed neighbour → IsSentTo M.theory run routed neighbour }
 {}
 
-/// A publication that is settled wherever it passes on the way to a client, and whose messages on that way are taken, is delivered to the client exactly once.
+/// A publication that is settled wherever it passes on the way to a client, and whose messages on that way are received, is delivered to the client
+/// exactly once.
 pub fn settled_delivery<M: Matching>()
     ensures { (run : LegalRun M.theory) (publication : Publication M.theory) (client : ℕ) → IsSettledTo M.theory run publication client
         → IsDeliveredOnce M.theory run publication client }

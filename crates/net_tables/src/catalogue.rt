@@ -165,7 +165,7 @@ impl<'a> Catalogue<'a> {
         &self.scripts
     }
 
-    /// What tells which filters a notice matches, by their numbers.
+    /// What finds which filters a notice matches, by their numbers.
     pub fn matcher(&self) -> &Matcher
         ensures { result.now ≡ known_filters self.now.clients }
     {

@@ -16,7 +16,7 @@ use net_model::Net;
 use std::alloc::Global;
 use std::marker::Model;
 
-/// The catalogue of a net, for its filters and advertisements the rows that tell which covers which and which overlap, and
+/// The catalogue of a net, for its filters and advertisements the rows that say which covers which and which overlap, and
 /// each publication with the filters that it matches. Contracts see the net, of which all is a function.
 #[derive(Drop)]
 pub struct Tables<'a> {

@@ -41,7 +41,7 @@ run_of net laws journal legal = record {
   legal = legal;
 }
 
--- a link carries a notice only where a client beyond it had a filter that matches, at the moment that the sender knew of by its last version
+-- a link carries a notice only where a client beyond it had a filter that matches, at the moment that the sender knew of by its last table update
 abbrev pub CarriesWanted : PhasedRun real → Type 0
 CarriesWanted run = (routed : Routed real run) (neighbour : ℕ) → IsSentTo real run routed neighbour → IsWanted real run routed neighbour
 
@@ -55,7 +55,7 @@ abbrev pub GivesSettledOnce : PhasedRun real → ClientLists → Type 0
 GivesSettledOnce run lists = (publication : Publication real) (client : ℕ) → IsSettledOn real run publication client
     → times (id_of publication) (lists.received client) ≡ 1
 
--- and after any n entries, by which its messages on that way are taken, it stood in the client's inbox exactly once
+-- and after any n entries, by which its messages on that way are received, it stood in the client's inbox exactly once
 abbrev pub GivesSettledBy : PhasedRun real → Type 0
 GivesSettledBy run = (publication : Publication real) (client : ℕ) (on_way : IsSettledOn real run publication client) (n : ℕ)
     → IsAllReceivedBy real run n publication client on_way → IsDeliveredOnceBy real run n publication client

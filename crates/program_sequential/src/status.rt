@@ -11,7 +11,7 @@ use output_patterns::PatternKind;
 use program_help::usage;
 use std::alloc::Global;
 
-/// How a run ended. A bad input is told with the number of its line: the end counts as the line behind the last, and 0
+/// How a run ended. A bad input is reported with the number of its line: the end counts as the line behind the last, and 0
 /// represents the whole.
 #[derive(Clone, Copy, Debug, PartialEq, Eq)]
 pub enum Status {

@@ -40,7 +40,7 @@ pub enum Unanswered {
 }
 
 impl Unanswered {
-    /// The status that tells it.
+    /// The status that reports it.
     pub fn status(self) -> Status
         ensures { result ≡ status_of self }
     {

@@ -45,7 +45,7 @@ pub(crate) fn take<'a, P: Networked<'a>>(
     servers.take(server, from, neighbours)
 }
 
-/// A server publishes what it has pending.
+/// A server installs what it has pending.
 pub(crate) fn update_table<'a, P: Networked<'a>>(
     net: &Net,
     phase: u32,

@@ -7,7 +7,7 @@ use std::alloc::Global;
 use std::collections::VecDeque;
 use std::marker::Model;
 
-/// The messages on a link that are not taken yet, in the order in which they were put; there may be room for one more.
+/// The messages on a link that are not received yet, in the order in which they were put; there may be room for one more.
 #[derive(Drop)]
 pub(crate) struct Queue<'a> {
     messages: VecDeque<Waiting<'a>>,

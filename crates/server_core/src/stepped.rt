@@ -22,7 +22,7 @@ pub struct Step<'a> {
 pub enum StepFault {
     /// Memory ran out.
     NoMemory,
-    /// The next stamp would be 2^62: the greater of the clock and the taken stamp is this one, 2^62 - 1.
+    /// The next stamp would be 2^62: the greater of the clock and the received stamp is this one, 2^62 - 1.
     StampsExhausted(u64),
 }
 

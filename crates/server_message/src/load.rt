@@ -21,7 +21,7 @@ pub enum Load {
 
 impl Load {
     /// Whether it is of the run of these tables: its numbers are those of the net. Who takes a load from another thread asks
-    /// this, since numbers don't tell whose they are.
+    /// this, since numbers don't show whose they are.
     pub fn is_of(&self, tables: &Tables<'_>) -> bool
         ensures { IsTrue result ↔ IsLoad tables.now self.now }
     {

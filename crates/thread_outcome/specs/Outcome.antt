@@ -33,7 +33,7 @@ abbrev pub AreAtStart : List CellParts → Type 0
 AreAtStart cells = (k : ℕ) (cell : CellParts) → slice_get cells k ≡ Some cell → IsAtStart cell
 
 -- THE CELLS STAND BETWEEN TWO PHASES: the entries of all journals are a legal run from the opening to the state that the cells represent, at which all
--- links are empty, nothing is pending, and all commands of the phases below the next are taken; the next is a later one, or nothing was done
+-- links are empty, nothing is pending, and all commands of the phases below the next are executed; the next is a later one, or nothing was done
 pub record StandBetween (net : NetParts) (last next : ℕ) (cells : List CellParts) : Type 0 where
   pub ends : ℕ → Cell (machine_in net last)
   pub stand : RepresentCells net last cells ends

@@ -12,7 +12,7 @@ use logbook::Seen;
 use match_routes::{Forwarding, TableChange};
 use std::alloc::{AllocError, Global};
 
-/// Changes that are published together, with the history up to the last of them.
+/// Changes that are installed together, with the history up to the last of them.
 #[derive(Drop)]
 pub struct Step {
     /// The changes, in their order.

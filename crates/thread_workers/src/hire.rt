@@ -95,7 +95,8 @@ pub(crate) fn hire_all<'l, 'a, R: Wait, G: Gate>(
     requires room { length locks.now ≤ vec_capacity spares.old }
     requires by_thread { HaveRoom (2 * length locks.now) (map (λ r. (length r.workers.items, r.room)) by_thread.old.items) }
     ensures hired { map (λ r. map (λ p. at_lock p.context.lock.now p.context.worker) r.workers.items) by_thread.new.items
-        ≡ with_all (length by_thread.old.items) 0 locks.now (map (λ r. map (λ p. at_lock p.context.lock.now p.context.worker) r.workers.items) by_thread.old.items) }
+        ≡ with_all (length by_thread.old.items) 0 locks.now
+            (map (λ r. map (λ p. at_lock p.context.lock.now p.context.worker) r.workers.items) by_thread.old.items) }
     ensures count { length by_thread.new.items ≡ length by_thread.old.items }
     ensures spares { Pairwise AreSpareOf locks.now spares.new.items }
     ensures capacity { vec_capacity spares.new ≡ vec_capacity spares.old }
