@@ -1,4 +1,4 @@
-//! Items that cover one another, in one canonical order.
+//! The trait of items that cover one another, in one canonical order.
 ghost use Rattle.std.specs.Prelude.{◌≡◌};
 
 /// Items that cover one another and stand in one canonical order, as filters do: a filter covers

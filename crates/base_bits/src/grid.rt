@@ -1,4 +1,4 @@
-//! Rows of one width in one vector of words.
+//! The type of rows of one width in one vector of words.
 ghost use Rattle.std.specs.Prelude.{◌≡◌, ◌↔◌, ℕ, ◌*◌, ◌^◌, ◌<◌, not, nat_lt, length, replicate, slice_set, [], IfOk};
 ghost use Rattle.base.specs.Sets.{Has};
 ghost use Rattle.base_bits.specs.Rows.{is_in};

@@ -1,4 +1,4 @@
-//! The gate that a worker passes, at which a test may hold it.
+//! The trait of the gate that a worker passes, at which a test may hold it.
 
 /// Which of the two workers of a server: the one that executes its clients' commands, or the one that
 /// receives messages from its links and makes table updates.

@@ -1,4 +1,4 @@
-//! Which items an item may cover, by the bits of their signatures as rows of bits.
+//! Finds which items an item may cover, by the bits of their signatures as rows of bits.
 ghost use Rattle.std.specs.Prelude.{◌≡◌, ℕ, ◌^◌, ◌<◌, ◌==◌, length, cond, IfOk, slice_index};
 ghost use Rattle.std.specs.Int.{bit_at};
 ghost use Rattle.base.specs.Sets.{Has};

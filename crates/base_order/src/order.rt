@@ -1,4 +1,4 @@
-//! Items in their canonical order, with the rows that tell their roots.
+//! The type of items in their canonical order, with the rows by which roots are found.
 ghost use Rattle.std.specs.Prelude.{◌≡◌, ◌↔◌, ℕ, ◌^◌, ◌<◌, List, [], ◌∷◌, length, nat_lt, slice_get, Some, true, false, IfOk, IfSome, IfNone};
 ghost use Rattle.base_bits.specs.Rows.{is_in};
 ghost use Rattle.base.specs.Sets.{Has, IsRising, is_root, roots, put_in, minus};

@@ -1,4 +1,4 @@
-//! Numbers put into a row or taken out, by a test.
+//! Puts a number into a row or takes it out, by a test.
 ghost use Rattle.std.specs.Prelude.{◌≡◌, ◌<◌, ◌∷◌, [], cond, nat_lt};
 ghost use Rattle.base.specs.Sets.{put_in, minus};
 ghost use Rattle.base_bits.specs.Rows.{is_in};

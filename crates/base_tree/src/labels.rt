@@ -1,4 +1,4 @@
-//! Labels of servers: the same exactly where edges join the servers.
+//! Labels servers: two labels are the same exactly where edges join the servers.
 ghost use Rattle.std.specs.Prelude.{◌≡◌, ◌≢◌, ◌==◌, ◌<◌, ◌≤◌, ◌↔◌, ◌++◌, ◌∷◌, [], ℕ, List, false, true, cond, length, slice_index, take};
 ghost use Rattle.std.specs.Prelude.{IfSome, IfNone, slice_get, MatchResult, Some, None};
 ghost use Rattle.base_tree.specs.Graph.{has_edge, AreWithin, IsEdgeWithin, AreJoined, IsForest, IsTree, IsApart, IsCount};

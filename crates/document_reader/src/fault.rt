@@ -1,4 +1,4 @@
-//! The reasons why a document is refused.
+//! The types of the faults for which a document is refused.
 ghost use Rattle.std.specs.Prelude.{◌≡◌, IfOk, OnErr};
 ghost use Rattle.document_reader.specs.declared.fault.LineFault.TheVariants as faults;
 ghost use Rattle.document_reader.specs.declared.fault.InputFault.TheVariants as inputs;

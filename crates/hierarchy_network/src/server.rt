@@ -1,4 +1,4 @@
-//! The core of one server of a hierarchy, with its steps.
+//! The type of the core of one server of a hierarchy, with its steps.
 ghost use Rattle.std.specs.Prelude.{◌≡◌, ◌<◌, ◌^◌, ◌↔◌, ◌+◌, ℕ, nat_lt, ◌==◌, cond, [], max, List, length, map, Some};
 ghost use Rattle.std.specs.Prelude.{IfOk, OnOk, OnErr, IsErrOf, IfSome, IfNone};
 ghost use Rattle.filter_constraints.specs.Constraint.{ConstraintParts};

@@ -47,7 +47,8 @@ withdrawn_wide = line_of (in_phase 0 (Subscribe Any) ∷ in_phase 1 (Unsubscribe
 -- in the first phase both ranges are subscribed and known everywhere
 abbrev pub all_know : List (ℕ × Act Task)
 all_know =
-    (1, Did (NextCommand 1)) ∷ (1, Did (NextCommand 2)) ∷ (1, Did TableUpdate) ∷ (2, Received 1) ∷ (2, Did TableUpdate) ∷ (3, Received 2) ∷ (3, Did TableUpdate) ∷ []
+    (1, Did (NextCommand 1)) ∷ (1, Did (NextCommand 2)) ∷ (1, Did TableUpdate) ∷ (2, Received 1) ∷
+    (2, Did TableUpdate) ∷ (3, Received 2) ∷ (3, Did TableUpdate) ∷ []
 
 -- in the second phase the withdrawal and the notice set out
 abbrev pub both_set_out : List (ℕ × Act Task)

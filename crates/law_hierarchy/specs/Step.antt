@@ -1,4 +1,4 @@
--- The step of one server of a hierarchy: filters go up to the master alone; notices always go up, and go down by filters.
+-- Defines the step of one server of a hierarchy: filters go up to the master alone; notices always go up, and go down by filters.
 use Rattle.std.specs.Prelude.{ℕ, ◌==◌, cond, not, ◌&&◌, ◌||◌, [], ◌∷◌, slice_get, Option, Some, None}
 use Rattle.law_machine.specs.Machine.{Machine, Input, Does, Receives, Outcome, Entry}
 use Rattle.law_machine.specs.Network.{NetworkState}

@@ -1,4 +1,4 @@
-//! The laws of runs, at the servers of any hierarchy.
+//! States the laws of runs, at the servers of any hierarchy.
 
 ghost use Rattle.std.specs.Prelude.{◌≡◌, ◌≤◌, ◌++◌, ℕ, suc, List, [], ◌∷◌, length, Some, slice_get};
 ghost use Rattle.law_machine.specs.Machine.{act_phase, Act};

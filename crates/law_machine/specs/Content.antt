@@ -1,4 +1,4 @@
--- The content of links: what a server holds of a neighbour, with what is on its way, is what the neighbour sent.
+-- Defines the content of links: what a server holds of a neighbour, with what is on its way, is what the neighbour sent.
 use Rattle.std.specs.Prelude.{◌≡◌, ℕ, Some, List, [], ◌∷◌, drop}
 use Rattle.law_machine.specs.Machine.{Has, Machine, Input, Does, Receives, Made, Stamped}
 use Rattle.law_machine.specs.Network.{NetworkState}

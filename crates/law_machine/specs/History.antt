@@ -1,4 +1,4 @@
--- The state and the phase at each moment of a journal: a moment is a number of entries.
+-- Defines the state and the phase at each moment of a journal: a moment is a number of entries.
 use Rattle.std.specs.Prelude.{◌≡◌, ℕ, zero, suc, ◌++◌, ◌==◌, cond, List, [], ◌∷◌, ◌⊎◌, Option, Some, None, slice_get}
 use Rattle.law_machine.specs.Machine.{Machine, at, Input, Outcome, Stamped, Entry, unstamped, act_of, act_phase, receivers, stamped}
 use Rattle.law_machine.specs.Network.{NetworkState, IsAvailable, taken_after, IsStep, messages_of, turn}

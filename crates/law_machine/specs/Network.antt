@@ -1,4 +1,4 @@
--- The state of a network, and the step of one of its servers as a step of the network.
+-- Defines the state of a network, and the step of one of its servers as a step of the network.
 use Rattle.std.specs.Prelude.{◌≡◌, ℕ, suc, ◌==◌, cond, ◌&&◌, List, [], ◌++◌, slice_get, Option, Some, None}
 use Rattle.law_machine.specs.Machine.{at, Act, Did, Received, Machine, Input, Does, Receives, Outcome, Made, Stamped, Entry, unstamped, next_stamp, stamped, entry_of}
 

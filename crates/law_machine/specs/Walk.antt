@@ -1,4 +1,4 @@
--- The walk: turns tried in a fixed order, where those that are not possible are skipped.
+-- Defines the walk: turns tried in a fixed order, where those that are not possible are skipped.
 use Rattle.std.specs.Prelude.{◌≡◌, ℕ, zero, suc, ◌+◌, ◌*◌, ◌<◌, ◌==◌, Bool, true, cond, List, [], ◌∷◌, ◌++◌, ◌⊎◌, Option, Some, None}
 use Rattle.law_machine.specs.Machine.{Machine, Act, Did, Received, Entry, act_phase}
 use Rattle.law_machine.specs.Network.{NetworkState, outcome_at, turn, entry_at}

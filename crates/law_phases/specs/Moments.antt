@@ -1,4 +1,4 @@
--- The state and the phase at each moment of a journal over trees by phase.
+-- Defines the state and the phase at each moment of a journal over trees by phase.
 use Rattle.std.specs.Prelude.{ℕ, zero, suc, ◌==◌, cond, List, [], ◌∷◌, Option, Some, None}
 use Rattle.law_machine.specs.Machine.{act_phase}
 use Rattle.law_machine.specs.Network.{turn}

@@ -1,4 +1,4 @@
--- The moment at the end of a way that a server knows of, and what it means that a notice is settled.
+-- Defines the moment at the end of a way that a server knows of, and when a notice is settled.
 use Rattle.std.specs.Prelude.{◌≡◌, ℕ, suc, ◌<◌, nat_le, ◌==◌, ◌&&◌, cond, true, not, List, [], ◌∷◌, ◌++◌, length, slice_get, Some}
 use Rattle.law_machine.specs.Links.{last_where}
 use Rattle.base.specs.Sets.{Has}

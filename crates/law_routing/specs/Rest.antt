@@ -1,4 +1,4 @@
--- The lists of clients as the network knows them, ways through the tree, and when the network is at rest.
+-- Defines the lists of clients as the network knows them, ways through the tree, and when the network is at rest.
 use Rattle.std.specs.Prelude.{◌≡◌, ℕ, ◌+◌, true, false, List, [], ◌∷◌, length, take}
 use Rattle.base.specs.Sets.{Has}
 use Rattle.law_machine.specs.Runs.{IsQuiet}

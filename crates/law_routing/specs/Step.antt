@@ -1,4 +1,4 @@
--- The step of one server: clients' commands, receptions and table updates.
+-- Defines the step of one server: clients' commands, receptions and table updates.
 use Rattle.std.specs.Prelude.{ℕ, suc, ◌+◌, ◌==◌, false, cond, not, ◌&&◌, ◌||◌, List, [], ◌∷◌, ◌++◌, take, slice_get, Option, Some, None}
 use Rattle.law_machine.specs.Machine.{Input, Does, Receives, Outcome, at}
 use Rattle.base.specs.Sets.{union, minus, same_list}

@@ -1,4 +1,4 @@
--- The walk of a net: what is left of each phase, in a fixed order of turns of which those that are not possible are skipped.
+-- Defines the walk of a net: what is left of each phase, in a fixed order of turns of which those that are not possible are skipped.
 use Rattle.std.specs.Prelude.{ℕ, suc, ◌+◌, ◌*◌, ◌-◌, List, [], ◌∷◌, ◌++◌, length, map}
 use Rattle.law_machine.specs.Machine.{Act, Did, Received}
 use Rattle.law_machine.specs.History.{Moment}

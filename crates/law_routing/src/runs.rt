@@ -1,4 +1,4 @@
-//! The laws of runs and of journals, at the servers of any net.
+//! States the laws of runs and of journals, at the servers of any net.
 
 ghost use Rattle.std.specs.Prelude.{◌≡◌, ◌≤◌, ◌++◌, ℕ, List, [], ◌∷◌, length, Some, slice_get};
 ghost use Rattle.base.specs.Numbers.{IsDistinct};

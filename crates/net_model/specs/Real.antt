@@ -1,4 +1,4 @@
--- The theory of filters, advertisements and notices that the servers run with, and that it keeps what the network asks.
+-- Defines the theory of filters, advertisements and notices that the servers run with, and shows that it keeps what the network asks.
 use Rattle.std.specs.Prelude.{◌≡◌, Bool, true, ◌&&◌, List}
 use Rattle.filter_constraints.specs.Constraint.{ConstraintParts}
 use Rattle.filter_types.specs.Notice.{Attribute}

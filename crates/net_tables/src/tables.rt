@@ -1,4 +1,4 @@
-//! The tables of a run: the catalogue of its net with the rows of covering and overlap.
+//! The type of the tables of a run: the catalogue of its net with the rows of covering and overlap.
 ghost use Rattle.std.specs.Prelude.{◌≡◌, ◌<◌, length, IfOk};
 ghost use Rattle.net_model.specs.Sound.{IsSound};
 ghost use Rattle.net_tables.specs.Known.{known_filters, known_adverts, known_publications};

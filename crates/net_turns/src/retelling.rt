@@ -1,4 +1,4 @@
-//! The messages of a journal, by making its turns again.
+//! Finds the messages of a journal by making its turns again.
 ghost use Rattle.std.specs.Prelude.{◌≡◌, [], IfOk};
 ghost use Rattle.net_turns.specs.Network.{network_parts};
 ghost use Rattle.net_turns.specs.Retold.{turn_of_entry};

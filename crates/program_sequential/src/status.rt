@@ -1,4 +1,4 @@
-//! How a run ends, and what it says of a fault.
+//! The type of how a run ends, and the line on each fault.
 ghost use Rattle.std.specs.Prelude.{◌≡◌, ◌++◌, IfOk, OnOk, codes};
 ghost use Rattle.std.specs.Fmt.{decimal};
 ghost use Rattle.program_sequential.specs.Status.{audit_text, kind_text, pattern_text, refusal_text, refuted_text, status_number, status_text};

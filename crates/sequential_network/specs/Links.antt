@@ -1,4 +1,4 @@
--- The messages on the links between servers: of each link a queue, and whether there is room for one more.
+-- Defines the messages on the links between servers: of each link a queue, and whether there is room for one more.
 use Rattle.std.specs.Prelude.{◌≡◌, ℕ, ◌+◌, ◌*◌, ◌≤◌, nat_le, ◌&&◌, ◌==◌, Bool, false, cond, List, [], length, map, filter, drop, slice_index_or}
 use Rattle.law_machine.specs.Machine.{Stamped}
 use Rattle.law_routing.specs.Server.{Message}

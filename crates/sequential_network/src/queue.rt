@@ -1,4 +1,4 @@
-//! The queue of one link.
+//! The type of the queue of one link.
 ghost use Rattle.std.specs.Prelude.{◌≡◌, ◌-◌, true, false, drop, ◌∷◌, ◌++◌, [], length, IfSome, IfNone, OnOk, OnErr, slice_get, Some};
 
 use crate::waiting::Waiting;

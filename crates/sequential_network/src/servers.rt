@@ -1,4 +1,4 @@
-//! The servers of a network, whatever their kind, with their links and their journal, and the steps of one of them.
+//! The type of the servers of a network, with their links and their journal, and the steps of one of them.
 ghost use Rattle.std.specs.Prelude.{◌≡◌, ℕ, ◌≤◌, ◌<◌, ◌^◌, ◌-◌, ◌∷◌, ◌++◌, [], true, false, Some, slice_get, length, map, IfOk, OnOk};
 ghost use Rattle.std.specs.Prelude.{OnErr, vec_len, vec_capacity};
 ghost use Rattle.base.specs.Sets.{Has};

@@ -1,4 +1,4 @@
-//! A message that waits on a link.
+//! The type of a message that waits on a link.
 use server_message::Message;
 use std::marker::Model;
 

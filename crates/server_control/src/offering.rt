@@ -1,4 +1,4 @@
-//! The filters that are wanted where some advertisements are held.
+//! Finds the filters that are wanted where some advertisements are held.
 ghost use Rattle.std.specs.Prelude.{◌≡◌, ◌≢◌, ◌<◌, ℕ, [], length, filter, slice_get, Some};
 ghost use Rattle.base.specs.Sets.{Has, roots};
 ghost use Rattle.filter_types.specs.Cover.{filter_covers};

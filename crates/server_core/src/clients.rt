@@ -1,4 +1,4 @@
-//! The sessions of the clients that live at a server.
+//! The type of the sessions of the clients that live at a server.
 ghost use Rattle.std.specs.Prelude.{◌≡◌, ◌≢◌, ◌≤◌, ◌<◌, true, [], map, length, Some, slice_get, IfOk, OnOk, IfSome, IfNone, AllPairs};
 ghost use Rattle.std.specs.List.Sorted.{IsStrictlyIncreasing};
 ghost use Rattle.base.specs.Sets.{Has};

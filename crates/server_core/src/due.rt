@@ -119,7 +119,8 @@ pub(crate) fn filter_messages<'a>(
     requires announced { (p : ℕ) (t : Announced) → p < length links.now → slice_get filters.now.announced p ≡ Some t
         → (ms : List (Carried real)) × AnnouncesFilters filters.now.items t ms }
     ensures { (messages : ℕ → List (Carried real)) → ((p link : ℕ) (t : Announced) → slice_get links.now p ≡ Some link
-        → slice_get filters.now.announced p ≡ Some t → AnnouncesFilters filters.now.items t (messages link)) → IfOk result (λ sent. sent.items ≡ sent_by tables.now messages links.now) }
+        → slice_get filters.now.announced p ≡ Some t → AnnouncesFilters filters.now.items t (messages link))
+        → IfOk result (λ sent. sent.items ≡ sent_by tables.now messages links.now) }
 {
     let mut sent = Vec::new(alloc);
     for p in 0..links.len() {

@@ -1,4 +1,4 @@
-//! The core of a server, with the one body of each of its steps.
+//! The type of the core of a server, with the one body of each of its steps.
 ghost use Rattle.std.specs.Prelude.{◌≡◌, ◌<◌, ◌≤◌, ◌^◌, ◌↔◌, ◌+◌, ℕ, nat_lt, [], max, List, length, map, Some, IfOk, OnOk, OnErr, IsErrOf, IfSome, IfNone};
 ghost use Rattle.filter_constraints.specs.Constraint.{ConstraintParts};
 ghost use Rattle.base.specs.Sets.{Has, IsRising};

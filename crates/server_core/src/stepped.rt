@@ -1,4 +1,4 @@
-//! The answer of a step: its stamp and messages, or its fault.
+//! The types of the answer of a step: its stamp and messages, or its fault.
 ghost use Rattle.std.specs.Prelude.{◌≡◌};
 ghost use Rattle.server_core.specs.declared.stepped.StepFault.TheVariants as faults;
 

@@ -1,4 +1,4 @@
-//! What a message carries, by numbers.
+//! The type of what a message carries, by numbers.
 ghost use Rattle.std.specs.Prelude.{◌≡◌, ◌<◌, ◌↔◌, ℕ, List, length, IsTrue};
 ghost use Rattle.base.specs.Sets.{Has};
 ghost use Rattle.server_message.specs.Message.{IsLoad};

@@ -1,4 +1,4 @@
-//! The session of a client at its server.
+//! The type of the session of a client at its server.
 ghost use Rattle.std.specs.Prelude.{◌≡◌, ◌<◌, ◌≤◌, ℕ, suc, true, false, ◌+◌, ◌-◌, [], ◌∷◌, ◌++◌, length, List, Some, slice_get, IsSome, ◌↔◌, IfSome, IfNone, IfOk, OnOk, OnErr};
 ghost use Rattle.filter_types.specs.Notice.{Attribute};
 ghost use Rattle.filter_text.specs.declared.id.Id.{Id as IdParts};

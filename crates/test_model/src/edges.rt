@@ -1,4 +1,4 @@
-//! Edges one by one, each with its fault among the earlier ones.
+//! Tests edges one by one, each with its fault among the earlier ones.
 ghost use Rattle.std.specs.Prelude.{◌≤◌};
 ghost use Rattle.base_tree.specs.Graph.{AreWithin};
 

@@ -1,4 +1,4 @@
--- The inputs of a server whose messages have their stamps. As in a network on one thread.
+-- Defines the inputs of a server whose messages have their stamps, as in a network on one thread.
 use Rattle.std.specs.Prelude.{ℕ}
 use Rattle.law_machine.specs.Machine.{Input, Does, Receives, Act, Did, Received, Stamped}
 use Rattle.law_routing.specs.Server.{Message}

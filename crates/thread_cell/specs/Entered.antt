@@ -1,4 +1,4 @@
--- The cells of all servers enter a later phase.
+-- Defines how the cells of all servers enter a later phase.
 use Rattle.std.specs.Prelude.{◌≡◌, ◌<◌, ℕ, suc, max, List, [], ◌∷◌, length, Some, slice_get}
 use Rattle.law_machine.specs.Journals.{Cell, network_of}
 use Rattle.law_phases.specs.Trees.{State, off, net_at, at_phase}

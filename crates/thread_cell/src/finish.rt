@@ -1,4 +1,4 @@
-//! The rest of a phase, with the cells of all servers in hand.
+//! Makes the rest of a phase, with the cells of all servers in hand.
 ghost use Rattle.std.specs.Prelude.{◌≡◌, ◌<◌, ℕ, false, length, OnOk, IfOk, IsErrOf, Some, slice_get};
 ghost use Rattle.law_machine.specs.Journals.{Cell as Begun};
 ghost use Rattle.server_message.specs.declared.stamped.StampedLoad.{StampedLoad as ItemParts};

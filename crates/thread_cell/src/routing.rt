@@ -1,4 +1,4 @@
-//! The steps of a core, routed by what its publisher has installed.
+//! Makes the steps of a core, routed by what its publisher has installed.
 ghost use Rattle.std.specs.Prelude.{◌≡◌, ◌<◌, ◌^◌, ℕ, List, length, max, Some, IfOk, OnErr, IfSome, IsErrOf};
 ghost use Rattle.base.specs.Sets.{Has};
 ghost use Rattle.law_machine.specs.Machine.{Does, Receives};

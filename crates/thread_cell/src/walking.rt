@@ -1,4 +1,4 @@
-//! What a cell does in the rest of a phase.
+//! Makes the turns of one server in the rest of a phase.
 ghost use Rattle.std.specs.Prelude.{◌≡◌, ◌≤◌, false, length};
 ghost use Rattle.net_model.specs.Nets.{script_of};
 ghost use Rattle.thread_cell.specs.declared.turned.Turned.TheVariants.{Idle};

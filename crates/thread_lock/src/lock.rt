@@ -1,4 +1,4 @@
-//! The lock, its passes, and what they do.
+//! The types of the lock and of its passes, and what they do.
 ghost use Rattle.std.specs.Prelude.{◌≡◌, ◌<◌, length, false};
 ghost use Rattle.thread_lock.specs.Rule.{view_in};
 

@@ -1,4 +1,4 @@
--- The cells of a net from phase to phase of a run.
+-- Defines the cells of a net from phase to phase of a run.
 use Rattle.std.specs.Prelude.{◌≡◌, ◌<◌, ◌⊎◌, ℕ, List, length, map, Some, slice_get}
 use Rattle.law_machine.specs.Journals.{Cell}
 use Rattle.law_phases.specs.Trees.{JournalEntry}

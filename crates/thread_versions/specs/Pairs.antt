@@ -1,4 +1,4 @@
--- The pairs of an interface and a number after a list of changes, and the route of matched numbers by them.
+-- Defines the pairs of an interface and a number after a list of changes, and the route of matched numbers by them.
 use Rattle.std.specs.Prelude.{ℕ, ◌&&◌, nat_lt, Bool, true, cond, List, [], ◌∷◌, map, filter}
 use Rattle.base.specs.Sets.{member, set_of}
 use Rattle.base_bits.specs.Rows.{is_in}

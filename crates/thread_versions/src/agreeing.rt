@@ -1,4 +1,4 @@
-//! Whether a match ahead is by all that is installed.
+//! Finds whether a match ahead is by all that is installed.
 ghost use Rattle.std.specs.Prelude.{◌≡◌, ◌≤◌, ◌↔◌, length, IsTrue};
 ghost use mathlib.Core.List.{IsPrefix};
 ghost use Rattle.match_routes.specs.Routes.{IsRouteBy};

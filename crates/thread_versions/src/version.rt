@@ -1,4 +1,4 @@
-//! The table that viewers read, and how changes are absorbed into it.
+//! The type of the table that viewers read, and how changes are absorbed into it.
 ghost use Rattle.std.specs.Prelude.{◌≡◌, ◌<◌, ◌^◌, [], nat_lt, length, IfOk, List, fold};
 ghost use Rattle.base.specs.Sets.{IsRising};
 ghost use Rattle.match_routes.specs.Installed.{Installed};

@@ -1,4 +1,4 @@
-//! What a worker does with the cell in hand.
+//! Makes the turns of a worker with the cell in hand.
 ghost use Rattle.std.specs.Prelude.{◌≡◌, ◌≤◌, ◌<◌, ℕ, suc, length, IfOk, IfSome, IfNone, IsErrOf, IsTrue, IsFalse};
 ghost use mathlib.Core.List.{IsPrefix};
 ghost use Rattle.net_model.specs.Sound.{IsSound};

@@ -1,4 +1,4 @@
-//! How many turns a worker made before it put the cell back.
+//! Counts the turns that a worker made before it put the cell back.
 use thread_cell::Turned;
 
 /// How many turns a worker made before it put the cell back, and whether the first of them found its match ahead out of date.

@@ -201,8 +201,8 @@ impl<'l, 'a, R: Wait, G: Gate> WorkerContext<'l, 'a, R, G> {
         }
     }
 
-    /// The turns that it can make now, without waiting for the cell: so many times with the cell in hand in a row, with a match ahead between two of
-    /// them where a publication comes next.
+    /// The turns that it can make now, without waiting for the cell. It takes the cell in hand a bounded number of times, and
+    /// in between matches a publication ahead where one comes next.
     pub(crate) fn go(
         &self,
         handles: &mut WorkerHandles<'a>,

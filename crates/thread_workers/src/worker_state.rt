@@ -1,4 +1,4 @@
-//! The state of a worker while it has not got its cell in hand.
+//! The type of the state of a worker while it doesn't have its cell in hand.
 ghost use Rattle.std.specs.Prelude.{◌≡◌, ℕ, List};
 ghost use Rattle.net_model.specs.Parts.{EntryParts};
 ghost use Rattle.thread_cell.specs.declared.held.Root.{Root};
