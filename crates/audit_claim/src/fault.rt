@@ -1,4 +1,4 @@
-//! The reasons why an input claims nothing.
+//! The type of the faults for which an input claims nothing.
 
 use document_reader::Fault;
 

@@ -1,4 +1,4 @@
--- Each entry of a legal run is of a server that is there, and of a command of a client that lives there, of a version, or of a reception from a neighbour.
+-- Each entry of a legal run is of a server that is there, and of a command of a client that lives there, of a table update, or of a reception from a neighbour.
 use Rattle.std.proofs.Common.{◌≡◌, ℕ, ◌&&◌, Bool, true, false, cond, inl, inr, List, [], ◌∷◌, Option, Some, None, refl, sym, ap, subst}
 use Rattle.std.specs.Prelude.{slice_get}
 use Rattle.base.specs.Sets.{Has}

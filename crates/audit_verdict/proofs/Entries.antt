@@ -1,4 +1,4 @@
--- The entries of a legal run of a document's net, as a trace tells them.
+-- The entries of a legal run of a document's net, as a trace shows them.
 use Rattle.std.proofs.Common.{◌≡◌, ℕ, zero, suc, ◌==◌, ◌<◌, ◌≤◌, ◌^◌, ◌&&◌, Bool, true, false, cond, inl, inr, List, [], ◌∷◌, ◌++◌, length, map, Some, refl, sym, ap, subst, ◌∙◌, arith, eqb-true, nat_le}
 use Rattle.std.specs.Prelude.{◌||◌, codes, nat_eq, slice_get}
 use Rattle.std.specs.List.{list_any}

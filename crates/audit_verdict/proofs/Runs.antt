@@ -24,7 +24,7 @@ sum_next f xs i x l e =
     let next : suc i ≡ i + 1 = omega arith in
     sum_suc f xs i x l ∙ (λ k. f (sym e k) + sum_over f (drop (next k) xs))
 
--- a walk tells whether a run is drained
+-- a walk decides whether a run is drained
 pub tells_drained : (more : Bool) (old new : NetworkParts) → IsPhaseOf more old new → IsLegal new.net new.journal → TellsDrained (not more) old.net old.journal
 tells_drained true old new w legal = walked-open old new w legal
 tells_drained false old new w legal = w.1

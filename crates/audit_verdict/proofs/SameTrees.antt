@@ -1,4 +1,4 @@
--- Runs depend on the neighbours of servers alone: nets over trees with the same neighbours have the same runs, however their trees tell the way.
+-- Runs depend on the neighbours of servers alone: nets over trees with the same neighbours have the same runs, however their trees represent the way.
 use Rattle.std.proofs.Common.{◌≡◌, ℕ, zero, suc, ◌==◌, ◌&&◌, Bool, true, false, cond, inl, inr, List, [], ◌∷◌, Option, Some, None, refl, sym, ap, subst, ◌∙◌}
 use Rattle.std.specs.Prelude.{slice_get}
 use Rattle.law_machine.specs.Machine.{Machine, Input, Does, Receives, Outcome, Act, act_phase}

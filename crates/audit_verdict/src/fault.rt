@@ -1,4 +1,4 @@
-//! The reasons why a claimed run is refuted.
+//! The type of the faults for which a claimed run is refuted.
 ghost use Rattle.std.specs.Prelude.{◌≡◌};
 ghost use Rattle.audit_verdict.specs.Answers.{fault_of_claim};
 ghost use Rattle.audit_verdict.specs.declared.fault.AuditFault.TheVariants as faults;

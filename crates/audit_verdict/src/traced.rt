@@ -1,4 +1,4 @@
-//! The trace of a run, compared with what is claimed.
+//! Compares the trace of a run with what is claimed.
 ghost use Rattle.std.specs.Prelude.{◌≡◌, true, IfOk, OnOk, length};
 ghost use Rattle.net_model.specs.Sound.{IsSound};
 ghost use Rattle.net_turns.specs.Network.{IsLegal};

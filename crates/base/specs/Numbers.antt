@@ -1,4 +1,4 @@
--- Lists of numbers without repeats, and sums over lists.
+-- Defines lists of numbers without repeats, and sums over lists.
 use Rattle.std.specs.Prelude.{ℕ, ◌+◌, Bool, cond, List, [], ◌∷◌}
 use Rattle.base.specs.Sets.{Has}
 

@@ -1,4 +1,4 @@
-//! Items that cover one another, in one canonical order.
+//! The trait of items that cover one another, in one canonical order.
 ghost use Rattle.std.specs.Prelude.{◌≡◌};
 
 /// Items that cover one another and stand in one canonical order, as filters do: a filter covers
@@ -6,7 +6,7 @@ ghost use Rattle.std.specs.Prelude.{◌≡◌};
 ///
 /// Covering is reflexive and transitive. The order is strict and total, and its ties are equal
 /// items. The bits of a covering item's signature are among those of the covered one's, so most
-/// pairs are told apart by one word.
+/// pairs are decided by one word.
 pub trait Cover {
     ghost use Rattle.std.specs.Prelude.{◌≡◌, ◌⊎◌, ℕ, Bool, true, bit_and};
     ghost use Rattle.base.specs.Laws.{CoverLaws};
@@ -25,7 +25,7 @@ pub trait Cover {
     fn before(&self, other: &Self) -> bool
         ensures { result ≡ order self.now other.now };
 
-    /// The bits that each item that this one covers has too. 0 tells nothing: such an item may cover
+    /// The bits that each item that this one covers has too. 0 decides nothing: such an item may cover
     /// and be covered by any.
     fn signature(&self) -> u64
         ensures { (result ≡ 0) ⊎ (result ≡ marked self.now) }

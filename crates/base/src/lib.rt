@@ -2,11 +2,11 @@
 //! Job: what every layer uses: out of memory, decimal numbers, finite sets as rising lists, the trait `Cover`, and the lemma library.
 //! Users: every layer.
 //!
-//! `NoMemory` is the one answer that no clause explains. A finite set is a strictly rising list over an order; its
-//! roots are the members that no other member covers. On sets there is no code but law functions: functions that do
-//! nothing and whose contracts hold for every type of items, every covering relation and every canonical order that
-//! keep `CoverLaws`. `Cover` is the trait of items that cover one another and have one canonical order, as filters and
-//! advertisements do.
+//! `NoMemory` is the one answer that no clause explains: every error of the standard library on growing a collection
+//! becomes `NoMemory`. A finite set is a strictly rising list over an order; its roots are the members that no other
+//! member covers. On sets there is no code but law functions: functions that do nothing and whose contracts hold for
+//! every type of items, every covering relation and every canonical order that keep `CoverLaws`. `Cover` is the trait
+//! of items that cover one another and have one canonical order, as filters and advertisements do.
 #![tactic(auto)]
 
 mod covering;

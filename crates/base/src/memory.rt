@@ -1,4 +1,4 @@
-//! Out of memory, the one answer that no clause explains.
+//! The type of out of memory, the one answer that no clause explains.
 use std::alloc::{AllocError, AllocFailed};
 
 /// Memory ran out. Any call that allocates may answer it, and no contract says when; after it the

@@ -1,4 +1,4 @@
-//! Rows of one width in one vector of words.
+//! The type of rows of one width in one vector of words.
 ghost use Rattle.std.specs.Prelude.{◌≡◌, ◌↔◌, ℕ, ◌*◌, ◌^◌, ◌<◌, not, nat_lt, length, replicate, slice_set, [], IfOk};
 ghost use Rattle.base.specs.Sets.{Has};
 ghost use Rattle.base_bits.specs.Rows.{is_in};
@@ -81,7 +81,7 @@ impl Grid {
         })
     }
 
-    /// Puts a number into a row, and tells whether it was no member.
+    /// Puts a number into a row, and answers whether it was no member.
     pub fn insert(&mut self, row: u32, i: u32) -> bool
         requires row { row < length self.old.rows }
         requires number { i < self.old.width }
@@ -95,7 +95,7 @@ impl Grid {
         !had
     }
 
-    /// Takes a number out of a row, and tells whether it was a member.
+    /// Takes a number out of a row, and answers whether it was a member.
     pub fn remove(&mut self, row: u32, i: u32) -> bool
         requires row { row < length self.old.rows }
         requires number { i < self.old.width }

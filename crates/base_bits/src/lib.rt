@@ -7,7 +7,8 @@
 //! definitions of `base` and their laws hold of it: the order is `nat_lt`. To go over the members without memory, ask
 //! for `first_from(at)` with `at` one more than the last answer; `first_common_from` goes over what two rows have in
 //! common. A `Grid` has many rows of one width in one vector, and contracts see it as that width and the list of its
-//! rows; `joined` is the union of those whose numbers two rows have in common.
+//! rows; `joined` is the union of those whose numbers two rows have in common. Of a `Grid`, only `new` and `joined`
+//! take memory. The crates above test both types; this crate has no rows of its own.
 #![tactic(auto)]
 
 mod grid;

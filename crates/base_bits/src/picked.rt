@@ -1,4 +1,4 @@
-//! Unions of words that the bits of other words pick.
+//! Unites words that the bits of other words pick.
 ghost use Rattle.std.specs.Prelude.{◌≡◌, ◌↔◌, ℕ, ◌+◌, ◌*◌, ◌^◌, ◌<◌, ◌≤◌, length};
 ghost use Rattle.std.specs.Int.{bit_at};
 ghost use Rattle.base_bits.specs.Words.{bit, IsPicked, IsPickedByBoth};

@@ -87,7 +87,7 @@ impl Row {
         listed(alloc, &self.words)
     }
 
-    /// Puts a number in, and tells whether it was no member.
+    /// Puts a number in, and answers whether it was no member.
     pub fn insert(&mut self, i: u32) -> bool
         requires { i < self.old.width }
         ensures fresh { result ≡ not (is_in i self.old.members) }
@@ -99,7 +99,7 @@ impl Row {
         !had
     }
 
-    /// Takes a number out, and tells whether it was a member.
+    /// Takes a number out, and answers whether it was a member.
     pub fn remove(&mut self, i: u32) -> bool
         requires { i < self.old.width }
         ensures had { result ≡ is_in i self.old.members }

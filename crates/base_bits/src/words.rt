@@ -1,4 +1,4 @@
-//! Sets of numbers as words of 64 bits each.
+//! Keeps sets of numbers as words of 64 bits each.
 ghost use Rattle.std.specs.Prelude.{◌≡◌, ◌≢◌, ◌↔◌, ℕ, ◌+◌, ◌-◌, ◌*◌, ◌^◌, ◌<◌, ◌≤◌, ◌==◌, true, false, min, max, length, IsTrue, IfSome, IfNone, bit_and, slice_index};
 ghost use Rattle.base_bits.specs.Words.{bit, HaveCommonWord};
 

@@ -1,7 +1,7 @@
-//! The gate that a worker passes, at which a test may hold it.
+//! The trait of the gate that a worker passes, at which a test may hold it.
 
-/// Which of the two workers of a server: the one that takes its clients' commands, or the one that
-/// takes messages from its links and publishes versions.
+/// Which of the two workers of a server: the one that executes its clients' commands, or the one that
+/// receives messages from its links and makes table updates.
 #[derive(Clone, Copy, Debug, PartialEq, Eq)]
 pub enum WorkerRole {
     Commands,
@@ -27,7 +27,7 @@ pub struct Place {
     pub spot: Spot,
 }
 
-/// What is told of each place that a worker passes. Nothing is promised of a pass but that it returns. Workers in several
+/// What gets each place that a worker passes. Nothing is promised of a pass but that it returns. Workers in several
 /// threads pass one gate, so who starts them asks that it is `Sync` besides.
 pub trait Gate {
     /// A worker is at this place, with nothing in hand.

@@ -1,4 +1,4 @@
-//! Bytes on their way to a sink, so that it gets them in great pieces.
+//! Collects bytes on their way to a sink, so that it gets them in great pieces.
 ghost use Rattle.std.specs.Prelude.{◌≡◌, ◌≤◌, ◌+◌, [], true, false, ◌++◌, length, IfOk, OnOk, OnErr};
 ghost use Rattle.base_devices.specs.Cause.{Rose};
 ghost use Rattle.base_devices.specs.Whole.{TookPart};

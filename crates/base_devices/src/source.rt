@@ -18,7 +18,7 @@ pub trait Source {
     /// Whether it stood at its end: the last read answered 0 into a buffer with room.
     ghost ended: { Self → Bool };
 
-    /// The bytes that are left, where the source tells them.
+    /// The bytes that are left, where the source knows them.
     ghost left: { Self → Option (List ℕ) };
 
     /// How often the source has failed.

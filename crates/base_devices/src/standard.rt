@@ -1,4 +1,4 @@
-//! Standard input and output as a source and a sink: the trusted edge.
+//! Makes standard input and output a source and a sink: the trusted edge.
 use crate::{Failed, Noted, Sink, Source};
 use std::io::{Read, Write};
 

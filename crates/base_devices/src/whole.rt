@@ -1,4 +1,4 @@
-//! All of a source, and all of a text.
+//! Reads all of a source, and writes all of a text.
 ghost use Rattle.std.specs.Prelude.{◌≡◌, ◌≤◌, ◌+◌, ℕ, List, ◌++◌, true, length, vec_len, ◌↔◌, IfOk, IsOk, IsErrOf, OnOk, OnErr};
 ghost use Rattle.std.specs.Io.KnownBytes.{Consumes, IsAtEnd};
 ghost use Rattle.base_devices.specs.Cause.{Rose, HasCause};

@@ -1,4 +1,4 @@
--- Items by their numbers, which are their places in a list that rises.
+-- Defines items by their numbers, which are their places in a list that rises.
 use Rattle.std.specs.Prelude.{◌≡◌, ◌⊎◌, ℕ, ◌+◌, ◌^◌, ◌<◌, nat_lt, Bool, true, false, cond, not, ◌&&◌, ◌||◌, List, length, map, filter_map, slice_get, slice_index, Option, Some, None}
 use Rattle.std.specs.List.{range_with_len}
 use Rattle.base.specs.Sets.{Has, IsRising, yields, is_root, roots}

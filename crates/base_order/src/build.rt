@@ -21,7 +21,7 @@ fn signatures<T: Cover>(alloc: Global, items: &[T]) -> Result<Vec<u64>, NoMemory
     Ok(signs)
 }
 
-/// For each item a word that tells nothing.
+/// For each item a word that decides nothing.
 pub(crate) fn no_words<T: Cover>(alloc: Global, items: &[T]) -> Result<Vec<u64>, NoMemory>
     ensures { IfOk result (λ words. Narrows T.covering items.now words.items) }
 {

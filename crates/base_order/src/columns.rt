@@ -1,4 +1,4 @@
-//! Which items an item may cover, by the bits of their signatures as rows of bits.
+//! Finds which items an item may cover, by the bits of their signatures as rows of bits.
 ghost use Rattle.std.specs.Prelude.{◌≡◌, ℕ, ◌^◌, ◌<◌, ◌==◌, length, cond, IfOk, slice_index};
 ghost use Rattle.std.specs.Int.{bit_at};
 ghost use Rattle.base.specs.Sets.{Has};
@@ -11,7 +11,7 @@ use base_bits::Row;
 use std::alloc::Global;
 use std::marker::Model;
 
-/// A word for each item, with the rows of the bits: they tell of most items that one does not cover the other.
+/// A word for each item, with the rows of the bits: they show of most items that one does not cover the other.
 #[derive(Drop)]
 pub(crate) struct Hints {
     words: Vec<u64>,
@@ -37,7 +37,7 @@ fn has_bit(sign: u64, bit: u32) -> bool
     sign >> bit & 1 == 1
 }
 
-/// Whether a signature has a bit, or tells nothing.
+/// Whether a signature has a bit, or is 0 and decides nothing.
 fn may_have(sign: u64, bit: u32) -> bool
     requires { bit < 64 }
     ensures { result ≡ may_have sign bit }
@@ -93,7 +93,7 @@ fn keep_if(row: &mut Row, other: &Row, holds: bool)
     }
 }
 
-/// Takes out of a row numbers of items that an item with this signature doesn't cover, as the bits of the signatures tell.
+/// Takes out of a row numbers of items that an item with this signature doesn't cover, as the bits of the signatures show.
 fn narrow(columns: &[Row], signs: &[u64], sign: u64, row: &mut Row)
     requires columns { columns.now ≡ column_rows signs.now 64 }
     requires width { row.old.width ≡ length signs.now }
@@ -117,7 +117,7 @@ impl Hints {
         Ok(Hints { words, columns })
     }
 
-    /// Takes out of a row numbers of items that an item doesn't cover, as the words tell.
+    /// Takes out of a row numbers of items that an item doesn't cover, as the words show.
     pub(crate) fn narrow(&self, i: usize, row: &mut Row)
         requires there { i < length self.now }
         requires width { row.old.width ≡ length self.now }

@@ -1,4 +1,4 @@
-//! Items in their canonical order, with the rows that tell their roots.
+//! The type of items in their canonical order, with the rows by which roots are found.
 ghost use Rattle.std.specs.Prelude.{◌≡◌, ◌↔◌, ℕ, ◌^◌, ◌<◌, List, [], ◌∷◌, length, nat_lt, slice_get, Some, true, false, IfOk, IfSome, IfNone};
 ghost use Rattle.base_bits.specs.Rows.{is_in};
 ghost use Rattle.base.specs.Sets.{Has, IsRising, is_root, roots, put_in, minus};
@@ -58,7 +58,7 @@ impl<T: Cover> Order<T> {
     }
 
     /// The same, with a word for each item beside its signature, which has bits that each item has that
-    /// this one covers, or is 0 and tells nothing. The order is the same whatever the words; they spare
+    /// this one covers, or is 0 and decides nothing. The order is the same whatever the words; they spare
     /// comparisons of items whose signatures are alike.
     pub fn narrowed(alloc: Global, items: Vec<T>, words: Vec<u64>) -> Result<Self, NoMemory>
     where
@@ -170,7 +170,7 @@ impl<T: Cover> Order<T> {
         }
     }
 
-    /// Settles one number: it is a root of the need or none, and told where that is new.
+    /// Settles one number: it is a root of the need or none, and is listed where that is new.
     fn settle(&self, need: &Row, i: u32, roots: &mut Row, withdrawn: &mut Row, added: &mut Row)
         requires there { i < length self.now }
         requires need { need.now.width ≡ length self.now }
@@ -274,7 +274,7 @@ impl<T: Cover> Order<T> {
         roots.lemma_sorted();
     }
 
-    /// Settles one number, and where that is told, what it covers.
+    /// Settles one number, and where that is listed, what it covers.
     fn settle_from(&self, need: &Row, c: u32, roots: &mut Row, withdrawn: &mut Row, added: &mut Row)
         requires there { c < length self.now }
         requires need { need.now.width ≡ length self.now }
@@ -323,7 +323,7 @@ impl<T: Cover> Order<T> {
     }
 
     /// Makes the roots of a need before the roots of the need now, where some numbers went and
-    /// others came, and tells which numbers are no roots any more and which are new ones. It looks
+    /// others came, and lists which numbers are no roots any more and which are new ones. It looks
     /// at the numbers that went and came, and of those that were or are roots at what they cover.
     pub fn reroot(
         &self,

@@ -1,4 +1,4 @@
-//! Numbers put into a row or taken out, by a test.
+//! Puts a number into a row or takes it out, by a test.
 ghost use Rattle.std.specs.Prelude.{◌≡◌, ◌<◌, ◌∷◌, [], cond, nat_lt};
 ghost use Rattle.base.specs.Sets.{put_in, minus};
 ghost use Rattle.base_bits.specs.Rows.{is_in};
@@ -16,7 +16,7 @@ pub fn put_if(row: &mut Row, i: u32, holds: bool)
     }
 }
 
-/// Puts a number in where it holds, and else takes it out; tells whether it was in.
+/// Puts a number in where it holds, and else takes it out; answers whether it was in.
 pub fn set_to(row: &mut Row, i: u32, holds: bool) -> bool
     requires { i < row.old.width }
     ensures was { result ≡ is_in i row.old.members }

@@ -1,4 +1,4 @@
--- Sums over lists.
+-- Lemmas on sums over lists.
 use Rattle.std.proofs.Common.{◌≡◌, ℕ, ◌+◌, ◌≤◌, ◌==◌, Bool, true, false, cond, List, [], ◌∷◌, inl, inr, length, refl, sym, ap, subst, ◌∙◌, arith, ne_eqb, eq-eqb}
 use Rattle.base.specs.Sets.{Has}
 use Rattle.base.specs.Numbers.{sum_over, IsDistinct}

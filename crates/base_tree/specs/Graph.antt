@@ -1,4 +1,4 @@
--- Servers numbered from 1 and edges between them: when these are a tree.
+-- Defines servers numbered from 1 and edges between them: when these are a tree.
 use Rattle.std.specs.Prelude.{◌≡◌, ℕ, ◌<◌, ◌≤◌, ◌==◌, Bool, true, false, ◌&&◌, ◌||◌, List, [], ◌∷◌, Some, slice_get, take, filter, All}
 use Rattle.std.specs.List.{list_any, range_with_len}
 

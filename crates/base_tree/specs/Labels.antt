@@ -1,4 +1,4 @@
--- Labels of servers, and the faults of a list of edges.
+-- Defines labels of servers, and the faults of a list of edges.
 use Rattle.std.specs.Prelude.{◌≡◌, ℕ, ◌<◌, ◌≤◌, true, List, slice_index}
 use Rattle.base_tree.specs.Graph.{has_edge, AreJoined, IsForest, IsTwice, IsLoop, IsApart, IsCount}
 use Rattle.base_tree.specs.declared.fault.TreeFault.{TreeFault}

@@ -1,4 +1,4 @@
-//! Why a list of edges is no tree, and why an edge can't come after others.
+//! The types of the faults of a list of edges, and of an edge behind others.
 ghost use Rattle.std.specs.Prelude.{◌≡◌};
 
 use base;

@@ -1,4 +1,4 @@
-//! Labels of servers: the same exactly where edges join the servers.
+//! Labels servers: two labels are the same exactly where edges join the servers.
 ghost use Rattle.std.specs.Prelude.{◌≡◌, ◌≢◌, ◌==◌, ◌<◌, ◌≤◌, ◌↔◌, ◌++◌, ◌∷◌, [], ℕ, List, false, true, cond, length, slice_index, take};
 ghost use Rattle.std.specs.Prelude.{IfSome, IfNone, slice_get, MatchResult, Some, None};
 ghost use Rattle.base_tree.specs.Graph.{has_edge, AreWithin, IsEdgeWithin, AreJoined, IsForest, IsTree, IsApart, IsCount};
@@ -52,7 +52,7 @@ fn unlike_first(n: u32, labels: &[u32]) -> Option<u32>
     None
 }
 
-/// Which servers the edges so far join: what tells an edge's fault among earlier ones, without memory. It takes as
+/// Which servers the edges so far join: what shows an edge's fault among earlier ones, without memory. It takes as
 /// many steps as there are servers for each edge, and for one at fault as there are earlier edges besides.
 #[derive(Debug, Drop)]
 pub struct Labels {
@@ -84,7 +84,7 @@ impl Labels {
         }
     }
 
-    /// Joins the ends of an edge after the earlier ones, or tells what is at fault with it; then nothing changes.
+    /// Joins the ends of an edge after the earlier ones, or answers what is at fault with it; then nothing changes.
     /// Both ends are servers.
     pub fn join(&mut self, earlier: &[(u32, u32)], edge: (u32, u32)) -> Option<EdgeFault>
         requires of { AreLabelsOf earlier.now self.old }

@@ -1,4 +1,4 @@
-//! What follows from the laws of a tree alone.
+//! States what follows from the laws of a tree alone.
 ghost use Rattle.std.specs.Prelude.{◌≡◌, ℕ, List};
 ghost use Rattle.base.specs.Sets.{Has};
 ghost use Rattle.base_tree.specs.Hops.{AreHops};

@@ -1,4 +1,4 @@
-//! The reasons why nothing was measured.
+//! The type of the faults for which nothing was measured.
 use base::NoMemory;
 use filter_constraints::BadConstraint;
 use filter_types::{FilterFault, NoticeFault};

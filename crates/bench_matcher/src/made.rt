@@ -1,4 +1,4 @@
-//! Made filters and notices, as monitoring and market systems have them.
+//! Makes filters and notices as monitoring and market systems have them.
 ghost use Rattle.std.specs.Prelude.{◌<◌, ◌≤◌};
 
 use crate::fault::Fault;

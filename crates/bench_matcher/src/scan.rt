@@ -1,4 +1,4 @@
-//! Made filters and notices, and what a plain scan says of them.
+//! Makes filters and notices by a plan, and finds by a plain scan what matches.
 ghost use Rattle.std.specs.Prelude.{◌≡◌, length};
 
 use crate::{Fault, Maker, Workload};

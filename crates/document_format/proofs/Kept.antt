@@ -83,7 +83,7 @@ pub record IsDraftIn (version : ℕ) (d : Draft) : Type 0 where
   pub name : IsName d.client.name
   pub commands : Each (λ s. IsCommandIn version s.1) d.client.script
 
--- a taking is from a neighbour
+-- a reception is from a neighbour
 abbrev pub IsNearIn : Drawn → Turn → Type 0
 IsNearIn trees (turns.Command client) = Unit {0}
 IsNearIn trees (turns.Receive a b) = are_neighbours trees (a, b) ≡ true

@@ -1,4 +1,4 @@
--- The canonical line of a command, and the commands that documents of a version have.
+-- Defines the canonical line of a command, and the commands that documents of a version have.
 use Rattle.std.specs.Prelude.{◌≡◌, ◌++◌, ℕ, nat_lt, Bool, true, List, codes}
 use Rattle.filter_values.specs.Value.{kind_of}
 use Rattle.filter_values.specs.declared.value.Kind.{Kind}

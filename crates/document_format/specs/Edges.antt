@@ -1,4 +1,4 @@
--- The edges of a tree of servers, each once.
+-- Defines the edges of a tree of servers, each once.
 use Rattle.std.specs.Prelude.{ℕ, nat_lt, List, map, filter}
 use Rattle.std.specs.List.{flat_map}
 use Rattle.base_tree.specs.Tree.{Topology, servers_of, links_of}

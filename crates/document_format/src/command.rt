@@ -1,4 +1,4 @@
-//! The lines of commands, on their way to a sink. No call takes memory.
+//! Writes the lines of commands to a sink. No call takes memory.
 ghost use Rattle.std.specs.Prelude.{◌++◌};
 ghost use Rattle.base_devices.specs.Pending.{outlet, Went};
 ghost use Rattle.filter_text.specs.FilterText.{constraints_text};

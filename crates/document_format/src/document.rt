@@ -1,4 +1,4 @@
-//! The canonical text of a net, on its way to a sink. No call takes memory.
+//! Writes the canonical text of a net to a sink. No call takes memory.
 ghost use Rattle.std.specs.Prelude.{◌≡◌};
 ghost use Rattle.std.specs.List.{flat_map};
 ghost use Rattle.base_devices.specs.Pending.{outlet, Went};

@@ -1,4 +1,4 @@
-//! Lines of a few words, on their way to a sink.
+//! Writes lines of a few words to a sink.
 ghost use Rattle.std.specs.Prelude.{◌≡◌, ◌++◌, ◌∷◌};
 ghost use Rattle.std.specs.Fmt.{decimal};
 ghost use Rattle.base_devices.specs.Pending.{outlet, Went};

@@ -1,4 +1,4 @@
-//! The lines of trees and clients, on their way to a sink. No call takes memory.
+//! Writes the lines of trees and clients to a sink. No call takes memory.
 ghost use Rattle.std.specs.List.{flat_map};
 ghost use Rattle.base_devices.specs.Pending.{outlet, Went};
 ghost use Rattle.base_tree.specs.Tree.{servers_of};

@@ -1,4 +1,4 @@
-//! The lines of scripts, on their way to a sink. No call takes memory.
+//! Writes the lines of scripts to a sink. No call takes memory.
 ghost use Rattle.std.specs.Prelude.{◌≡◌, ◌-◌};
 ghost use Rattle.std.specs.List.{flat_map};
 ghost use Rattle.base_devices.specs.Pending.{outlet, Went};

@@ -1,4 +1,4 @@
-//! Wire texts of values, constraints and attributes, on their way to a sink. No call takes memory.
+//! Writes the wire texts of values, constraints and attributes to a sink. No call takes memory.
 ghost use Rattle.std.specs.Prelude.{◌≡◌};
 ghost use Rattle.std.specs.List.{flat_map};
 ghost use Rattle.std.specs.Fmt.{signed_decimal};

@@ -1,4 +1,4 @@
--- The numbers that a document is made of: a linear congruential generator.
+-- Defines the numbers that a document is made of: a linear congruential generator.
 use Rattle.std.specs.Prelude.{ℕ, zero, suc, ◌+◌, ◌*◌, ◌/◌, ◌%◌, ◌^◌}
 
 -- the state after a draw

@@ -1,4 +1,4 @@
--- The lines of a generated document, each ended by a newline (10), made of the numbers drawn from a state on.
+-- Defines the lines of a generated document, each ended by a newline (10), made of the numbers drawn from a state on.
 use Rattle.std.specs.Prelude.{ℕ, zero, suc, ◌+◌, ◌%◌, ◌==◌, Bool, true, false, List, [], ◌∷◌, ◌++◌, codes, decimal, if◌then◌else◌}
 use Rattle.base.specs.Text.{labelled}
 use Rattle.document_generate.specs.Draws.{draw, letter, after}

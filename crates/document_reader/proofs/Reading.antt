@@ -42,6 +42,6 @@ refused_read bytes (Err (inputs.Bad l k)) h line kind e = inl (same (document_of
         let e : (l, k) ≡ (line, kind) = pair d (l, k) (line, kind) p q in
         ap (λ (x : ℕ × Fault). Err (inputs.Bad x.0 x.1)) e
 
--- a line that is taken leaves the rest to read
+-- a line that is accepted leaves the rest to read
 pub next_read : (n : ℕ) (s t : State) (ls rest : List (List ℕ)) (l : List ℕ) → ls ≡ l ∷ rest → line_rule s n l ≡ Ok t → read_from n s ls ≡ read_from (n + 1) t rest
 next_read n s t ls rest l e f = rw (e, f) refl

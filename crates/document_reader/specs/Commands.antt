@@ -1,4 +1,4 @@
--- The command of a line of a script, or what is at fault with it.
+-- Defines the command of a line of a script, or what is at fault with it.
 use Rattle.std.specs.Prelude.{◌≡◌, ℕ, List, [], Option, Some, None, Result, Ok, Err}
 use Rattle.base.specs.Sets.{set_of}
 use Rattle.filter_types.specs.Canonical.{canonical}

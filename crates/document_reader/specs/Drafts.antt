@@ -1,4 +1,4 @@
--- The clients of a document with their scripts, as its lines give them.
+-- Defines the clients of a document with their scripts, as its lines give them.
 use Rattle.std.specs.Prelude.{◌≡◌, Bool, true, false, ℕ, ◌+◌, ◌≤◌, zero, suc, List}
 use Rattle.std.specs.Prelude.{[], ◌∷◌, ◌++◌, map, length, Option, Some, None, position, slice_get}
 use Rattle.std.specs.Str.{bytes_eq}

@@ -1,4 +1,4 @@
--- The trees of a document as its lines draw them.
+-- Defines the trees of a document as its lines draw them.
 use Rattle.std.specs.Prelude.{◌≡◌, ◌==◌, Bool, not, ◌&&◌, ◌||◌, ℕ, ◌≤◌, nat_lt, nat_le, List, [], ◌∷◌, ◌++◌, All, Option, Some, None, if◌then◌else◌}
 use Rattle.std.specs.List.{list_any, list_all}
 use Rattle.base_tree.specs.Graph.{AreWithin, IsTree, has_edge, servers_to}

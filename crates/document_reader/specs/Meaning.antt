@@ -6,7 +6,7 @@ use Rattle.document_reader.specs.Places.{end_rule, line_rule, start}
 use Rattle.document_reader.specs.declared.fault.Fault.{Fault}
 use Rattle.document_reader.specs.declared.state.State.{State}
 
--- what stands after lines that are all taken, of which the first has the number n
+-- what stands after lines that are all accepted, of which the first has the number n
 abbrev pub stands : ℕ → State → List (List ℕ) → Answer
 stands n s [] = Ok s
 stands n s (l ∷ ls) = line_rule s n l >>= λ t. stands (n + 1) t ls
@@ -16,7 +16,7 @@ abbrev pub IsRefusedLine : ℕ → State → List (List ℕ) → Fault → Type 
 IsRefusedLine n s [] fault = end_rule s ≡ Err fault
 IsRefusedLine n s (l ∷ ls) fault = line_rule s n l ≡ Err fault
 
--- the lines before number n are taken, and this one, or the end, has the fault
+-- the lines before number n are accepted, and this one, or the end, has the fault
 pub record IsFirstFault (ls : List (List ℕ)) (n : ℕ) (fault : Fault) : Type 0 where
   pub before : List (List ℕ)
   pub after : List (List ℕ)
@@ -26,7 +26,7 @@ pub record IsFirstFault (ls : List (List ℕ)) (n : ℕ) (fault : Fault) : Type 
   pub taken : stands 1 start before ≡ Ok state
   pub refused : IsRefusedLine n state after fault
 
--- each line is taken, and so is the end
+-- each line is accepted, and so is the end
 pub record AreTaken (ls : List (List ℕ)) (state : State) : Type 0 where
   pub taken : stands 1 start ls ≡ Ok state
   pub ended : end_rule state ≡ Ok state

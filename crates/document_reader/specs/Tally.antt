@@ -1,4 +1,4 @@
--- The limits on what the commands of a document take.
+-- Defines the limits on what the commands of a document take.
 use Rattle.std.specs.Prelude.{Bool, ℕ, ◌+◌, ◌*◌, ◌≤◌, nat_lt, nat_le, if◌then◌else◌, Result, Ok}
 use Rattle.document_reader.specs.Answer.{◌>>=◌, need}
 use Rattle.document_reader.specs.declared.fault.Fault.{Fault}

@@ -1,4 +1,4 @@
-//! The edges of one tree of a document, with the first phase in which it is in force.
+//! The type of the edges of one tree of a document, with the first phase in which it is in force.
 use std::marker::Model;
 
 /// The edges of a tree, with the first phase in which it is in force; contracts see the two as a pair.

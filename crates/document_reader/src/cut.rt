@@ -1,4 +1,4 @@
-//! Bytes cut into lines, and a line into words.
+//! Cuts bytes into lines, and a line into words.
 ghost use Rattle.std.specs.Prelude.{◌≡◌, ◌≢◌, ◌∷◌, [], ◌<◌, ◌≤◌, length, IfSome, MatchOption, slice_index, ℕ, true, false};
 ghost use Rattle.document_reader.specs.Lines.{IsFirstLine, is_blank, lines, without_return, words};
 

@@ -1,4 +1,4 @@
-//! A client as the lines so far give it.
+//! The type of a client as the lines so far define it.
 use net_model::Client;
 
 /// A client with its script so far, and whether it has one yet.

@@ -1,4 +1,4 @@
-//! The reasons why a document is refused.
+//! The types of the faults for which a document is refused.
 ghost use Rattle.std.specs.Prelude.{◌≡◌, IfOk, OnErr};
 ghost use Rattle.document_reader.specs.declared.fault.LineFault.TheVariants as faults;
 ghost use Rattle.document_reader.specs.declared.fault.InputFault.TheVariants as inputs;
@@ -48,11 +48,11 @@ pub enum Fault {
     MuchControl,
     /// The publications may make too many deliveries.
     MuchNotice,
-    /// A turn of the schedule isn't permitted when it comes. No reading of a document tells it.
+    /// A turn of the schedule isn't permitted when it comes. No reading of a document answers it.
     BadTurn,
 }
 
-/// Why a line is not taken, before its number is told: its fault, of one of these kinds, or out of memory.
+/// Why a line is not accepted, before its number is known: its fault, of one of these kinds, or out of memory.
 #[derive(Clone, Copy, Debug, PartialEq, Eq)]
 pub enum LineFault<K> {
     /// The line is at fault.

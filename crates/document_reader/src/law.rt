@@ -9,12 +9,12 @@ ghost use Rattle.document_reader.specs.Places.{document_of};
 ghost use Rattle.document_reader.specs.Meaning.{AreTaken, IsFirstFault};
 ghost use Rattle.document_reader.specs.Net.{IsBadAt, IsNetOf};
 
-/// A document is refused at a line where the lines before are all taken and this one, or the end, has the fault.
+/// A document is refused at a line where the lines before are all accepted and this one, or the end, has the fault.
 pub fn first_fault()
     ensures { (bytes : List ℕ) (line : ℕ) (kind : Kind) → length bytes ≤ 4194304 → IsBadAt bytes line kind ↔ IsFirstFault (lines bytes) line kind }
 {}
 
-/// A document says what stands after its lines where each of them is taken, and so is the end.
+/// A document says what stands after its lines where each of them is accepted, and so is the end.
 pub fn all_taken()
     ensures { (bytes : List ℕ) (s : Standing) → length bytes ≤ 4194304 → (document_of bytes ≡ Ok s) ↔ AreTaken (lines bytes) s }
 {}

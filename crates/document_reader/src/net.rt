@@ -1,4 +1,4 @@
-//! The net of what stands at the end of a document.
+//! Makes the net of a document from what its lines defined.
 ghost use Rattle.std.specs.Prelude.{◌≡◌, IfOk, false, map};
 ghost use Rattle.base_tree.specs.Graph.{IsCount};
 ghost use Rattle.document_reader.specs.Drawn.{IsWholeBlock, is_apart};

@@ -156,7 +156,7 @@ fn by_words(alloc: Global, state: &mut State, number: u32, word: &[u8], rest: &[
     }
 }
 
-/// Takes a line with its number, or tells its first fault.
+/// Takes a line with its number, or answers its first fault.
 pub fn line(alloc: Global, state: &mut State, number: u32, line: &[u8]) -> Ruled<()>
     requires { length line.now ≤ 4194304 }
     ensures { StepsByRule result state.new (line_rule state.old number line.now) }
@@ -182,7 +182,7 @@ fn has_servers(place: Place) -> bool
     }
 }
 
-/// Takes the end, or tells its first fault.
+/// Takes the end, or answers its first fault.
 #[tactic(auto, unfolding(crate::specs::Places::end_rule))]
 pub fn end(state: &State) -> Ruled<()>
     ensures steps { StepsByRule result state.now (end_rule state.now) }

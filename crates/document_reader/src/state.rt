@@ -1,4 +1,4 @@
-//! What stands so far while a document is read.
+//! The type of the state of the reader between two lines of a document.
 use crate::clients::Clients;
 use crate::tally::Tally;
 use crate::trees::Trees;

@@ -1,4 +1,4 @@
-//! The versions of documents.
+//! The type of the version of a document, and the word of each.
 ghost use Rattle.std.specs.Prelude.{◌≡◌};
 ghost use Rattle.document_script.specs.Command.{IsVersion};
 ghost use Rattle.document_reader.specs.Rules.{version_named, version_number};

@@ -1,4 +1,4 @@
--- The tokens of the code, as specifications see them.
+-- Defines the tokens of the code, as specifications see them.
 use Rattle.std.specs.Prelude.{◌≡◌, List, [], ◌∷◌, Some, None, Ok, Err}
 use Rattle.std.specs.declared.option.Option.{Option}
 use Rattle.std.specs.declared.result.Result.{Result}

@@ -1,4 +1,4 @@
-//! Constraints that are kept while a line is read: equal ones once where room is scarce, and no more than tell that there
+//! Keeps constraints while a line is read: equal ones once where room is scarce, and no more than show that there
 //! are too many.
 ghost use Rattle.std.specs.Prelude.{◌≡◌, ◌<◌, [], true, length, IfOk, OnOk};
 ghost use Rattle.std.specs.List.Retain.{IsFiltered, DiffersFromLast};

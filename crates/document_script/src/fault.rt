@@ -1,4 +1,4 @@
-//! The reasons why a command line gives no command.
+//! The type of the faults for which a command line gives no command.
 ghost use Rattle.std.specs.Prelude.{◌≡◌};
 ghost use Rattle.document_script.specs.declared.fault.ScriptFault.TheVariants as faults;
 

@@ -1,4 +1,4 @@
-//! The form of a command, read from its tokens.
+//! Reads the form of a command from its tokens.
 ghost use Rattle.std.specs.Prelude.{◌≡◌, ◌≢◌, ◌<◌, [], length, IfOk};
 ghost use Rattle.document_script.specs.Form.{attribute_in, constraint_in, given_in, head_in, kind_by, kind_in, operand_in, part_of, parts_in};
 ghost use Rattle.document_script.specs.Reading.{GathersTokens, IsGathered, ReadsTokens, TakesFront};

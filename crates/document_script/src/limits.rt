@@ -1,4 +1,4 @@
-//! The filter, the advertisement or the notice of a command's parts, or the first fault.
+//! Makes the filter, the advertisement or the notice of a command's parts, or answers the first fault.
 ghost use Rattle.std.specs.Prelude.{◌≡◌, ℕ, List, false, IsPermutation};
 ghost use Rattle.filter_types.specs.Canonical.{canonical};
 ghost use Rattle.filter_types.specs.Notice.{AreRising};

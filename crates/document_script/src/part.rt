@@ -1,4 +1,4 @@
-//! The two sorts of parts that commands have: constraints and attributes.
+//! The trait of the two sorts of parts that commands have: constraints and attributes.
 ghost use Rattle.std.specs.Prelude.{◌≡◌, false};
 ghost use Rattle.document_script.specs.Command.{fit_of, is_beyond, is_empty, is_wide, whole_of};
 ghost use Rattle.document_script.specs.Form.{attribute_in, constraint_in};

@@ -1,4 +1,4 @@
-//! The tokens of which a command line is made.
+//! The type of a token of a command line.
 use filter_constraints::Op;
 use filter_values::Text;
 

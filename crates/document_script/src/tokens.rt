@@ -1,4 +1,4 @@
-//! The tokens of a line, one after the other.
+//! Cuts a line into its tokens, one after the other.
 use crate::cutter::Cutter;
 use crate::token::Token;
 use base::NoMemory;

@@ -1,4 +1,4 @@
-//! The first words of commands, each by its name.
+//! The type of the first word of a command, found by its name.
 ghost use Rattle.std.specs.Prelude.{◌≡◌};
 ghost use Rattle.document_script.specs.Form.{verb_named};
 

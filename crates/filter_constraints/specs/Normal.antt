@@ -18,7 +18,7 @@ use Rattle.filter_constraints.specs.Texts.{Texts}
 use Rattle.filter_constraints.specs.Constraint.{Form}
 use Rattle.filter_constraints.specs.Constraint.Form.{truth, number, text, time, no_form}
 
--- the normal form of numbers that a value of type NumberForm means
+-- the normal form of numbers that a value of type NumberForm represents
 abbrev pub numbers_meant : NumberForm → Numbers
 numbers_meant forms.Empty = Numbers.empty
 numbers_meant forms.All = Numbers.all
@@ -27,21 +27,21 @@ numbers_meant (forms.Ne u) = Numbers.unequal u
 numbers_meant (forms.Le u) = Numbers.at_most u
 numbers_meant (forms.Ge u) = Numbers.at_least u
 
--- the normal form of numbers that a set of integers means
+-- the normal form of numbers that a set of integers represents
 abbrev pub numbers_of : IntSet → Numbers
 numbers_of (sets.Eq u) = Numbers.equal u
 numbers_of (sets.Ne u) = Numbers.unequal u
 numbers_of (sets.Le u) = Numbers.at_most u
 numbers_of (sets.Ge u) = Numbers.at_least u
 
--- the normal form of numbers that a set of times means
+-- the normal form of numbers that a set of times represents
 abbrev pub times_of : TimeSet → Numbers
 times_of (times.Eq u) = Numbers.equal (pos u)
 times_of (times.Ne u) = Numbers.unequal (pos u)
 times_of (times.Le u) = Numbers.at_most (pos u)
 times_of (times.Ge u) = Numbers.at_least (pos u)
 
--- the normal form of texts that an operator and its operand mean
+-- the normal form of texts that an operator and its operand represent
 abbrev pub texts_of : Op → List ℕ → Texts
 texts_of ops.Any u = Texts.all
 texts_of ops.Eq u = Texts.equal u
@@ -54,7 +54,7 @@ texts_of ops.Prefix u = Texts.prefix u
 texts_of ops.Suffix u = Texts.suffix u
 texts_of ops.Contains u = Texts.contains u
 
--- the normal form that a value of type Normal means for a kind
+-- the normal form that a value of type Normal represents for a kind
 abbrev pub form_meant : Kind → Normal → Form
 form_meant kinds.Bool normals.All = truth Truths.all
 form_meant kinds.Bool (normals.Bool b) = truth (Truths.equal b)

@@ -1,4 +1,4 @@
--- Constraints on a number from a least to a greatest one, for any kind of numbers.
+-- Defines constraints on a number from a least to a greatest one, for any kind of numbers.
 use Rattle.std.specs.Prelude.{◌≡◌, ℤ, pos, ◌+ℤ◌, ◌-ℤ◌, ◌≤ℤ◌, ◌<ℤ◌, Bool, true, false, not, int_lt, if◌then◌else◌, ◌||◌}
 use Rattle.std.specs.Ordering.{int_eq}
 use Rattle.filter_constraints.specs.declared.op.Op.{Op}

@@ -1,4 +1,4 @@
--- The canonical order of constraints and of lists of them.
+-- Defines the canonical order of constraints and of lists of them.
 use Rattle.std.specs.Prelude.{ℕ, List}
 use Rattle.std.specs.declared.cmp.Ordering.{Ordering}
 use Rattle.std.specs.Ordering.{nat_cmp, then_cmp, on}

@@ -1,4 +1,4 @@
--- Constraints on a text: satisfaction, normal form, covering, compatibility.
+-- Defines constraints on a text: satisfaction, normal form, covering, compatibility.
 use Rattle.std.specs.Prelude.{◌≡◌, ℕ, ◌<◌, ◌≤◌, Bool, true, false, not, List, [], length, ◌||◌}
 use Rattle.std.specs.Str.{bytes_eq}
 use Rattle.filter_constraints.specs.declared.op.Op.{Op}

@@ -1,4 +1,4 @@
--- Constraints on a truth value: satisfaction, normal form, covering, compatibility.
+-- Defines constraints on a truth value: satisfaction, normal form, covering, compatibility.
 use Rattle.std.specs.Prelude.{Bool, true, false, not}
 use Rattle.filter_constraints.specs.declared.op.Op.{Op}
 use Rattle.filter_constraints.specs.declared.op.Op.TheVariants as ops

@@ -1,4 +1,4 @@
-//! Laws of covering, of compatibility and of the canonical order. The laws of numbers are over any
+//! States the laws of covering, of compatibility and of the canonical order. The laws of numbers are over any
 //! range with a least and a greatest number and at least three in all; int is the range of i64, time
 //! that of u64.
 ghost use Rattle.std.specs.Prelude.{◌≡◌, ◌≢◌, ℤ, true, List};

@@ -1,4 +1,4 @@
-//! Normal forms, and the tables of covering and compatibility over them.
+//! The type of normal forms, and the tables of covering and compatibility over them.
 ghost use Rattle.std.specs.Prelude.{◌≡◌, pos};
 ghost use Rattle.filter_values.specs.declared.value.Kind.{Kind};
 ghost use Rattle.filter_constraints.specs.Constraint.{form_covers, form_compatible, int_least, int_greatest, time_least, time_greatest};

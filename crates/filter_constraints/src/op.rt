@@ -1,4 +1,4 @@
-//! The operators of constraints.
+//! The type of the operators of constraints.
 
 /// The operators of constraints, in their order. A value satisfies an operator with an operand where
 /// it is of the operand's kind and stands to it as the variant says: truth values by their equality,

@@ -1,4 +1,4 @@
--- Filters and advertisements keep what is asked of items that cover one another in one order.
+-- States that filters and advertisements keep what is asked of items that cover one another in one order.
 use Rattle.base.specs.Laws.{CoverLaws}
 use Rattle.filter_types.specs.Cover.{filter_covers, advert_covers}
 use Rattle.filter_types.specs.Before.{list_before}

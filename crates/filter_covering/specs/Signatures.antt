@@ -1,4 +1,4 @@
--- Signatures by the names of constraints, and by the one value that a constraint lets pass.
+-- Defines signatures by the names of constraints, and by the one value that a constraint lets pass.
 use Rattle.std.proofs.Common.{◌≡◌, ◌⊎◌, inl, inr, ℕ, ℤ, ◌-◌, ◌^◌, ◌<◌, ◌||◌, Bool, true, false, cond, List, [], ◌∷◌, ◌++◌, bit_and, refl}
 use Rattle.std.proofs.Common.{sym, subst, ◌∙◌, arith}
 use Rattle.std.specs.Prelude.{unsigned_abs}

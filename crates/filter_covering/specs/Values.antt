@@ -1,4 +1,4 @@
--- The values of a notice are well formed, as a test.
+-- Defines the test that the values of a notice are well formed.
 use Rattle.std.specs.Prelude.{Bool, true, not, ◌&&◌, ◌^◌, int_lt, nat_lt, List}
 use Rattle.std.specs.List.{list_all}
 use Rattle.filter_values.specs.Text.{is_text}

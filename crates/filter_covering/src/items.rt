@@ -1,4 +1,4 @@
-//! Filters and advertisements as items that cover one another in the canonical order.
+//! Makes filters and advertisements items that cover one another in the canonical order.
 use crate::covering::{advert_covers, filter_covers};
 use crate::signature::{marks_of, signs_of};
 use base::Cover;

@@ -1,4 +1,4 @@
-//! Laws of covering: it is reflexive and transitive, and sound for notices whose values are well formed.
+//! States the laws of covering: it is reflexive and transitive, and sound for notices whose values are well formed.
 ghost use Rattle.std.specs.Prelude.{◌≡◌, true, List};
 ghost use Rattle.filter_constraints.specs.Constraint.{ConstraintParts};
 ghost use Rattle.filter_types.specs.Notice.{Attribute, AreValues};

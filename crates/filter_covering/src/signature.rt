@@ -1,4 +1,4 @@
-//! Words that tell of most filters, and of most advertisements, that one does not cover the other.
+//! Makes a word of each filter and each advertisement, which shows of most pairs that one does not cover the other.
 ghost use Rattle.std.specs.Prelude.{◌≡◌, ◌⊎◌, ◌<◌, ◌∷◌, [], unsigned_abs};
 ghost use Rattle.std.specs.List.{list_any};
 ghost use Rattle.base.specs.Signature.{place_from, marks_from, marks};

@@ -1,4 +1,4 @@
--- Constraints in front of bytes, and the filter or advertisement that bytes spell.
+-- Defines constraints in front of bytes, and the filter or advertisement that bytes spell.
 use Rattle.std.specs.Prelude.{ℕ, List, [], Some, None, codes, if◌then◌else◌}
 use Rattle.std.specs.declared.option.Option.{Option}
 use Rattle.std.specs.Str.{bytes_eq}

@@ -1,4 +1,4 @@
--- Members that are joined by `;` and a space, in front of bytes.
+-- Defines members that are joined by `;` and a space, in front of bytes.
 use Rattle.std.specs.Prelude.{◌==◌, ◌&&◌, ◌++◌, ℕ, zero, suc, Bool, true, false, List, [], ◌∷◌, Some, None, if◌then◌else◌}
 use Rattle.std.specs.declared.option.Option.{Option}
 use Rattle.filter_text.specs.Reading.{◌>>=◌}

@@ -1,4 +1,4 @@
--- The text of a message: a notice with its id, or changes of filters or of advertisements.
+-- Defines the text of a message: a notice with its id, or changes of filters or of advertisements.
 use Rattle.std.specs.Prelude.{◌≡◌, ◌++◌, ◌+◌, ◌<◌, ℕ, List, [], ◌∷◌, length, codes}
 use Rattle.std.specs.Fmt.{decimal}
 use Rattle.std.specs.Int.{IsInRange}

@@ -1,4 +1,4 @@
--- The text of a message on its way, written or not.
+-- Defines the text of a message on its way, written or not.
 use Rattle.std.specs.Prelude.{ℕ, List}
 use Rattle.filter_text.specs.declared.sent_text.Source.{Source}
 use Rattle.filter_text.specs.declared.sent_text.Source.TheVariants.{Written, Told}

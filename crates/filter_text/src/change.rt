@@ -1,4 +1,4 @@
-//! Changes: lists of filters, or of advertisements, that are taken out and added.
+//! Reads and writes changes: lists of filters, or of advertisements, that are taken out and added.
 ghost use Rattle.std.specs.Prelude.{◌≡◌, ◌++◌, [], length, OnOk};
 ghost use Rattle.std.specs.List.{flat_map};
 ghost use Rattle.filter_text.specs.Reading.{Gives, Reads};

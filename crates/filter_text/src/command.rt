@@ -1,4 +1,4 @@
-//! The commands that a client gives to its server.
+//! The type of the commands that a client gives to its server.
 use filter_types::{Advert, Filter, Notice};
 
 /// A client's command.

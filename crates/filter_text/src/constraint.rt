@@ -1,4 +1,4 @@
-//! The texts of constraints and of lists of them.
+//! Reads and writes the texts of constraints and of lists of them.
 ghost use Rattle.std.specs.Prelude.{◌≡◌, ◌++◌, OnOk, true};
 ghost use Rattle.std.specs.Option.{option_copied};
 ghost use Rattle.filter_values.specs.Name.{IsName};

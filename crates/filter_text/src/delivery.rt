@@ -1,4 +1,4 @@
-//! A notification as a client receives it.
+//! The type of a notification as a client receives it.
 ghost use Rattle.std.specs.Prelude.{◌≡◌, IfOk};
 
 use crate::id::Id;

@@ -1,4 +1,4 @@
-//! The reasons why bytes are not read.
+//! The types of the faults for which bytes are not read.
 ghost use Rattle.std.specs.Prelude.{◌≡◌};
 ghost use Rattle.filter_text.specs.declared.fault.WireFault.TheVariants as faults;
 

@@ -1,4 +1,4 @@
-//! The id of a publication: its publisher and its ordinal.
+//! The type of the id of a publication: its publisher and its ordinal.
 
 /// Which publication: its publisher and its ordinal. Ids are ordered by publisher, then by ordinal.
 #[derive(Clone, Copy, Debug, PartialEq, Eq, PartialOrd, Ord)]

@@ -1,4 +1,4 @@
-//! Members that are joined in a text by `;` and a space: constraints and attributes.
+//! Reads and writes members that are joined by `;` and a space: constraints and attributes.
 ghost use Rattle.std.specs.Prelude.{◌≡◌, []};
 ghost use Rattle.filter_text.specs.Reading.{Reads};
 ghost use Rattle.filter_text.specs.Items.{items_at};

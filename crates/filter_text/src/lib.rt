@@ -1,6 +1,13 @@
 //! Layer: filter.
 //! Job: the one text of each value that is sent from server to server and to clients, written and read exactly.
 //! Users: the layers from net upward.
+//!
+//! What is read is well formed, as part of `IsNoticeText` and the like: names are names, numbers are in range, lists
+//! rise. `write_message` requires `IsSendable`: the id is in range, or the two lists rise strictly, share no member and
+//! are not both empty.
+//!
+//! A reader is a slice that is cut from the front, and there is no recursion. Each byte is copied at most once: in
+//! names, in decoded strings, and by the standard library's parsing of decimals.
 #![tactic(auto)]
 
 mod change;

@@ -1,4 +1,4 @@
-//! Filters and advertisements as one: lists of constraints that differ in how many they may have.
+//! The trait of filters and advertisements: lists of constraints that differ in how many they may have.
 ghost use Rattle.std.specs.Prelude.{◌≡◌, ◌++◌, IfOk, OnOk};
 ghost use Rattle.filter_types.specs.Before.{list_before};
 ghost use Rattle.filter_text.specs.Reading.{Reads};

@@ -1,4 +1,4 @@
-//! The text of a message with the server that receives it.
+//! The type of the text of a message with the server that receives it.
 use crate::sent_text::SentText;
 
 /// The text of a message with the server that it goes to.

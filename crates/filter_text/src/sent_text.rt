@@ -1,4 +1,4 @@
-//! Texts of messages, written only where they are asked for.
+//! The type of texts of messages, which are written only where they are asked for.
 ghost use Rattle.std.specs.Prelude.{◌≡◌, ◌++◌, List, ℕ, IfOk, OnOk, IsErrOf};
 ghost use Rattle.filter_text.specs.declared.message_text.MessageText.{MessageText};
 ghost use Rattle.filter_text.specs.MessageText.{Each, IsMessageText, IsSendable, IsSoundMessage};
@@ -16,7 +16,7 @@ use std::marker::Model;
 pub(crate) enum Source {
     /// Its bytes.
     Written(Bytes),
-    /// The message that it tells.
+    /// The message that it represents.
     Told(MessageText),
 }
 

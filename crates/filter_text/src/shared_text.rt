@@ -1,4 +1,4 @@
-//! The bytes of a text that stand once in memory for all their owners.
+//! The type of bytes of a text that are in memory once for all their owners.
 ghost use Rattle.std.specs.Prelude.{◌≡◌, IfOk};
 
 use base::NoMemory;

@@ -1,4 +1,4 @@
--- The canonical list of constraints: strictly rising in their canonical order, each once.
+-- Defines the canonical list of constraints: strictly rising in their canonical order, each once.
 use Rattle.std.specs.Prelude.{◌≡◌, Bool, true, false, MatchOption, ◌&&◌, nat_lt, nat_le, ℕ, ◌<◌, ◌≤◌, length, List, [], ◌∷◌}
 use Rattle.std.specs.declared.option.Option.{Option}
 use Rattle.std.specs.declared.cmp.Ordering.{Ordering}

@@ -1,4 +1,4 @@
--- Matching, allowing, covering and overlap of notices, filters and advertisements.
+-- Defines matching, allowing, covering and overlap of notices, filters and advertisements.
 use Rattle.std.specs.Prelude.{ℕ, List, Bool, false, not, ◌&&◌, ◌||◌, Some, None}
 use Rattle.std.specs.declared.option.Option.{Option}
 use Rattle.std.specs.List.{list_all, list_any}

@@ -1,4 +1,4 @@
--- Notices: attributes, each a name with a value, by rising names.
+-- Defines notices: attributes, each a name with a value, by rising names.
 use Rattle.std.specs.Prelude.{Bool, true, false, MatchOption, ◌&&◌, nat_lt, nat_le, ◌<◌, ◌≤◌, length, ℕ, List, [], ◌∷◌, find, ◌≡◌, ◌+◌}
 use Rattle.std.specs.Prelude.{◌++◌, Some, None, if◌then◌else◌}
 use Rattle.std.specs.declared.option.Option.{Option}

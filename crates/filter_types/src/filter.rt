@@ -1,4 +1,4 @@
-//! Filters and advertisements: lists of constraints in canonical order, each once, which differ in how many they may have.
+//! The types of filters and advertisements: lists of constraints in canonical order, which differ in how many they may have.
 use crate::canonical::{listed, listed_of_rising};
 use base::NoMemory;
 use filter_constraints::Constraint;

@@ -1,4 +1,4 @@
-//! Laws of the canonical lists and of their order.
+//! States the laws of the canonical lists and of their order.
 ghost use Rattle.std.specs.Prelude.{◌≡◌, ◌↔◌, true, false, List, IsPermutation};
 ghost use Rattle.std.specs.List.{Contains};
 ghost use Rattle.filter_constraints.specs.Constraint.{ConstraintParts};

@@ -1,4 +1,4 @@
-//! Notices: what a client publishes, a list of named values.
+//! The type of notices: what a client publishes, a list of named values.
 use base::NoMemory;
 use filter_values::{Name, Value};
 use std::alloc::{AllocError, Global};

@@ -1,4 +1,4 @@
--- The test of a name tells what a name is.
+-- Proves that the test of a name accepts exactly names.
 use Rattle.std.proofs.Common.{◌≡◌, ◌⊎◌, ◌<◌, ℕ, zero, suc, inl, inr, Bool, true, false, refl, arith, List, [], ◌∷◌, length}
 use Rattle.std.specs.Prelude.{nat_le, nat_lt, ◌&&◌, ◌||◌, ◌==◌, slice_index}
 use Rattle.std.specs.Int.{IsInRange}

@@ -1,4 +1,4 @@
--- The test of a text tells what a text is.
+-- Proves that the test of a text accepts exactly texts.
 use Rattle.std.proofs.Common.{◌≡◌, ℕ, Bool, true, false, refl, arith, List, length}
 use Rattle.std.specs.Prelude.{nat_le, ◌&&◌}
 use Rattle.std.specs.List.{list_all}

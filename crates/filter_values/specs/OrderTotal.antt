@@ -1,4 +1,4 @@
--- The orders of kinds and of values are total orders.
+-- States that the orders of kinds and of values are total orders.
 use Rattle.std.specs.Cmp.{IsTotalOrder, on_total, then_total, nat_cmp_total, int_cmp_total}
 use Rattle.std.specs.Cmp.Lexicographic.{nat_list_cmp_total}
 use Rattle.filter_values.specs.Value.{kind_of}

@@ -1,4 +1,4 @@
-//! The orders of kinds and of values, as laws.
+//! States the orders of kinds and of values as laws.
 ghost use Rattle.std.specs.Prelude.{◌≡◌};
 ghost use Rattle.std.specs.Cmp.{IsTotalOrder};
 ghost use Rattle.std.specs.declared.cmp.Ordering.TheVariants.{Equal};

@@ -86,7 +86,7 @@ pub fn is_name(bytes: &[u8]) -> bool
 }
 
 impl Name {
-    /// The name that the bytes spell. Where they spell none it tells the first fault, tried in the
+    /// The name that the bytes spell. Where they spell none it answers the first fault, tried in the
     /// order of `NameFault`.
     pub fn read(alloc: Global, bytes: &[u8]) -> Result<Name, NameFault>
         ensures value { IfOk result (λ name. name ≡ bytes.now) }

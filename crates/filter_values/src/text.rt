@@ -116,7 +116,7 @@ impl Text {
         }
     }
 
-    /// The text of these bytes. Where they are none it tells the first fault, tried in the order of
+    /// The text of these bytes. Where they are none it answers the first fault, tried in the order of
     /// `TextFault`.
     pub fn read(alloc: Global, bytes: &[u8]) -> Result<Text, TextFault>
         ensures value { IfOk result (λ text. text ≡ bytes.now) }

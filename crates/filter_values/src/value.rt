@@ -1,4 +1,4 @@
-//! Values and their kinds, and the order of both.
+//! The types of values and of their kinds, and the order of both.
 ghost use Rattle.std.specs.Prelude.{◌≡◌, IfOk, IsTrue, ◌↔◌};
 ghost use Rattle.filter_values.specs.Value.{kind_of, same_kind, IsValue};
 ghost use Rattle.filter_values.specs.Order.{kind_cmp, value_cmp};

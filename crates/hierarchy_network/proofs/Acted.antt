@@ -186,7 +186,7 @@ module _ (net : NetParts) (laws : HierarchyLaws real (net_of net)) (state : Hier
       clocks = λ j core g. (placed j core g).clock;
     }
 
-    -- what is taken, and what is on a link then
+    -- what is received, and what is on a link then
     taken-within : (input : StampedInput) → IsNext step.core.core.server input → (a b : ℕ)
         → taken_after (servers_of net) state.taken step.core.core.server input a b ≤ length (state.put a b)
     taken-within (Does task) n a b = links.within a b

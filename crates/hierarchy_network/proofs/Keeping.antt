@@ -50,7 +50,7 @@ keeps server clock stamp old new before after net net_after was kept all same ne
       subst (λ z. Has (64 + z) new.interfaces) (sym r.2) (subst (Has (64 + r.0.client)) (sym same) (was.reached r.0 r.1));
 }
 
--- a change by a plan publishes nothing
+-- a change by a plan installs nothing
 offered-installed : (semantics : Semantics) (i : ℕ) (moved : Moved) (old new : LedgerParts) (sent : List SendingParts) → HasOffered semantics i moved old new sent → new.installed ≡ old.installed
 offered-installed Subscription i moved old new sent h = ap (λ z. z.installed) h.0
 offered-installed Advertisement i moved old new sent h = h.installed

@@ -1,4 +1,4 @@
--- The pairs that a server of a hierarchy published, after each of its steps.
+-- The pairs that a server of a hierarchy installed, after each of its steps.
 use Rattle.std.proofs.Common.{◌≡◌, ℕ, List, Result, Ok, Err, IfOk, OnOk, OnErr, sym, ap, subst}
 use Rattle.base.specs.Sets.{Has}
 use Rattle.filter_constraints.specs.Constraint.{ConstraintParts}
@@ -25,7 +25,7 @@ module _ (parts next : HierarchyParts) (f : Installed) where
       forwarding-at parts.core.net next.core.net parts.core.interfaces next.core.interfaces (installed_from next.core) f net interfaces
       (forwarding-same parts.core.net parts.core.interfaces (installed_from parts.core) (installed_from next.core) f same is)
 
-  -- a command or a reception publishes nothing
+  -- a command or a reception installs nothing
   pub placed_after : (input : Input Task (Message real)) (taken : ℕ) {T : Type 0} (answer : Result T StepFault) (stamp : T → ℕ) (sent : T → List SendingParts)
       → IfOk answer (λ s. MakesHierarchyStep input taken parts next (stamp s) (sent s)) → OnOk answer (next.core.interfaces ≡ parts.core.interfaces)
       → OnOk answer (next.core.installed ≡ parts.core.installed) → OnErr answer (next ≡ parts) → IsPlace parts.core f → IsPlace next.core f

@@ -1,4 +1,4 @@
--- A message that is taken, as a step of a server of a hierarchy.
+-- A message that is received, as a step of a server of a hierarchy.
 use Rattle.std.proofs.Common.{◌≡◌, ◌↔◌, inl, inr, ℕ, suc, max, ◌+◌, ◌^◌, ◌<◌, ◌≤◌, ◌==◌, cond, not, ◌&&◌, ◌||◌, Bool, true, false, List, [], ◌∷◌, ◌++◌, map, Some, None, refl, sym, ap, ap₂, subst, ◌∙◌}
 use Rattle.std.proofs.lemmas.Option.{same_Some}
 use Rattle.filter_types.specs.Notice.{Attribute}

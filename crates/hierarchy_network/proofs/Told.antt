@@ -1,4 +1,4 @@
--- After a step its messages lie last on the links of its server, and their texts are what is told of its entry.
+-- After a step its messages lie last on the links of its server, and their texts are those of its entry.
 use Rattle.std.proofs.Common.{◌≡◌, ℕ, ◌≤◌, cond, List, [], ◌∷◌, ◌++◌, inl, inr, length, map, drop, Option, Some, None, refl, sym, ap, subst, ◌∙◌, arith, eq-eqb}
 use Rattle.std.proofs.lemmas.List.{length-map, map-append, drop-append-le}
 use Rattle.base.specs.Sets.{Has}
@@ -34,7 +34,7 @@ use Rattle.hierarchy_network.specs.Core.{HierarchyParts}
 use Rattle.hierarchy_turns.proofs.Turned.{found-is}
 use Rattle.base.proofs.Sets.{has-map}
 
--- what is found has what was put and taken before
+-- what is found has what was put and received before
 ready-within : (m : Machine) (w : NetworkState m) (p : ℕ) (o : Option ℕ) (x : NetworkState m) (q : ℕ) → IsReady m w p o x q → IsWithinPuts m w → IsWithinPuts m x
 ready-within m w p None x q (e, f) within = subst (IsWithinPuts m) e within
 ready-within m w p (Some k) x q (f, inl (a, b)) within = subst (IsWithinPuts m) b within
@@ -107,7 +107,7 @@ module _ (net : NetParts) (phase : ℕ) (servers : Servers HierarchyParts) (kept
   outcome-is d r made told given =
       ap (outcome_at (servers_of net) in-two.found entry.server) (ap (λ (z : HierarchyEntry real (net_of net)). z.act) told) ∙ step-outcome (servers_of net) in-two.found entry.server d r given made
 
-  -- all that is taken then was put before the step
+  -- all that is received then was put before the step
   low : (a b : ℕ) → end.network.taken a b ≤ length (in-two.found.put a b)
   low a b = go in-two.step
     where

@@ -1,4 +1,4 @@
--- A taking or a table update that is tried: made where it is permitted, and else nothing changes; and the network is kept.
+-- A reception or a table update that is tried: made where it is permitted, and else nothing changes; and the network is kept.
 use Rattle.std.proofs.Common.{◌≡◌, ℕ, suc, ◌-◌, ◌≤◌, Bool, true, false, [], map, slice_get, Option, Some, None, Result, Ok, Err, IfOk, OnErr, refl, sym, ap, subst, ◌∙◌, arith}
 use Rattle.base.specs.Sets.{Has}
 use Rattle.law_machine.specs.Machine.{Does, Receives, Did, Received, Stamped}

@@ -1,4 +1,4 @@
--- The clocks of the servers: raised to the greatest where a later phase begins, and set back.
+-- Defines the clocks of the servers: raised to the greatest where a later phase begins, and set back.
 use Rattle.std.specs.Prelude.{ℕ, max, List, [], ◌∷◌}
 use Rattle.hierarchy_network.specs.Core.{HierarchyParts, hierarchy_parts}
 

@@ -16,11 +16,11 @@ pub record HierarchyParts : Type 0 where
 abbrev pub hierarchy_parts : CoreParts → ℕ → HierarchyParts
 hierarchy_parts core master = record { core = core; master = master }
 
--- the net in which no advertisement steers a filter: its servers hold and publish as those of a hierarchy do
+-- the net in which no advertisement steers a filter: its servers hold and install as those of a hierarchy do
 abbrev pub unsteered : Net real → Net real
 unsteered net = record net { adverts = false }
 
--- THE SERVER'S STATE that a core represents in a net: the core holds, published and has delivered what the state says, its clients' publishes are
+-- THE SERVER'S STATE that a core represents in a net: the core holds, has installed and has delivered what the state says, its clients' publishes are
 -- refused by the semantics of the net, and its master is the server's
 pub record RepresentsHierarchyServer (net : Net real) (parts : HierarchyParts) (state : ServerState real) : Type 0 where
   pub stands : RepresentsServer (unsteered net) parts.core state

@@ -1,4 +1,4 @@
-//! The clocks of the servers, which the first command of a later phase raises to the greatest.
+//! Raises the clocks of the servers to the greatest at the first command of a later phase.
 ghost use Rattle.std.specs.Prelude.{◌≡◌, ◌<◌, ◌^◌, ℕ, length, map, IfOk, OnOk, OnErr};
 ghost use Rattle.base.specs.Sets.{Has};
 ghost use Rattle.sequential_network.specs.Stepping.{greatest_clock};

@@ -79,7 +79,7 @@ impl<'a> ForwardingServer<'a> {
 pub(crate) type Ranks<'a> = Servers<'a, ForwardingServer<'a>>;
 
 impl<'a> ForwardingServer<'a> {
-    /// Takes the next command of a client that lives here: a publish of the publication with a number, which is accepted.
+    /// Executes the next command of a client that lives here: a publish of the publication with a number, which is accepted.
     fn publish(&mut self, alloc: Global, client: u32, number: u32) -> Result<Step<'a>, NoMemory>
         requires lives { Has client (client_numbers self.old.core.clients) }
         requires left { (s : SessionParts) → Has s self.old.core.clients → s.client ≡ client → s.taken < length s.script }

@@ -4,8 +4,10 @@
 //!
 //! Server 1 is at the top. Filters are sent to the master alone; notifications always go up to the master, and go down
 //! by filters. The core of a server has the same parts as among peers: the ledger and the clients of `server_core`. Its
-//! semantics decides which publishes are refused, and nothing else. The links, the journal, the sessions and the turns
-//! are those of the network of peers (`sequential_network`).
+//! semantics decides which publishes are refused, and nothing else.
+//!
+//! `HierNetwork` is the `RuledNetwork` of `sequential_network` over servers of this kind, so the links, the journal,
+//! the sessions and the turns are those of the network of peers. Later phases begin with raised clocks.
 #![tactic(auto)]
 
 mod acting;

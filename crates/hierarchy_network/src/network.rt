@@ -1,4 +1,4 @@
-//! The network of a hierarchy, as the network of `sequential_network` over servers of this kind.
+//! Makes the network of a hierarchy that of `sequential_network` over servers of this kind.
 use crate::forwarding_server::ForwardingServer;
 use sequential_network::RuledNetwork;
 

@@ -1,4 +1,4 @@
-//! The core of one server of a hierarchy, with its steps.
+//! The type of the core of one server of a hierarchy, with its steps.
 ghost use Rattle.std.specs.Prelude.{◌≡◌, ◌<◌, ◌^◌, ◌↔◌, ◌+◌, ℕ, nat_lt, ◌==◌, cond, [], max, List, length, map, Some};
 ghost use Rattle.std.specs.Prelude.{IfOk, OnOk, OnErr, IsErrOf, IfSome, IfNone};
 ghost use Rattle.filter_constraints.specs.Constraint.{ConstraintParts};
@@ -48,7 +48,7 @@ const TOP: u32 = 1;
 
 /// The core of a server of a hierarchy in a run: what it holds from whom, its clients, its clock, and its master.
 ///
-/// Contracts see the net, the server, what is held, published and pending, the clients as their commands and deliveries make
+/// Contracts see the net, the server, what is held, installed and pending, the clients as their commands and deliveries make
 /// them, the clock, and the master's number; 0 where it has none. After any fault it is as before.
 #[derive(Drop)]
 pub struct HierarchyCore<'a> {
@@ -134,7 +134,7 @@ impl<'a> HierarchyCore<'a> {
         Ok(last + 1)
     }
 
-    /// Takes the next command of a client that lives here and has one left: a publish that is accepted, of the publication that goes
+    /// Executes the next command of a client that lives here and has one left: a publish that is accepted, of the publication that goes
     /// out, or where none does no such publish.
     fn take_next(
         &mut self,
@@ -170,7 +170,7 @@ impl<'a> HierarchyCore<'a> {
         Ok(Step { stamp, sent })
     }
 
-    /// Takes the next command of a client that lives here and has one left, where that is no publish that is accepted. The
+    /// Executes the next command of a client that lives here and has one left, where that is no publish that is accepted. The
     /// message of a change goes to the master, where what goes up changed.
     pub fn take_command(&mut self, client: u32) -> Result<Step<'a>, StepFault>
         requires lives { Has client (client_numbers self.old.core.clients) }
@@ -186,7 +186,7 @@ impl<'a> HierarchyCore<'a> {
         self.take_next(client, None)
     }
 
-    /// Takes the next command of a client that lives here and has one left, a publish that is accepted: of the publication with
+    /// Executes the next command of a client that lives here and has one left, a publish that is accepted: of the publication with
     /// this number, whose route is that of its notice by what was installed.
     pub fn take_publish(
         &mut self,
@@ -209,8 +209,8 @@ impl<'a> HierarchyCore<'a> {
         self.take_next(client, Some(Outgoing { number, route }))
     }
 
-    /// Takes what a neighbour sent with its stamp. Where it is a publication, the route is that of its notice by what was
-    /// published.
+    /// Receives what a neighbour sent with its stamp. Where it is a publication, the route is that of its notice by what was
+    /// installed.
     pub fn receive_load(
         &mut self,
         from: u32,
@@ -222,7 +222,8 @@ impl<'a> HierarchyCore<'a> {
         requires stamp { stamp < 2 ^ 62 }
         requires load { IsLoad self.old.core.net load.now }
         requires route { RoutesMessage self.old.core (represented self.old.core.net load.now) route.now }
-        ensures step { IfOk result (λ s. MakesHierarchyStep (Receives from (represented self.old.core.net load.now)) stamp self.old self.new s.stamp s.sent.items) }
+        ensures step { IfOk result (λ s. MakesHierarchyStep (Receives from (represented self.old.core.net load.now)) stamp self.old self.new
+            s.stamp s.sent.items) }
         ensures interfaces { OnOk result (self.new.core.interfaces ≡ self.old.core.interfaces) }
         ensures installed { OnOk result (self.new.core.installed ≡ self.old.core.installed) }
         ensures exhausted { (s : ℕ) → IsErrOf result (StepFault.StampsExhausted s) ↔ ((max self.old.core.clock stamp ≡ last_stamp) × (s ≡ last_stamp)) }

@@ -1,4 +1,4 @@
--- The messages of the entries of a hierarchy's journal, as texts.
+-- Defines the messages of the entries of a hierarchy's journal, as texts.
 use Rattle.std.specs.Prelude.{ℕ, zero, suc, List, [], ◌∷◌}
 use Rattle.law_machine.specs.Machine.{act_phase}
 use Rattle.law_machine.specs.Network.{messages_of}

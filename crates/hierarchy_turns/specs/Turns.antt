@@ -1,4 +1,4 @@
--- Turns of a network of a hierarchy: which are made, and what they add to its journal.
+-- Defines turns of a network of a hierarchy: which are made, and what they add to its journal.
 use Rattle.std.specs.Prelude.{◌≡◌, ℕ, Bool, true, false, List, [], ◌∷◌, ◌++◌}
 use Rattle.law_machine.specs.Runs.{IsPermitted}
 use Rattle.law_hierarchy.specs.Step.{Hierarchy, HierarchyEntry}

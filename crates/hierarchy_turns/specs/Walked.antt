@@ -1,4 +1,4 @@
--- The walk of a network of a hierarchy: the rest of its phases, by the walk schedule.
+-- Defines the walk of a network of a hierarchy: the rest of its phases, by the walk schedule.
 use Rattle.std.specs.Prelude.{◌≡◌, ℕ, ◌≤◌, ◌<◌, Bool, true, false, List, [], ◌++◌}
 use mathlib.Core.List.{IsPrefix}
 use Rattle.law_machine.specs.Walk.{entries_by}

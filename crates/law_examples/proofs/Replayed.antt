@@ -26,7 +26,7 @@ module _ (th : Theory) (laws : TheoryLaws th) where
   abbrev now : (run : LegalRun th) → Moment (routing_machine th run.net)
   now run = record { network = run.end; phase = run.last }
 
-  -- the commands of the phases below this one are taken
+  -- the commands of the phases below this one are executed
   abbrev Through : (run : LegalRun th) → ℕ → Network th run.net → Type 0
   Through run k w = (t c : ℕ) → Has t run.net.servers → Has c (run.net.clients t) → commands_below th k (run.net.script c) ≤ (w.state t).done c
 

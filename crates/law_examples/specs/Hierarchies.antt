@@ -1,4 +1,4 @@
--- What the walk of a hierarchy tells line by line, and what it delivers.
+-- What the walk of a hierarchy shows line by line, and what it delivers.
 use Rattle.std.specs.Prelude.{ℕ, List, [], ◌∷◌, length}
 use Rattle.law_machine.specs.History.{Moment, moment_after}
 use Rattle.law_routing.specs.Theory.{Theory}

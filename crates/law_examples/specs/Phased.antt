@@ -1,4 +1,4 @@
--- What a run over trees by phase tells line by line, and nets on one tree as nets with trees by phase.
+-- What a run over trees by phase shows line by line, and nets on one tree as nets with trees by phase.
 use Rattle.std.specs.Prelude.{◌≡◌, ℕ, ◌==◌, false, cond, List, [], ◌∷◌, ◌++◌, length, map}
 use Rattle.law_machine.specs.Network.{messages_of}
 use Rattle.law_routing.specs.Theory.{Theory}

@@ -46,7 +46,9 @@ withdrawn_wide = line_of (in_phase 0 (Subscribe Any) ∷ in_phase 1 (Unsubscribe
 
 -- in the first phase both ranges are subscribed and known everywhere
 abbrev pub all_know : List (ℕ × Act Task)
-all_know = (1, Did (NextCommand 1)) ∷ (1, Did (NextCommand 2)) ∷ (1, Did TableUpdate) ∷ (2, Received 1) ∷ (2, Did TableUpdate) ∷ (3, Received 2) ∷ (3, Did TableUpdate) ∷ []
+all_know =
+    (1, Did (NextCommand 1)) ∷ (1, Did (NextCommand 2)) ∷ (1, Did TableUpdate) ∷ (2, Received 1) ∷
+    (2, Did TableUpdate) ∷ (3, Received 2) ∷ (3, Did TableUpdate) ∷ []
 
 -- in the second phase the withdrawal and the notice set out
 abbrev pub both_set_out : List (ℕ × Act Task)
@@ -56,7 +58,7 @@ both_set_out = (1, Did (NextCommand 1)) ∷ (3, Did (NextCommand 3)) ∷ []
 abbrev pub notice_arrives : List (ℕ × Act Task)
 notice_arrives = (3, Did (NextCommand 3)) ∷ (2, Received 3) ∷ (1, Received 2) ∷ (1, Did (NextCommand 1)) ∷ []
 
--- or the middle server has taken the withdrawal and shown it by a version
+-- or the middle server has received the withdrawal and installed it
 abbrev pub withdrawal_known : List (ℕ × Act Task)
 withdrawal_known = (1, Did (NextCommand 1)) ∷ (2, Received 1) ∷ (2, Did TableUpdate) ∷ (3, Did (NextCommand 3)) ∷ []
 

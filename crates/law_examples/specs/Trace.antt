@@ -1,4 +1,4 @@
--- What a run tells line by line, what it delivers, and what it leaves held.
+-- What a run shows line by line, what it delivers, and what it leaves held.
 use Rattle.std.specs.Prelude.{ℕ, suc, List, [], ◌∷◌, ◌++◌, length, map}
 use Rattle.law_machine.specs.Machine.{Machine, Act, Entry}
 use Rattle.law_machine.specs.Network.{NetworkState, messages_of}
@@ -68,7 +68,7 @@ module _ (theory : Theory) where
     abbrev pub walk : ℕ → List (NetEntry theory net)
     walk phases = walk_of theory net phases beginning
 
-    -- schedules of turns, phase by phase: in each phase the turns are taken, and the walk ends it
+    -- schedules of turns, phase by phase: in each phase the turns are made, and the walk ends it
     abbrev pub replay_from : ℕ → Moment (routing_machine theory net) → List (List (ℕ × Act Task)) → List (NetEntry theory net)
     replay_from phase moment [] = []
     replay_from phase moment (turns ∷ schedules) =

@@ -1,6 +1,9 @@
 //! Layer: law, above the theorems.
 //! Job: worked runs: the definitions of the network computed in small nets over ranges of numbers, and in hierarchies over numbers.
 //! Users: nobody; it is there to be read.
+//!
+//! Each contract is an equation between the trace of a walk or a replay and its lines, or states what a client receives
+//! or a server holds.
 #![tactic(auto)]
 
 ghost use Rattle.std.specs.Prelude.{◌≡◌, ◌<◌, ℕ, List, [], ◌∷◌, ◌++◌, take, drop, map};
@@ -54,7 +57,7 @@ pub fn replay_runs()
         → (end : Network ranges net) × (last : ℕ) × IsRun (routing_machine ranges net) (opening ranges net) 0 (replay ranges net schedules) end last }
 {}
 
-/// A net on one tree is a net with trees by phase that keeps its laws: each of its runs is a run of that, its walk is that walk, and they tell the same
+/// A net on one tree is a net with trees by phase that keeps its laws: each of its runs is a run of that, its walk is that walk, and they show the same
 /// line by line. So all the runs below are runs over trees by phase too.
 pub fn one_tree_runs()
     ensures lawful { (net : Net ranges) → NetLaws ranges net → PhasedNetLaws ranges (on_one_tree ranges net) }
@@ -83,8 +86,8 @@ pub fn narrow_range_stays()
     ensures far { held ranges wide_and_narrow (walk ranges wide_and_narrow 1) 3 2 ≡ Any ∷ [] }
 {}
 
-/// The withdrawal and the notice meet at the middle server: it sends the change on, and then routes the notice by its older version. Server 1 has its
-/// new version by then.
+/// The withdrawal and the notice meet at the middle server: it sends the change on, and then routes the notice by its older table. Server 1 has made its
+/// table update by then.
 pub fn withdrawal_meets_notice()
     ensures trace { trace ranges withdrawn_wide (replay ranges withdrawn_wide (all_know ∷ both_set_out ∷ [])) ≡
         wide_travels ++ (
@@ -143,7 +146,7 @@ pub fn withdrawn_and_owed()
 {}
 
 /// Client 1 withdraws its range in the phase of the notice, so it is not owed it. But the withdrawal is still on its way when the notice sets out, and no
-/// version tells of it before the notice comes: the notice is settled wherever it passes, and is delivered once.
+/// table update has installed it before the notice comes: the notice is settled wherever it passes, and is delivered once.
 pub fn settled_and_not_owed()
     ensures lawful { PhasedNetLaws ranges withdrawn_on_tree }
     ensures drains { DrainsBy ranges withdrawn_on_tree withdrawn_walk }
@@ -190,7 +193,7 @@ pub fn overlap_lets_through()
         line ranges 6 2 (Did TableUpdate) [] ∷ [] }
 {}
 
-/// A withdrawal takes away all that its range covers; until the next version notices go by the ranges of the last.
+/// A withdrawal takes away all that its range covers; until the next table update notices go by the ranges of the last.
 pub fn withdrawal_takes_all()
     ensures trace { trace ranges subscribed_again (walk ranges subscribed_again 2) ≡
         line ranges 1 1 (Did (NextCommand 1)) [] ∷

@@ -28,7 +28,7 @@ use Rattle.law_hierarchy.proofs.Ways.{below-side, side-below, IsUnder, under-nex
 use Rattle.law_hierarchy.proofs.Given.{ordinal-in, one-time, orderly, put-rises, published-peer, here-peer, drained-peer}
 use Rattle.std.proofs.lemmas.List.{length-map}
 
--- a taken beginning of what is put
+-- a received beginning of what is put
 module _ (th : Theory) (net : Net th) (q : ℕ) where
   has-take : (o k : ℕ) (xs : List (Stamped (Message th))) → Has o (ordinals_put th net q (take k xs)) → Has o (ordinals_put th net q xs)
   has-take o zero xs h = absurd h

@@ -146,7 +146,7 @@ module _ (th : Theory) (laws : TheoryLaws th) (net : Net th) (good : HierarchyLa
             by (Not n v) = rw (among-other c n, e) tt
             by (Is p v) = subst (λ z. AlikeSteps t None z) (sym (cond-none (peer_outcome (wide th) (peers th net) t s' c (slice_get ((peers th net).script c) (s'.done c))) (is_among c ((peers th net).clients t)) (no-more c p))) tt
 
-  -- filters are taken from below alone
+  -- filters are received from below alone
   abbrev pub IsFromBelow : ℕ → Input Task (Message th) → Type 0
   IsFromBelow t (Does a) = Unit {0}
   IsFromBelow t (Receives u x) = is-subs th x ≡ true → is_master th net t u ≡ false

@@ -223,7 +223,7 @@ module _ (th : Theory) (laws : TheoryLaws th) (run : HierarchyRun th) where
       small : (l s t c all n cn an : ℕ) → t + l ≤ cn → s ≤ t + c → c ≤ all → cn ≤ an → an ≡ all * n → 2 * l + s < suc (3 * (all * (n + 1)))
       small l s t c all n cn an a b d e f = let g : all * (n + 1) ≡ all * n + all = omega arith in omega (arith, a, b, d, e, f, g)
 
-  -- a run has taken all commands of the phases below its last
+  -- a run has executed all commands of the phases below its last
   last-through : IsThroughBelow th laws run.net run.laws run.last run.end
   last-through t c i lives =
       let x = peer-run th laws run in

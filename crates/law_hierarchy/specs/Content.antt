@@ -1,4 +1,4 @@
--- The content of the links that lead up: what a server has sent to its master.
+-- Defines the content of the links that lead up: what a server has sent to its master.
 use Rattle.std.specs.Prelude.{ℕ, cond, List, []}
 use Rattle.law_machine.specs.Content.{Content}
 use Rattle.law_routing.specs.Theory.{Theory}

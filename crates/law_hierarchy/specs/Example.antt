@@ -1,4 +1,4 @@
--- Two examples over a theory of numbers, where a filter matches what is no less: a pair of servers, and a chain of three.
+-- Defines two examples over a theory of numbers, where a filter matches what is no less: a pair of servers, and a chain of three.
 use Rattle.std.specs.Prelude.{ℕ, ◌==◌, Bool, false, cond, List, [], ◌∷◌}
 use Rattle.law_routing.specs.Net.{Net, PhasedCommand, Subscribe, Unsubscribe, Publish}
 use Rattle.law_routing.specs.Example.{numbers, line_links}

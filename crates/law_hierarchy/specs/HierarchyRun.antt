@@ -190,8 +190,8 @@ module _ (theory : Theory) (run : HierarchyRun theory) where
   abbrev pub server_count : ℕ
   server_count = length run.net.servers
 
-  -- receptions, table updates and entries are bounded by the commands executed and the number of servers, the commands executed by those of the scripts, and the
-  -- stamps by the entries
+  -- receptions, table updates and entries are bounded by the commands executed and the number of servers, the commands executed by those of the scripts,
+  -- and the stamps by the entries
   pub record IsBounded : Type 0 where
     pub receptions : receptions_made ≤ commands_made * (server_count * server_count)
     pub updates : updates_made ≤ receptions_made + commands_made
@@ -207,7 +207,7 @@ module _ (theory : Theory) (run : HierarchyRun theory) where
   abbrev pub EndsQuiet : Type 0
   EndsQuiet = IsQuiet (hierarchy_machine theory run.net) run.end
 
-  -- it ends with all commands of the phases below this one taken
+  -- it ends with all commands of the phases below this one executed
   abbrev pub EndsThrough : ℕ → Type 0
   EndsThrough phase = IsThrough (hierarchy_machine theory run.net) run.end phase
 

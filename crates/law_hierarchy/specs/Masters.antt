@@ -1,4 +1,4 @@
--- Masters: server 1 is at the top, and the master of each other server is the next one on the way to it.
+-- Defines masters: server 1 is at the top, and the master of each other server is the next one on the way to it.
 use Rattle.std.specs.Prelude.{◌≡◌, ℕ, ◌==◌, Bool, false, not, ◌&&◌, List, [], ◌∷◌}
 use Rattle.base.specs.Sets.{Has, roots, union}
 use Rattle.law_routing.specs.Theory.{Theory}

@@ -1,4 +1,4 @@
--- The step of one server of a hierarchy: filters go up to the master alone; notices always go up, and go down by filters.
+-- Defines the step of one server of a hierarchy: filters go up to the master alone; notices always go up, and go down by filters.
 use Rattle.std.specs.Prelude.{ℕ, ◌==◌, cond, not, ◌&&◌, ◌||◌, [], ◌∷◌, slice_get, Option, Some, None}
 use Rattle.law_machine.specs.Machine.{Machine, Input, Does, Receives, Outcome, Entry}
 use Rattle.law_machine.specs.Network.{NetworkState}
@@ -25,7 +25,7 @@ module _ (theory : Theory) (net : Net theory) where
   }
   -- no advertisement is held
   full_effect server state (SetsAdverts interface adverts) = record { state = state; outs = λ l. [] }
-  -- a notice goes to the master, and to each lower neighbour with a installed filter that matches, but never back
+  -- a notice goes to the master, and to each lower neighbour with an installed filter that matches, but never back
   full_effect server state (Routes interface publisher ordinal notice) = record {
     state = with_deliveries theory net state server (record { publisher = publisher; ordinal = ordinal; notice = notice });
     outs = λ l. cond (not (l == interface) && (is_master theory net server l || some_pass (theory.matches notice) (state.installed l)))

@@ -1,4 +1,4 @@
--- The walk of a hierarchy: the turns of a network of peers, tried in the same order.
+-- Defines the walk of a hierarchy: the turns of a network of peers, tried in the same order.
 use Rattle.std.specs.Prelude.{ℕ, ◌-◌, List}
 use Rattle.law_machine.specs.History.{Moment}
 use Rattle.law_machine.specs.Walk.{walk_phases}

@@ -2,9 +2,15 @@
 //! Job: the step of one server of a hierarchy, with server 1 at the top, and the laws of every run of such servers. Pure.
 //! Users: law_examples, and the layers hierarchy and program.
 //!
-//! Filters are sent to the master alone; notifications always go up, and go down by filters. These are the laws of
-//! `law_routing` for another step of one server. Each law is the contract of a small function, generic in the theory of
-//! filters.
+//! These are the laws of `law_routing` for another step of one server, which differs only in what is sent. A changed
+//! set of filters goes to the master alone, as the covering roots of all that the server holds. A notification goes to
+//! the master, unless it came from there, and to each other neighbour and each client with a matching installed filter.
+//! Advertisements stay in clients' lists, where they decide which publishes are refused. Each law is the contract of a
+//! small function, generic in the theory of filters, and holds for every legal run from the opening (`HierarchyRun`).
+//!
+//! The proof treats a hierarchy as a network of peers in which one more client at the top has subscribed to everything.
+//! The theory has one more filter for this, so every server holds exactly that filter from its master, and the laws of
+//! peers carry over. No definition names this client.
 #![tactic(auto)]
 
 ghost use Rattle.std.specs.Prelude.{◌≡◌, ◌≤◌, ◌<◌, ◌↔◌, ℕ, Bool, true, false, List, [], ◌∷◌, length};
@@ -73,7 +79,7 @@ pub fn held_from_below<M: Matching>()
     ensures adverts { (run : HierarchyRun M.theory) (server m interface : ℕ) → ((states M.theory run m).state server).advs interface ≡ [] }
 {}
 
-/// What a server has published of a lower neighbour or a client is what it held of it at its last calm moment.
+/// What a server has installed of a lower neighbour or a client is what it held of it at its last calm moment.
 pub fn installed_is_held<M: Matching>()
     ensures { (run : HierarchyRun M.theory) (server m interface : ℕ) → Has interface (interfaces M.theory run.net server)
         → is_master M.theory run.net server interface ≡ false

@@ -1,4 +1,4 @@
-//! The laws of runs, at the servers of any hierarchy.
+//! States the laws of runs, at the servers of any hierarchy.
 
 ghost use Rattle.std.specs.Prelude.{◌≡◌, ◌≤◌, ◌++◌, ℕ, suc, List, [], ◌∷◌, length, Some, slice_get};
 ghost use Rattle.law_machine.specs.Machine.{act_phase, Act};
@@ -61,7 +61,7 @@ pub fn entry_steps<M: Matching>()
         × (turn (hierarchy_machine M.theory net) network entry.server entry.act ≡ next) }
 {}
 
-/// A permitted turn happens as its entry tells it, and what happens is a permitted turn.
+/// A permitted turn happens as its entry records it, and what happens is a permitted turn.
 pub fn permitted<M: Matching>()
     ensures happens { (net : Net M.theory) (network : Hierarchy M.theory net) (last server : ℕ) (act : Act Task)
         → (entry : HierarchyEntry M.theory net) (next : Hierarchy M.theory net) (now : ℕ)
@@ -72,7 +72,7 @@ pub fn permitted<M: Matching>()
         → IsPermitted (hierarchy_machine M.theory net) network last entry.server entry.act entry next now }
 {}
 
-/// Each entry of a run puts its messages on its server's links, and tells which neighbours got one.
+/// Each entry of a run puts its messages on its server's links, and records which neighbours got one.
 pub fn messages<M: Matching>()
     ensures { (net : Net M.theory) (start : Hierarchy M.theory net) (first : ℕ) (entries : List (HierarchyEntry M.theory net))
         → (end : Hierarchy M.theory net) (last : ℕ) → IsRun (hierarchy_machine M.theory net) start first entries end last

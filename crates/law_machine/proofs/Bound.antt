@@ -1,4 +1,4 @@
--- Each taking makes what is on its way lighter, and a command makes it heavier by no more than the square of the number of servers.
+-- Each reception makes what is on its way lighter, and a command makes it heavier by no more than the square of the number of servers.
 use Rattle.std.proofs.Common.{◌≡◌, ℕ, zero, suc, ◌+◌, ◌*◌, ◌≤◌, ◌==◌, ◌&&◌, Bool, true, false, cond, List, [], ◌∷◌, ◌++◌, ◌⊎◌, inl, inr, length, drop, slice_get, Some, refl, sym, ap, subst, ◌∙◌, arith, ne_eqb, eq-eqb, mul-le-mul_right}
 use Rattle.std.proofs.lemmas.Option.{same_Some}
 use Rattle.law_machine.specs.Machine.{Has, Machine, Input, Does, Receives, Outcome, Stamped, next_stamp, stamped}

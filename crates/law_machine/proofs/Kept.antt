@@ -25,7 +25,7 @@ module _ (m : Machine) (p : Content m) (laws : ContentLaws m p) (apart : (a : �
   kept-after : (w : NetworkState m) (t : ℕ) (d : Input m.Task (Stamped m.Message)) (r : Outcome m.State m.Message) → IsWithinPuts m w → IsHeldSent m p w → m.step t (w.state t) (unstamped m d) ≡ Some r → IsAvailable m w t d → IsHeldSent m p (network_after m w t d r)
   kept-after w t d r within kept made given a b near = go (compare a t) (compare b t)
     where
-      -- nothing is taken where neither the taker nor the link is meant
+      -- nothing is received where neither the receiver nor the link is concerned
       taken-off : (d : Input m.Task (Stamped m.Message)) → (b ≡ t → ⊥) → taken_after m w.taken t d a b ≡ w.taken a b
       taken-off (Does x) n = refl
       taken-off (Receives u s) n = rw (ne_eqb b t n) (never (a == u))

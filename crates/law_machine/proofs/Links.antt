@@ -30,7 +30,7 @@ module _ {S M : Type 0} (apply : S → M → S) where
     pub rises : (x m : ℕ) → x ≤ m → l.taken x ≤ l.taken m
     rises x m le = climb (λ y. l.taken x ≤ l.taken y) x (omega arith) (λ y h r. elim (good.takes y) [ inl e ↦ omega (arith, e.counts, r) | inr e ↦ omega (arith, e.counts, r) ]) m le
 
-    -- what is held, with what is left of a beginning xs of the messages, stays the same while only xs is taken
+    -- what is held, with what is left of a beginning xs of the messages, stays the same while only xs is received
     stays : (m : ℕ) (xs rest : List M) → l.put m ≡ xs ++ rest → l.taken (suc m) ≤ length xs → replay apply (l.held (suc m)) (drop (l.taken (suc m)) xs) ≡ replay apply (l.held m) (drop (l.taken m) xs)
     stays m xs rest p le = go (good.takes m)
       where

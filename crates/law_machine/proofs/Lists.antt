@@ -1,4 +1,4 @@
--- Lists and numbers.
+-- Lemmas on lists and numbers.
 use Rattle.std.proofs.Common.{◌≡◌, ℕ, zero, suc, List, [], ◌∷◌, ◌++◌, ◌⊎◌, inl, inr, length, slice_get, Some, refl, sym, ap, ◌∙◌, ne_eqb, eq-eqb, append-nil, append_assoc}
 use Rattle.law_machine.specs.Machine.{Has, at}
 use Rattle.law_machine.specs.Journals.{IsPrefix}

@@ -8,7 +8,7 @@ use Rattle.std.proofs.Math.Path.{fun_ext}
 use Rattle.base.proofs.Sets.{has-append}
 
 module _ (m : Machine) where
-  -- what was taken and put stays
+  -- what was received and put stays
   pub took-grows : (k t : ℕ) (c : Cell m) (es : List (Entry m)) (c' : Cell m) → IsReplay m k t c es c' → (u : ℕ) → IsPrefix (c.took u) (c'.took u)
   took-grows k t c [] c' e u = subst (λ (z : Cell m). IsPrefix (c.took u) (z.took u)) e (prefix-self (c.took u))
   took-grows k t c (e ∷ es) c' (o, d, r, s, q, rest) u = prefix-trans (c.took u) (took_after m c.took d u) (c'.took u) (go d) (took-grows k t (cell_after m c d r) es c' rest u)
@@ -87,7 +87,7 @@ module _ (m : Machine) where
   least e es o f (inl q) = omega (arith, ap (λ (z : Entry m). z.stamp) q)
   least e es o f (inr h) = elim (o.0 f h) [ inl l ↦ omega (arith, l) | inr l ↦ omega (arith, l.0) ]
 
-  -- Journals of all servers, over what each took, are a run in the order of the stamps, where what was taken is the beginning of what was put
+  -- Journals of all servers, over what each received, are a run in the order of the stamps, where what was received is the beginning of what was put
   pub merged-parts : (k : ℕ) (all : List (Entry m)) → IsInOrder m all → (cells ends : ℕ → Cell m) → ((t : ℕ) → IsReplay m k t (cells t) (entries_of m t all) (ends t)) → ((u t : ℕ) → IsPrefix ((ends t).took u) ((ends u).put t)) → IsPhaseRun m k (network_of m cells) all (network_of m ends)
   merged-parts k [] o cells ends tells pre = ap (network_of m) (fun_ext tells)
   merged-parts k (e ∷ es) o cells ends tells pre = go (subst (λ z. IsReplay m k e.server (cells e.server) z (ends e.server)) (of-mine e es) (tells e.server)) (λ c t. merged-parts k es o.1 c ends t pre)

@@ -73,7 +73,7 @@ module _ (m : Machine) (k : Measure m) (laws : MeasureLaws m k) where
   count-false : (b : Bool) → b ≡ false → count b ≡ 0
   count-false b e = rw e refl
 
-  -- a step stages one server at most
+  -- a step makes at most one more server pending
   stages-more : (w : NetworkState m) (t : ℕ) (d : Input m.Task (Stamped m.Message)) (r : Outcome m.State m.Message) → pending_count m k (network_after m w t d r) ≤ pending_count m k w + 1
   stages-more w t d r = omega (arith, sum-more (λ x. count (m.pending x ((network_after m w t d r).state x))) (λ x. count (m.pending x (w.state x))) (only t 1) m.servers (λ x h. each x (compare x t)), only-sum t 1 m.servers laws.distinct)
     where
@@ -149,7 +149,7 @@ module _ (m : Machine) (k : Measure m) (laws : MeasureLaws m k) where
       go true e = omega (arith, left-same w t (Does a) r made)
       go false e = omega (arith, left-fewer w t a r made e)
 
-  -- a run takes no more commands than are left
+  -- a run executes no more commands than are left
   pub within-left : (w : NetworkState m) (p : ℕ) (es : List (Entry m)) (w' : NetworkState m) (p' : ℕ) → IsRun m w p es w' p' → commands m k es + remaining m k w' ≤ remaining m k w
   within-left w p [] w' p' (e, f) = omega (arith, ap (remaining m k) e)
   within-left w p (e ∷ es) w' p' (x, v, q, ready, (d, r, made, entry_of, given, after), rest) =

@@ -1,4 +1,4 @@
--- Stamps are at most the number of entries, and what was taken was put.
+-- Stamps are at most the number of entries, and what was received was put.
 use Rattle.std.proofs.Common.{◌≡◌, ℕ, suc, ◌+◌, ◌≤◌, List, [], ◌∷◌, inl, inr, length, Option, Some, None, refl, ap, subst, arith}
 use Rattle.law_machine.specs.Machine.{Has, Input, Does, Receives, Outcome, Machine, Stamped, Entry, next_stamp, stamped, entry_of, act_phase}
 use Rattle.law_machine.specs.Network.{NetworkState, IsAvailable, network_after}

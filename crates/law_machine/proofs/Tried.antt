@@ -1,4 +1,4 @@
--- The entry of an act: it is the one that a step tells, and it makes a step.
+-- The entry of an act: it is the one that a step records, and it makes a step.
 use Rattle.std.proofs.Common.{◌≡◌, ℕ, ◌==◌, true, false, cond, List, [], ◌∷◌, ◌++◌, ◌⊎◌, inl, inr, slice_get, Option, Some, None, refl, sym, ap, subst, ◌∙◌, arith, eq-eqb, ne_eqb}
 use Rattle.std.proofs.lemmas.Option.{same_Some}
 use Rattle.law_machine.specs.Machine.{Machine, Input, Does, Receives, Outcome, Act, Did, Received, Stamped, Entry, unstamped, stamped, act_of, act_phase, receivers, entry_of}

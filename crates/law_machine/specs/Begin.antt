@@ -1,4 +1,4 @@
--- Runs in which a phase begins by any change of the network: clocks are raised, and the tree may be another.
+-- Defines runs in which a phase begins by any change of the network: clocks are raised, and the tree may be another.
 use Rattle.std.specs.Prelude.{◌≡◌, ℕ, suc, ◌≤◌, ◌<◌, Option, Some, None, List, [], ◌∷◌, ◌++◌, ◌⊎◌}
 use Rattle.law_machine.specs.Machine.{Machine, Has, Entry, act_phase}
 use Rattle.law_machine.specs.Network.{NetworkState, IsStep}

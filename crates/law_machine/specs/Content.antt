@@ -1,4 +1,4 @@
--- The content of links: what a server holds of a neighbour, with what is on its way, is what the neighbour sent.
+-- Defines the content of links: what a server holds of a neighbour, with what is on its way, is what the neighbour sent.
 use Rattle.std.specs.Prelude.{◌≡◌, ℕ, Some, List, [], ◌∷◌, drop}
 use Rattle.law_machine.specs.Machine.{Has, Machine, Input, Does, Receives, Made, Stamped}
 use Rattle.law_machine.specs.Network.{NetworkState}
@@ -51,6 +51,6 @@ module _ (machine : Machine) where
     IsHeldSent network = (a b : ℕ) → Has b (machine.links a)
         → replayed_frames (content.held b (network.state b) a) (drop (network.taken a b) (network.put a b)) ≡ content.sent a (network.state a) b
 
-    -- no more is taken than was put, and on each link what is held, with what is on its way, is what was sent
+    -- no more is received than was put, and on each link what is held, with what is on its way, is what was sent
     abbrev pub IsSentKept : NetworkState machine → Type 0
     IsSentKept network = IsWithinPuts machine network × IsHeldSent network

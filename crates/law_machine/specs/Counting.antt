@@ -1,4 +1,4 @@
--- A least machine: a server adds up what it is told, and tells its neighbours.
+-- A least machine: a server adds up the numbers that it gets, and sends each to its neighbours.
 use Rattle.std.specs.Prelude.{true, false, ℕ, ◌+◌, ◌==◌, cond, [], ◌∷◌, Option, Some, None}
 use Rattle.law_machine.specs.Machine.{Machine, Input, Does, Receives, Outcome}
 

@@ -1,4 +1,4 @@
--- The state and the phase at each moment of a journal: a moment is a number of entries.
+-- Defines the state and the phase at each moment of a journal: a moment is a number of entries.
 use Rattle.std.specs.Prelude.{◌≡◌, ℕ, zero, suc, ◌++◌, ◌==◌, cond, List, [], ◌∷◌, ◌⊎◌, Option, Some, None, slice_get}
 use Rattle.law_machine.specs.Machine.{Machine, at, Input, Outcome, Stamped, Entry, unstamped, act_of, act_phase, receivers, stamped}
 use Rattle.law_machine.specs.Network.{NetworkState, IsAvailable, taken_after, IsStep, messages_of, turn}
@@ -56,7 +56,7 @@ module _ (machine : Machine) where
     pub put : v.put ≡ (λ a b. cond (a == e.server) (w.put a b ++ stamped machine stamp (made.outs b)) (w.put a b))
     pub taken : v.taken ≡ taken_after machine w.taken e.server deed
 
-  -- an entry puts its messages, with its stamp, behind what was put on the links of its server, and tells which neighbours got one
+  -- an entry puts its messages, with its stamp, behind what was put on the links of its server, and records which neighbours got one
   pub record PutsMessages (network : NetworkState machine) (entry : Entry machine) (next : NetworkState machine) : Type 0 where
     pub puts : (link : ℕ) → next.put entry.server link ≡ network.put entry.server link ++ stamped machine entry.stamp (messages_of machine network entry link)
     pub others : (from link : ℕ) → (from ≡ entry.server → ⊥) → next.put from link ≡ network.put from link

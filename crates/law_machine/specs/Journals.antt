@@ -16,7 +16,7 @@ module _ (machine : Machine) where
     pub put : ℕ → List (Stamped machine.Message)
     pub took : ℕ → List (Stamped machine.Message)
 
-  -- what is taken of each neighbour after an input
+  -- what is received of each neighbour after an input
   abbrev pub took_after : (ℕ → List (Stamped machine.Message)) → Input machine.Task (Stamped machine.Message) → ℕ → List (Stamped machine.Message)
   took_after took (Does task) = took
   took_after took (Receives from message) = at took from (took from ++ message ∷ [])

@@ -6,7 +6,7 @@ abbrev pub replay : {Set Message : Type 0} → (Set → Message → Set) → Set
 replay apply held [] = held
 replay apply held (message ∷ messages) = replay apply (apply held message) messages
 
--- a link at each moment: what its one end means to send, the messages put, how many are taken, and what the other end holds
+-- a link at each moment: what its one end has to send, the messages put, how many are received, and what the other end holds
 pub record Link (Set Message : Type 0) : Type 0 where
   pub sent : ℕ → Set
   pub put : ℕ → List Message
@@ -27,12 +27,12 @@ pub record IsReceiveStep {Set Message : Type 0} (apply : Set → Message → Set
   pub counts : link.taken (suc moment) ≡ suc (link.taken moment)
   pub applies : link.held (suc moment) ≡ apply (link.held moment) message
 
--- nothing is taken
+-- nothing is received
 pub record IsStayStep {Set Message : Type 0} (link : Link Set Message) (moment : ℕ) : Type 0 where
   pub counts : link.taken (suc moment) ≡ link.taken moment
   pub keeps : link.held (suc moment) ≡ link.held moment
 
--- one end puts what turns what it sent into what it sends, and the other end takes the messages in order; at first nothing is on its way
+-- one end puts what turns what it sent into what it sends, and the other end receives the messages in order; at first nothing is on its way
 pub record IsLink {Set Message : Type 0} (apply : Set → Message → Set) (link : Link Set Message) : Type 0 where
   pub still : link.taken 0 ≡ length (link.put 0)
   pub agrees : link.held 0 ≡ link.sent 0
@@ -44,6 +44,6 @@ abbrev pub last_where : (ℕ → Bool) → ℕ → ℕ
 last_where test zero = zero
 last_where test (suc moment) = cond (test (suc moment)) (suc moment) (last_where test moment)
 
--- the last moment up to a given one at which no more was put than is taken at the given one
+-- the last moment up to a given one at which no more was put than is received at the given one
 abbrev pub back_on : {Set Message : Type 0} → Link Set Message → ℕ → ℕ
 back_on link moment = last_where (λ earlier. nat_le (length (link.put earlier)) (link.taken moment)) moment

@@ -1,4 +1,4 @@
--- How far messages spread: what is on its way is weighed, and each taking makes it lighter.
+-- How far messages spread: what is on its way is weighed, and each reception makes it lighter.
 use Rattle.std.specs.Prelude.{◌≡◌, ℕ, suc, ◌+◌, ◌*◌, ◌≤◌, ◌==◌, Bool, true, false, cond, List, [], length, drop, Some}
 use Rattle.base.specs.Numbers.{sum_over, count, IsDistinct}
 use Rattle.law_machine.specs.Machine.{Has, Machine, Input, Does, Receives, Made, Act, Did, Received, Entry}
@@ -35,7 +35,8 @@ module _ (machine : Machine) where
       -- a step puts at most one message on a link
       pub one : (t : ℕ) (s : machine.State) (d : Input machine.Task machine.Message) (r : Made machine) → machine.step t s d ≡ Some r
           → (v : ℕ) → Has v (machine.links t) → length (r.outs v) ≤ 1
-      pub from : (t : ℕ) (s : machine.State) (u : ℕ) (x : machine.Message) (r : Made machine) → machine.step t s (Receives u x) ≡ Some r → Has u (machine.links t)
+      pub from : (t : ℕ) (s : machine.State) (u : ℕ) (x : machine.Message) (r : Made machine) → machine.step t s (Receives u x) ≡ Some r
+          → Has u (machine.links t)
       pub silent : (t : ℕ) (s : machine.State) (a : machine.Task) (r : Made machine) → machine.step t s (Does a) ≡ Some r
           → measure.table_update a ≡ true → (v : ℕ) → r.outs v ≡ []
       -- a plain message makes plain ones, and none back

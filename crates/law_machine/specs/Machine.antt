@@ -1,4 +1,4 @@
--- A machine: the step of one server, over any states, tasks and messages, and what a journal tells of a step.
+-- A machine: the step of one server, over any states, tasks and messages, and what a journal records of a step.
 use Rattle.std.specs.Prelude.{ℕ, suc, nat_lt, ◌==◌, max, Bool, cond, List, [], ◌∷◌, length, map, Option, None}
 pub use Rattle.base.specs.Sets.{Has}
 
@@ -7,7 +7,7 @@ pub data Input (Task Message : Type 0) : Type 0 where
   Does : (task : Task) → Input Task Message
   Receives : (from : ℕ) (message : Message) → Input Task Message
 
--- an input as a journal tells it, without the message
+-- an input as a journal records it, without the message
 pub data Act (Task : Type 0) : Type 0 where
   Did : (task : Task) → Act Task
   Received : (from : ℕ) → Act Task
@@ -48,7 +48,7 @@ module _ (machine : Machine) where
   abbrev pub Made : Type 0
   Made = Outcome machine.State machine.Message
 
-  -- what a journal tells of a step: its stamp, the server, the act, and the neighbours that got a message
+  -- what a journal records of a step: its stamp, the server, the act, and the neighbours that got a message
   pub record Entry : Type 0 where
     pub stamp : ℕ
     pub server : ℕ
@@ -60,7 +60,7 @@ module _ (machine : Machine) where
   unstamped (Does task) = Does task
   unstamped (Receives from stamped) = Receives from stamped.message
 
-  -- how a journal tells an input
+  -- how a journal records an input
   abbrev pub act_of : Input machine.Task (Stamped machine.Message) → Act machine.Task
   act_of (Does task) = Did task
   act_of (Receives from stamped) = Received from

@@ -1,9 +1,9 @@
--- The state of a network, and the step of one of its servers as a step of the network.
+-- Defines the state of a network, and the step of one of its servers as a step of the network.
 use Rattle.std.specs.Prelude.{◌≡◌, ℕ, suc, ◌==◌, cond, ◌&&◌, List, [], ◌++◌, slice_get, Option, Some, None}
 use Rattle.law_machine.specs.Machine.{at, Act, Did, Received, Machine, Input, Does, Receives, Outcome, Made, Stamped, Entry, unstamped, next_stamp, stamped, entry_of}
 
 module _ (machine : Machine) where
-  -- of each server its state and clock; of each directed link the messages put, and how many of them were taken
+  -- of each server its state and clock; of each directed link the messages put, and how many of them were received
   pub record NetworkState : Type 0 where
     pub state : ℕ → machine.State
     pub clock : ℕ → ℕ
@@ -12,12 +12,12 @@ module _ (machine : Machine) where
     -- taken a b: by b from a
     pub taken : ℕ → ℕ → ℕ
 
-  -- a message can be taken where it is the next of its link
+  -- a message can be received where it is the next of its link
   abbrev pub IsAvailable : NetworkState → ℕ → Input machine.Task (Stamped machine.Message) → Type 0
   IsAvailable network server (Does task) = Unit {0}
   IsAvailable network server (Receives from message) = slice_get (network.put from server) (network.taken from server) ≡ Some message
 
-  -- how many are taken of each link, after an input of a server
+  -- how many are received of each link, after an input of a server
   abbrev pub taken_after : (ℕ → ℕ → ℕ) → ℕ → Input machine.Task (Stamped machine.Message) → ℕ → ℕ → ℕ
   taken_after taken server (Does task) a b = taken a b
   taken_after taken server (Receives from message) a b = cond ((a == from) && (b == server)) (suc (taken a b)) (taken a b)
@@ -33,7 +33,7 @@ module _ (machine : Machine) where
     taken = taken_after network.taken server input;
   }
 
-  -- an entry leads from one state of the network to the next: its server makes the step that it tells
+  -- an entry leads from one state of the network to the next: its server makes the step that it records
   abbrev pub IsStep : NetworkState → Entry machine → NetworkState → Type 0
   IsStep network entry next =
       (input : Input machine.Task (Stamped machine.Message)) × (outcome : Outcome machine.State machine.Message)

@@ -18,7 +18,7 @@ module _ (machine : Machine) where
     pub empty : (a b : ℕ) → network.taken a b ≡ length (network.put a b)
     pub calm : (server : ℕ) → Has server machine.servers → machine.pending server (network.state server) ≡ false
 
-  -- all commands of the phases below this one are taken
+  -- all commands of the phases below this one are executed
   abbrev pub IsThrough : NetworkState machine → ℕ → Type 0
   IsThrough network phase = (server : ℕ) → Has server machine.servers → machine.through server (network.state server) phase ≡ true
 
@@ -26,7 +26,7 @@ module _ (machine : Machine) where
   abbrev pub IsReady : NetworkState machine → ℕ → Option ℕ → NetworkState machine → ℕ → Type 0
   -- what is no command is always ready
   IsReady network last None found next = (network ≡ found) × (last ≡ next)
-  -- a command of the same phase is ready; one of a later phase where all is taken and quiet, and then the clocks are raised
+  -- a command of the same phase is ready; one of a later phase where all are executed and the network is quiet, and then the clocks are raised
   IsReady network last (Some phase) found next = (phase ≡ next)
       × (((last ≡ phase) × (network ≡ found)) ⊎ ((last < phase) × IsThrough network phase × IsQuiet network × (raised network ≡ found)))
 
@@ -76,6 +76,6 @@ module _ (machine : Machine) where
     pub clocks : (server : ℕ) → network.clock server ≤ n
     pub puts : (a b : ℕ) (message : Stamped machine.Message) → Has message (network.put a b) → message.stamp ≤ n
 
-  -- no more is taken than was put
+  -- no more is received than was put
   abbrev pub IsWithinPuts : NetworkState machine → Type 0
   IsWithinPuts network = (a b : ℕ) → network.taken a b ≤ length (network.put a b)

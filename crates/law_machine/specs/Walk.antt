@@ -1,4 +1,4 @@
--- The walk: turns tried in a fixed order, where those that are not possible are skipped.
+-- Defines the walk: turns tried in a fixed order, where those that are not possible are skipped.
 use Rattle.std.specs.Prelude.{◌≡◌, ℕ, zero, suc, ◌+◌, ◌*◌, ◌<◌, ◌==◌, Bool, true, cond, List, [], ◌∷◌, ◌++◌, ◌⊎◌, Option, Some, None}
 use Rattle.law_machine.specs.Machine.{Machine, Act, Did, Received, Entry, act_phase}
 use Rattle.law_machine.specs.Network.{NetworkState, outcome_at, turn, entry_at}
@@ -94,6 +94,6 @@ module _ (machine : Machine) where
     IsPlan [] = Unit {0}
     IsPlan (next ∷ plan) = IsQuietAct next.1 × IsPlan plan
 
-    -- what falls with each taking and each table update
+    -- what falls with each reception and each table update
     abbrev pub work_left : NetworkState machine → ℕ
     work_left network = 2 * load machine measure network + pending_count machine measure network

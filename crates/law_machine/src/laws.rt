@@ -20,7 +20,7 @@ pub trait LocalStep {
     ghost machine: { Machine };
 }
 
-/// A least machine: a server adds up what it is told, and tells its neighbours.
+/// A least machine: a server adds up the numbers that it gets, and sends each to its neighbours.
 pub struct Counting;
 
 impl LocalStep for Counting {
@@ -64,7 +64,7 @@ pub fn happens<M: LocalStep>()
     ensures end { (run : Run M.machine) → run_state M.machine run (length run.entries) ≡ run.end }
 {}
 
-/// A permitted turn happens as its entry tells it, and what happens is a permitted turn.
+/// A permitted turn happens as its entry records it, and what happens is a permitted turn.
 pub fn permitted<M: LocalStep>()
     ensures happens { (network : NetworkState M.machine) (last server : ℕ) (act : Act M.machine.Task) (entry : Entry M.machine)
         → (next : NetworkState M.machine) (now : ℕ) → IsPermitted M.machine network last server act entry next now
@@ -74,7 +74,7 @@ pub fn permitted<M: LocalStep>()
         → IsPermitted M.machine network last entry.server entry.act entry next now }
 {}
 
-/// Each entry of a run puts its messages on its server's links, and tells which neighbours got one.
+/// Each entry of a run puts its messages on its server's links, and records which neighbours got one.
 pub fn messages<M: LocalStep>()
     ensures { (run : Run M.machine) (n : ℕ) (entry : Entry M.machine) → slice_get run.entries n ≡ Some entry → PutsMessagesAt M.machine run n entry }
 {}
@@ -93,7 +93,7 @@ pub fn stamps_low<M: LocalStep>()
         × ((entry : Entry M.machine) → Has entry run.entries → entry.stamp ≤ n + length run.entries) }
 {}
 
-/// A taking makes the load lighter.
+/// A reception makes the load lighter.
 pub fn lighter<M: LocalStep>()
     ensures { (measure : Measure M.machine) → MeasureLaws M.machine measure → (network : NetworkState M.machine) → IsWithinPuts M.machine network
         → (reception : PossibleReception M.machine network)
@@ -106,7 +106,7 @@ pub fn bounded<M: LocalStep>()
         → IsBoundedByCommands M.machine measure run.entries }
 {}
 
-/// A run takes no more commands than are left.
+/// A run executes no more commands than are left.
 pub fn commands_left<M: LocalStep>()
     ensures { (measure : Measure M.machine) → MeasureLaws M.machine measure → (run : Run M.machine)
         → commands M.machine measure run.entries + remaining M.machine measure run.end ≤ remaining M.machine measure run.start }

@@ -2,8 +2,9 @@
 //! Job: links, runs and journals of any network of servers, over any local step. Pure.
 //! Users: the law layer, and every layer above but document.
 //!
-//! Of one link: what is held at one end is what the other end sent at an earlier moment. Of runs: stamps, phases, the
-//! merge of journals, bounds, moments and turns.
+//! Of one link: what is held at one end is what the other end sent at an earlier moment. Of runs, for any machine: the
+//! state of a network, its step, the rule of phases, legal runs, stamps and bounds, journals and their merge, moments,
+//! and the trying of turns.
 #![tactic(auto)]
 
 mod laws;

@@ -817,7 +817,7 @@ module _ (th : Theory) (laws : TheoryLaws th) (run : FloodRun th) where
       has-get (y ∷ xs) x (inl e) = (0, ap Some (sym e))
       has-get (y ∷ xs) x (inr h) = let r = has-get xs x h in (suc r.0, r.1)
 
-  -- an accepted publish that was taken is passed on at home
+  -- an accepted publish that was executed is passed on at home
   record Begins (k : ℕ) (p : Publication th) : Type 0 where
     moment : ℕ
     before : moment < length run.journal
@@ -884,7 +884,7 @@ module _ (th : Theory) (laws : TheoryLaws th) (run : FloodRun th) where
       go (Is p f) (Not n f') e' = absurd (omega (arith, rw (f, f') at e'))
       go (Not n f) s e' = absurd (omega (arith, rw f at e'))
 
-  -- where all is taken at the end, what is passed on passes each further neighbour
+  -- where all is received at the end, what is passed on passes each further neighbour
   module _ (quiet : IsQuiet (flood_machine th run.net) run.end) where
     record Moved (u t k : ℕ) (p : Publication th) : Type 0 where
       moment : ℕ

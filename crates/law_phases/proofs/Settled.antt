@@ -123,7 +123,7 @@ module _ (th : Theory) (laws : TheoryLaws th) (run : PhasedRun th) where
       pub delivered-part : IsReceivedAlong th N (λ y. on th N (states th run n)) 0 p.publisher p.ordinal p.notice home x.path → Inbox (states th run n)
       delivered-part taken = (delivered-run th laws (part-run th laws run n short) p c (on-part taken)).0
 
-      -- where all is quiet all is taken
+      -- where all is quiet all is received
       pub quiet-taken : IsQuiet (machine_at th run.net (phases th run n)) (at_phase th run.net (phases th run n) (states th run n)) → (t : ℕ) (path : List ℕ) → IsReceivedAlong th N (λ y. on th N (states th run n)) 0 p.publisher p.ordinal p.notice t path
       quiet-taken quiet t [] = tt
       quiet-taken quiet t (u ∷ path) = ((λ y s f g. (let l = slice_get_within ((states th run n).put t u) y s f in omega (arith, l, quiet.empty t u))), quiet-taken quiet u path)
@@ -170,7 +170,7 @@ module _ (th : Theory) (laws : TheoryLaws th) (run : PhasedRun th) where
         there : suc x.moment + (n - suc x.moment) ≡ n
         there = omega (arith, later)
 
-    -- after so many entries, where all its messages on the way are taken, it is delivered
+    -- after so many entries, where all its messages on the way are received, it is delivered
     pub arrived : (n : ℕ) → n ≤ length run.journal → x.moment < n
         → (is_one_tree th run.net (phase_seen th run x.moment) (phases th run n) ≡ true → IsReceivedAlong th (net_seen th run x.moment) (λ y. on th (net_seen th run x.moment) (states th run n)) 0 p.publisher p.ordinal p.notice home x.path) → Inbox (states th run n)
     arrived n short later taken = go (stays-by n short later)

@@ -34,7 +34,7 @@ module _ (th : Theory) (laws : TheoryLaws th) where
   abbrev here : (run : PhasedRun th) → Moment th run.net
   here run = now th run.net run.end run.last
 
-  -- the commands of the phases below this one are taken
+  -- the commands of the phases below this one are executed
   abbrev IsThroughBelow : PhasedRun th → ℕ → State th → Type 0
   IsThroughBelow run k s = (t c : ℕ) → Has t run.net.servers → Has c (run.net.clients t) → commands_below th k (run.net.script c) ≤ (s.state t).done c
 
@@ -214,7 +214,7 @@ module _ (th : Theory) (laws : TheoryLaws th) where
       next : (k n : ℕ) → suc k + n ≡ k + suc n
       next k n = omega arith
 
-  -- a run has taken all commands of the phases below its last
+  -- a run has executed all commands of the phases below its last
   last-through : (run : PhasedRun th) → IsThroughBelow run run.last run.end
   last-through run t c h lives =
       let r = last-run th laws run in

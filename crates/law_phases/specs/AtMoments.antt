@@ -54,7 +54,7 @@ module _ (theory : Theory) (run : PhasedRun theory) where
   receivers_at n entry =
       receivers (machine_at theory run.net (found_at n).phase) (messages_at n entry) ((net_at theory run.net (found_at n).phase).links entry.server)
 
-  -- an entry puts its messages, with its stamp, behind what was put on the links of its server since the tree came, and tells which neighbours got one
+  -- an entry puts its messages, with its stamp, behind what was put on the links of its server since the tree came, and records which neighbours got one
   pub record PutsMessagesAt (n : ℕ) (entry : JournalEntry) : Type 0 where
     pub puts : (link : ℕ) → (moment_at (suc n)).state.put entry.server link ≡ (found_at n).state.put entry.server link ++ stamped_at n entry link
     pub others : (from link : ℕ) → (from ≡ entry.server → ⊥) → (moment_at (suc n)).state.put from link ≡ (found_at n).state.put from link
@@ -96,7 +96,7 @@ module _ (theory : Theory) (run : PhasedRun theory) where
   abbrev pub IsFoundAtRest : ℕ → Type 0
   IsFoundAtRest n = IsAtRestOn theory run.net (phase_seen n) (seen n)
 
-  -- what a server has taken of its clients' commands and delivered to them is what the next entry finds
+  -- what a server has executed of its clients' commands and delivered to them is what the next entry finds
   pub record KeepsClients (n server : ℕ) : Type 0 where
     pub done : ((seen n).state server).done ≡ ((states n).state server).done
     pub inbox : ((seen n).state server).inbox ≡ ((states n).state server).inbox
@@ -113,7 +113,7 @@ module _ (theory : Theory) (run : PhasedRun theory) where
   abbrev pub EndsQuiet : Type 0
   EndsQuiet = IsQuietOn theory run.net run.last run.end
 
-  -- at the end all commands of the phases below this one are taken
+  -- at the end all commands of the phases below this one are executed
   abbrev pub EndsThrough : ℕ → Type 0
   EndsThrough phase = IsThroughOn theory run.net run.last run.end phase
 

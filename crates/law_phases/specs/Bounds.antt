@@ -44,7 +44,8 @@ module _ (theory : Theory) (run : PhasedRun theory) where
   abbrev pub commands_of : ℕ
   commands_of = all_commands theory (net_at theory run.net 0)
 
-  -- receptions, table updates and entries are bounded by the commands executed and the servers, the commands executed by those of the scripts, and the stamps by the entries
+  -- receptions, table updates and entries are bounded by the commands executed and the servers, the commands executed by those of the scripts,
+  -- and the stamps by the entries
   pub record KeepsBounds : Type 0 where
     pub receptions : receptions_in run.journal ≤ commands_in run.journal * (length run.net.servers * length run.net.servers)
     pub updates : updates_in run.journal ≤ receptions_in run.journal + commands_in run.journal

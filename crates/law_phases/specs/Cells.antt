@@ -1,4 +1,4 @@
--- Phases with all servers' journals in hand, over trees.
+-- Defines phases with all servers' journals in hand, over trees.
 use Rattle.std.specs.Prelude.{◌≡◌, ℕ, ◌≤◌, ◌<◌, ◌==◌, cond, List, [], ◌++◌, ◌⊎◌, map}
 use Rattle.base.specs.Sets.{Has}
 use Rattle.law_machine.specs.Runs.{greatest}

@@ -29,7 +29,7 @@ module _ (theory : Theory) where
       cond (is_accepted net adverts command.command) (command.phase ∷ later) later
 
   module _ (net : PhasedNet theory) where
-    -- whether flooding sends what is installed at a server in a phase over the link from one server to another: that is a link of the tree then in
+    -- whether flooding sends what is published at a server in a phase over the link from one server to another: that is a link of the tree then in
     -- force, and what comes from there comes to its end by its beginning
     abbrev pub floods_over : ℕ → ℕ → ℕ → ℕ → Bool
     floods_over home from to phase = is_among to ((tree_at theory net phase).links from) && side (tree_at theory net phase).hop to from home

@@ -49,7 +49,8 @@ module _ (theory : Theory) (net : PhasedNet theory) where
   flood_next server client count None = None
   flood_next server client count (Some next) = Some (flood_command server client count next.phase next.command)
 
-  -- what an input comes to, where it is possible: a command of a client that lives there and has one left, or a message from a neighbour on the tree of its phase
+  -- what an input comes to, where it is possible: a command of a client that lives there and has one left, or a message from a neighbour
+  -- on the tree of its phase
   abbrev pub flood_work : ℕ → FloodServer theory → Input ℕ (FloodMessage theory) → Option (FloodWork theory)
   flood_work server state (Does client) =
       cond (is_among server net.servers && is_among client (net.clients server))
@@ -94,7 +95,7 @@ module _ (theory : Theory) (net : PhasedNet theory) where
   flood_through state phase (client ∷ clients) =
       not_below theory (net_at theory net phase) phase (slice_get (net.script client) (state.done client)) && flood_through state phase clients
 
-  -- the servers, as a machine: its tasks are clients, each of whose next command is to be taken
+  -- the servers, as a machine: its tasks are clients, each of whose next command is to be executed
   abbrev pub flood_machine : Machine
   flood_machine = record {
     State = FloodServer theory;

@@ -1,4 +1,4 @@
--- The state and the phase at each moment of a journal over trees by phase.
+-- Defines the state and the phase at each moment of a journal over trees by phase.
 use Rattle.std.specs.Prelude.{ℕ, zero, suc, ◌==◌, cond, List, [], ◌∷◌, Option, Some, None}
 use Rattle.law_machine.specs.Machine.{act_phase}
 use Rattle.law_machine.specs.Network.{turn}
@@ -13,7 +13,7 @@ module _ (theory : Theory) (net : PhasedNet theory) where
   abbrev pub with_clocks_raised : ℕ → State theory → State theory
   with_clocks_raised last state = off theory (net_at theory net last) (raised (machine_at theory net last) (at_phase theory net last state))
 
-  -- the state set on the tree of a later phase: clients' sets are kept, neighbours hold what flows, all is published, links are empty, clocks are raised
+  -- the state set on the tree of a later phase: clients' sets are kept, neighbours hold what flows, all is installed, links are empty, clocks are raised
   abbrev pub with_tree_changed : ℕ → ℕ → State theory → State theory
   with_tree_changed last phase state =
       let tree = tree_at theory net phase in

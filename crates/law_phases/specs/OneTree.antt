@@ -1,4 +1,4 @@
--- Nets whose phases all have one tree: the runs of the net on that tree.
+-- Defines nets whose phases all have one tree: the runs of the net on that tree.
 use Rattle.std.specs.Prelude.{◌≡◌, ℕ, true, List, map}
 use Rattle.law_machine.specs.Runs.{IsRun}
 use Rattle.law_machine.specs.History.{state_at}

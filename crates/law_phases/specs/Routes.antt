@@ -1,4 +1,4 @@
--- Entries that route a publication: where to, for whom, and in what order.
+-- Defines entries that route a publication: where to, for whom, and in what order.
 use Rattle.std.specs.Prelude.{◌≡◌, ℕ, suc, ◌<◌, true, List, [], ◌∷◌, ◌++◌}
 use Rattle.base.specs.Sets.{Has}
 use Rattle.law_routing.specs.Theory.{Theory}

@@ -21,7 +21,7 @@ module _ (theory : Theory) (net : PhasedNet theory) where
   abbrev pub ActFinds : State theory → ℕ → Option ℕ → State theory → ℕ → Type 0
   -- what is no command finds the state as it is
   ActFinds state last None found next = (state ≡ found) × (last ≡ next)
-  -- so does a command of the same phase; one of a later phase may come where all is taken and quiet, and then that phase begins
+  -- so does a command of the same phase; one of a later phase may come where all are executed and the network is quiet, and then that phase begins
   ActFinds state last (Some phase) found next =
       (phase ≡ next)
       × (((last ≡ phase) × (state ≡ found))

@@ -55,7 +55,7 @@ module _ (theory : Theory) (run : PhasedRun theory) where
     pub makes : IsMadeAt made other
     pub known : Has one (inbox_at theory run made (run.net.home other.publisher) other.publisher)
 
-  -- or had installed it itself
+  -- or had published it itself
   pub record IsMadeAfter (one other : Publication theory) : Type 0 where
     pub one_publisher : one.publisher ≡ other.publisher
     pub moment : ℕ

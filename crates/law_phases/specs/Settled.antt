@@ -34,14 +34,14 @@ module _ (theory : Theory) (run : PhasedRun theory) where
   IsSettledFromHome phase publication client path =
       IsSettledOnWay (net_at theory run.net phase) phase publication client [] (run.net.home publication.publisher) path
 
-  -- at the end each message of it on the way is taken, on the tree of a net
+  -- at the end each message of it on the way is received, on the tree of a net
   abbrev pub IsReceivedFromHome : Net theory → Publication theory → List ℕ → Type 0
   IsReceivedFromHome net publication path =
       IsReceivedAlong theory net (λ n. on theory net run.end) 0 publication.publisher publication.ordinal publication.notice
       (run.net.home publication.publisher) path
 
   -- an entry at the publisher's home publishes it, and it is settled wherever it passes on the way to the client on the tree of that moment;
-  -- where that tree is in force at the end, each of its messages on that way is taken
+  -- where that tree is in force at the end, each of its messages on that way is received
   pub record IsSettledTo (publication : Publication theory) (client : ℕ) : Type 0 where
     pub here : Has publication.publisher (run.net.clients (run.net.home publication.publisher))
     pub moment : ℕ
@@ -64,7 +64,7 @@ module _ (theory : Theory) (run : PhasedRun theory) where
     pub lives : Has client (run.net.clients (end_of theory (net_seen theory run moment) (run.net.home publication.publisher) path))
     pub settled : IsSettledFromHome (phase_seen theory run moment) publication client path
 
-  -- after n entries it is installed, and where the tree of that moment is still in force each message of it on the way is taken
+  -- after n entries it is published, and where the tree of that moment is still in force each message of it on the way is received
   pub record IsAllReceivedBy (n : ℕ) (publication : Publication theory) (client : ℕ) (on_way : IsSettledOn publication client) : Type 0 where
     pub within : n ≤ length run.journal
     pub published : on_way.moment < n

@@ -45,7 +45,8 @@ pub record JournalEntry : Type 0 where
   pub outs : List ℕ
 
 module _ (theory : Theory) where
-  -- the state of the network, whatever the tree: of each server its state and clock, of each link of the tree in force what was put and how much of it is taken
+  -- the state of the network, whatever the tree: of each server its state and clock, of each link of the tree in force what was put
+  -- and how much of it is received
   pub record State : Type 0 where
     pub state : ℕ → ServerState theory
     pub clock : ℕ → ℕ
@@ -126,7 +127,7 @@ module _ (theory : Theory) where
     abbrev pub IsQuietOn : ℕ → State → Type 0
     IsQuietOn phase state = IsQuiet (machine_at phase) (at_phase phase state)
 
-    -- and all commands of the phases below another one are taken
+    -- and all commands of the phases below another one are executed
     abbrev pub IsThroughOn : ℕ → State → ℕ → Type 0
     IsThroughOn phase state next = IsThrough (machine_at phase) (at_phase phase state) next
 

@@ -1,4 +1,4 @@
--- Turns: what a server's act makes at a moment, where the rule of phases lets it and it is possible.
+-- Defines turns: what a server's act makes at a moment, where the rule of phases lets it and it is possible.
 use Rattle.std.specs.Prelude.{◌≡◌, ℕ, Option, Some, None}
 use Rattle.law_machine.specs.Machine.{act_phase}
 use Rattle.law_machine.specs.Network.{entry_at}

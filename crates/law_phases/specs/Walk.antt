@@ -1,4 +1,4 @@
--- The walk over trees by phase: what is left of each phase, by the turns of its tree, of which those that are not possible are skipped.
+-- Defines the walk over trees by phase: what is left of each phase, by the turns of its tree, of which those that are not possible are skipped.
 use Rattle.std.specs.Prelude.{ℕ, zero, suc, ◌-◌, cond, List, [], ◌∷◌, ◌++◌, Option, None}
 use Rattle.law_machine.specs.Machine.{act_phase}
 use Rattle.law_machine.specs.Walk.{is_of_phase, with_default}

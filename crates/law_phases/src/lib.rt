@@ -1,6 +1,13 @@
 //! Layer: law.
 //! Job: runs over trees by phase: a journal goes over one tree after the other, and the laws of runs hold of the whole. Pure.
 //! Users: law_examples, and the layers from net upward.
+//!
+//! A net has a first tree and later ones with their first phases (`PhasedNet`). A run begins at the opening and goes
+//! over one tree after the other (`PhasedRun`). The first command of a later phase finds the network set on the tree of
+//! that phase, where that is another one, and otherwise with raised clocks.
+//!
+//! Where all phases have one tree, runs, moments and the walk are those of `law_routing` (`one_tree`). So nets of one
+//! tree need no second theory.
 #![tactic(auto)]
 
 ghost use Rattle.std.specs.Prelude.{true, false, ◌≡◌, ◌↔◌, ◌≤◌, ◌<◌, ℕ, suc, List, [], ◌∷◌, ◌++◌, length, take, slice_get, Option, Some};
@@ -74,7 +81,7 @@ pub fn happens<M: Matching>()
     ensures { (run : PhasedRun M.theory) (n : ℕ) (entry : JournalEntry) → slice_get run.journal n ≡ Some entry → HappensAt M.theory run n entry }
 {}
 
-/// A permitted turn happens as its entry tells it, and what happens is a permitted turn; what the rule of phases lets an act find is what it finds.
+/// A permitted turn happens as its entry records it, and what happens is a permitted turn; what the rule of phases lets an act find is what it finds.
 pub fn permitted<M: Matching>()
     ensures tells { (net : PhasedNet M.theory) (before after : Moment M.theory net) (turn : Turn) (entry : JournalEntry)
         → IsPermittedTurn M.theory net before turn entry after
@@ -95,7 +102,7 @@ pub fn run_grows<M: Matching>()
         → IsRunTo M.theory net before (entries ++ entry ∷ []) after }
 {}
 
-/// Each entry of a run puts its messages on its server's links, and tells which neighbours got one.
+/// Each entry of a run puts its messages on its server's links, and records which neighbours got one.
 pub fn messages<M: Matching>()
     ensures { (run : PhasedRun M.theory) (n : ℕ) (entry : JournalEntry) → slice_get run.journal n ≡ Some entry → PutsMessagesAt M.theory run n entry }
 {}
@@ -116,7 +123,7 @@ pub fn bounded<M: Matching>()
     ensures { (run : PhasedRun M.theory) → KeepsBounds M.theory run }
 {}
 
-/// The beginning of a phase keeps what was taken of clients' commands and delivered to them.
+/// The beginning of a phase keeps how many of the clients' commands were executed and what was delivered to them.
 pub fn keeps_clients<M: Matching>()
     ensures { (run : PhasedRun M.theory) (n server : ℕ) → KeepsClients M.theory run n server }
 {}
@@ -177,14 +184,14 @@ pub fn quiet_rests<M: Matching>()
     ensures { (run : PhasedRun M.theory) (n : ℕ) → IsQuietAt M.theory run n → IsAtRestAt M.theory run n }
 {}
 
-/// A publication that is settled wherever it passes on the way to a client, on the tree of its moment, and whose messages on that way are taken where
+/// A publication that is settled wherever it passes on the way to a client, on the tree of its moment, and whose messages on that way are received where
 /// that tree is still in force, is delivered to the client exactly once.
 pub fn settled_delivery<M: Matching>()
     ensures { (run : PhasedRun M.theory) (publication : Publication M.theory) (client : ℕ) → IsSettledTo M.theory run publication client
         → IsDeliveredOnce M.theory run publication client }
 {}
 
-/// At any moment, a publication that is settled on its way to a client, and whose messages on that way are all taken where that tree is still in force,
+/// At any moment, a publication that is settled on its way to a client, and whose messages on that way are all received where that tree is still in force,
 /// stands in the client's inbox exactly once.
 pub fn settled_by<M: Matching>()
     ensures { (run : PhasedRun M.theory) (publication : Publication M.theory) (client : ℕ) (on_way : IsSettledOn M.theory run publication client) (n : ℕ)

@@ -30,7 +30,7 @@ acts th net t s (Does TableUpdate) k e = one-has t net.servers (cond-some (is_am
 acts th net t s (Receives u x) k e = one-has t net.servers (cond-some (is_among t net.servers) (is_among u (net.links t)) (Some (message_work th net s u x)) k e).0
 
 module _ (th : Theory) (laws : TheoryLaws th) (net : Net th) (good : NetLaws th net) (J : List (NetEntry th net)) (h : ℕ → Network th net) (ph : ℕ → ℕ) (history : IsHistory (routing_machine th net) J h ph) (rest : IsAtRest th net (h 0)) where
-  -- only servers of the net stage
+  -- only servers of the net have something pending
   abbrev Inside : Network th net → Type 0
   Inside w = (t : ℕ) → (w.state t).pending ≡ true → Has t net.servers
 

@@ -1,4 +1,4 @@
--- The commands of a phase, tried one after the other, are all taken.
+-- The commands of a phase, tried one after the other, are all executed.
 use Rattle.std.proofs.Common.{◌≡◌, ℕ, zero, suc, ◌+◌, ◌≤◌, ◌<◌, ◌==◌, Bool, true, false, cond, List, [], ◌∷◌, ◌⊎◌, inl, inr, length, slice_get, Option, Some, None, refl, sym, ap, subst, ◌∙◌, arith, eq-eqb}
 use Rattle.std.proofs.lemmas.Option.{same_Some}
 use Rattle.base.specs.Sets.{Has}
@@ -64,7 +64,7 @@ module _ (th : Theory) (net : Net th) (good : NetLaws th net) where
     abbrev one-turn : ℕ → ℕ → List (ℕ × Act Task)
     one-turn t c = (t, Did (NextCommand c)) ∷ []
 
-    -- the next command of this phase is taken
+    -- the next command of this phase is executed
     module _ (s : Moment (routing_machine th net)) (walk : IsWalkable (routing_machine th net) k s) (t c : ℕ) (here : Has t net.servers) (lives : Has c (net.clients t)) (y : PhasedCommand th) (next : slice_get (net.script c) ((s.network.state t).done c) ≡ Some y) (now : y.phase ≡ k) where
       outcome : Outcome (ServerState th) (Message th)
       outcome = effect th net t (with_command_executed th net (s.network.state t) c) (command_work th net c ((s.network.state t).done c) y.command)

@@ -57,7 +57,7 @@ module _ (th : Theory) (laws : TheoryLaws th) (net : Net th) (good : NetLaws th 
       go (Is p f) (Not n f') e' = absurd (omega (arith, rw (f, f') at e'))
       go (Not n f) s e' = absurd (omega (arith, rw f at e'))
 
-  -- the moment at which the message at place k of a link is taken
+  -- the moment at which the message at place k of a link is received
   pub record Reception (t u k last : ℕ) : Type 0 where
     pub at : ℕ
     pub before : at < last

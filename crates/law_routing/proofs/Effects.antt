@@ -167,11 +167,11 @@ module _ (th : Theory) (net : Net th) (good : NetLaws th net) (q earlier : ℕ) 
     next-ids : ids (take (suc (w.taken s t)) (w.put s t)) ≡ ids (take (w.taken s t) (w.put s t)) ++ (o ∷ [])
     next-ids = ap ids (take-one (w.put s t) (w.taken s t) y g) ∙ (ids-append (take (w.taken s t) (w.put s t)) (y ∷ []) ∙ ap (λ z. ids (take (w.taken s t) (w.put s t)) ++ z) (ap (λ z. add_ordinal th net q z []) m ∙ rw (eq-eqb q q refl) refl))
 
-    -- the whole link: what was taken, the next notice, and the rest
+    -- the whole link: what was received, the next notice, and the rest
     cut : ids (w.put s t) ≡ (ids (take (w.taken s t) (w.put s t)) ++ (o ∷ [])) ++ ids (drop (suc (w.taken s t)) (w.put s t))
     cut = ap ids (sym (take-append-drop (suc (w.taken s t)) (w.put s t))) ∙ (ids-append (take (suc (w.taken s t)) (w.put s t)) (drop (suc (w.taken s t)) (w.put s t)) ∙ ap (λ z. z ++ ids (drop (suc (w.taken s t)) (w.put s t))) next-ids)
 
-    -- a notice of q is taken
+    -- a notice of q is received
     from-link : (routed : ℕ → List ℕ) (from : ServerState th) → IsOrderly th net q earlier w routed → Has s (net.links t) → Effect w (routed t) t (Receives s y) from (Routes s q o n)
     from-link routed from ord near = record {
       puts = λ b near' x. elim (puts-of from t b s q o n x) [ inl f ↦ inl f | inr f ↦ inr (f.0, back b near' f.1) ];

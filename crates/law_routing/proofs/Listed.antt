@@ -1,4 +1,4 @@
--- What a server holds of a client is the client's list, and what is published is what is held where nothing is pending.
+-- What a server holds of a client is the client's list, and what is installed is what is held where nothing is pending.
 use Rattle.std.proofs.Common.{◌≡◌, ℕ, zero, suc, ◌+◌, ◌≤◌, ◌==◌, Bool, true, false, cond, not, ◌||◌, List, [], ◌∷◌, take, slice_get, Option, Some, None, refl, sym, ap, subst, ◌∙◌, arith}
 use Rattle.std.proofs.lemmas.Option.{same_Some}
 use Rattle.law_machine.specs.Machine.{Has, Input, Does, Receives, Stamped, unstamped}

@@ -136,7 +136,7 @@ module _ (th : Theory) (laws : TheoryLaws th) (run : LegalRun th) where
     due-along q o k c n p due here lives (t ∷ behind) t u path way.2 (λ a v more f. (good.tree.both t u way.0, (λ g. way-on t u path way.2 v more f (sym g)), turn a u path refl)) from-home,
   )
 
-  -- the entry of a publication that was taken
+  -- the entry of a publication whose command was executed
   abbrev does-command : ℕ → Input Task (Stamped (Message th))
   does-command q = Does (NextCommand q)
 

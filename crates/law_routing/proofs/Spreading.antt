@@ -92,7 +92,7 @@ module _ (th : Theory) (strict : StrictOrders th) (net : Net th) where
     wide-one InstallsTable v = omega arith
     wide-one Nothing v = omega arith
 
-    -- a message taken from u
+    -- a message received from u
     wide-back : (u : ℕ) (x : Message th) → is_advert_message th net x ≡ false → (full_effect th net t s (message_work th net s u x)).outs u ≡ []
     wide-back u (Subs out add) e = subs-back u (Rattle.base.specs.Sets.union th.before (Rattle.base.specs.Sets.minus th.before (s.subs u) out) add)
     wide-back u (Advs out add) e = absurd cc

@@ -1,4 +1,4 @@
--- The bounds of every legal run of a net.
+-- Proves the bounds of every legal run of a net.
 use Rattle.std.proofs.Common.{◌≡◌, ℕ, ◌+◌, ◌*◌, ◌-◌, ◌≤◌, List, [], ◌∷◌, inl, inr, length, drop, refl, ap, ◌∙◌, arith, mul-le-mul_right}
 use Rattle.base.specs.Sets.{Has}
 use Rattle.base.specs.Numbers.{sum_over, count}

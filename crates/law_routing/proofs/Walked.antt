@@ -215,7 +215,7 @@ module _ (th : Theory) (laws : TheoryLaws th) where
       next : (k n : ℕ) → suc k + n ≡ k + suc n
       next k n = omega arith
 
-  -- a run has taken all commands of the phases below its last
+  -- a run has executed all commands of the phases below its last
   last-through : (run : LegalRun th) → IsThroughBelow run run.last run.end
   last-through run t c h lives =
       let n = length run.journal in

@@ -72,7 +72,7 @@ module _ (th : Theory) (net : Net th) where
         taken = m.taken;
       }
 
-  -- of a server that does not act nothing is taken, and its state stays
+  -- at a server that does not act nothing is received, and its state stays
   pub taken-other : (taken : ℕ → ℕ → ℕ) (t : ℕ) (d : Input Task (Stamped (Message th))) (u x : ℕ) → (x ≡ t → ⊥) → taken_after (routing_machine th net) taken t d u x ≡ taken u x
   taken-other taken t (Does a) u x n = refl
   taken-other taken t (Receives s y) u x n = rw (ne_eqb x t n) (flat (u == s))
@@ -87,7 +87,7 @@ module _ (th : Theory) (net : Net th) where
   pub state-other : (w : Network th net) (e : NetEntry th net) (v : Network th net) → Works th net w e v → (t : ℕ) → (t ≡ e.server → ⊥) → v.state t ≡ w.state t
   state-other w e v x t n = ap (λ z. z t) x.state ∙ rw (ne_eqb t e.server n) refl
 
-  -- no more is taken than was put
+  -- no more is received than was put
   pub within-works : (w : Network th net) (e : NetEntry th net) (v : Network th net) → Works th net w e v → IsWithinPuts (routing_machine th net) w → IsWithinPuts (routing_machine th net) v
   within-works w e v x within u t = omega (arith, longer (compare u e.server), go x.deed x.given (compare t e.server), ap (λ z. z u t) x.taken)
     where

@@ -1,4 +1,4 @@
--- The moment at the end of a way that a server knows of, and what it means that a notice is settled.
+-- Defines the moment at the end of a way that a server knows of, and when a notice is settled.
 use Rattle.std.specs.Prelude.{◌≡◌, ℕ, suc, ◌<◌, nat_le, ◌==◌, ◌&&◌, cond, true, not, List, [], ◌∷◌, ◌++◌, length, slice_get, Some}
 use Rattle.law_machine.specs.Links.{last_where}
 use Rattle.base.specs.Sets.{Has}
@@ -17,7 +17,7 @@ module _ (theory : Theory) (net : Net theory) where
     abbrev pub calm : ℕ → ℕ → ℕ
     calm server m = last_where (λ x. not ((states x).state server).pending) m
 
-    -- the last moment up to m at which a neighbour had put no more for a server than that has taken at m
+    -- the last moment up to m at which a neighbour had put no more for a server than that has received at m
     abbrev pub back : ℕ → ℕ → ℕ → ℕ
     back server neighbour m = last_where (λ x. nat_le (length ((states x).put neighbour server)) ((states m).taken neighbour server)) m
 
@@ -65,13 +65,13 @@ module _ (theory : Theory) (net : Net theory) where
         IsSettledHere journal publisher ordinal notice client behind server (next ∷ path)
         × IsSettledAlong journal publisher ordinal notice client (server ∷ behind) next path
 
-    -- each message of the publication on the link from a server to the next is taken by the last moment
+    -- each message of the publication on the link from a server to the next is received by the last moment
     abbrev pub IsReceivedOn : ℕ → ℕ → ℕ → theory.Notice → ℕ → ℕ → Type 0
     IsReceivedOn last publisher ordinal notice server next = (k : ℕ) (x : Stamped (Message theory))
         → slice_get ((states last).put server next) k ≡ Some x → x.message ≡ Noticed publisher ordinal notice
         → k < (states last).taken server next
 
-    -- each message of the publication on a link of the way is taken by the last moment
+    -- each message of the publication on a link of the way is received by the last moment
     abbrev pub IsReceivedAlong : ℕ → ℕ → ℕ → theory.Notice → ℕ → List ℕ → Type 0
     IsReceivedAlong last publisher ordinal notice server [] = Unit {0}
     IsReceivedAlong last publisher ordinal notice server (next ∷ path) =

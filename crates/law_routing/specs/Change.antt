@@ -15,7 +15,7 @@ module _ (theory : Theory) (net : Net theory) (links : ℕ → List ℕ) (hop : 
   abbrev pub client_sets : {T : Type 0} → (ℕ → List T) → ℕ → List T
   client_sets sets i = cond (nat_lt 64 i) (sets i) []
 
-  -- the network on that tree: each server holds its clients' sets and what flows from beyond its neighbours, all published; every clock is raised,
+  -- the network on that tree: each server holds its clients' sets and what flows from beyond its neighbours, all installed; every clock is raised,
   -- and no link has a message
   abbrev pub on_tree : Network theory net → Network theory with_tree
   on_tree network = record {

@@ -102,7 +102,7 @@ module _ (theory : Theory) (run : LegalRun theory) where
       (run.net.home publication.publisher) path
 
   -- an entry at the publisher's home publishes it, it is settled wherever it passes on the way to the client, and each of its messages on that way
-  -- is taken
+  -- is received
   pub record IsSettledTo (publication : Publication theory) (client : ℕ) : Type 0 where
     pub here : Has publication.publisher (run.net.clients (run.net.home publication.publisher))
     pub moment : ℕ
@@ -158,8 +158,8 @@ module _ (theory : Theory) (run : LegalRun theory) where
   abbrev pub server_count : ℕ
   server_count = length run.net.servers
 
-  -- receptions, table updates and entries are bounded by the commands executed and the number of servers, the commands executed by those of the scripts, and the
-  -- stamps by the entries
+  -- receptions, table updates and entries are bounded by the commands executed and the number of servers, the commands executed by those of the scripts,
+  -- and the stamps by the entries
   pub record IsBounded : Type 0 where
     pub receptions : receptions_made ≤ commands_made * (server_count * server_count)
     pub updates : updates_made ≤ receptions_made + commands_made
@@ -181,7 +181,7 @@ module _ (theory : Theory) (run : LegalRun theory) where
   abbrev pub EndsQuiet : Type 0
   EndsQuiet = IsQuiet (routing_machine theory run.net) run.end
 
-  -- it ends with all commands of the phases below this one taken
+  -- it ends with all commands of the phases below this one executed
   abbrev pub EndsThrough : ℕ → Type 0
   EndsThrough phase = IsThrough (routing_machine theory run.net) run.end phase
 

@@ -58,7 +58,7 @@ module _ (theory : Theory) (net : Net theory) where
   ordinals_routed states journal publisher (suc n) server =
       ordinals_routed states journal publisher n server ++ ordinals_of_entry publisher server (states n) (slice_get journal n)
 
-  -- the ordinal of a publisher's last publish that is taken
+  -- the ordinal of a publisher's last publish that is executed
   abbrev pub last_ordinal : Network theory net → ℕ → ℕ
   last_ordinal network publisher = ordinal theory (take ((network.state (net.home publisher)).done publisher) (net.script publisher))
 
@@ -75,12 +75,12 @@ module _ (theory : Theory) (net : Net theory) where
     -- at home no ordinal is past those of the commands executed
     pub since : earlier ≤ last_ordinal network publisher
     pub here : (o : ℕ) → Has o (routed (net.home publisher)) → o ≤ last_ordinal network publisher
-    -- elsewhere what was taken from the neighbour on the way to the publisher is routed, and nothing comes from the others
+    -- elsewhere what was received from the neighbour on the way to the publisher is routed, and nothing comes from the others
     pub there : (t u : ℕ) → Has u (net.links t) → side net.hop t u (net.home publisher) ≡ true
         → routed t ≡ ordinals_put publisher (take (network.taken u t) (network.put u t))
     pub away : (a b : ℕ) → Has b (net.links a) → side net.hop b a (net.home publisher) ≡ false → ordinals_put publisher (network.put a b) ≡ []
 
-  -- the publication was taken and accepted, and this is its notice
+  -- the publish was executed and accepted, and this is its notice
   pub record IsAccepted (network : Network theory net) (publisher number : ℕ) (notice : theory.Notice) : Type 0 where
     pub index : ℕ
     pub taken : index < (network.state (net.home publisher)).done publisher

@@ -6,7 +6,7 @@ use Rattle.law_routing.specs.Net.{Net, PhasedCommand, Publish}
 use Rattle.law_routing.specs.Clients.{some_pass, ordinal, filters_after, adverts_after, accepts, commands_below}
 
 module _ (theory : Theory) (net : Net theory) where
-  -- so many commands of a client are taken at some moment of a phase, its beginning included
+  -- so many commands of a client are executed at some moment of a phase, its beginning included
   pub record IsMomentOfPhase (phase client count : ℕ) : Type 0 where
     pub from : commands_below theory phase (net.script client) ≤ count
     pub upto : count ≤ commands_below theory (suc phase) (net.script client)

@@ -1,4 +1,4 @@
--- The lists of clients as the network knows them, ways through the tree, and when the network is at rest.
+-- Defines the lists of clients as the network knows them, ways through the tree, and when the network is at rest.
 use Rattle.std.specs.Prelude.{◌≡◌, ℕ, ◌+◌, true, false, List, [], ◌∷◌, length, take}
 use Rattle.base.specs.Sets.{Has}
 use Rattle.law_machine.specs.Runs.{IsQuiet}
@@ -9,7 +9,7 @@ use Rattle.law_routing.specs.Server.{sent, sent_adverts, client_interface}
 use Rattle.law_routing.specs.Routing.{routing_machine, Network}
 
 module _ (theory : Theory) (net : Net theory) where
-  -- the filters of a client, after those of its commands that were taken
+  -- the filters of a client, after those of its commands that were executed
   abbrev pub filters_of : Network theory net → ℕ → List theory.Filter
   filters_of network client = filters_after theory [] (take ((network.state (net.home client)).done client) (net.script client))
 

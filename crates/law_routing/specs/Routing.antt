@@ -1,4 +1,4 @@
--- The servers of a net as a machine, and its opening.
+-- Defines the servers of a net as a machine, and its opening.
 use Rattle.std.specs.Prelude.{ℕ, ◌-◌, nat_le, Bool, true, false, ◌&&◌, List, [], ◌∷◌, length, slice_get, Option, Some, None}
 use Rattle.base.specs.Numbers.{sum_over}
 use Rattle.law_machine.specs.Machine.{Machine, Entry}

@@ -12,7 +12,7 @@ use Rattle.law_routing.specs.Order.{IsStrictlyRising, ordinals_delivered, IsAcce
 use Rattle.law_routing.specs.Owed.{IsPublication, IsAllowed}
 
 module _ (theory : Theory) (net : Net theory) where
-  -- the network is at rest on links without a past, the commands of the phases below this one are taken and no others,
+  -- the network is at rest on links without a past, the commands of the phases below this one are executed and no others,
   -- and the inboxes hold what earlier phases may have delivered
   pub record IsStart (network : Network theory net) (phase : ℕ) : Type 0 where
     pub rest : IsAtRest theory net network

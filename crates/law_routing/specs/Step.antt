@@ -1,4 +1,4 @@
--- The step of one server: clients' commands, receptions and table updates.
+-- Defines the step of one server: clients' commands, receptions and table updates.
 use Rattle.std.specs.Prelude.{ℕ, suc, ◌+◌, ◌==◌, false, cond, not, ◌&&◌, ◌||◌, List, [], ◌∷◌, ◌++◌, take, slice_get, Option, Some, None}
 use Rattle.law_machine.specs.Machine.{Input, Does, Receives, Outcome, at}
 use Rattle.base.specs.Sets.{union, minus, same_list}
@@ -32,7 +32,7 @@ module _ (theory : Theory) (net : Net theory) where
   abbrev pub with_adverts : ServerState theory → ℕ → List theory.Advert → ServerState theory
   with_adverts state interface adverts = record state { advs = at state.advs interface adverts }
 
-  -- each client of the server with a installed filter that matches has the publication delivered
+  -- each client of the server with an installed filter that matches has the publication delivered
   abbrev pub with_deliveries : ServerState theory → ℕ → Publication theory → ServerState theory
   with_deliveries state server publication = record state {
     inbox = λ c. cond (is_among c (net.clients server) && some_pass (theory.matches publication.notice) (state.installed (client_interface c)))
@@ -44,11 +44,11 @@ module _ (theory : Theory) (net : Net theory) where
   abbrev pub with_update : ServerState theory → ServerState theory
   with_update state = record state { installed = state.subs; pending = false }
 
-  -- one more command of a client is taken
+  -- one more command of a client is executed
   abbrev pub with_command_executed : ServerState theory → ℕ → ServerState theory
   with_command_executed state client = record state { done = at state.done client (suc (state.done client)) }
 
-  -- what a work makes of a server's state, with its messages: a notice goes to each interface but the one it came by that has a installed filter that matches
+  -- what a work makes of a server's state, with its messages: a notice goes to each interface but the one it came by that has an installed filter that matches
   abbrev pub full_effect : ℕ → ServerState theory → Work theory → Outcome (ServerState theory) (Message theory)
   full_effect server state (SetsFilters interface filters) = record {
     state = with_filters state interface filters;
@@ -86,7 +86,7 @@ module _ (theory : Theory) (net : Net theory) where
       (Routes (client_interface client) client (ordinal theory (take (suc count) (net.script client))) n)
       Nothing
 
-  -- what a message comes to: out are taken from what is held, and add added; a notice is routed
+  -- what a message comes to: out are removed from what is held, and add added; a notice is routed
   abbrev pub message_work : ServerState theory → ℕ → Message theory → Work theory
   message_work state from (Subs out add) = SetsFilters from (union theory.before (minus theory.before (state.subs from) out) add)
   message_work state from (Advs out add) = SetsAdverts from (union theory.before_advert (minus theory.before_advert (state.advs from) out) add)

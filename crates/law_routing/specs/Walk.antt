@@ -1,4 +1,4 @@
--- The walk of a net: what is left of each phase, in a fixed order of turns of which those that are not possible are skipped.
+-- Defines the walk of a net: what is left of each phase, in a fixed order of turns of which those that are not possible are skipped.
 use Rattle.std.specs.Prelude.{ℕ, suc, ◌+◌, ◌*◌, ◌-◌, List, [], ◌∷◌, ◌++◌, length, map}
 use Rattle.law_machine.specs.Machine.{Act, Did, Received}
 use Rattle.law_machine.specs.History.{Moment}
@@ -9,7 +9,7 @@ use Rattle.law_routing.specs.Step.{Task, NextCommand, TableUpdate}
 use Rattle.law_routing.specs.Routing.{routing_machine, NetEntry, all_commands}
 
 module _ (theory : Theory) (net : Net theory) where
-  -- of these servers, each takes one message from each neighbour and then makes a table update
+  -- of these servers, each receives one message from each neighbour and then makes a table update
   abbrev pub round_at : List ℕ → List (ℕ × Act Task)
   round_at [] = []
   round_at (server ∷ servers) = map (λ neighbour. (server, Received neighbour)) (net.links server) ++ ((server, Did TableUpdate) ∷ round_at servers)
@@ -18,7 +18,7 @@ module _ (theory : Theory) (net : Net theory) where
   abbrev pub walk_round : List (ℕ × Act Task)
   walk_round = round_at net.servers
 
-  -- of these clients of a server, each takes its commands one after the other
+  -- of these clients of a server, each has its commands executed one after the other
   abbrev pub client_turns : ℕ → List ℕ → List (ℕ × Act Task)
   client_turns server [] = []
   client_turns server (client ∷ clients) =

@@ -19,7 +19,7 @@ module _ (theory : Theory) (net : Net theory) where
   work_at network server (Did task) = work_of theory net server (network.state server) (Does task)
   work_at network server (Received from) = reception_work server (network.state server) from (slice_get (network.put from server) (network.taken from server))
 
-  -- how many commands of each client are taken after an input
+  -- how many commands of each client are executed after an input
   abbrev pub done_after : {M : Type 0} → (ℕ → ℕ) → Input Task M → ℕ → ℕ
   done_after done (Does (NextCommand client)) = at done client (suc (done client))
   done_after done (Does TableUpdate) = done

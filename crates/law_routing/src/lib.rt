@@ -2,7 +2,10 @@
 //! Job: the step of one server with filters, advertisements and notifications, and the laws of every run of such servers. Pure.
 //! Users: the law layer, and the layers from net upward.
 //!
-//! The laws hold over any theory of filters (`Matching`): none of them looks into a filter.
+//! The laws hold over any theory of filters (`Matching`): none of them looks into a filter. They hold for the program's
+//! filters because `net_model` implements `Matching` for them. They hold under both semantics and for every legal run
+//! from any start (`LegalRun`), drained or not. The module `runs` repeats the laws of `law_machine` for the servers of
+//! any net.
 #![tactic(auto)]
 
 ghost use Rattle.std.specs.Prelude.{Bool, false, ◌≡◌, ◌≤◌, ◌<◌, ◌⊎◌, ◌↔◌, ℕ, suc, List, [], ◌∷◌, length, take};
@@ -97,7 +100,8 @@ pub fn sent_where_wanted<M: Matching>()
         → IsOnward M.theory run routed neighbour → IsWanted M.theory run routed neighbour → IsSentTo M.theory run routed neighbour }
 {}
 
-/// A publication that is settled wherever it passes on the way to a client, and whose messages on that way are taken, is delivered to the client exactly once.
+/// A publication that is settled wherever it passes on the way to a client, and whose messages on that way are received, is delivered to the client
+/// exactly once.
 pub fn settled_delivery<M: Matching>()
     ensures { (run : LegalRun M.theory) (publication : Publication M.theory) (client : ℕ) → IsSettledTo M.theory run publication client
         → IsDeliveredOnce M.theory run publication client }

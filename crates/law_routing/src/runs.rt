@@ -1,4 +1,4 @@
-//! The laws of runs and of journals, at the servers of any net.
+//! States the laws of runs and of journals, at the servers of any net.
 
 ghost use Rattle.std.specs.Prelude.{◌≡◌, ◌≤◌, ◌++◌, ℕ, List, [], ◌∷◌, length, Some, slice_get};
 ghost use Rattle.base.specs.Numbers.{IsDistinct};
@@ -55,7 +55,7 @@ pub fn entry_steps<M: Matching>()
         × (turn (routing_machine M.theory net) network entry.server entry.act ≡ next) }
 {}
 
-/// A permitted turn happens as its entry tells it, and what happens is a permitted turn.
+/// A permitted turn happens as its entry records it, and what happens is a permitted turn.
 pub fn permitted<M: Matching>()
     ensures happens { (net : Net M.theory) (network : Network M.theory net) (last server : ℕ) (act : Act Task) (entry : NetEntry M.theory net)
         → (next : Network M.theory net) (now : ℕ) → IsPermitted (routing_machine M.theory net) network last server act entry next now
@@ -65,7 +65,7 @@ pub fn permitted<M: Matching>()
         → IsPermitted (routing_machine M.theory net) network last entry.server entry.act entry next now }
 {}
 
-/// Each entry of a run puts its messages on its server's links, and tells which neighbours got one.
+/// Each entry of a run puts its messages on its server's links, and records which neighbours got one.
 pub fn messages<M: Matching>()
     ensures { (net : Net M.theory) (run : NetRun M.theory net) (n : ℕ) (entry : NetEntry M.theory net) → slice_get run.entries n ≡ Some entry
         → PutsMessagesAt (routing_machine M.theory net) run n entry }

@@ -1,4 +1,4 @@
--- Counting: a filter matches where it is hit as often as it has constraints.
+-- Defines counting: a filter matches where it is hit as often as it has constraints.
 use Rattle.std.specs.Prelude.{◌≡◌, ◌<◌, ◌≤◌, ◌==◌, ℕ, suc, List, [], ◌∷◌, ◌++◌, length, map, slice_index_or}
 use Rattle.filter_constraints.specs.Constraint.{ConstraintParts}
 use Rattle.match_index.specs.Pairs.{tally, Same}

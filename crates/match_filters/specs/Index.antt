@@ -1,4 +1,4 @@
--- The constraints of all filters, each with the number of its filter.
+-- Defines the constraints of all filters, each with the number of its filter.
 use Rattle.std.specs.Prelude.{ℕ, Bool, List, [], ◌∷◌, if◌then◌else◌}
 use Rattle.filter_constraints.specs.Constraint.{ConstraintParts}
 use Rattle.filter_types.specs.Notice.{Attribute, attribute_at}

@@ -1,4 +1,4 @@
--- Filters by numbers: a filter's number is its place in a list.
+-- Defines filters by numbers: a filter's number is its place in a list.
 use Rattle.std.specs.Prelude.{ℕ, suc, List, [], ◌∷◌, if◌then◌else◌}
 use Rattle.filter_constraints.specs.Constraint.{ConstraintParts}
 use Rattle.filter_types.specs.Notice.{Attribute}

@@ -1,4 +1,4 @@
--- Constraints by name: on a shelf those of one name, without the name.
+-- Defines constraints by name: on a shelf those of one name, without the name.
 use Rattle.std.specs.Prelude.{ℕ, List, [], ◌∷◌, Vec}
 use Rattle.std.specs.declared.alloc.Global.{Global}
 use Rattle.filter_constraints.specs.Constraint.{ConstraintParts}

@@ -1,4 +1,4 @@
--- Tables: which interface holds which filter, and where a notice goes.
+-- Defines tables: which interface holds which filter, and where a notice goes.
 use Rattle.std.specs.Prelude.{◌≡◌, ◌↔◌, ℕ, true, List}
 use Rattle.std.specs.List.{Contains}
 use Rattle.std.specs.List.Sorted.{IsStrictlyIncreasing}

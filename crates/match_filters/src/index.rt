@@ -1,4 +1,4 @@
-//! The index of the constraints of all filters, by the name of the attribute.
+//! The type of the index of the constraints of all filters, by the name of the attribute.
 ghost use Rattle.std.specs.Prelude.{◌≡◌, ◌∷◌, [], OnOk};
 ghost use Rattle.match_index.specs.Pairs.{Same, Appends};
 ghost use Rattle.match_filters.specs.Index.{ids_satisfied};

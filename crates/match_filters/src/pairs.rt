@@ -1,4 +1,4 @@
-//! Constraints without their names, those on strs apart from those on ints, bools and times.
+//! Keeps constraints without their names, those on strs apart from those on ints, bools and times.
 use base::NoMemory;
 use filter_constraints::Constraint;
 use filter_values::{Kind, Value};

@@ -1,4 +1,4 @@
-//! The memory in which a caller's hits are counted.
+//! The type of the memory in which a caller's hits are counted.
 use std::alloc::Global;
 
 /// Room for the matching of one notice after another. Any matcher may use it, and it is kept from one notice to the next: it

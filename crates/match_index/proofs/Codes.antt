@@ -1,4 +1,4 @@
--- A key says the test that it is made of.
+-- Proves that a key represents the test that it is made of.
 use Rattle.std.proofs.Common.{◌≡◌, refl, Option}
 use Rattle.std.specs.Prelude.{Some, None}
 use Rattle.filter_values.specs.declared.value.Value.{Value}

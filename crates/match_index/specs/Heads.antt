@@ -1,4 +1,4 @@
--- Patterns by their head: a number made of the first two bytes of a prefix or a part, and of the last two of a suffix.
+-- Defines patterns by their head: a number made of the first two bytes of a prefix or a part, and of the last two of a suffix.
 use Rattle.std.specs.Prelude.{ℕ, Bool, true, false, ◌-◌, length, drop, List}
 use Rattle.filter_constraints.specs.declared.op.Op.{Op}
 use Rattle.filter_constraints.specs.declared.op.Op.TheVariants as ops

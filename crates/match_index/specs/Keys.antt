@@ -1,4 +1,4 @@
--- Keys of groups: the bytes of the operand, and none where there is no operand.
+-- Defines keys of groups: the bytes of the operand, and none where there is no operand.
 use Rattle.std.specs.Prelude.{ℕ, Bool, List, [], ◌∷◌, Option, Some, None, Vec}
 use Rattle.std.specs.declared.alloc.Global.{Global}
 use Rattle.std.specs.declared.cmp.Ordering.{Ordering}

@@ -1,4 +1,4 @@
--- The sides of a value that operators ask for.
+-- Defines the sides of a value that operators ask for.
 use Rattle.std.specs.Prelude.{Bool, true, false}
 use Rattle.filter_constraints.specs.declared.op.Op.{Op}
 use Rattle.filter_constraints.specs.declared.op.Op.TheVariants as ops

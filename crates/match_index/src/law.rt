@@ -1,4 +1,4 @@
-//! Ids that are appended in two calls are appended.
+//! States that ids appended in two calls are appended.
 ghost use Rattle.std.specs.Prelude.{◌≡◌, ◌++◌, List, ℕ};
 ghost use Rattle.match_index.specs.Pairs.{Appends};
 

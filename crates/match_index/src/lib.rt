@@ -3,7 +3,8 @@
 //! Users: match_numbers, match_texts and match_filters.
 //!
 //! Texts and patterns are kept in an index by their bytes and by their ends. For these there are definitions and lemmas
-//! alone; `match_texts` finds the patterns that match a text.
+//! alone; `match_texts` finds the patterns that match a text. After running out of memory, a list of ids still begins
+//! with what it began with (`begins`).
 #![tactic(auto)]
 
 mod append;

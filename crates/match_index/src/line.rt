@@ -1,4 +1,4 @@
-//! Ids under keys, in the order of the keys.
+//! The type of a line: ids under keys, in the order of the keys.
 use crate::key::{LineKey, Sought};
 use crate::places::{below, rank, upto};
 use crate::sides::Sides;

@@ -1,4 +1,4 @@
-//! The sides of a key that are asked for.
+//! The type of the sides of a key that are asked for.
 ghost use Rattle.std.specs.Prelude.{◌≡◌};
 ghost use Rattle.match_index.specs.Sides.{sides_of};
 

@@ -1,4 +1,4 @@
--- A key says the test that it is made of.
+-- Proves that a key represents the test that it is made of.
 use Rattle.std.proofs.Common.{◌≡◌, ◌⊎◌, ◌+ℤ◌, ◌-ℤ◌, ◌^◌, inl, inr, ap, ℕ, ℤ, Bool, true, false, refl, pos, Option}
 use Rattle.std.specs.Prelude.{Some, None}
 use Rattle.std.proofs.Math.IntN as IntN

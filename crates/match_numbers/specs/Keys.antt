@@ -1,4 +1,4 @@
--- Keys: the operand, a truth value as 0 or 1, a time less 2 ^ 63, and 0 where there is none.
+-- Defines keys: the operand, a truth value as 0 or 1, a time less 2 ^ 63, and 0 where there is none.
 use Rattle.std.specs.Prelude.{ℕ, ℤ, pos, negsuc, ◌+ℤ◌, ◌-ℤ◌, ◌^◌, Bool, true, false, not, Option, Some, None, if◌then◌else◌}
 use Rattle.std.specs.Ordering.{int_cmp, int_eq, is_eq}
 use Rattle.std.specs.BTreeMap.Range.{range_contains}

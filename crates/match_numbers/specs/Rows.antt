@@ -1,4 +1,4 @@
--- Rows of ids under keys, one for a kind and an operator.
+-- Defines rows of ids under keys, one for a kind and an operator.
 use Rattle.std.specs.Prelude.{List, ◌≡◌, ◌⊎◌}
 use Rattle.filter_values.specs.declared.value.Kind.{Kind}
 use Rattle.filter_constraints.specs.declared.op.Op.{Op}

@@ -1,4 +1,4 @@
-//! The index of int, bool and time constraints, and its search.
+//! The type of the index of int, bool and time constraints, and its search.
 ghost use Rattle.match_numbers.specs.Rows.{IsNumeric};
 
 use crate::row::{Row, key_of, place};

@@ -1,4 +1,4 @@
-//! A row: the ids of one kind and operator.
+//! The type of a row: the ids of one kind and operator.
 ghost use Rattle.std.specs.Prelude.{◌≡◌, ◌++◌, ◌∷◌, ◌<◌, [], OnOk, OnErr, IfOk, IfSome, IfNone, length, slice_index_or, ℕ};
 ghost use Rattle.match_index.specs.Pairs.{ids_met};
 ghost use Rattle.match_numbers.specs.Keys.{key_of};

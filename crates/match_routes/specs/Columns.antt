@@ -1,4 +1,4 @@
--- Pairs kept as a row of places for each number: from which of the interfaces it is installed.
+-- Defines pairs kept as a row of places for each number: from which of the interfaces it is installed.
 use Rattle.std.specs.Prelude.{◌≡◌, ◌<◌, ◌^◌, ℕ, suc, nat_lt, cond, List, [], ◌∷◌, length}
 use Rattle.base.specs.Sets.{Has, IsRising}
 use Rattle.base_bits.specs.Rows.{Numbers, is_in}

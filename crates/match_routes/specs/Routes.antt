@@ -1,4 +1,4 @@
--- Routes by numbers, and the pairs of interfaces and filters that the numbers represent.
+-- Defines routes by numbers, and the pairs of interfaces and filters that the numbers represent.
 use Rattle.std.specs.Prelude.{◌<◌, ◌↔◌, ℕ, List, [], length, map, slice_index_or}
 use Rattle.std.specs.List.{Contains}
 use Rattle.std.specs.List.Sorted.{IsStrictlyIncreasing}

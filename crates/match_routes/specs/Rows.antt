@@ -1,4 +1,4 @@
--- Pairs kept as a row of numbers for each interface.
+-- Defines pairs kept as a row of numbers for each interface.
 use Rattle.std.specs.Prelude.{◌≡◌, ℕ, nat_lt, List, [], ◌∷◌, ◌++◌, length}
 use Rattle.base.specs.Sets.{IsRising}
 use Rattle.base_bits.specs.Rows.{Numbers, IsSet}

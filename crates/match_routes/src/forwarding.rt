@@ -1,5 +1,5 @@
-//! What a server publishes from which interface, with a row of the interfaces' places for each number: a route joins the
-//! rows of the matched numbers. Numbers that were ever published are marked, so that a route looks at no other one.
+//! What a server has installed from which interface, with a row of the interfaces' places for each number: a route joins the
+//! rows of the matched numbers. Numbers that were ever installed are marked, so that a route looks at no other one.
 use crate::places::{is_there, listed, place};
 use crate::route::Route;
 use crate::table_change::TableChange;
@@ -82,7 +82,7 @@ impl Forwarding {
         is_there(&self.interfaces, interface)
     }
 
-    /// Publishes a number from an interface, and tells whether it was not yet. It takes no memory.
+    /// Installs a number from an interface, and answers whether it was not yet. It takes no memory.
     pub fn put(&mut self, number: u32, interface: u32) -> bool
         requires { IsKnown self.old (interface, number) }
         ensures fresh { result ≡ not (member pair_before (interface, number) self.old.pairs) }
@@ -94,7 +94,7 @@ impl Forwarding {
         self.columns.insert(number, place)
     }
 
-    /// No longer publishes a number from an interface, and tells whether it did. It takes no memory.
+    /// Removes a number that is installed from an interface, and answers whether it did. It takes no memory.
     pub fn take(&mut self, number: u32, interface: u32) -> bool
         requires { IsKnown self.old (interface, number) }
         ensures had { result ≡ member pair_before (interface, number) self.old.pairs }

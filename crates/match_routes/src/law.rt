@@ -1,4 +1,4 @@
-//! The route by numbers is the route by the filters that the numbers represent.
+//! States that the route by numbers is the route by the filters that the numbers represent.
 ghost use Rattle.std.specs.Prelude.{◌≡◌, ℕ, List, IfOk, length};
 ghost use Rattle.filter_constraints.specs.Constraint.{ConstraintParts};
 ghost use Rattle.filter_types.specs.Notice.{Attribute};

@@ -6,6 +6,9 @@
 //! numbers. A server then only looks up the interfaces that have one of these numbers installed. Contracts see a
 //! forwarding table as its width, its interfaces and the rising list of its pairs of an interface and a number, so the
 //! definitions of `base` and their laws hold of it.
+//!
+//! The pairs are kept as a `Grid`, with a row of places of interfaces for each number. `output_flood` uses the same
+//! type with places of clients as its interfaces.
 #![tactic(auto)]
 
 mod forwarding;

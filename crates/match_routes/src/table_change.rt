@@ -10,7 +10,7 @@ pub enum TableChange {
         /// The interface: a neighbour's number, or 64 and the client's number.
         interface: u32,
     },
-    /// The number is no longer published from the interface.
+    /// The number is no longer installed from the interface.
     Take {
         /// The number of a filter.
         number: u32,

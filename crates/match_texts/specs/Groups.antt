@@ -1,4 +1,4 @@
--- Groups of ids, each under the bytes of a pattern, with the marks of each.
+-- Defines groups of ids, each under the bytes of a pattern, with the marks of each.
 use Rattle.std.specs.Prelude.{ℕ, List, map}
 use Rattle.match_index.specs.Groups.{under, flat}
 use Rattle.match_texts.specs.declared.group.Group.{Group}

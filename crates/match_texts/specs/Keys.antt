@@ -1,4 +1,4 @@
--- The first bytes of a text as one number, which orders texts where they differ there.
+-- Defines the first bytes of a text as one number, which orders texts where they differ there.
 use Rattle.std.specs.Prelude.{ℕ, zero, suc, ◌+◌, ◌*◌, List, slice_index_or}
 
 -- the first bytes as the digits of a number, and 0 for each byte that isn't there

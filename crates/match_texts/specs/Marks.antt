@@ -1,4 +1,4 @@
--- Marks: where the pairs and fours of neighbouring bytes of a text fall among so many places.
+-- Defines marks: where the pairs and fours of neighbouring bytes of a text fall among so many places.
 use Rattle.std.specs.Prelude.{◌≡◌, ◌+◌, ◌*◌, ◌%◌, ℕ, List, [], ◌∷◌, length, nat_lt, if◌then◌else◌}
 use Rattle.match_index.specs.Pairs.{IsIn}
 use Rattle.base_bits.specs.Words.{bit}

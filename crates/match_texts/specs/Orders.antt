@@ -1,4 +1,4 @@
--- Lines of ids under texts, one for an operator.
+-- Defines lines of ids under texts, one for an operator.
 use Rattle.std.specs.Prelude.{List}
 use Rattle.match_index.specs.Pairs.{Pair}
 use Rattle.match_index.specs.Groups.{flat}

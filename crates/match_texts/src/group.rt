@@ -1,4 +1,4 @@
-//! The ids of one pattern.
+//! The type of the ids of one pattern.
 use base::NoMemory;
 use std::alloc::Global;
 

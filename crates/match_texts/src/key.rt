@@ -1,4 +1,4 @@
-//! The keys of a line of texts, which are mostly compared by a number of their first bytes.
+//! The type of the keys of a line of texts, which are mostly compared by a number of their first bytes.
 ghost use Rattle.std.specs.Prelude.{◌≡◌, ◌<◌, ℕ, slice_index_or};
 ghost use Rattle.std.specs.Ordering.{nat_cmp};
 ghost use Rattle.std.specs.Cmp.Lexicographic.{slice_cmp};

@@ -1,4 +1,4 @@
-//! The patterns of one operator, with their marks.
+//! The type of the patterns of one operator, with their marks.
 ghost use Rattle.std.specs.Prelude.{◌≡◌, ◌<◌, IfSome, length, slice_index_or};
 
 use crate::group::Group;

@@ -1,4 +1,4 @@
-//! Marks of the pairs and fours of neighbouring bytes of a text.
+//! Finds the marks of a text: of its pairs and fours of neighbouring bytes.
 ghost use Rattle.std.specs.Prelude.{◌≡◌, ◌≢◌, ◌+◌, ◌*◌, ◌^◌, ◌<◌, ◌≤◌, ◌==◌, ℕ, length};
 ghost use Rattle.base_bits.specs.Words.{bit};
 ghost use Rattle.match_texts.specs.Marks.{pair, four, first_mark, first_pair, last_mark, last_pair, AreMarked};

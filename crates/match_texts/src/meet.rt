@@ -1,4 +1,4 @@
-//! Which patterns a text has, among those whose marks it has.
+//! Finds which patterns a text has, among those whose marks it has.
 ghost use Rattle.std.specs.Prelude.{◌≡◌, ◌++◌, [], cond, OnOk, length};
 ghost use Rattle.filter_constraints.specs.Bytes.{has_prefix, has_suffix, has_part};
 ghost use Rattle.match_index.specs.Lines.{ids_with};

@@ -1,4 +1,4 @@
-//! The str constraints that are no patterns, a line for each operator.
+//! Keeps the str constraints that are no patterns, a line for each operator.
 ghost use Rattle.std.specs.Prelude.{◌≡◌, ◌<◌, ◌++◌, IfSome, OnOk, length, slice_index_or};
 ghost use Rattle.filter_values.specs.declared.value.Value.{Value};
 ghost use Rattle.match_index.specs.Pairs.{ids_met};

@@ -1,4 +1,4 @@
-//! The patterns of an index, kept apart by operator.
+//! Keeps the patterns of an index apart by operator.
 use crate::marked::Marked;
 use base::NoMemory;
 use filter_constraints::Op;

@@ -1,4 +1,4 @@
-//! The index of str constraints, and its search.
+//! The type of the index of str constraints, and its search.
 ghost use Rattle.std.specs.Prelude.{◌≡◌};
 ghost use Rattle.std.specs.Option.{option_copied};
 ghost use Rattle.filter_constraints.specs.declared.op.Op.{Op};

@@ -1,4 +1,4 @@
--- The journals of servers 1, 2, .., and one list of all their entries.
+-- Defines the journals of servers 1, 2, .., and one list of all their entries.
 use Rattle.std.specs.Prelude.{◌≡◌, ℕ, zero, suc, ◌<◌, cond, leb, List, [], ◌∷◌, slice_index_or}
 use Rattle.std.specs.List.{flat_map}
 use Rattle.base.specs.Sets.{Has}

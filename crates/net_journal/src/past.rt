@@ -1,4 +1,4 @@
-//! The entries of a journal that exist in proofs alone, but for the last one.
+//! The type of the entries of a journal that exist in proofs alone, but for the last one.
 ghost use Rattle.std.specs.Prelude.{◌≡◌, ◌-◌, ◌++◌, ◌∷◌, [], Some, length, slice_get, IfSome, IfNone};
 ghost use Rattle.net_journal.specs.Past.{entries_before};
 

@@ -1,4 +1,4 @@
-//! The record of a run: one journal, or those of all servers as one.
+//! The type of the record of a run: one journal, or those of all servers as one.
 ghost use Rattle.std.specs.Prelude.{◌≡◌, true, false, [], map, IfOk};
 ghost use Rattle.std.specs.List.{All};
 ghost use Rattle.net_journal.specs.Merging.{AreServerJournals, IsMergeOf};

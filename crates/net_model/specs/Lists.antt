@@ -1,4 +1,4 @@
--- The lists of a net's clients, after so many of their commands.
+-- Defines the lists of a net's clients, after so many of their commands.
 use Rattle.std.specs.Prelude.{ℕ, List, [], take}
 use Rattle.filter_constraints.specs.Constraint.{ConstraintParts}
 use Rattle.law_routing.specs.Clients.{refused_after}

@@ -26,7 +26,7 @@ command_of (commands.Publish n) = Publish n
 abbrev pub phased_command : ℕ × WireCommand → PhasedCommand real
 phased_command step = record { phase = step.0; command = command_of step.1 }
 
--- what a server does: a client's next command, a taking from a neighbour, or a version
+-- what a server does: a client's next command, a reception from a neighbour, or a table update
 abbrev pub act_of : EntryAct → Act Task
 act_of (acts.Command client) = Did (NextCommand client)
 act_of (acts.Receive from) = Received from

@@ -1,4 +1,4 @@
--- The net over trees by phase that a net is, at the real theory of filters.
+-- Defines the net over trees by phase that a net is, at the real theory of filters.
 use Rattle.std.specs.Prelude.{ℕ, zero, suc, max, ◌==◌, Bool, true, false, List, [], ◌∷◌, length, map, filter, slice_get, Option, Some, None}
 use Rattle.std.specs.List.{range_with_len}
 use Rattle.base_tree.specs.Tree.{Topology, topology, servers_of, links_of, hop_of}

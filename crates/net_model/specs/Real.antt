@@ -1,4 +1,4 @@
--- The theory of filters, advertisements and notices that the servers run with, and that it keeps what the network asks.
+-- Defines the theory of filters, advertisements and notices that the servers run with, and shows that it keeps what the network asks.
 use Rattle.std.specs.Prelude.{◌≡◌, Bool, true, ◌&&◌, List}
 use Rattle.filter_constraints.specs.Constraint.{ConstraintParts}
 use Rattle.filter_types.specs.Notice.{Attribute}
@@ -41,7 +41,8 @@ sound n f g p q = let w = and_parts (are_values n) (matches n g) q in and_from (
 
 sound-advert : (n : List Attribute) (a b : List ConstraintParts) → advert_covers a b ≡ true → real_allows b n ≡ true → real_allows a n ≡ true
 unfolding real_allows
-sound-advert n a b p q = let w = and_parts (are_values n) (allows b n) q in and_from (are_values n) (allows a n) w.0 (advert-sound a b n (tested_values n w.0) p w.1)
+sound-advert n a b p q =
+    let w = and_parts (are_values n) (allows b n) q in and_from (are_values n) (allows a n) w.0 (advert-sound a b n (tested_values n w.0) p w.1)
 
 meet : (n : List Attribute) (f a : List ConstraintParts) → real_matches n f ≡ true → real_allows a n ≡ true → overlaps f a ≡ true
 unfolding real_matches real_allows

@@ -1,4 +1,4 @@
--- Sound nets: within the limits, and all that they name is there.
+-- Defines sound nets: within the limits, and all that they name is there.
 use Rattle.std.specs.Prelude.{◌≡◌, ◌≢◌, ℕ, ◌≤◌, not, List, [], ◌∷◌, length, map, AllPairs}
 use Rattle.base.specs.Sets.{Has}
 use Rattle.base.specs.Numbers.{sum_over, count}

@@ -1,4 +1,4 @@
-//! What nets mean, and that a sound net keeps all that the laws of runs ask for.
+//! What nets represent in the laws, and that a sound net keeps all that the laws of runs ask for.
 ghost use Rattle.std.specs.Prelude.{◌≡◌, ℕ, List, [], ◌∷◌, ◌++◌, take};
 ghost use Rattle.base.specs.Sets.{set_of};
 ghost use Rattle.law_routing.specs.Net.{Net, NetLaws, PhasedCommand};

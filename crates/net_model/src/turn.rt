@@ -7,7 +7,7 @@ pub enum Turn {
     Command(u32),
     /// A server receives the next message from a neighbour.
     Receive { server: u32, from: u32 },
-    /// A server publishes a version.
+    /// A server installs its pending table update.
     TableUpdate(u32),
 }
 
@@ -18,6 +18,6 @@ pub enum Act {
     Command(u32),
     /// It receives the next message from a neighbour.
     Receive(u32),
-    /// It publishes a version.
+    /// It installs the pending table update.
     TableUpdate,
 }

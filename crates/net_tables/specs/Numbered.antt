@@ -21,7 +21,7 @@ pub record Catalogued : Type 0 where
 abbrev pub catalogued : List ClientParts → Catalogued
 catalogued clients = record { filters = known_filters clients; adverts = known_adverts clients; publications = known_publications 1 clients }
 
--- WHAT A NUMBERED COMMAND MEANS, of a client with so many publishes before it, in a phase: the command whose filter, advertisement or publication has
+-- WHAT A NUMBERED COMMAND REPRESENTS, of a client with so many publishes before it, in a phase: the command whose filter, advertisement or publication has
 -- the number
 abbrev pub RepresentsCommand : Catalogued → ℕ → ℕ → ℕ → NumberedCommand → Command → Type 0
 RepresentsCommand known client count phase (numbers.Subscribe i) command =
@@ -35,7 +35,7 @@ RepresentsCommand known client count phase (numbers.Unadvertise i) command =
 RepresentsCommand known client count phase (numbers.Publish i) command =
     (n : List Attribute) × (slice_get known.publications i ≡ Some (publication client (suc count) phase n)) × (command ≡ commands.Publish n)
 
--- the steps of a client by numbers, each with its phase as in the script, mean the script
+-- the steps of a client by numbers, each with its phase as in the script, represent the script
 abbrev pub AreNumbered : Catalogued → ℕ → ℕ → List (ℕ × NumberedCommand) → List (ℕ × Command) → Type 0
 AreNumbered known client count [] [] = Unit {0}
 AreNumbered known client count [] (step ∷ steps) = ⊥

@@ -1,4 +1,4 @@
--- Words of filters, by the bytes of the texts that they ask for.
+-- Defines words of filters, by the bytes of the texts that they ask for.
 use Rattle.std.specs.Prelude.{ℕ, List, [], ◌∷◌, ◌++◌, cond}
 use Rattle.std.specs.List.{list_any}
 use Rattle.filter_constraints.specs.Texts.{Texts}

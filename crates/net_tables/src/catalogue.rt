@@ -1,4 +1,4 @@
-//! The catalogue of a net: filters, advertisements and publications by number.
+//! The type of the catalogue of a net: filters, advertisements and publications by number.
 ghost use Rattle.std.specs.Prelude.{◌≡◌, IfOk};
 ghost use Rattle.net_model.specs.Sound.{IsSound};
 ghost use Rattle.net_tables.specs.Known.{known_filters};
@@ -165,7 +165,7 @@ impl<'a> Catalogue<'a> {
         &self.scripts
     }
 
-    /// What tells which filters a notice matches, by their numbers.
+    /// What finds which filters a notice matches, by their numbers.
     pub fn matcher(&self) -> &Matcher
         ensures { result.now ≡ known_filters self.now.clients }
     {

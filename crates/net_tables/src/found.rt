@@ -1,4 +1,4 @@
-//! Publications of a run, with what each needs on its way.
+//! The type of a publication of a run with its matched filters and its text, and how each is found.
 ghost use Rattle.std.specs.Prelude.{◌≡◌, ◌<◌, length, IfOk};
 ghost use Rattle.net_model.specs.Parts.{NetParts};
 ghost use Rattle.net_tables.specs.Known.{known_filters, known_publications};

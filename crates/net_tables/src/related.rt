@@ -71,7 +71,7 @@ impl<'a> Catalogue<'a> {
     ghost use Rattle.net_tables.specs.Known.{known_filters, known_adverts};
     ghost use Rattle.net_tables.specs.Related.{overlap_rows};
 
-    /// The filters by their numbers, with the rows that tell which covers which.
+    /// The filters by their numbers, with the rows that say which covers which.
     pub fn filter_order(&self, alloc: Global) -> Result<Order<Sub>, NoMemory>
         ensures { IfOk result (λ order. order ≡ known_filters self.now.clients) }
     {
@@ -80,7 +80,7 @@ impl<'a> Catalogue<'a> {
         Order::narrowed(alloc, copied_subs(alloc, self.filters())?, words)
     }
 
-    /// The advertisements by their numbers, with the rows that tell which covers which.
+    /// The advertisements by their numbers, with the rows that say which covers which.
     pub fn advert_order(&self, alloc: Global) -> Result<Order<Ad>, NoMemory>
         ensures { IfOk result (λ order. order ≡ known_adverts self.now.clients) }
     {

@@ -1,4 +1,4 @@
-//! The tables of a run: the catalogue of its net with the rows of covering and overlap.
+//! The type of the tables of a run: the catalogue of its net with the rows of covering and overlap.
 ghost use Rattle.std.specs.Prelude.{◌≡◌, ◌<◌, length, IfOk};
 ghost use Rattle.net_model.specs.Sound.{IsSound};
 ghost use Rattle.net_tables.specs.Known.{known_filters, known_adverts, known_publications};
@@ -16,7 +16,7 @@ use net_model::Net;
 use std::alloc::Global;
 use std::marker::Model;
 
-/// The catalogue of a net, for its filters and advertisements the rows that tell which covers which and which overlap, and
+/// The catalogue of a net, for its filters and advertisements the rows that say which covers which and which overlap, and
 /// each publication with the filters that it matches. Contracts see the net, of which all is a function.
 #[derive(Drop)]
 pub struct Tables<'a> {

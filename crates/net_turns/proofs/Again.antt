@@ -31,7 +31,7 @@ use Rattle.net_turns.proofs.ToldAgain.{MessageTexts, IsToldTo, told-none, told-n
 use Rattle.std.proofs.lemmas.Bool.{and_parts}
 use Rattle.base.proofs.Lists.{get-map}
 
--- an entry is known by what it means
+-- an entry is known by what it represents
 act-same : (a b : EntryAct) → act_of a ≡ act_of b → a ≡ b
 act-same (acts.Command x) (acts.Command y) e = cc
 act-same (acts.Command x) (acts.Receive y) e = absurd cc

@@ -1,4 +1,4 @@
--- At every moment of a legal run no more is taken of a link than was put on it.
+-- At every moment of a legal run no more is received on a link than was put on it.
 use Rattle.std.proofs.Common.{◌≡◌, ℕ, zero, suc, ◌≤◌, ◌<◌, Bool, true, false, cond, List, [], ◌∷◌, inl, inr, length, slice_get, Option, Some, None, sym, subst, arith, length-append}
 use Rattle.std.proofs.lemmas.Option.{slice_get_within}
 use Rattle.base.proofs.Numbers.{Same, Is, Not, compare}
@@ -30,7 +30,7 @@ next-within m w t d r within given u v = omega (arith, longer (compare u t), tak
     longer (Not p q) = rw q (omega arith)
 
 module _ (th : Theory) (net : PhasedNet th) where
-  -- no more is taken than was put
+  -- no more is received than was put
   abbrev pub IsWithin : State th → Type 0
   IsWithin s = (a b : ℕ) → s.taken a b ≤ length (s.put a b)
 

@@ -1,5 +1,5 @@
 -- What a kind of network is to the walk schedule: what its turns are, how turns are tried one after the other within a phase, what the walk is over phases,
--- and what messages are told, each with its laws.
+-- and which messages a journal has, each with its laws.
 use Rattle.std.specs.Prelude.{◌≡◌, ℕ, suc, ◌+◌, ◌<◌, ◌≤◌, Bool, true, false, List, [], ◌∷◌, ◌++◌, length, get_or, Option, Some}
 use Rattle.law_machine.specs.Machine.{Did, Received}
 use Rattle.law_machine.specs.Walk.{repeated}
@@ -90,7 +90,7 @@ pub record Walking (trying : Trying) : Type 1 where
       → trying.Begins phase (phase_turns middle.net (trying.tree_phase phase)) middle new → IsPhaseBegun old new
   pub none_left : (phase : ℕ) (old new : NetworkParts) → IsWalkedTo phase old new → phases_of new.net ≤ phase → new ≡ old → IsPhaseOf false old new
 
--- WHAT MESSAGES ARE TOLD
+-- WHICH MESSAGES A JOURNAL HAS
 pub record Telling (trying : Trying) : Type 1 where
   -- the messages of an entry that a journal has behind so many, those of a journal, and those of a beginning of it that was made again
   pub told_at : NetParts → List EntryParts → ℕ → EntryParts → List Sent

@@ -10,7 +10,7 @@ use Rattle.net_turns.specs.Trying.{phase_turns}
 
 -- HOW JOURNALS ARE READ, by the machine that a net is
 pub record Reading : Type 1 where
-  -- entries and moments of a net's runs, what a journal's entry means, the opening, the moment after so many entries, and the phase of the last command
+  -- entries and moments of a net's runs, what a journal's entry represents, the opening, the moment after so many entries, and the phase of the last command
   pub Entry : NetParts → Type 0
   pub Moment : NetParts → Type 0
   pub entry_in : (net : NetParts) → EntryParts → Entry net

@@ -1,4 +1,4 @@
--- The turn that an entry of a journal was made by.
+-- Defines the turn that an entry of a journal was made by.
 use Rattle.std.specs.Prelude.{ℕ}
 use Rattle.net_model.specs.declared.turn.Act.{Act}
 use Rattle.net_model.specs.declared.turn.Act.TheVariants as acts

@@ -1,4 +1,4 @@
--- The turns that the walk tries within a phase: those of its commands, and of its rounds of receptions and table updates.
+-- Defines the turns that the walk tries within a phase: those of its commands, and of its rounds of receptions and table updates.
 use Rattle.std.specs.Prelude.{ℕ, List, [], ◌∷◌, length, map}
 use Rattle.law_machine.specs.Machine.{Did, Received}
 use Rattle.law_machine.specs.Walk.{repeated}

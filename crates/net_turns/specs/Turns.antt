@@ -1,4 +1,4 @@
--- Turns of a network: which are made, and what they add to its journal.
+-- Defines turns of a network: which are made, and what they add to its journal.
 use Rattle.std.specs.Prelude.{◌≡◌, ℕ, Bool, true, false, List, [], ◌∷◌, ◌++◌}
 use mathlib.Core.List.{IsPrefix}
 use Rattle.law_phases.specs.Trees.{JournalEntry}

@@ -1,4 +1,4 @@
--- The walk of a network: the rest of its phases, by the walk schedule.
+-- Defines the walk of a network: the rest of its phases, by the walk schedule.
 use Rattle.std.specs.Prelude.{◌≡◌, ℕ, ◌≤◌, ◌<◌, Bool, true, false, List, [], ◌++◌}
 use mathlib.Core.List.{IsPrefix}
 use Rattle.law_phases.specs.Trees.{JournalEntry, net_at}

@@ -1,4 +1,4 @@
-//! The fault that making the turns of a schedule may answer.
+//! The type of the fault that making the turns of a schedule may answer.
 
 /// Why a schedule was not made to its end.
 #[derive(Clone, Copy, Debug, PartialEq, Eq)]

@@ -1,4 +1,4 @@
-//! The messages of a journal, by making its turns again.
+//! Finds the messages of a journal by making its turns again.
 ghost use Rattle.std.specs.Prelude.{◌≡◌, [], IfOk};
 ghost use Rattle.net_turns.specs.Network.{network_parts};
 ghost use Rattle.net_turns.specs.Retold.{turn_of_entry};
@@ -9,7 +9,7 @@ use filter_text::Lists;
 use net_model::{Act, Entry, Sent, Turn};
 use std::alloc::Global;
 
-/// For each entry of a journal that is a legal run, the texts of its messages by rising neighbour: told by a network before its
+/// For each entry of a journal that is a legal run, the texts of its messages by rising neighbour: written by a network before its
 /// first turn, which makes the turns again.
 pub fn retold<N: Turning>(
     alloc: Global,

@@ -23,7 +23,7 @@ pub trait Turning {
     /// What the walk is.
     ghost walking: { Walking trying };
 
-    /// What messages are told.
+    /// Which messages a journal has.
     ghost telling: { Telling trying };
 
     /// The phase from which a phase has its tree.

@@ -1,4 +1,4 @@
--- Tables that have each client's filters at its place; no promise to a caller speaks of it.
+-- Defines tables that have each client's filters at its place; no promise to a caller speaks of it.
 use Rattle.std.specs.Prelude.{◌≡◌, ◌<◌, ◌↔◌, ◌⊎◌, ℕ, ◌+◌, Bool, true, false, ◌&&◌, not, nat_eq, List, [], ◌∷◌, Some, None, filter, length, slice_get}
 use Rattle.std.specs.List.{list_any, range_with_len}
 use Rattle.std.specs.List.Sorted.{IsStrictlyIncreasing}

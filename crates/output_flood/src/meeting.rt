@@ -1,4 +1,4 @@
-//! Whom publications meet: the clients of whose filters one matches.
+//! Finds whom publications meet: the clients of whose filters one matches.
 ghost use Rattle.std.specs.Prelude.{◌≡◌, ◌<◌, ◌≤◌, List, Some, not, filter, length, slice_get, IfOk, IsPermutation};
 ghost use Rattle.std.specs.List.Sorted.{IsStrictlyIncreasing};
 ghost use Rattle.net_model.specs.Parts.{ClientParts};

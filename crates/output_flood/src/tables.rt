@@ -180,7 +180,7 @@ pub(crate) fn first_tables(
     no_tables(alloc, scripts.len() as u32, filters.len() as u32)
 }
 
-// A client enters a phase, and tells whether it is known that it has the same filters all through it.
+// Lets a client enter a phase, and answers whether it is known that it has the same filters all through it.
 fn enter(
     tables: &mut Tables,
     filters: &[Sub],

@@ -1,4 +1,4 @@
--- The same text by the definition of all occurrences.
+-- Defines the text of what patterns find by the definition of all occurrences.
 use Rattle.std.specs.Prelude.{ℕ, List, [], ◌∷◌, ◌++◌}
 use Rattle.std.specs.List.{flat_map}
 use Rattle.filter_text.specs.declared.delivery.Delivery.{Delivery}

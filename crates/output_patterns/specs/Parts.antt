@@ -1,4 +1,4 @@
--- Patterns as contracts see them, and what stands while they are read.
+-- Defines patterns as contracts see them, and what stands while they are read.
 use Rattle.std.specs.Prelude.{ℕ, ◌+◌, ◌==◌, ◌&&◌, Bool, false, List, [], ◌∷◌, ◌++◌, length, nat_lt, Option, Some, None, option_map}
 use Rattle.std.specs.List.{list_any, position}
 use Rattle.std.specs.Str.{bytes_eq}

@@ -1,4 +1,4 @@
--- The names of clients, and the notices that they publish.
+-- Defines the names of clients, and the notices that they publish.
 use Rattle.std.specs.Prelude.{◌≡◌, true, Bool, ◌&&◌, ℕ, zero, suc, All, List, [], ◌∷◌, Option, None, length, map, nat_le, nat_lt, slice_get}
 use Rattle.filter_types.specs.Notice.{Attribute}
 use Rattle.filter_text.specs.declared.command.Command.{Command}

@@ -1,4 +1,4 @@
--- The occurrences that one pass over the notices finds: each step takes the next notice that matches it.
+-- Defines the occurrences that one pass over the notices finds: each step takes the next notice that matches it.
 use Rattle.std.specs.Prelude.{◌≡◌, ◌≤◌, length, ℕ, ◌+◌, ◌-◌, Bool, true, false, if◌then◌else◌, List, [], ◌∷◌, ◌++◌, drop}
 use Rattle.filter_constraints.specs.Constraint.{ConstraintParts}
 use Rattle.filter_types.specs.Notice.{Attribute}

@@ -1,4 +1,4 @@
-//! The reasons why an input with patterns is refused.
+//! The types of the faults for which an input with patterns is refused.
 ghost use Rattle.std.specs.Prelude.{◌≡◌};
 ghost use Rattle.output_patterns.specs.declared.fault.PatternFault.TheVariants as faults;
 

@@ -1,4 +1,4 @@
-//! The notices that were heard, as contracts see them. No notice is kept for it at run time.
+//! Keeps the notices that were heard as contracts see them. No notice is kept for it at run time.
 use filter_types::Notice;
 use std::marker::Model;
 use std::snapshot::Snapshot;

@@ -114,7 +114,7 @@ fn is_comment(word: &[u8]) -> bool
     }
 }
 
-/// Takes a line, or tells its first fault.
+/// Takes a line, or answers its first fault.
 #[tactic(auto, unfolding(crate::specs::Rules::line_rule))]
 pub fn line(
     alloc: Global,
@@ -136,7 +136,7 @@ pub fn line(
     at_token(alloc, version, clients, state, line, word, rest)
 }
 
-/// Takes the end, and gives all patterns, or tells its fault.
+/// Takes the end, and gives all patterns, or answers its fault.
 #[tactic(auto, unfolding(crate::specs::Rules::end_rule))]
 pub fn end(state: Watching) -> Ruled<Vec<Pattern>>
     ensures { GivesAsByRule (λ patterns. patterns.items) result (end_rule state) }

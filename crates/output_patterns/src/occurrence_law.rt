@@ -24,7 +24,7 @@ pub fn all_laws()
 {}
 
 /// With one more notice all occurrences are the same, or one more where one ends with that notice. So what a detector
-/// tells of one notice after another is the list of all occurrences.
+/// answers for one notice after another is the list of all occurrences.
 pub fn next_laws()
     ensures same { (steps : Steps) (notices : Notices) (n : List Attribute) (a b : List (List ℕ)) → AreAllOccurrences steps notices a
         → AreAllOccurrences steps (notices ++ n ∷ []) b → some_ends b (length notices + 1) ≡ false → b ≡ a }

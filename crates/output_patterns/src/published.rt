@@ -1,4 +1,4 @@
-//! The names of clients, and the notices that they publish, taken out of a net.
+//! Takes out of a net the names of its clients and the notices that they publish.
 ghost use Rattle.std.specs.Prelude.{◌≡◌, true, IfOk};
 ghost use Rattle.std.specs.Option.{option_copied};
 ghost use Rattle.output_report.specs.Published.{by_number};

@@ -1,4 +1,4 @@
-//! Patterns with their detectors, over what their clients received.
+//! The type of patterns with their detectors, over what their clients received.
 ghost use Rattle.std.specs.Prelude.{◌≡◌, ℕ, All, IfOk};
 ghost use Rattle.output_patterns.specs.Watch.{IsSoundPattern};
 

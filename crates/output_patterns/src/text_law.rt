@@ -1,4 +1,4 @@
-//! The text of what patterns find shows all occurrences of each pattern.
+//! States that the text of what patterns find shows all occurrences of each pattern.
 ghost use Rattle.std.specs.Prelude.{◌≡◌, ◌<◌, ℕ, All, List, length};
 ghost use Rattle.filter_text.specs.declared.delivery.Delivery.{Delivery as Delivered};
 ghost use Rattle.net_model.specs.Parts.{ClientParts};

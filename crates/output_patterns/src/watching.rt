@@ -1,4 +1,4 @@
-//! The state of the reader while patterns are read.
+//! The type of the state of the reader while patterns are read.
 ghost use Rattle.std.specs.Prelude.{◌≡◌, OnOk, IfOk, length};
 ghost use Rattle.std.specs.List.{list_any};
 ghost use Rattle.std.specs.Option.{is_some};

@@ -1,4 +1,4 @@
-//! The lines of what patterns find, on their way to a sink. No call takes memory.
+//! Writes the lines of what patterns find to a sink. No call takes memory.
 ghost use Rattle.std.specs.Prelude.{◌≡◌, ◌<◌, ◌^◌, ◌++◌, ◌∷◌, [], ℕ, List, length, true};
 ghost use Rattle.std.specs.List.{flat_map};
 ghost use Rattle.std.specs.Fmt.{decimal};

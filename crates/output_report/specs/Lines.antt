@@ -1,4 +1,4 @@
--- Lines of clients, refused publishes and publications, each ended by a newline (10).
+-- Defines lines of clients, refused publishes and publications, each ended by a newline (10).
 use Rattle.std.specs.Prelude.{ℕ, List, [], ◌++◌, codes, Option, Some, None}
 use Rattle.std.specs.Fmt.{decimal}
 use Rattle.filter_text.specs.declared.id.Id.{Id}

@@ -1,6 +1,9 @@
 //! Layer: output.
 //! Job: the texts that are printed: written once into one vector, or line by line into a sink.
 //! Users: output_patterns, audit_verdict and program_sequential.
+//!
+//! `trace_text`, `check_text` and `summary_text` are made in one vector. `put_deliveries` and `Flooded::put` write line
+//! by line into a sink. `check_text` is of a sound net.
 #![tactic(auto)]
 
 mod commands;

@@ -1,4 +1,4 @@
-//! The texts of what clients publish, each written once.
+//! Writes the texts of what clients publish, each once.
 ghost use Rattle.std.specs.Prelude.{◌≡◌, map, IfOk};
 ghost use Rattle.output_report.specs.Published.{script_texts, texts_in, text_at};
 

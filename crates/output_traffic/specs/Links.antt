@@ -1,4 +1,4 @@
--- The links of a net: those of all its trees, each once.
+-- Defines the links of a net: those of all its trees, each once.
 use Rattle.std.specs.Prelude.{ℕ, ◌&&◌, nat_lt, Bool, List, map, filter}
 use Rattle.std.specs.List.{flat_map}
 use Rattle.base_tree.specs.Tree.{Topology, links_of}

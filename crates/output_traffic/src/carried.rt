@@ -1,4 +1,4 @@
-//! What the entries of a run put on each link.
+//! Counts what the entries of a run put on each link.
 ghost use Rattle.std.specs.Prelude.{◌≡◌};
 ghost use Rattle.output_traffic.specs.Carried.{is_notice};
 

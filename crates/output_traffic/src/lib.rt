@@ -2,7 +2,8 @@
 //! Job: what each link of a net carried in a run, beside what plain flooding would have sent over it: definition, laws, text and graph.
 //! Users: program_sequential.
 //!
-//! The text and the graph are written piece by piece.
+//! The text and the graph are written piece by piece. A count past 2^32 - 1 or a sum past 2^64 - 1 is answered as out
+//! of memory. An independent program made the counts with which `test_program` compares those of small documents.
 #![tactic(auto)]
 
 mod carried;

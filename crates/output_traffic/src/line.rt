@@ -1,4 +1,4 @@
-//! Parts of lines, on their way to a sink. No call takes memory.
+//! Writes parts of lines to a sink. No call takes memory.
 ghost use Rattle.std.specs.Prelude.{◌≡◌};
 ghost use Rattle.base_devices.specs.Pending.{outlet, Went};
 ghost use Rattle.base.specs.Text.{labelled};

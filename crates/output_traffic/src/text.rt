@@ -1,4 +1,4 @@
-//! The text of the traffic, on its way to a sink. No call takes memory.
+//! Writes the text of the traffic to a sink. No call takes memory.
 ghost use Rattle.std.specs.Prelude.{◌≡◌, ◌++◌, false};
 ghost use Rattle.std.specs.List.{flat_map};
 ghost use Rattle.base_devices.specs.Pending.{outlet, Went};

@@ -1,4 +1,4 @@
-//! The traffic of a run, kept until it is written.
+//! The type of the traffic of a run, kept until it is written.
 ghost use Rattle.std.specs.Prelude.{◌≡◌, ℕ, List, IfOk};
 ghost use Rattle.base_devices.specs.Pending.{outlet, Went};
 ghost use Rattle.output_traffic.specs.Printed.{totals_of};

@@ -1,4 +1,4 @@
--- In a drained run each message of a settled publication is taken.
+-- In a drained run each message of a settled publication is received.
 use Rattle.std.proofs.Common.{ℕ, List, [], ◌∷◌, arith}
 use Rattle.std.proofs.lemmas.Option.{slice_get_within}
 use Rattle.filter_types.specs.Notice.{Attribute}

@@ -21,7 +21,7 @@ use Rattle.program_sequential.specs.declared.words.Wanted.{Wanted}
 use Rattle.program_sequential.specs.Answers.{IsPrintedBy, HasFaultFor, GaveRefusedFor, GaveBadPatternFor, GaveRefutedFor, GaveWrongFor, CanAnswerFor}
 use Rattle.program_sequential.specs.Showing.{PrintedParts}
 
--- the status that tells it
+-- the status that reports it
 abbrev pub status_of : Unanswered → Status
 status_of (whys.BadInput line kind) = statuses.BadInput line kind
 status_of (whys.BadPattern line kind) = statuses.BadPattern line kind

@@ -7,8 +7,8 @@ use Rattle.program_sequential.specs.declared.words.Shown.{Shown}
 use Rattle.program_sequential.specs.Promise.{ClientLists, ClientPromise}
 use Rattle.program_sequential.specs.Network.{NetworkPromise}
 
--- THE HEADLINE: for every well-formed input and every interleaving of commands, takings and versions, the text is what the clients are promised, and the
--- journal what the network is, with the same lists
+-- THE HEADLINE: for every well-formed input and every interleaving of commands, receptions and table updates, the text is what the clients are promised,
+-- and the journal what the network is, with the same lists
 pub record Headline (schedule : Schedule) (shown : Shown) (input text : List ℕ) (journal : List EntryParts) : Type 0 where
   pub net : NetParts
   pub well_formed : IsNetOf input net

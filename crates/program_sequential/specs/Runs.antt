@@ -1,4 +1,4 @@
--- The run that is wanted of a document: its turns, and what the clients have by its end.
+-- Defines the run that is wanted of a document: its turns, and what the clients have by its end.
 use Rattle.std.specs.Prelude.{◌≡◌, ◌⊎◌, ℕ, ◌≤◌, ◌<◌, List, [], ◌∷◌, ◌++◌, length}
 use Rattle.base.specs.Sets.{Has}
 use Rattle.filter_text.specs.declared.delivery.Delivery.{Delivery}

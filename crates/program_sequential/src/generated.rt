@@ -13,7 +13,7 @@ use document_generate::generate;
 use sequential_network::Kept;
 use std::alloc::Global;
 
-// The summary of the walk of a document that has a net. One that has none, as no generated document is, would be told as
+// The summary of the walk of a document that has a net. One that has none, as no generated document is, would be answered as
 // out of memory, which is the one answer that needs no cause.
 fn summary(alloc: Global, bytes: &[u8]) -> Result<Printed, NoMemory>
     ensures { IfOk result (λ p. IsSummaryOf bytes.now p.text p.journal) }

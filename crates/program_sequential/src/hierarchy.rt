@@ -1,4 +1,4 @@
-//! The walk of a document's hierarchy, with server 1 at the top.
+//! Walks a document's hierarchy, with server 1 at the top.
 ghost use Rattle.std.specs.Prelude.{◌≡◌, ℕ, List, true, length, IfOk};
 ghost use Rattle.net_model.specs.Nets.{of_clients};
 ghost use Rattle.net_model.specs.Sound.{IsSound};

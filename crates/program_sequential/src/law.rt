@@ -14,7 +14,7 @@ use net_model::Real;
 /// A run of a sound net that took all commands gives its clients what flooding owes them, once, and nothing that it does
 /// not allow, by the text of the notice published and in the order of each publisher; where all that is allowed is owed its
 /// sorted deliveries are what flooding prints of the document. Its links carry only what is wanted, a publication that is
-/// settled on its way is delivered once, and is there once its messages are taken, deliveries go by the filters in force, by phase
+/// settled on its way is delivered once, and is there once its messages are received, deliveries go by the filters in force, by phase
 /// and in causal order, no link carries more than plain flooding puts on it, and its length is bounded.
 pub fn lemma_promise()
     ensures clients { (shown : Shown) (input : List ℕ) (net : NetParts) (journal : List EntryParts) → IsNetOf input net → IsWholeRun net journal

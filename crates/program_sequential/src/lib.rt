@@ -2,7 +2,17 @@
 //! Job: the top call on one thread: from the words of a command line and the bytes of a source to the bytes of a sink.
 //! Users: program_threaded, siena and test_program.
 //!
-//! Its contract has the headline: the theorem that the program promises.
+//! Its contract has the headline: the theorem that the program promises. `lemma_promise` says what each whole run
+//! promises, whatever its schedule: `ClientPromise`, `RunPromise` and `NetworkPromise` of a legal, drained journal of a
+//! sound net. `lemma_hierarchy_promise` does this for a hierarchy.
+//!
+//! Several nets may be those of one document. They differ only in tables inside the trees, which no definition of a run
+//! mentions. `printed` and `bad_input` speak of one of them, `refused` and `complete` of each. The summary of a seed
+//! whose document had no net would be answered as out of memory; that each has one is not proved.
+//!
+//! The text of a run isn't made in memory as a whole, except a trace: the lists of deliveries are written one after the
+//! other, in great pieces. `Printed` holds all memory that this needs. So all memory is taken before the first write,
+//! and `write` has no answer for lack of memory.
 #![tactic(auto)]
 
 mod answer;

@@ -1,4 +1,4 @@
-//! How a run ends, and what it says of a fault.
+//! The type of how a run ends, and the line on each fault.
 ghost use Rattle.std.specs.Prelude.{◌≡◌, ◌++◌, IfOk, OnOk, codes};
 ghost use Rattle.std.specs.Fmt.{decimal};
 ghost use Rattle.program_sequential.specs.Status.{audit_text, kind_text, pattern_text, refusal_text, refuted_text, status_number, status_text};
@@ -11,7 +11,7 @@ use output_patterns::PatternKind;
 use program_help::usage;
 use std::alloc::Global;
 
-/// How a run ended. A bad input is told with the number of its line: the end counts as the line behind the last, and 0
+/// How a run ended. A bad input is reported with the number of its line: the end counts as the line behind the last, and 0
 /// represents the whole.
 #[derive(Clone, Copy, Debug, PartialEq, Eq)]
 pub enum Status {

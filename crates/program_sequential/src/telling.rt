@@ -1,4 +1,4 @@
-//! How the messages of a run are told again: as those of a network of peers, or of a network of a hierarchy.
+//! Finds the messages of a run again: as those of a network of peers, or of a network of a hierarchy.
 ghost use Rattle.std.specs.Prelude.{◌≡◌, List, length, IfOk};
 ghost use Rattle.net_model.specs.Parts.{NetParts, EntryParts};
 ghost use Rattle.net_model.specs.Sound.{IsSound};
@@ -10,7 +10,7 @@ use net_tables::Tables;
 use sequential_network::retell;
 use std::alloc::Global;
 
-/// A kind of networks, whose journals tell their messages.
+/// A kind of networks, whose journals have their messages.
 pub trait Telling {
     ghost use Rattle.filter_text.specs.declared.sent.Sent.{Sent as Told};
 

@@ -63,7 +63,7 @@ impl Outcome {
         }
     }
 
-    /// Writes what is answered, or tells why nothing is written.
+    /// Writes what is answered, or answers why nothing is written.
     pub fn of_answer<K: Sink>(
         alloc: Global,
         answer: Result<Printed, Unanswered>,

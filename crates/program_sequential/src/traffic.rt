@@ -20,7 +20,7 @@ use output_traffic::{Carried, Traffic};
 use sequential_network::{Kept, Network, Passed};
 use std::alloc::Global;
 
-// What the entries of a journal put on each link, told turn by turn, by the tables of its run.
+// What the entries of a journal put on each link, found turn by turn, by the tables of its run.
 fn carried_over(alloc: Global, tables: &Tables<'_>, journal: &[Entry]) -> Result<Carried, NoMemory>
     requires sound { IsSound tables.now }
     requires legal { IsLegal tables.now journal.now }

@@ -1,4 +1,4 @@
-//! The reasons why nothing is written, whatever was asked for.
+//! The type of the reasons why nothing is written, whatever was asked for.
 ghost use Rattle.std.specs.Prelude.{◌≡◌};
 ghost use Rattle.program_sequential.specs.Answering.{of_audit_fault, of_input_fault, of_pattern_fault, of_unread, status_of, widened};
 
@@ -40,7 +40,7 @@ pub enum Unanswered {
 }
 
 impl Unanswered {
-    /// The status that tells it.
+    /// The status that reports it.
     pub fn status(self) -> Status
         ensures { result ≡ status_of self }
     {

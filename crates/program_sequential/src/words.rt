@@ -1,4 +1,4 @@
-//! What the words of the command line ask for.
+//! Reads what the words of the command line ask for.
 ghost use Rattle.std.specs.Prelude.{◌≡◌, ◌↔◌, IsTrue};
 ghost use Rattle.std.specs.Str.{bytes_eq};
 ghost use Rattle.program_sequential.specs.Words.{AreNoneOfRun, alone, asked, generate_by, hierarchy_by, is_summary, joined_seed, options, parted_seed};

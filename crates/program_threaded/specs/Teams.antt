@@ -1,4 +1,4 @@
--- The cells of a net with the viewers of their workers, between two phases.
+-- Defines the cells of a net with the viewers of their workers, between two phases.
 use Rattle.std.specs.Prelude.{◌≡◌, ℕ, List, [], ◌∷◌, map}
 use Rattle.net_model.specs.Parts.{NetParts}
 use Rattle.thread_versions.specs.Ends.{IsSameViewer}

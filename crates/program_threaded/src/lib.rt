@@ -1,6 +1,8 @@
 //! Layer: program.
 //! Job: the top call for all words: as that on one thread, and with two workers for each server where `run` is asked for.
 //! Users: siena and test_program.
+//!
+//! The program asks for four threads, and for the entries only where the trace is to be shown.
 #![tactic(auto)]
 
 mod phases;

@@ -62,7 +62,7 @@ fn end_phase<R: Wait>(rt: &R, cells: &mut Vec<Cell<'_>>) -> Result<(), NoMemory>
     }
 }
 
-/// The cells enter the phase of the next command, workers take its commands and messages, and what they leave is done.
+/// The cells enter the phase of the next command, workers execute its commands and receive its messages, and what they leave is done.
 fn one_phase<'a, R: Threads + Wait + Sync, G: Gate + Sync>(
     alloc: Global,
     rt: &R,

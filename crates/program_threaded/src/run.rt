@@ -1,4 +1,4 @@
-//! The run of a net with two workers a server.
+//! Makes the run of a net with two workers a server.
 ghost use Rattle.std.specs.Prelude.{◌≡◌, IfOk};
 ghost use Rattle.net_model.specs.Sound.{IsSound};
 ghost use Rattle.program_threaded.specs.Runs.{IsThreaded};

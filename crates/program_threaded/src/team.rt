@@ -1,4 +1,4 @@
-//! The cells of all servers, with the viewers of their workers.
+//! Keeps the cells of all servers, with the viewers of their workers.
 ghost use Rattle.std.specs.Prelude.{◌≡◌, ◌≤◌, [], length, map, vec_capacity};
 ghost use Rattle.thread_outcome.specs.Outcome.{AreKept};
 ghost use Rattle.thread_cell.specs.Together.{cell_roots};

@@ -55,8 +55,9 @@ fn run<R: Threads + Wait + Sync, S: Source, G: Gate + Sync>(
 /// Does what the words say. The words are read first, then the source, whose document is refused at its first fault; then the
 /// run is made, and then the text is written. All memory is taken before the first write.
 ///
-/// `run` makes the run of the network with two workers a server, each in a thread where one can be had, and prints what each
-/// client receives in it; such a call returns where its threads do. For all other words it is [`quiet`].
+/// `run` makes the run of the network with two workers a server and prints what each client receives in it. The workers of all
+/// servers share a few threads, of which this one is the first; such a call returns when the others end. For all other words it
+/// is [`quiet`].
 pub fn siena<R: Threads + Wait + Sync, S: Source, K: Sink, G: Gate + Sync>(
     alloc: Global,
     rt: &R,

@@ -206,7 +206,7 @@ module _ (net : NetParts) (phase : ℕ) (laws : NetLaws real (net_at real (phase
       clocks = λ j core g. (placed j core g).clock;
     }
 
-    -- what is taken, and what is on a link then
+    -- what is received, and what is on a link then
     taken-within : (input : StampedInput) → IsNext step.core.server input → (a b : ℕ)
         → taken_after (routing_machine real (net_at real (phased_net net) phase)) state.taken step.core.server input a b ≤ length (state.put a b)
     taken-within (Does task) n a b = links.within a b

@@ -1,4 +1,4 @@
--- What is published by numbers at a core that is given a ledger, and with what comes back.
+-- What is installed by numbers at a core that is given a ledger, and with what comes back.
 use Rattle.std.proofs.Common.{◌≡◌, ℕ, sym, subst, ◌∙◌}
 use Rattle.server_spec.specs.Control.{subs}
 use Rattle.match_routes.specs.Installed.{Installed}

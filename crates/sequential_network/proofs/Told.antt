@@ -1,4 +1,4 @@
--- After a step its messages lie last on the links of its server, and their texts are what is told of its entry.
+-- After a step its messages lie last on the links of its server, and their texts are those of its entry.
 use Rattle.std.proofs.Common.{◌≡◌, ℕ, zero, suc, ◌≤◌, List, [], ◌∷◌, ◌++◌, inl, inr, length, map, drop, slice_get, Some, refl, sym, ap, ap₂, subst, ◌∙◌, arith, length-append}
 use Rattle.std.proofs.lemmas.List.{length-map, map-append, drop-append-le}
 use Rattle.base.specs.Sets.{Has}
@@ -106,7 +106,7 @@ module _ (net : NetParts) (phase : ℕ) (servers : Servers CoreParts) (kept : Is
   within = found-within real (phased_net net) (opening_moment real (phased_net net)).state 0 (journal_of servers.journal) (moment_by net servers.journal).state (moment_by net servers.journal).phase kept.legal
       (λ a b. omega arith) (length before) (entry_of entry) there
 
-  -- all that is taken then was put before the step
+  -- all that is received then was put before the step
   low : (a b : ℕ) → after.state.taken a b ≤ length (found.state.put a b)
   low a b = go happens.step
     where

@@ -21,7 +21,7 @@ pub record Servers (P : Type 0) : Type 0 where
 abbrev pub StampedInput : Type 0
 StampedInput = Input Task (Stamped (Message real))
 
--- the input without the stamp, the stamp that it takes, and how a journal tells it
+-- the input without the stamp, the stamp that it takes, and how a journal records it
 abbrev pub input_of : StampedInput → Input Task (Message real)
 input_of (Does task) = Does task
 input_of (Receives from m) = Receives from m.message

@@ -1,4 +1,4 @@
--- The beginning of a later phase at each server, and how it is taken back.
+-- Defines the beginning of a later phase at each server, and how it is taken back.
 use Rattle.std.specs.Prelude.{◌≡◌, ◌↔◌, ℕ, suc, ◌<◌, ◌^◌, List, [], length, slice_get, Option, Some, None}
 use Rattle.law_phases.specs.Trees.{State, net_at, IsAtRestOn}
 use Rattle.law_phases.specs.Moments.{begun}

@@ -1,4 +1,4 @@
--- The messages on the links between servers: of each link a queue, and whether there is room for one more.
+-- Defines the messages on the links between servers: of each link a queue, and whether there is room for one more.
 use Rattle.std.specs.Prelude.{◌≡◌, ℕ, ◌+◌, ◌*◌, ◌≤◌, nat_le, ◌&&◌, ◌==◌, Bool, false, cond, List, [], length, map, filter, drop, slice_index_or}
 use Rattle.law_machine.specs.Machine.{Stamped}
 use Rattle.law_routing.specs.Server.{Message}
@@ -7,7 +7,7 @@ use Rattle.net_model.specs.Real.{real}
 use Rattle.net_model.specs.Parts.{NetParts}
 use Rattle.server_message.specs.Parts.{MessageParts, message_parts, SendingParts}
 
--- a message that waits to be taken, under the stamp of the step that sent it
+-- a message that waits to be received, under the stamp of the step that sent it
 pub record WaitingParts : Type 0 where
   pub stamp : ℕ
   pub sent : MessageParts
@@ -15,7 +15,7 @@ pub record WaitingParts : Type 0 where
 abbrev pub waiting_parts : ℕ → MessageParts → WaitingParts
 waiting_parts stamp sent = record { stamp = stamp; sent = sent }
 
--- a queue: what was put and not taken, in order, and whether there is room for one more
+-- a queue: what was put and not received, in order, and whether there is room for one more
 pub record QueueParts : Type 0 where
   pub messages : List WaitingParts
   pub room : Bool
@@ -55,7 +55,7 @@ waiting_as stamp sending = waiting_parts stamp sending.sent
 abbrev pub messages_to : ℕ → List SendingParts → ℕ → List WaitingParts
 messages_to stamp sent to = map (waiting_as stamp) (filter (λ s. s.to == to) sent)
 
--- on each link is what was put on it and not taken
+-- on each link is what was put on it and not received
 pub record AreOnLinks (net : NetParts) (state : State real) (messages : ℕ → ℕ → List WaitingParts) : Type 0 where
   pub messages_are : (from to : ℕ) → messages from to ≡ map (waiting_in net) (drop (state.taken from to) (state.put from to))
   pub within : (from to : ℕ) → state.taken from to ≤ length (state.put from to)

@@ -1,4 +1,4 @@
--- Messages put on the links of a server one after the other.
+-- Defines messages put on the links of a server one after the other.
 use Rattle.std.specs.Prelude.{◌≡◌, ℕ, true, List, ◌++◌, length, drop}
 use Rattle.base.specs.Sets.{Has}
 use Rattle.server_message.specs.Parts.{SendingParts}

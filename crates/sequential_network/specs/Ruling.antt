@@ -57,7 +57,7 @@ pub record MayBegin {P : Type 0} (kind : Stepping P) (trying : Trying) (net : Ne
   pub calm : AreCalmCores kind now.cores
   pub through : (client : ℕ) → 1 ≤ client → client ≤ length net.clients → is_phase_below (trying.next_phase_by net now.journal client) own ≡ false
 
--- a client's next command can be taken at its home, which has these neighbours
+-- a client's next command can be executed at its home, which has these neighbours
 pub record CanCommand {P : Type 0} (kind : Stepping P) (net : NetParts) (client : ℕ) (links : List ℕ) (cores : List P) : Type 0 where
   pub able : CanAct kind (home_of net client) links cores
   pub lives : (core : P) → slice_get cores (home_of net client - 1) ≡ Some core → Has client (client_numbers (kind.core core).clients)

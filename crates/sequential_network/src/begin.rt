@@ -1,4 +1,4 @@
-//! The beginning of a later phase, all or nothing, and how it is taken back.
+//! Begins a later phase, all or nothing, and takes such a beginning back.
 ghost use Rattle.std.specs.Prelude.{◌≡◌, ◌<◌, ◌^◌, ℕ, false, List, length, slice_get, Some, None, IfOk, OnErr};
 ghost use Rattle.law_phases.specs.Trees.{State, is_one_tree, IsAtRestOn};
 ghost use Rattle.law_phases.specs.Moments.{begun};

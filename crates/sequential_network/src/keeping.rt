@@ -1,4 +1,4 @@
-//! The two kinds of networks: those that keep the entries of their journal, and those that don't.
+//! The trait of the two kinds of networks: those that keep the entries of their journal, and those that don't.
 ghost use Rattle.std.specs.Prelude.{◌≡◌, Bool};
 
 /// Whether the entries of a journal are kept, so that they can be shown, or pass.

@@ -3,7 +3,18 @@
 //! Users: thread_outcome, and the layers hierarchy, audit and program.
 //!
 //! It has the cores of its servers with their installed forwarding tables, and the links between them. The tables of
-//! the run are made before it; a turn compares no filters and writes no text.
+//! the run are made before it; a turn compares no filters and writes no text: `last_told` and `retell` write the texts
+//! of messages from the tables.
+//!
+//! `RuledNetwork` is written once for every kind of network; `Network` is the one of peers. Only `replay` belongs to
+//! that kind alone. Its clauses name the rules of the kind (`Ruled`: `trying`, `walking`, `telling`, `ruling`). A kind
+//! makes its steps (`Server`), begins and begins later phases (`Networked`), and proves the laws that the turns go by
+//! (`laws`).
+//!
+//! A stamp can't reach its bound, since the laws bound it by what the scripts and trees allow. So no call has an answer
+//! for it. Where a turn begins a phase with another tree and memory runs out, either each server is set on the new tree
+//! or none is. Entries are in memory only where they are to be shown (`Network<Kept>`); otherwise they exist in proofs
+//! alone (`Network<Passed>`). The page FIGURES has time and memory.
 #![tactic(auto)]
 
 mod begin;

@@ -1,4 +1,4 @@
-//! The links between all servers, each with its queue.
+//! The type of the links between all servers, each with its queue.
 ghost use Rattle.std.specs.Prelude.{◌≡◌, ℕ, ◌≤◌, ◌<◌, ◌-◌, drop, true, [], ◌∷◌, ◌++◌, Some, slice_get, length, IfOk, OnOk, IfSome, IfNone};
 ghost use Rattle.std.specs.Prelude.{IsTrue, ◌↔◌};
 ghost use Rattle.base.specs.Sets.{Has};

@@ -1,4 +1,4 @@
-//! The turns of a network, whatever its kind: each is made where it is permitted, and else nothing changes.
+//! Makes the turns of a network, whatever its kind: each where it is permitted, and else nothing changes.
 ghost use Rattle.std.specs.Prelude.{◌≡◌, ◌≤◌, ◌<◌, ◌↔◌, ℕ, true, false, length, Some, IfOk, OnOk, OnErr, IsTrue};
 ghost use Rattle.base.specs.Sets.{Has};
 ghost use Rattle.net_model.specs.Nets.{home_of};
@@ -45,7 +45,7 @@ pub(crate) fn take<'a, P: Networked<'a>>(
     servers.take(server, from, neighbours)
 }
 
-/// A server publishes what it has pending.
+/// A server installs what it has pending.
 pub(crate) fn update_table<'a, P: Networked<'a>>(
     net: &Net,
     phase: u32,

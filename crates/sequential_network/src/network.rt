@@ -1,4 +1,4 @@
-//! The network on one thread, whatever the kind of its servers.
+//! The type of the network on one thread, whatever the kind of its servers.
 ghost use Rattle.std.specs.Prelude.{◌≡◌, ◌≤◌, ◌==◌, ◌++◌, ◌∷◌, ℕ, suc, cond, List, [], length, slice_get, Some, IfOk, OnOk, OnErr};
 ghost use Rattle.net_model.specs.Parts.{EntryParts};
 ghost use Rattle.net_model.specs.Nets.{first_tree, clients_of, of_clients};

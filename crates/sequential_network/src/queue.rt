@@ -1,4 +1,4 @@
-//! The queue of one link.
+//! The type of the queue of one link.
 ghost use Rattle.std.specs.Prelude.{◌≡◌, ◌-◌, true, false, drop, ◌∷◌, ◌++◌, [], length, IfSome, IfNone, OnOk, OnErr, slice_get, Some};
 
 use crate::waiting::Waiting;
@@ -7,7 +7,7 @@ use std::alloc::Global;
 use std::collections::VecDeque;
 use std::marker::Model;
 
-/// The messages on a link that are not taken yet, in the order in which they were put; there may be room for one more.
+/// The messages on a link that are not received yet, in the order in which they were put; there may be room for one more.
 #[derive(Drop)]
 pub(crate) struct Queue<'a> {
     messages: VecDeque<Waiting<'a>>,

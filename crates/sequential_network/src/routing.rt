@@ -13,7 +13,7 @@ use net_tables::Tables;
 use server_message::Load;
 use std::alloc::Global;
 
-/// Where the publication with a number goes by what a server published.
+/// Where the publication with a number goes by what a server installed.
 pub fn routed(
     alloc: Global,
     tables: &Tables<'_>,

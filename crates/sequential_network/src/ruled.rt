@@ -27,7 +27,7 @@ pub trait Ruled: Drop {
     /// What its walk is.
     ghost walking: { Walking trying };
 
-    /// What messages it tells.
+    /// Which messages its journal has.
     ghost telling: { Telling trying };
 
     /// What it keeps.

@@ -23,7 +23,7 @@ pub trait Server<'a>: Drop {
     /// What it is to its network.
     ghost stepping: { Stepping Self };
 
-    /// Takes the next command of a client that lives here and has one left.
+    /// Executes the next command of a client that lives here and has one left.
     fn command(&mut self, alloc: Global, client: u32) -> Result<Step<'a>, NoMemory>
         requires lives { Has client (client_numbers (stepping.core self.old).clients) }
         requires left { (s : SessionParts) → Has s (stepping.core self.old).clients → s.client ≡ client → s.taken < length s.script }

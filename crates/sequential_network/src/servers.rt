@@ -1,4 +1,4 @@
-//! The servers of a network, whatever their kind, with their links and their journal, and the steps of one of them.
+//! The type of the servers of a network, with their links and their journal, and the steps of one of them.
 ghost use Rattle.std.specs.Prelude.{◌≡◌, ℕ, ◌≤◌, ◌<◌, ◌^◌, ◌-◌, ◌∷◌, ◌++◌, [], true, false, Some, slice_get, length, map, IfOk, OnOk};
 ghost use Rattle.std.specs.Prelude.{OnErr, vec_len, vec_capacity};
 ghost use Rattle.base.specs.Sets.{Has};
@@ -129,7 +129,7 @@ impl<'a, P: Server<'a>> Servers<'a, P> {
         Ok(Vec::with_capacity(self.alloc, neighbours.len())?)
     }
 
-    /// Takes the next command of a client of a server, whose neighbours are given.
+    /// Executes the next command of a client of a server, whose neighbours are given.
     pub fn command(&mut self, server: u32, client: u32, neighbours: &[u32]) -> Result<(), NoMemory>
         requires able { CanAct P.stepping server neighbours.now self.old.places.items }
         requires lives { (core : P) → slice_get self.old.places.items (server - 1) ≡ Some core → Has client (client_numbers (P.stepping.core core).clients) }
@@ -189,7 +189,7 @@ impl<'a, P: Server<'a>> Servers<'a, P> {
         Ok(true)
     }
 
-    /// Has a server publish what it has pending.
+    /// Has a server install what it has pending.
     pub fn update_table(&mut self, server: u32) -> Result<(), NoMemory>
         requires able { (neighbours : _) × CanAct P.stepping server neighbours self.old.places.items }
         requires some { (core : P) → slice_get self.old.places.items (server - 1) ≡ Some core → ((P.stepping.core core).pending ≡ []) → ⊥ }

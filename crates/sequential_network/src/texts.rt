@@ -1,4 +1,4 @@
-//! The texts of messages, which have none on their way: they are written for reports alone.
+//! Writes the texts of messages, which have none on their way, for reports.
 ghost use Rattle.std.specs.Prelude.{◌≡◌, ◌++◌, ◌<◌, ℕ, length, IfOk, OnOk};
 ghost use Rattle.base.specs.Sets.{Has};
 ghost use Rattle.base_order.specs.Order.{picked};

@@ -1,8 +1,8 @@
-//! A message that waits on a link.
+//! The type of a message that waits on a link.
 use server_message::Message;
 use std::marker::Model;
 
-/// A message that waits on a link to be taken, under the stamp of the step that sent it.
+/// A message that waits on a link to be received, under the stamp of the step that sent it.
 #[derive(Drop)]
 pub struct Waiting<'a> {
     /// The stamp, below 2^62.

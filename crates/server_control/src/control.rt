@@ -1,4 +1,4 @@
-//! The control of a server: what it holds by number, and how a change alters what it sends.
+//! The type of the control of a server: what it holds by number, and how a change alters what it sends.
 ghost use Rattle.std.specs.Prelude.{◌≡◌, ◌≢◌, ◌<◌, ◌≤◌, ◌^◌, ℕ, nat_lt, List, [], length, replicate, slice_get, Some, IfOk};
 ghost use Rattle.base.specs.Sets.{Has, IsRising, union, minus};
 ghost use Rattle.filter_constraints.specs.Constraint.{ConstraintParts};

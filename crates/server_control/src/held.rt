@@ -1,4 +1,4 @@
-//! What is held from one interface of a server.
+//! The type of what is held from one interface of a server.
 ghost use Rattle.std.specs.Prelude.{◌≡◌, length};
 ghost use Rattle.base_order.specs.Order.{picked};
 ghost use Rattle.net_tables.specs.Known.{known_filters, known_adverts};

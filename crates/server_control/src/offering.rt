@@ -1,4 +1,4 @@
-//! The filters that are wanted where some advertisements are held.
+//! Finds the filters that are wanted where some advertisements are held.
 ghost use Rattle.std.specs.Prelude.{◌≡◌, ◌≢◌, ◌<◌, ℕ, [], length, filter, slice_get, Some};
 ghost use Rattle.base.specs.Sets.{Has, roots};
 ghost use Rattle.filter_types.specs.Cover.{filter_covers};
@@ -54,7 +54,8 @@ pub(crate) fn offer_wanted<'a>(
     ensures wanted { (p link : ℕ) (offered : Lists) → slice_get filters.old.interfaces p ≡ Some link → slice_get filters.new.offered p ≡ Some offered
         → Offers Advertisement (held_from list_before link adverts.now.holdings) filters.old.items offered }
     ensures announced { (p : ℕ) (before : Lists) → p < length filters.old.announced → slice_get filters.old.interfaces p ≡ Some interface
-        → slice_get filters.old.offered p ≡ Some before → (t : Announced) × (slice_get filters.new.announced p ≡ Some t) × IsAnnounced list_before filters.old.items
+        → slice_get filters.old.offered p ≡ Some before
+        → (t : Announced) × (slice_get filters.new.announced p ≡ Some t) × IsAnnounced list_before filters.old.items
         (sent filter_covers list_before before interface filters.old.holdings)
         (roots filter_covers list_before (filter (is_wanted Advertisement (held_from list_before interface adverts.now.holdings))
         (held_elsewhere list_before interface filters.old.holdings))) t }

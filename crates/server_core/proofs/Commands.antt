@@ -138,7 +138,7 @@ module _ (s : SessionParts) where
           work-is r.0.1 ∙ ap (plan_work net.adverts s) (plan-is r.0.0 r.0.1 r.1 p q),
         )
 
--- a command that is taken besides a work
+-- a command that is executed besides a work
 taken-state : (net : Net real) (server client : ℕ) (state : ServerState real) (w : Work real) → (effect real net server (with_command_executed real net state client) w).state ≡ with_command_executed real net (effect real net server state w).state client
 taken-state net server client state (SetsFilters i fs) = refl
 taken-state net server client state (SetsAdverts i fs) = refl
@@ -153,7 +153,7 @@ taken-outs net server client state (Routes i p o n) = refl
 taken-outs net server client state InstallsTable = refl
 taken-outs net server client state Nothing = refl
 
--- sessions of which one took its command
+-- sessions of which one executed its command
 pub bare-stepped : (client : ℕ) (sessions : List SessionParts) → map bare (at_client client stepped sessions) ≡ at_client client stepped (map bare sessions)
 bare-stepped client [] = refl
 bare-stepped client (s ∷ sessions) = go (s.client == client) (bare-stepped client sessions)

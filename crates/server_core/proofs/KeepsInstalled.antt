@@ -1,4 +1,4 @@
--- What a step leaves published: a table update installs what is held, and no other step changes it.
+-- What a step leaves installed: a table update installs what is held, and no other step changes it.
 use Rattle.std.proofs.Common.{◌≡◌, ℕ, Bool, true, false, cond, List, [], slice_get, take, suc, ◌+◌, Option, Some, None, refl, sym, ap, subst, ◌∙◌}
 use Rattle.std.proofs.lemmas.Option.{same_Some}
 use Rattle.base.specs.Sets.{Has}
@@ -18,7 +18,7 @@ use Rattle.server_core.specs.Step.{IsServerStep}
 use Rattle.std.proofs.lemmas.Bool.{true≢false}
 
 module _ (net : Net real) where
-  -- works that publish nothing
+  -- works that install nothing
   abbrev pub IsNoUpdate : Work real → Type 0
   IsNoUpdate (SetsFilters i fs) = Unit {0}
   IsNoUpdate (SetsAdverts i ads) = Unit {0}
@@ -71,7 +71,7 @@ module _ (net : Net real) where
       next-apart : (i : ℕ) → (Has i (interfaces real net core.server) → ⊥) → installed_from next i ≡ []
       next-apart i n = step.state_after.installed_apart i (λ h. n (subst (λ z. Has i (interfaces real net z)) same h))
 
-      -- a step that publishes nothing leaves what is installed
+      -- a step that installs nothing leaves what is installed
       kept-by : step.outcome.state.installed ≡ state.installed → (i : ℕ) → installed_from next i ≡ installed_from core i
       kept-by e = by-interface (λ i. installed_from next i ≡ installed_from core i)
           (λ i h. sym (next-installed i h) ∙ ap (λ z. z i) e ∙ stands.installed i h)

@@ -45,11 +45,11 @@ core_parts server ledger clients clock = record {
 abbrev pub without_inbox : ℕ → CoreParts → CoreParts
 without_inbox client core = record core { clients = at_client client emptied core.clients }
 
--- the filters of an interface as they were last published
+-- the filters of an interface as they were last installed
 abbrev pub installed_from : CoreParts → ℕ → List (List ConstraintParts)
 installed_from core interface = held_from real.before interface core.installed
 
--- THE SERVER'S STATE that a core represents in a net: it is a server of the net, holds and published what the state says (of what is no interface it
+-- THE SERVER'S STATE that a core represents in a net: it is a server of the net, holds and has installed what the state says (of what is no interface it
 -- installed nothing), and has the net's clients of this server, with their scripts, with as many commands executed and with what was delivered
 pub record RepresentsServer (net : Net real) (core : CoreParts) (state : ServerState real) : Type 0 where
   pub among : is_among core.server net.servers ≡ true

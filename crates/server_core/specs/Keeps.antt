@@ -11,7 +11,7 @@ use Rattle.server_core.specs.Pending.{IsPending}
 use Rattle.server_core.specs.Showing.{shown}
 
 -- the control is of the net's items and has these links, it is steered by advertisements where the net is or by none, and the changes turn what was
--- published into what is held
+-- installed into what is held
 pub record IsLedger (net : NetParts) (links : List ℕ) (control installed : Numbered) (pending : List TableChange) : Type 0 where
   pub links_are : links ≡ take (length control.filters.announced) control.filters.interfaces
   pub semantics : by_adverts control.semantics ≡ true → control.semantics ≡ net.semantics

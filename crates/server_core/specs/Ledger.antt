@@ -1,4 +1,4 @@
--- What is held, published and pending at a server, and what a change of it is.
+-- What is held, installed and pending at a server, and what a change of it is.
 use Rattle.std.specs.Prelude.{◌≡◌, ◌≢◌, ℕ, ◌||◌, not, true, false, List, []}
 use Rattle.filter_constraints.specs.Constraint.{ConstraintParts}
 use Rattle.filter_types.specs.Before.{list_before}

@@ -19,7 +19,7 @@ pub record AreHeldLinks (held : List HeldLink) : Type 0 where
 abbrev pub interfaces_on : List ℕ → List ℕ → List ℕ
 interfaces_on links clients = links ++ map (λ n. 64 + n) clients
 
--- what a core holds, published and pending
+-- what a core holds, what is installed and what is pending
 abbrev pub ledger_of : CoreParts → LedgerParts
 ledger_of core = record { net = core.net; interfaces = core.interfaces; control = core.control; installed = core.installed; pending = core.pending }
 

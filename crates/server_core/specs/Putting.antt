@@ -11,7 +11,7 @@ use Rattle.server_core.specs.Ledger.{LedgerParts}
 abbrev pub IsGiven : (HeldLink → List (List ConstraintParts)) → List HeldLink → ℕ → List ConstraintParts → Type 0
 IsGiven of held interface x = (h : HeldLink) × Has h held × (h.link ≡ interface) × Has x (of h)
 
--- the ledger holds what it held and what is given, and nothing more is published
+-- the ledger holds what it held and what is given, and nothing more is installed
 pub record ArePut (held : List HeldLink) (old new : LedgerParts) : Type 0 where
   pub net : new.net ≡ old.net
   pub interfaces : new.interfaces ≡ old.interfaces

@@ -13,12 +13,12 @@ use Rattle.server_spec.specs.Session.{SessionParts}
 use Rattle.server_spec.specs.Plan.{next_plan}
 use Rattle.server_core.specs.Core.{CoreParts, installed_from}
 
--- the rising list of exactly the interfaces with a matching filter among those published
+-- the rising list of exactly the interfaces with a matching filter among those installed
 pub record IsRoute (notice : List Attribute) (installed : ℕ → List (List ConstraintParts)) (route : List ℕ) : Type 0 where
   pub rising : IsStrictlyIncreasing route
   pub exact : (i : ℕ) → Has i route ↔ (some_pass (real.matches notice) (installed i) ≡ true)
 
--- where the next command of the client is a publish that will be accepted, the route is that of its notice by what was published
+-- where the next command of the client is a publish that will be accepted, the route is that of its notice by what was installed
 abbrev pub RoutesNext : CoreParts → ℕ → List ℕ → Type 0
 RoutesNext core client route = (s : SessionParts) (id : Id) (n : List Attribute) → Has s core.clients → s.client ≡ client
     → next_plan s ≡ Some (Publish id n) → IsRoute n (installed_from core) route

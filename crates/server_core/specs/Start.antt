@@ -1,4 +1,4 @@
--- The sessions of a server's clients before any step.
+-- Defines the sessions of a server's clients before any step.
 use Rattle.std.specs.Prelude.{ℕ, suc, ◌==◌, false, cond, List, [], ◌∷◌}
 use Rattle.filter_text.specs.declared.semantics.Semantics.{Semantics}
 use Rattle.net_model.specs.Parts.{ClientParts}

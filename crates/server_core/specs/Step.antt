@@ -17,7 +17,7 @@ pub record IsServerStep (net : Net real) (state : ServerState real) (input : Inp
   pub state_after : RepresentsServer net new outcome.state
   pub sent_are : sent ≡ sent_by old.net outcome.outs old.control.links
 
--- the stamp of a step: 1 more than the clock and the taken stamp, which is 0 where nothing is taken
+-- the stamp of a step: 1 more than the clock and the received stamp, which is 0 where nothing is received
 abbrev pub stamp_after : ℕ → ℕ → ℕ
 stamp_after clock taken = suc (max clock taken)
 

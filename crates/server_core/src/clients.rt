@@ -1,4 +1,4 @@
-//! The sessions of the clients that live at a server.
+//! The type of the sessions of the clients that live at a server.
 ghost use Rattle.std.specs.Prelude.{◌≡◌, ◌≢◌, ◌≤◌, ◌<◌, true, [], map, length, Some, slice_get, IfOk, OnOk, IfSome, IfNone, AllPairs};
 ghost use Rattle.std.specs.List.Sorted.{IsStrictlyIncreasing};
 ghost use Rattle.base.specs.Sets.{Has};
@@ -100,7 +100,7 @@ impl<'a> Clients<'a> {
         self.sessions[place].plan()
     }
 
-    /// Takes the next command of a client that lives here, whose plan the caller gives back.
+    /// Executes the next command of a client that lives here, whose plan the caller gives back.
     pub fn commit(&mut self, client: u32, p: &Planned)
         requires planned { (s : SessionParts) → Has s self.old.sessions → s.client ≡ client → s.planned ≡ true }
         requires plan { (s : SessionParts) → Has s self.old.sessions → s.client ≡ client → PlansNext self.old.net s p.now }

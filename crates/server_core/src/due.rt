@@ -93,7 +93,8 @@ fn put_announced<'a, T: Telling>(
     sent: &mut Vec<Sending<'a>>,
 ) -> Result<(), NoMemory>
     requires place { place < length stock.now.announced }
-    requires announced { (t : Announced) → slice_get stock.now.announced place ≡ Some t → (ms : List (Carried real)) × T.announces tables.now stock.now.items t ms }
+    requires announced { (t : Announced) → slice_get stock.now.announced place ≡ Some t
+        → (ms : List (Carried real)) × T.announces tables.now stock.now.items t ms }
     ensures { (t : Announced) (ms : List (Carried real)) → slice_get stock.now.announced place ≡ Some t → T.announces tables.now stock.now.items t ms
         → OnOk result (sent.new.items ≡ sent.old.items ++ map (onto tables.now to) ms) }
 {
@@ -117,8 +118,9 @@ pub(crate) fn filter_messages<'a>(
     requires items { filters.now.items ≡ known_filters tables.now.clients }
     requires announced { (p : ℕ) (t : Announced) → p < length links.now → slice_get filters.now.announced p ≡ Some t
         → (ms : List (Carried real)) × AnnouncesFilters filters.now.items t ms }
-    ensures { (messages : ℕ → List (Carried real)) → ((p link : ℕ) (t : Announced) → slice_get links.now p ≡ Some link → slice_get filters.now.announced p ≡ Some t
-        → AnnouncesFilters filters.now.items t (messages link)) → IfOk result (λ sent. sent.items ≡ sent_by tables.now messages links.now) }
+    ensures { (messages : ℕ → List (Carried real)) → ((p link : ℕ) (t : Announced) → slice_get links.now p ≡ Some link
+        → slice_get filters.now.announced p ≡ Some t → AnnouncesFilters filters.now.items t (messages link))
+        → IfOk result (λ sent. sent.items ≡ sent_by tables.now messages links.now) }
 {
     let mut sent = Vec::new(alloc);
     for p in 0..links.len() {
@@ -142,10 +144,11 @@ pub(crate) fn advert_messages<'a>(
     requires steered { tables.now.semantics ≡ Advertisement }
     requires filters_announced { (p : ℕ) (t : Announced) → slice_get links.now p ≡ Some interface → slice_get filters.now.announced p ≡ Some t
         → (ms : List (Carried real)) × AnnouncesFilters filters.now.items t ms }
-    requires adverts_announced { (p link : ℕ) (t : Announced) → slice_get links.now p ≡ Some link → link ≢ interface → slice_get adverts.now.announced p ≡ Some t
-        → (ms : List (Carried real)) × AnnouncesAdverts adverts.now.items t ms }
-    ensures { (messages : ℕ → List (Carried real)) → ((p : ℕ) (t : Announced) → slice_get links.now p ≡ Some interface → slice_get filters.now.announced p ≡ Some t
-        → AnnouncesFilters filters.now.items t (messages interface)) → ((p link : ℕ) (t : Announced) → slice_get links.now p ≡ Some link → link ≢ interface
+    requires adverts_announced { (p link : ℕ) (t : Announced) → slice_get links.now p ≡ Some link → link ≢ interface
+        → slice_get adverts.now.announced p ≡ Some t → (ms : List (Carried real)) × AnnouncesAdverts adverts.now.items t ms }
+    ensures { (messages : ℕ → List (Carried real)) → ((p : ℕ) (t : Announced) → slice_get links.now p ≡ Some interface
+        → slice_get filters.now.announced p ≡ Some t → AnnouncesFilters filters.now.items t (messages interface))
+        → ((p link : ℕ) (t : Announced) → slice_get links.now p ≡ Some link → link ≢ interface
         → slice_get adverts.now.announced p ≡ Some t → AnnouncesAdverts adverts.now.items t (messages link))
         → IfOk result (λ sent. sent.items ≡ sent_by tables.now messages links.now) }
 {

@@ -1,4 +1,4 @@
-//! Which numbers are held from an interface, and which of a change make a difference.
+//! Finds which numbers are held from an interface, and which of a change make a difference.
 ghost use Rattle.std.specs.Prelude.{◌≡◌, ◌<◌, ◌↔◌, ℕ, length, IfOk};
 ghost use Rattle.base.specs.Sets.{Has};
 ghost use Rattle.base_order.specs.Order.{picked};

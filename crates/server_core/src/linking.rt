@@ -1,4 +1,4 @@
-//! Changes of the tree at one server: what it holds is made on other links beside it, and taken on without memory.
+//! Makes what a server holds on other links, and exchanges it at a change of tree without memory.
 ghost use Rattle.std.specs.Prelude.{◌≡◌, ◌+◌, ◌≤◌, ℕ, [], map, IfOk, OnOk};
 ghost use Rattle.base.specs.Sets.{Has};
 ghost use Rattle.server_spec.specs.Control.{subs, advs};

@@ -1,4 +1,4 @@
-//! The core of a server, with the one body of each of its steps.
+//! The type of the core of a server, with the one body of each of its steps.
 ghost use Rattle.std.specs.Prelude.{◌≡◌, ◌<◌, ◌≤◌, ◌^◌, ◌↔◌, ◌+◌, ℕ, nat_lt, [], max, List, length, map, Some, IfOk, OnOk, OnErr, IsErrOf, IfSome, IfNone};
 ghost use Rattle.filter_constraints.specs.Constraint.{ConstraintParts};
 ghost use Rattle.base.specs.Sets.{Has, IsRising};
@@ -36,7 +36,7 @@ use std::marker::Model;
 
 /// The core of a server in a run: what it holds from whom, its clients, and its clock.
 ///
-/// Contracts see the net, the server, what is held, published and pending, the clients as their commands and deliveries make
+/// Contracts see the net, the server, what is held, installed and pending, the clients as their commands and deliveries make
 /// them, and the clock. After any fault it is as before.
 #[derive(Drop)]
 pub struct Core<'a> {
@@ -94,7 +94,7 @@ impl<'a> Core<'a> {
         Ok(last + 1)
     }
 
-    /// Takes the next command of a client that lives here and has one left: a publish that is accepted, of the publication that goes
+    /// Executes the next command of a client that lives here and has one left: a publish that is accepted, of the publication that goes
     /// out, or where none does no such publish.
     fn take_next(
         &mut self,
@@ -128,7 +128,7 @@ impl<'a> Core<'a> {
         Ok(Step { stamp, sent })
     }
 
-    /// Takes the next command of a client that lives here and has one left, where that is no publish that is accepted.
+    /// Executes the next command of a client that lives here and has one left, where that is no publish that is accepted.
     /// Messages of a change go to the links where what is sent changed.
     pub fn take_command(&mut self, client: u32) -> Result<Step<'a>, StepFault>
         requires lives { Has client (client_numbers self.old.clients) }
@@ -143,7 +143,7 @@ impl<'a> Core<'a> {
         self.take_next(client, None)
     }
 
-    /// Takes the next command of a client that lives here and has one left, a publish that is accepted: of the publication with
+    /// Executes the next command of a client that lives here and has one left, a publish that is accepted: of the publication with
     /// this number, whose route is that of its notice by what was installed.
     pub fn take_publish(
         &mut self,
@@ -165,8 +165,8 @@ impl<'a> Core<'a> {
         self.take_next(client, Some(Outgoing { number, route }))
     }
 
-    /// Takes what a neighbour sent with its stamp. Where it is a publication, the route is that of its notice by what was
-    /// published.
+    /// Receives what a neighbour sent with its stamp. Where it is a publication, the route is that of its notice by what was
+    /// installed.
     pub fn receive_load(
         &mut self,
         from: u32,
@@ -240,7 +240,8 @@ impl<'a> Core<'a> {
     /// What changed since the last table update, which turns what was installed into what is held.
     pub fn pending(&self) -> &[TableChange]
         ensures changes { result.now ≡ self.now.pending }
-        ensures pending { IsPending (known_filters self.now.net.clients) self.now.interfaces (installed_from self.now) (subs self.now.control) self.now.pending }
+        ensures pending { IsPending (known_filters self.now.net.clients) self.now.interfaces (installed_from self.now)
+            (subs self.now.control) self.now.pending }
     {
         self.ledger.pending()
     }

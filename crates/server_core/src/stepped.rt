@@ -1,4 +1,4 @@
-//! The answer of a step: its stamp and messages, or its fault.
+//! The types of the answer of a step: its stamp and messages, or its fault.
 ghost use Rattle.std.specs.Prelude.{◌≡◌};
 ghost use Rattle.server_core.specs.declared.stepped.StepFault.TheVariants as faults;
 
@@ -22,7 +22,7 @@ pub struct Step<'a> {
 pub enum StepFault {
     /// Memory ran out.
     NoMemory,
-    /// The next stamp would be 2^62: the greater of the clock and the taken stamp is this one, 2^62 - 1.
+    /// The next stamp would be 2^62: the greater of the clock and the received stamp is this one, 2^62 - 1.
     StampsExhausted(u64),
 }
 

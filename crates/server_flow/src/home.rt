@@ -1,4 +1,4 @@
-//! The union of what all clients of a server have.
+//! The type of the union of what all clients of a server have.
 ghost use Rattle.std.specs.Prelude.{◌≡◌, ◌⊎◌, ◌↔◌, [], length, List, IfOk};
 ghost use Rattle.base.specs.Sets.{Has};
 ghost use Rattle.filter_constraints.specs.Constraint.{ConstraintParts};

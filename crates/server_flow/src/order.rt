@@ -1,4 +1,4 @@
-//! The links of a tree, from those with few servers beyond to those with many.
+//! Orders the links of a tree, from those with few servers beyond to those with many.
 ghost use Rattle.std.specs.Prelude.{◌≡◌, ◌+◌, ◌<◌, ℕ, IfOk, OnOk};
 ghost use Rattle.base.specs.Sets.{Has};
 ghost use Rattle.base_tree.specs.Tree.{IsServer, links_of};

@@ -1,4 +1,4 @@
-//! What a message carries, by numbers.
+//! The type of what a message carries, by numbers.
 ghost use Rattle.std.specs.Prelude.{◌≡◌, ◌<◌, ◌↔◌, ℕ, List, length, IsTrue};
 ghost use Rattle.base.specs.Sets.{Has};
 ghost use Rattle.server_message.specs.Message.{IsLoad};
@@ -21,7 +21,7 @@ pub enum Load {
 
 impl Load {
     /// Whether it is of the run of these tables: its numbers are those of the net. Who takes a load from another thread asks
-    /// this, since numbers don't tell whose they are.
+    /// this, since numbers don't show whose they are.
     pub fn is_of(&self, tables: &Tables<'_>) -> bool
         ensures { IsTrue result ↔ IsLoad tables.now self.now }
     {

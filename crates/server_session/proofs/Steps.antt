@@ -25,7 +25,7 @@ after-is count (commands.Advertise a) = refl
 after-is count (commands.Unadvertise a) = refl
 after-is count (commands.Publish n) = refl
 
--- a step means its command, with as many publishes before it as the script has
+-- a step represents its command, with as many publishes before it as the script has
 pub step-represents : (known : Catalogued) (client count : ℕ) (steps : List (ℕ × NumberedCommand)) (script : List (ℕ × Command)) → AreNumbered known client count steps script
     → (j : ℕ) (n : ℕ × NumberedCommand) (s : ℕ × Command) → slice_get steps j ≡ Some n → slice_get script j ≡ Some s
     → RepresentsCommand known client (count + ordinal real (take j (map phased_command script))) s.0 n.1 s.1

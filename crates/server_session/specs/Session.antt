@@ -54,7 +54,7 @@ pub record IsNumbered (net : NetParts) (s : SessionParts) (steps : List (ℕ × 
   pub adverts_are : picked (known_adverts net.clients) adverts.members ≡ advert_set_at s s.taken
   pub kept : KeepsSession s (filters_at s s.taken) (adverts_at s s.taken) refused publishes
 
--- a numbered command means the next one of the script
+-- a numbered command represents the next one of the script
 pub record IsNextCommand (net : NetParts) (s : SessionParts) (n : NumberedCommand) : Type 0 where
   pub step : ℕ × Command
   pub at : slice_get s.script s.taken ≡ Some step

@@ -3,7 +3,8 @@
 //! Users: server_core, and the layers sequential, hierarchy and thread.
 //!
 //! A script is read by the numbers of its filters, advertisements and publications, so a withdrawal finds what it
-//! covers in one row, and no filters are compared.
+//! covers in one row, and no filters are compared. Only `start`, `plan` and `room` take memory. Where that is refused,
+//! the session is as before.
 #![tactic(auto)]
 
 mod own;

@@ -1,4 +1,4 @@
-//! A client's own set as a row of numbers.
+//! Changes a client's own set, which is a row of numbers.
 ghost use Rattle.std.specs.Prelude.{◌≡◌, ◌<◌, ◌↔◌, ℕ, nat_lt, not, length, ◌∷◌, [], filter, slice_get, Some, IfOk};
 ghost use Rattle.base.specs.Sets.{Has, union, minus};
 ghost use Rattle.base_order.specs.Order.{picked};

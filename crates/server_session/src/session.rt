@@ -1,4 +1,4 @@
-//! The session of a client at its server.
+//! The type of the session of a client at its server.
 ghost use Rattle.std.specs.Prelude.{◌≡◌, ◌<◌, ◌≤◌, ℕ, suc, true, false, ◌+◌, ◌-◌, [], ◌∷◌, ◌++◌, length, List, Some, slice_get, IsSome, ◌↔◌, IfSome, IfNone, IfOk, OnOk, OnErr};
 ghost use Rattle.filter_types.specs.Notice.{Attribute};
 ghost use Rattle.filter_text.specs.declared.id.Id.{Id as IdParts};
@@ -28,7 +28,7 @@ use std::alloc::Global;
 use std::marker::Model;
 use std::mem::replace;
 
-/// A client's session: its script with the commands that were taken, and its inbox.
+/// A client's session: its script with the commands that were executed, and its inbox.
 ///
 /// Contracts see these, the client, the semantics and the net, for how many more deliveries there is room, and whether the
 /// next command is planned. The client's filters, advertisements and refused publishes are what the commands executed make of
@@ -204,7 +204,7 @@ impl<'a> Session<'a> {
         Ok(planned)
     }
 
-    /// Takes the next command, whose plan the caller gives back: since it was made only room was taken and deliveries came.
+    /// Executes the next command, whose plan the caller gives back: since it was made only room was taken and deliveries came.
     /// It takes no memory.
     pub fn commit(&mut self, planned: &Planned)
         requires planned { self.old.session.planned ≡ true }

@@ -1,4 +1,4 @@
--- The members of the sets of what is held.
+-- Lemmas on the members of the sets of what is held.
 use Rattle.std.proofs.Common.{◌≡◌, ◌↔◌, Bool, true, false, List, map, filter, sym, ◌∙◌}
 use Rattle.base.specs.Laws.{CoverLaws}
 use Rattle.base.specs.Sets.{Has, IsRising}

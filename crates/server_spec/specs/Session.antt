@@ -12,7 +12,7 @@ use Rattle.net_model.specs.Nets.{with_adverts}
 use Rattle.net_model.specs.Adding.{own_filters, own_adverts}
 use Rattle.server_spec.specs.Inbox.{AreDeliveries}
 
--- a session: its client, the semantics, the client's commands with their phases, how many of them were taken, its inbox, for how many
+-- a session: its client, the semantics, the client's commands with their phases, how many of them were executed, its inbox, for how many
 -- more deliveries there is room, and whether the next command is planned
 pub record SessionParts : Type 0 where
   pub client : ℕ

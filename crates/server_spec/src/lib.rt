@@ -7,6 +7,10 @@
 //! has its lists, what its next command does, and its inbox (`server_session` keeps it by number). What each server
 //! holds from each neighbour once a tree comes into force follows from the clients' sets alone (`server_flow` finds it
 //! by number).
+//!
+//! The lemmas say that the messages of a change of a server's control are those of the net (`messages_to` of
+//! `law_routing`), for a control that represents the server. `IsFlow` says what flows over a tree, and `Controlled`
+//! what a control holds.
 #![tactic(auto)]
 
 mod control;

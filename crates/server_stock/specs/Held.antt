@@ -1,4 +1,4 @@
--- Rows of the numbers that are held from places, and how many rows have each number.
+-- Defines rows of the numbers that are held from places, and how many rows have each number.
 use Rattle.std.specs.Prelude.{◌≡◌, ℕ, zero, suc, ◌<◌, ◌^◌, Bool, false, ◌||◌, ◌&&◌, nat_lt, List, [], ◌∷◌, length, slice_index, refl}
 use Rattle.std.specs.Coded.{Coded, code_by, coded×, coded_ℕ, coded_list}
 use Rattle.std.specs.List.{list_any}

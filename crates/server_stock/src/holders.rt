@@ -1,4 +1,4 @@
-//! The numbers that are held from each place, and how many places hold each number.
+//! Keeps the numbers that are held from each place, and how many places hold each number.
 ghost use Rattle.std.specs.Prelude.{◌≡◌, ℕ, ◌<◌, length, replicate, true, IfOk, [], ◌∷◌};
 ghost use Rattle.std.proofs.Math.ListN.{set};
 ghost use Rattle.base.specs.Sets.{Has};

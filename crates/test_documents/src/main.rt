@@ -3,8 +3,12 @@
 //! Users: nobody; it is a program of its own.
 //!
 //! Of documents that are refused it prints the line and the fault, and of those that are read the nets and patterns;
-//! also what catalogues of nets know, and where patterns occur in what is published. With the word `measure` it reads
-//! standard input as a document and prints the time.
+//! also what catalogues of nets know, and where patterns occur in what is published. Among the documents are every
+//! prefix of a realistic one and of an input with patterns, and documents at the limits and one beyond. The program is
+//! proved for bounds and termination alone.
+//!
+//! The command `crates/test_documents/out/test_documents measure < document` prints a document's outcome and the median
+//! nanoseconds of seven readings.
 #![tactic(auto)]
 
 mod catalogued;

@@ -1,4 +1,4 @@
-//! Catalogues of many filters: all the same, and each covering the next.
+//! Prints catalogues of many filters: all the same, and each covering the next.
 ghost use Rattle.std.specs.Prelude.{◌≡◌, IfOk};
 ghost use Rattle.net_model.specs.Sound.{IsSound};
 

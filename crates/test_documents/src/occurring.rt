@@ -56,7 +56,7 @@ fn published(alloc: Global, net: &Net) -> Result<Vec<&Notice>, NoMemory> {
     Ok(notices)
 }
 
-/// Prints the places of each occurrence that a detector tells.
+/// Prints the places of each occurrence that a detector finds.
 fn print_told(rt: &impl Print, notices: &[&Notice], mut detector: Detector) -> Result<(), Failure>
     requires { detector.fed ≡ [] }
 {

@@ -1,4 +1,4 @@
-//! Documents that are refused, some of them beside one that is read.
+//! Prints what reading answers of documents that are refused, some of them beside one that is read.
 use crate::outcome::print_outcomes;
 use std::alloc::Global;
 use test_support::Failure;

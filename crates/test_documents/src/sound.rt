@@ -1,4 +1,4 @@
-//! Documents that are read, with their nets known to be sound.
+//! Reads a document into its net, which is known to be sound.
 ghost use Rattle.std.specs.Prelude.{IfOk};
 ghost use Rattle.net_model.specs.Sound.{IsSound};
 

@@ -1,4 +1,4 @@
-//! Inputs that are refused, and some that are read.
+//! Prints what reading answers of inputs with patterns that are refused, and of some that are read.
 use crate::watched::print_outcomes;
 use std::alloc::Global;
 use test_support::Failure;

@@ -1,4 +1,4 @@
-//! The devices on their worked rows, and a reading and a writing that fail in mid-stream.
+//! Tests the devices on their worked rows, and a reading and a writing that fail in mid-stream.
 use base::NoMemory;
 use base_devices::{
     Failed, Gate, NoGate, Pending, Place, ReadAll, Spot, StdSink, StdSource, WorkerRole, read_all,

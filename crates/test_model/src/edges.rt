@@ -1,4 +1,4 @@
-//! Edges one by one, each with its fault among the earlier ones.
+//! Tests edges one by one, each with its fault among the earlier ones.
 ghost use Rattle.std.specs.Prelude.{◌≤◌};
 ghost use Rattle.base_tree.specs.Graph.{AreWithin};
 
@@ -39,7 +39,7 @@ fn faults_at_their_edge(rt: HostRuntime) {
     assert_eq!(rt; last_fault(3, &[(1, 2), (2, 3)]), None);
 }
 
-// Whether the least server apart is told rightly before an edge, after it, after it again, and after the last one.
+// Whether the least server apart is answered rightly before an edge, after it, after it again, and after the last one.
 fn tells_apart() -> bool {
     let mut labels = Labels::new(3);
     if labels.apart() != Some(2) {

@@ -1,4 +1,4 @@
-//! Audits of what the program writes itself, and of what was made of it.
+//! Tries audits of what the program writes itself, and of what was made of it.
 use crate::examples::{Document, EXAMPLES};
 use crate::tried::{Tried, at_once, shown};
 use std::alloc::Global;

@@ -11,7 +11,7 @@ const DOCUMENT: &str =
 /// The 41 bytes that its walk writes.
 const TEXT: &[u8] = b"client c1\ndeliver c2 1 x int 7\nclient c2\n";
 
-/// Whether a source that fails at this call is told, with nothing written.
+/// Whether a source that fails at this call is reported, with nothing written.
 fn is_unread(alloc: Global, call: u64) -> Result<bool, Failure> {
     let came = failing(alloc, "walk", DOCUMENT.as_bytes(), &[call], &[])?;
     Ok(
@@ -20,7 +20,7 @@ fn is_unread(alloc: Global, call: u64) -> Result<bool, Failure> {
     )
 }
 
-/// Whether a sink that fails at this call is told, with only the pieces of the calls before it written.
+/// Whether a sink that fails at this call is reported, with only the pieces of the calls before it written.
 fn is_unwritten(alloc: Global, call: u64) -> Result<bool, Failure> {
     let came = failing(alloc, "walk", DOCUMENT.as_bytes(), &[], &[call])?;
     Ok(
@@ -30,7 +30,7 @@ fn is_unwritten(alloc: Global, call: u64) -> Result<bool, Failure> {
     )
 }
 
-/// Prints for each call whether a fault there is told.
+/// Prints for each call whether a fault there is reported.
 pub fn print_devices(rt: &impl Print, alloc: Global) -> Result<(), Failure> {
     for call in 1..12 {
         println!(rt; "reading fails at call {call}: {}", is_unread(alloc, call)?)?;

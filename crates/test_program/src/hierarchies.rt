@@ -1,4 +1,4 @@
-//! Walks of hierarchies, with server 1 at the top.
+//! Rows of walks of hierarchies, with server 1 at the top.
 use crate::row::Row;
 use crate::usage::USAGE_LINE;
 

@@ -1,4 +1,4 @@
-//! Documents at the limits, and each beginning of a document.
+//! Tries documents at the limits, and each beginning of a document.
 use crate::tried::{outcome, print_verdict};
 use std::alloc::Global;
 use test_support::Failure;

@@ -3,6 +3,25 @@
 //! Users: nobody; it is a program of its own.
 //!
 //! The rows are run on one thread and with two workers for each server, free and held at gates.
+//!
+//! On one thread: words and documents with what must be printed, or the status and its text; failing devices at each
+//! call; documents replayed step by step, with the stamp of each step and the texts of its messages, as an independent
+//! program gives them. The document of seed 1 is compared by its MD5 digest and that of its flood; its sorted walk,
+//! sorted replay, sorted walk of its hierarchy and flood are one text. Audits confirm what the program itself writes.
+//! They never confirm the output of another document, an output with a byte changed at 500 places, or a claim cut at a
+//! line.
+//!
+//! With threads: documents whose outcome doesn't move, two with their traces, one phase after another and with a change
+//! of tree. Workers are held at a gate: two meet before their first turns; a table update overtakes a match ahead; a
+//! worker for links receives a notification while the phase goes on; four workers take their first turns in each of the
+//! 24 orders. Where the outcome may move, `audit` must confirm what each run wrote with its trace. Many starts and ends
+//! of threads: 100 small runs, and runs in one thread up to eight, of two servers over 1,500 phases and of 64 over 100.
+//!
+//! Tried by hand, before the journals of cells could pass: ten runs of the built program, with 400 runs of each moving
+//! document, 1,000 small runs and 123,000 phases, all as wanted. Threads were refused at each start in turn, by a limit
+//! on the user's processes: on a document of four phases over 64 servers (the walk's bytes), and on those with 64
+//! servers and at the limits (the flood's sorted bytes). 1,500 random documents with stable filters were compared with
+//! `flood`.
 #![tactic(auto)]
 
 mod audits;

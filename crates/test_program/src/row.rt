@@ -1,6 +1,6 @@
 //! The type of a row: what is asked, and what must come.
 
-/// Words and a document, with what the program must tell and write.
+/// Words and a document, with what the program must report and write.
 pub struct Row {
     /// What it is for.
     pub name: &'static str,

@@ -12,7 +12,7 @@ const ROOM: usize = 16_000_000;
 /// The bytes of a great piece.
 const PIECE: usize = 65_536;
 
-/// What a call told and wrote.
+/// What a call reported and wrote.
 #[derive(Drop)]
 pub struct Tried {
     /// The line to standard error, or nothing.
@@ -82,7 +82,7 @@ pub fn shown(bytes: &[u8]) -> &str {
     std::str::from_utf8(bytes).unwrap_or("no text")
 }
 
-/// Prints whether what was told and written is what must come, and where it isn't, what came.
+/// Prints whether what was reported and written is what must come, and where it isn't, what came.
 pub fn print_verdict(
     rt: &impl Print,
     name: &str,

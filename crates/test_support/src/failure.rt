@@ -1,4 +1,4 @@
-//! The reasons why a program of rows printed nothing more.
+//! The type of the reasons why a program of rows printed nothing more.
 use base::NoMemory;
 use std::alloc::{AllocError, AllocFailed};
 use std::io;

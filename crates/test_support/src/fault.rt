@@ -1,4 +1,4 @@
-//! The reasons why rows are not all answered as wanted.
+//! The type of the reasons why rows are not all answered as wanted.
 use base::NoMemory;
 use std::alloc::{AllocError, AllocFailed};
 use std::io;

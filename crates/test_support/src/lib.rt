@@ -5,6 +5,10 @@
 //! A program of such rows reads them on its standard input, a row a line: the question, ` => `, and the answer that is
 //! wanted. A line that begins with `#`, or that is empty, is none. The crate also says why a program of rows printed
 //! nothing more.
+//!
+//! Worked rows come from outside and not from the program. The gate runs each program of rows as two compilers build
+//! it, and compares what it prints. Such a program costs the same to prove however many rows it has. The source and the
+//! sink in memory do exactly what they were made to do (`count`, `fails`, ..).
 #![tactic(auto)]
 
 mod failure;

@@ -12,7 +12,7 @@ use std::test::Fail;
 use std::thread::join_mut;
 use thread_versions::{Publisher, Viewer, agree, match_ahead, versions};
 
-// The number 7 is published from interface 65 from now on.
+// The number 7 is installed from interface 65 from now on.
 const PUT: TableChange = TableChange::Put {
     number: 7,
     interface: 65,
@@ -49,7 +49,7 @@ fn pair<R: Wait>(alloc: Global, rt: &R) -> Result<(Publisher, Viewer), Fail>
     }
 }
 
-// A match before a publish does not agree with it, and one after it does.
+// A match before a table update does not agree with it, and one after it does.
 fn one_change<R: Wait>(
     alloc: Global,
     rt: &R,
@@ -94,7 +94,7 @@ fn a_match_before_a_publish_and_one_after(rt: HostRuntime) -> Result<(), Fail> {
     Ok(())
 }
 
-// Publishes so often: the number is published and no longer published in turn.
+// Makes so many table updates: the number is installed and removed in turn.
 fn publish_in_turn<R: Wait>(rt: &R, publisher: &mut Publisher, times: u64) -> Result<(), NoMemory>
     requires width { (forwarding_of publisher.old).width ≡ 9 }
     requires interfaces { (forwarding_of publisher.old).interfaces ≡ 2 ∷ 65 ∷ [] }
@@ -148,7 +148,7 @@ fn a_thousand_matches_beside_a_hundred_publications(rt: HostRuntime) -> Result<(
     Ok(())
 }
 
-// What one viewer saw too early the other can tell, and has then seen what is published.
+// What one viewer saw too early the other can tell, and has then seen what is installed.
 fn early_and_late<R: Wait>(
     alloc: Global,
     rt: &R,

@@ -1,4 +1,4 @@
-//! Filters, each under the number of the interface that holds it.
+//! Keeps filters, each under the number of the interface that holds it.
 use base::NoMemory;
 use base_bits::Row;
 use filter_types::{Filter, Notice};

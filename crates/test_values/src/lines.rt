@@ -1,4 +1,4 @@
-//! Lines, the commands that they spell, and their faults.
+//! Shows the commands that lines spell, and their faults.
 use crate::long::{marks, members, repeats};
 use document_script::{
     Line, ScriptFault, Token, Tokens, are_digits, one_command, script_command, verb_named,

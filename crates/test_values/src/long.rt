@@ -1,4 +1,4 @@
-//! Texts at the limits of how long they may be.
+//! Makes texts at the limits of how long they may be.
 use std::alloc::Global;
 use test_support::RowFault;
 

@@ -1,4 +1,4 @@
-//! Constraints, notices, filters and advertisements that are made and refused.
+//! Makes constraints, notices, filters and advertisements, or shows their faults.
 use filter_constraints::{Constraint, Normal};
 use filter_text::{kind_named, op_named, write_advert, write_filter, write_notice};
 use filter_types::{Advert, Filter, FilterFault, Notice, NoticeFault};

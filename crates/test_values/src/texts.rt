@@ -1,4 +1,4 @@
-//! The questions of wire texts and of lines, and what answers them.
+//! Answers the questions of wire texts and of lines.
 use crate::{lines, wire};
 use std::alloc::Global;
 use test_support::RowFault;

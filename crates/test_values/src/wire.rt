@@ -1,4 +1,4 @@
-//! Wire texts that are written, read again, and refused.
+//! Reads wire texts and writes them again, or shows their faults.
 use crate::long::{marks, members};
 use filter_text::{
     Delivery, Id, Sent, SentText, SharedText, WireFault, read_advert, read_filter, read_message,

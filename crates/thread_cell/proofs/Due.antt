@@ -1,4 +1,4 @@
--- No lower command is left and none of a higher phase is taken: this goes on through each step.
+-- No lower command is left and none of a higher phase is executed: this goes on through each step.
 use Rattle.std.proofs.Common.{◌≡◌, ℕ, zero, suc, ◌≤◌, ◌<◌, ◌==◌, cond, List, [], ◌∷◌, ◌⊎◌, inl, inr, map, Some, slice_get, refl, sym, ap, subst, ◌∙◌, arith}
 use Rattle.std.proofs.lemmas.Option.{same_Some}
 use Rattle.base.specs.Sets.{Has}

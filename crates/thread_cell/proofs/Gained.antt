@@ -1,4 +1,4 @@
--- A taking: a look finds an item, room is made, and that item is taken.
+-- A reception: a look finds an item, room is made, and that item is taken.
 use Rattle.std.proofs.Common.{◌≡◌, ℕ, max, ◌<◌, ◌^◌, List, [], ◌∷◌, ◌++◌, length, map, get_or, Some, Bool, true, slice_get, refl, sym, ap, subst, ◌∙◌, arith}
 use Rattle.std.proofs.lemmas.Option.{same_Some}
 use Rattle.base.specs.Sets.{Has}

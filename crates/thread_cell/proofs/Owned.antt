@@ -1,2 +1,2 @@
--- Lists that grow by one.
+-- Lemmas on lists that grow by one.
 use Rattle.std.proofs.Common.{◌≡◌, ℕ, zero, suc, ◌+◌, List, [], ◌∷◌, ◌++◌, length, Some, slice_get, refl, sym, ap, subst, ◌∙◌, arith}

@@ -1,4 +1,4 @@
--- What a look and a reception tell of the misses of a lane.
+-- What a look and a reception show of the misses of a lane.
 use Rattle.std.proofs.Common.{◌≡◌, ℕ, List, length, ◌<◌, Bool, true, false, Some, slice_get, sym, ap, subst, ◌∙◌}
 use Rattle.std.proofs.lemmas.Option.{same_Some}
 use Rattle.law_machine.specs.Machine.{Receives}

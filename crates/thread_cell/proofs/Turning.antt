@@ -174,7 +174,7 @@ sight-roomed place xs zs r seen z e =
     let x = both-before IsRoomed place xs zs z r e in
     subst (λ (b : LaneOut StampedLoad). 0 < length (coming_list b)) (sym x.2.leave) (seen x.0 x.1)
 
--- lanes that a publish leaves alone after room was made
+-- lanes that a table update leaves alone after room was made
 pub unmoved-kept : (old roomed later : Vec Link Global) → Both IsRoomed old.items roomed.items → later ≡ roomed → Both IsUnmoved old.items later.items
 unmoved-kept old roomed later room same = subst (λ (l : Vec Link Global). Both IsUnmoved old.items l.items) (sym same) (unmoved-roomed old.items roomed.items room)
 

@@ -1,4 +1,4 @@
--- The inputs of a server whose messages have their stamps. As in a network on one thread.
+-- Defines the inputs of a server whose messages have their stamps, as in a network on one thread.
 use Rattle.std.specs.Prelude.{ℕ}
 use Rattle.law_machine.specs.Machine.{Input, Does, Receives, Act, Did, Received, Stamped}
 use Rattle.law_routing.specs.Server.{Message}
@@ -13,7 +13,7 @@ Represented = Stamped (Message real)
 abbrev pub StampedInput : Type 0
 StampedInput = Input Task Represented
 
--- the input without the stamp, the stamp that it takes, and how a journal tells it
+-- the input without the stamp, the stamp that it takes, and how a journal records it
 abbrev pub input_of : StampedInput → Input Task (Message real)
 input_of (Does task) = Does task
 input_of (Receives from m) = Receives from m.message

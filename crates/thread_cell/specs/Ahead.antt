@@ -55,7 +55,7 @@ RoutesMatched core (Receives from m) numbers = CarriesMatched core.net m.message
 abbrev pub IsUpToDate : Publisher → Ahead → Type 0
 IsUpToDate publisher ahead = length (seen_in ahead) ≡ length (installed publisher)
 
--- it has, and its route is that by what the core published of each notice that matches its numbers, by which a step that routes such a one is made
+-- it has, and its route is that by what the core installed of each notice that matches its numbers, by which a step that routes such a one is made
 abbrev pub IsRight : CoreParts → Publisher → Ahead → Type 0
 IsRight core publisher ahead = IsUpToDate publisher ahead × ((n : List Attribute) → AreValues n
     → matched n (known_filters core.net.clients) ≡ matched_in ahead → IsRoute n (installed_from core) (route_in ahead))

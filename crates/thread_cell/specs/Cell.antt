@@ -54,7 +54,7 @@ pub record IsInstalledBy (publisher : Publisher) (core : CoreParts) : Type 0 whe
   pub wide : IsWideFor core (forwarding_of publisher)
   pub pairs : AreOf core (pairs_after (installed publisher))
 
--- WHAT IS IN HAND STANDS FOR A CELL of the laws of journals: the server's state and clock, and what was put and taken as its net says it
+-- WHAT IS IN HAND REPRESENTS A CELL of the laws of journals: the server's state and clock, and what was put and taken as its net says it
 pub record RepresentsCell (net : NetParts) (phase : ℕ) (core : CoreParts) (links : List Link) (cell : Cell (machine_in net phase)) : Type 0 where
   pub state : RepresentsServer (net_at real (phased_net net) phase) core cell.state
   pub clock : core.clock ≡ cell.clock
@@ -69,13 +69,13 @@ IsPast phase client sessions = (s : SessionParts) (c : ℕ × Command) → Has s
 abbrev pub HasNoneBelow : ℕ → List SessionParts → Type 0
 HasNoneBelow phase sessions = (s : SessionParts) (c : ℕ × Command) → Has s sessions → slice_get s.script s.taken ≡ Some c → phase ≤ c.0
 
--- and none has taken one of a phase above it
+-- and none has had one of a phase above it executed
 pub record IsDue (phase : ℕ) (sessions : List SessionParts) : Type 0 where
   pub left : HasNoneBelow phase sessions
   pub taken : (s : SessionParts) (k : ℕ) (c : ℕ × Command) → Has s sessions → k < s.taken → slice_get s.script k ≡ Some c → c.0 ≤ phase
 
 -- what one server has in hand: its lanes by its neighbours, and no lane with more messages than the clock counts; its publisher shows what the core
--- published, and nothing is pending there but what was handed over
+-- installed, and nothing is pending there but what was handed over
 pub record IsServerInHand (held : ServerInHand) : Type 0 where
   pub low : held.core.clock < 2 ^ 62
   pub neighbours : map (λ link. link.neighbour) held.links.items ≡ held.core.control.links

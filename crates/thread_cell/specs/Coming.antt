@@ -1,4 +1,4 @@
--- The phase of the next command, over clients, servers and nets.
+-- Defines the phase of the next command, over clients, servers and nets.
 use Rattle.std.specs.Prelude.{◌≡◌, ◌≤◌, ℕ, List, Option, Some, None, slice_get}
 use Rattle.server_spec.specs.Session.{SessionParts}
 use Rattle.server_core.specs.Core.{CoreParts}

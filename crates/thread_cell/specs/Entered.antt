@@ -1,4 +1,4 @@
--- The cells of all servers enter a later phase.
+-- Defines how the cells of all servers enter a later phase.
 use Rattle.std.specs.Prelude.{◌≡◌, ◌<◌, ℕ, suc, max, List, [], ◌∷◌, length, Some, slice_get}
 use Rattle.law_machine.specs.Journals.{Cell, network_of}
 use Rattle.law_phases.specs.Trees.{State, off, net_at, at_phase}
@@ -52,7 +52,7 @@ pub record IsEntered (net : NetParts) (last phase : ℕ) (end : State real) (cel
   pub enters : at_phase real (phased_net net) phase (entered real (phased_net net) last phase end) ≡ network_of (machine_in net phase) begun
 
 -- ALL CELLS HAVE ENTERED A LATER PHASE: they are together in it, and whatever state they represented, they now represent that in which the phase is
--- entered: with raised clocks where the tree stays, else on the new tree, with new lanes, and with held and published sets by what flows
+-- entered: with raised clocks where the tree stays, else on the new tree, with new lanes, and with held and installed sets by what flows
 pub record AreEntered (net : NetParts) (last phase : ℕ) (old new : List CellParts) : Type 0 where
   pub together : AreTogether net phase (cell_roots new)
   pub each : (k : ℕ) (a b : CellParts) → slice_get old k ≡ Some a → slice_get new k ≡ Some b → HasEntered a.root phase b

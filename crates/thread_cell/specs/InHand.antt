@@ -1,4 +1,4 @@
--- The cells of all servers in hand within a phase.
+-- Defines the cells of all servers in hand within a phase.
 use Rattle.std.specs.Prelude.{◌≡◌, ◌<◌, ℕ, suc, List, length, Some, slice_get}
 use Rattle.law_machine.specs.Machine.{Entry}
 use Rattle.law_machine.specs.Journals.{Cell, IsPrefix, IsPhaseInHand}

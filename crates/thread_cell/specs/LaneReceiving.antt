@@ -11,11 +11,11 @@ pub record IsMissed (x y : Link) : Type 0 where
   pub misses : misses y.leave ≡ misses x.leave + 1
   pub rest : rest_list x.leave ≡ []
 
--- an item that is in sight: the next taking gives it
+-- an item that is in sight: the next reception takes it
 abbrev pub ComesNext : StampedLoad → Link → Type 0
 ComesNext item x = IsPrefix (item ∷ []) (coming_list x.leave)
 
--- what a look at a link tells: that there is a next item, or that all was taken
+-- what a look at a link shows: that there is a next item, or that all was taken
 abbrev pub IsLooked : Link → Link → Bool → Type 0
 IsLooked x y false = IsMissed x y
 IsLooked x y true = (0 < length (coming_list y.leave)) × (misses y.leave ≡ misses x.leave)

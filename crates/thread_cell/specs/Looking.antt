@@ -19,7 +19,7 @@ abbrev pub IsPublicationOf : NetParts → ℕ → List Link → Bool → Option 
 IsPublicationOf net place links false number = number ≡ None
 IsPublicationOf net place links true number = (item : StampedLoad) × IsNextAt place item links × IsPublicationIn net item.load number
 
--- a look at the lane from a neighbour found the publication that the next taking gives; or none, since all is taken and the misses of that lane rose, or
+-- a look at the lane from a neighbour found the publication that the next reception takes; or none, since all is taken and the misses of that lane rose, or
 -- since what comes next is no publication of the net
 pub record IsLookedFor (net : NetParts) (from : ℕ) (xs ys : List Link) (number : Option ℕ) : Type 0 where
   pub place : ℕ

@@ -30,7 +30,7 @@ pub record RepresentsHome (core : CoreParts) (home : NetHome) : Type 0 where
   pub adverts : (a : List ConstraintParts) → Has a home.home.adverts
       ↔ ((client : ℕ) × Has client (client_numbers core.clients) × Has a (advs core.control (client_interface client)))
 
--- a number is no longer published from a link
+-- a number is no longer installed from a link
 abbrev pub takes : ℕ → ℕ → TableChange
 takes link number = Take number link
 

@@ -40,8 +40,8 @@ IsOfPhase phase core (Does (NextCommand client)) = HasCommand core client phase
 IsOfPhase phase core (Does TableUpdate) = Unit {0}
 IsOfPhase phase core (Receives from m) = Unit {0}
 
--- A STEP WAS MADE: the core made it, what it sends is on the lanes with its stamp, what it took is taken, and the journal has just its entry more; each
--- putting end stands as `flush` leaves it
+-- A STEP WAS MADE: the core made it, what it sends is on the lanes with its stamp, what it received is taken from its lane, and the journal has just
+-- its entry more; each putting end is as `flush` leaves it
 pub record IsCellTurn (phase : ℕ) (input : StampedInput) (act : EntryAct) (old new : ServerInHand) (before after : List EntryParts) : Type 0 where
   pub told : recorded_as input ≡ act_of act
   pub due : IsOfPhase phase old.core input

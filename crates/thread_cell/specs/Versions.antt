@@ -1,4 +1,4 @@
--- Changes that were handed to a publisher before others.
+-- Defines changes that were handed to a publisher before others.
 use Rattle.std.specs.Prelude.{◌≡◌, List}
 use Rattle.base.specs.Sets.{Has}
 use Rattle.match_routes.specs.declared.table_change.TableChange.{TableChange}

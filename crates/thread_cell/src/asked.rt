@@ -1,4 +1,4 @@
-//! What is asked of what a cell has in hand.
+//! Answers what is asked of a server in hand.
 ghost use Rattle.std.specs.Prelude.{◌≡◌, ◌↔◌, ℕ, IfOk, IfSome, OnErr, IsErrOf, IsTrue};
 ghost use Rattle.base.specs.Sets.{Has};
 ghost use Rattle.server_core.specs.Clients.{client_numbers};

@@ -208,7 +208,7 @@ impl<'a> Cell<'a> {
 
     /// One step, where there is one to make. After a made step each putting end stands as a flush leaves it. After a fault the
     /// cell is as before, but that an unchanged part of a lane may have moved along it, and some of what is pending may have
-    /// been handed to the publisher, which has installed none of it. It may wait as a publish or a reception may.
+    /// been handed to the publisher, which has installed none of it. It may wait as a table update or a reception may.
     pub fn turn<R: Wait>(&mut self, rt: &R, what: Act) -> Result<Turned, StepFault>
         requires suits { Suits what self.old.root }
         ensures root { self.new.root ≡ self.old.root }
@@ -337,7 +337,7 @@ impl<'a> Cell<'a> {
     }
 
     /// The cell enters a phase on other links, of which this is given, over these lanes, with this clock. It is called outside
-    /// a lock, and it may wait as a publish may.
+    /// a lock, and it may wait as a table update may.
     pub(crate) fn enter_on<R: Wait>(
         &mut self,
         rt: &R,

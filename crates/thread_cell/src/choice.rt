@@ -50,7 +50,7 @@ impl<'a> Choice<'a> {
     }
 }
 
-/// A publication that was matched ahead, and whether the match had seen all that is published.
+/// A publication that was matched ahead, and whether the match had seen all that is installed.
 #[derive(Drop)]
 pub(crate) struct Matched<'a> {
     pub(crate) ahead: &'a Ahead,

@@ -1,4 +1,4 @@
-//! The rest of a phase, with the cells of all servers in hand.
+//! Makes the rest of a phase, with the cells of all servers in hand.
 ghost use Rattle.std.specs.Prelude.{◌≡◌, ◌<◌, ℕ, false, length, OnOk, IfOk, IsErrOf, Some, slice_get};
 ghost use Rattle.law_machine.specs.Journals.{Cell as Begun};
 ghost use Rattle.server_message.specs.declared.stamped.StampedLoad.{StampedLoad as ItemParts};
@@ -117,7 +117,7 @@ fn walk_once<R: Wait>(rt: &R, cells: &mut [Cell<'_>]) -> Result<bool, StepFault>
     Ok(made)
 }
 
-/// Takes the commands of the phase that are left, server by server.
+/// Executes the commands of the phase that are left, server by server.
 fn walk_commands<R: Wait>(rt: &R, cells: &mut [Cell<'_>]) -> Result<(), StepFault>
     ensures roots { cell_roots cells.new ≡ cell_roots cells.old }
     ensures grown { HaveGrown cells.old cells.new }
@@ -129,7 +129,7 @@ fn walk_commands<R: Wait>(rt: &R, cells: &mut [Cell<'_>]) -> Result<(), StepFaul
     Ok(())
 }
 
-/// Takes the commands of the phase that are left, and then makes rounds until one makes nothing.
+/// Executes the commands of the phase that are left, and then makes rounds until one makes nothing.
 fn walk_phase<R: Wait>(rt: &R, cells: &mut [Cell<'_>]) -> Result<(), StepFault>
     requires { (net : NetParts) × (phase : ℕ) × AreTogether net phase (cell_roots cells.old) }
     ensures roots { cell_roots cells.new ≡ cell_roots cells.old }

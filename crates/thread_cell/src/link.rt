@@ -1,4 +1,4 @@
-//! The two lanes between a server and one neighbour, and what is done on all of them.
+//! The type of the two lanes between a server and one neighbour, and what is done on all of them.
 ghost use Rattle.std.specs.Prelude.{◌≡◌, ◌<◌, ◌≤◌, ◌^◌, [], ℕ, OnOk, IfSome, IfNone, length, map};
 ghost use Rattle.thread_lane.specs.Lane.{put_list, spare};
 ghost use Rattle.base.specs.Numbers.{IsDistinct};

@@ -1,4 +1,4 @@
-//! Phases of a net, and what is left of them at a server.
+//! Finds what is left of the phases of a net at a server.
 ghost use Rattle.std.specs.Prelude.{◌≡◌, ◌↔◌, IsTrue};
 ghost use Rattle.base.specs.Sets.{Has};
 ghost use Rattle.net_model.specs.Nets.{clients_of};

@@ -1,4 +1,4 @@
-//! What is taken from the lanes of one server.
+//! Looks at the lanes of one server, and takes what comes next.
 ghost use Rattle.std.specs.Prelude.{◌<◌, length, map};
 ghost use Rattle.base.specs.Numbers.{IsDistinct};
 ghost use Rattle.server_message.specs.declared.stamped.StampedLoad.{StampedLoad as ItemParts};

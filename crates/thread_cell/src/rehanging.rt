@@ -1,5 +1,5 @@
 //! One server is set on other links: its publisher takes away what it holds from the old ones and puts what is held then, and
-//! publishes that as one table update.
+//! installs that in one table update.
 ghost use Rattle.std.specs.Prelude.{◌≡◌, ◌≤◌, ◌⊎◌, ◌++◌, ◌∷◌, [], ℕ, List, map, OnOk, OnErr, IsTrue};
 ghost use Rattle.base.specs.Sets.{Has};
 ghost use Rattle.match_routes.specs.declared.table_change.TableChange.{TableChange as ChangeParts};
@@ -28,7 +28,7 @@ use std::alloc::Global;
 use std::sync::Wait;
 use thread_versions::Publisher;
 
-/// Hands over that numbers are no longer published from a link.
+/// Hands over that numbers are no longer installed from a link.
 fn withdraw(
     publisher: &mut Publisher,
     handed: &mut Vec<TableChange>,
@@ -108,7 +108,7 @@ fn are_reached(reached: &[u32], interfaces: &[u32]) -> bool
     true
 }
 
-/// Takes away what is held from links, puts these changes, and publishes that.
+/// Takes away what is held from links, puts these changes, and installs that.
 fn republish<R: Wait>(
     rt: &R,
     alloc: Global,
@@ -136,7 +136,7 @@ fn republish<R: Wait>(
     Ok(())
 }
 
-/// Sets a server on other links, of which this is given, over these lanes. It takes no message and makes no entry; what is
+/// Sets a server on other links, of which this is given, over these lanes. It receives no message and makes no entry; what is
 /// held is installed. After a fault all is as before, but that some changes may have been handed to the publisher, which
 /// has installed none of them. Where the server's clients had other interfaces then, which no change of tree gives them, the
 /// answer is out of memory.

@@ -1,4 +1,4 @@
-//! All servers are set on the tree of another phase.
+//! Sets all servers on the tree of another phase.
 ghost use Rattle.std.specs.Prelude.{◌≡◌, ◌<◌, ◌^◌, ℕ, false, List, length, map, Some, slice_get, OnOk};
 ghost use Rattle.law_phases.specs.Trees.{is_one_tree};
 ghost use Rattle.net_model.specs.Real.{real};

@@ -1,4 +1,4 @@
-//! The steps of a core, routed by what its publisher has installed.
+//! Makes the steps of a core, routed by what its publisher has installed.
 ghost use Rattle.std.specs.Prelude.{◌≡◌, ◌<◌, ◌^◌, ℕ, List, length, max, Some, IfOk, OnErr, IfSome, IsErrOf};
 ghost use Rattle.base.specs.Sets.{Has};
 ghost use Rattle.law_machine.specs.Machine.{Does, Receives};
@@ -35,7 +35,7 @@ pub(crate) fn publication_in(tables: &Tables<'_>, load: &Load) -> Option<u32>
     }
 }
 
-/// Where the publication with a number goes by what is published.
+/// Where the publication with a number goes by what is installed.
 fn routed(
     alloc: Global,
     core: &Core<'_>,
@@ -67,7 +67,7 @@ fn route(
     }
 }
 
-/// Takes the next command of a client that lives here and has one left, by the route that is known, if one is.
+/// Executes the next command of a client that lives here and has one left, by the route that is known, if one is.
 pub(crate) fn take_command<'a>(
     alloc: Global,
     core: &mut Core<'a>,
@@ -97,7 +97,7 @@ pub(crate) fn take_command<'a>(
     core.take_publish(client, number, route.interfaces())
 }
 
-/// Takes what a neighbour sent with its stamp, by the route that is known, if one is.
+/// Receives what a neighbour sent with its stamp, by the route that is known, if one is.
 pub(crate) fn receive_load<'a>(
     alloc: Global,
     core: &mut Core<'a>,

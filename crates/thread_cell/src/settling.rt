@@ -1,4 +1,4 @@
-//! Two of a slice at once: all that one put for the other is brought to its taking end.
+//! Brings all that one element of a slice put for another to that one's taking end.
 ghost use Rattle.std.specs.Prelude.{◌≡◌, ◌<◌, ℕ, false, length, map, OnOk, Some, slice_get};
 ghost use Rattle.server_message.specs.declared.stamped.StampedLoad.{StampedLoad as ItemParts};
 ghost use Rattle.thread_cell.specs.Links.{At, IsOneLane, IsSettledLane};

@@ -1,4 +1,4 @@
-//! The parts of a turn: room is made first, then the step, and what follows takes no memory.
+//! Makes room for a turn, and then puts what its step sends, which takes no memory.
 ghost use Rattle.std.specs.Prelude.{◌≡◌, ◌<◌, ◌≤◌, ◌^◌, [], ◌∷◌, ◌++◌, true, length, map, IfOk, OnOk, vec_capacity};
 ghost use Rattle.thread_lane.specs.Lane.{put_list, spare};
 ghost use Rattle.base.specs.Numbers.{IsDistinct};

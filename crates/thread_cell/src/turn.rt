@@ -30,7 +30,7 @@ use server_core::{Core, LAST_STAMP, Step, StepFault};
 use std::alloc::Global;
 use std::sync::Wait;
 
-/// Takes the next command of a client that lives here and has one left; a publish that is accepted goes by the route that
+/// Executes the next command of a client that lives here and has one left; a publish that is accepted goes by the route that
 /// is known, if one is. After a fault all is as before.
 pub(crate) fn turn_command(
     alloc: Global,
@@ -176,7 +176,7 @@ pub(crate) fn turn_update<R: Wait>(
     Ok(Turned::Made)
 }
 
-/// Hands what is pending to the publisher, publishes it, and has the core publish it.
+/// Hands what is pending to the publisher, which installs it, and has the core install it.
 fn publish<R: Wait>(rt: &R, held: &mut ServerInHand<'_>) -> Result<u64, NoMemory>
     requires handed { pending held.old.publisher ≡ installed held.old.publisher ++ held.old.handed.items }
     requires shown { IsInstalledBy held.old.publisher held.old.core }

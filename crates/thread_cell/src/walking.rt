@@ -1,4 +1,4 @@
-//! What a cell does in the rest of a phase.
+//! Makes the turns of one server in the rest of a phase.
 ghost use Rattle.std.specs.Prelude.{◌≡◌, ◌≤◌, false, length};
 ghost use Rattle.net_model.specs.Nets.{script_of};
 ghost use Rattle.thread_cell.specs.declared.turned.Turned.TheVariants.{Idle};
@@ -83,7 +83,7 @@ impl<'a> Cell<'a> {
         Ok(was_made(turned))
     }
 
-    /// Takes the commands of the phase that are left of a client that lives here; answers whether there were any.
+    /// Executes the commands of the phase that are left of a client that lives here; answers whether there were any.
     fn take_script<R: Wait>(&mut self, rt: &R, client: u32) -> Result<bool, StepFault>
         requires { Has client (clients_of self.old.root.net.value self.old.root.server) }
         ensures root { self.new.root ≡ self.old.root }
@@ -103,7 +103,7 @@ impl<'a> Cell<'a> {
         Ok(true)
     }
 
-    /// Takes the commands of the phase that are left of the client at a place of the net, if it lives here; answers whether
+    /// Executes the commands of the phase that are left of the client at a place of the net, if it lives here; answers whether
     /// there were any.
     fn take_home<R: Wait>(&mut self, rt: &R, place: usize) -> Result<bool, StepFault>
         requires { place < length self.old.root.net.value.clients }
@@ -122,7 +122,7 @@ impl<'a> Cell<'a> {
         self.take_script(rt, client)
     }
 
-    /// Takes the commands of the phase that are left of the server's clients; answers whether there were any.
+    /// Executes the commands of the phase that are left of the server's clients; answers whether there were any.
     pub(crate) fn take_commands<R: Wait>(&mut self, rt: &R) -> Result<bool, StepFault>
         ensures root { self.new.root ≡ self.old.root }
         ensures grown { IsPrefix self.old.journal self.new.journal }

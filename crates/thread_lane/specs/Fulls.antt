@@ -1,4 +1,4 @@
--- The count of looks at the ring that found no free place.
+-- Defines the count of looks at the ring that found no free place.
 use Rattle.std.specs.Prelude.{◌≡◌, ℕ, ◌+◌, ◌%◌, ◌^◌}
 use Rattle.thread_lane.specs.declared.fulls.Fulls.{Fulls}
 

@@ -1,4 +1,4 @@
-//! Both ends in one thread: the making of a lane, and its settling.
+//! Makes a lane, and settles it with both ends in one thread.
 ghost use Rattle.std.specs.Prelude.{◌≡◌, ◌+◌, ◌≤◌, ◌^◌, ◌++◌, [], ℕ, length, drop, take, OnOk, OnErr, IfOk};
 ghost use Rattle.std.specs.VecDeque.{deque_len, deque_capacity};
 ghost use mathlib.Core.List.{IsPrefix};

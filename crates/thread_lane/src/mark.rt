@@ -1,4 +1,4 @@
-//! The mark: how many items were pushed into the ring.
+//! The rule of the mark: how many items were pushed into the ring.
 //!
 //! The outcomes named here are part of the statement. A clause that speaks of a lane's misses, or of
 //! the number on the mark, means what these outcomes say: `Look` alone raises `misses`, and only where

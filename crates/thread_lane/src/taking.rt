@@ -1,4 +1,4 @@
-//! The end of a lane that takes items.
+//! The type of the end of a lane that takes items.
 ghost use Rattle.std.specs.Prelude.{◌≡◌, ◌+◌, ◌<◌, ◌≤◌, ◌^◌, ◌++◌, ◌∷◌, [], length, false, drop, IsTrue, IsFalse, IfSome, MatchOption};
 ghost use Rattle.std.specs.VecDeque.{deque_len, deque_capacity};
 ghost use Rattle.std.specs.Arc.{arc_value};

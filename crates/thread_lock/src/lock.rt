@@ -1,4 +1,4 @@
-//! The lock, its passes, and what they do.
+//! The types of the lock and of its passes, and what they do.
 ghost use Rattle.std.specs.Prelude.{◌≡◌, ◌<◌, length, false};
 ghost use Rattle.thread_lock.specs.Rule.{view_in};
 
@@ -147,7 +147,7 @@ impl<T: Standing> TurnLock<T> {
     ghost use Rattle.thread_lock.specs.Rule.{IsFirst};
     ghost use Rattle.thread_lock.specs.Passes.{first_value, IsPassOf, IsFresh, pass_number};
 
-    // Splits the passes off the first seat, which becomes the last of them.
+    // Splits the passes off the first one, which becomes the last of them.
     fn split_off(
         &self,
         mut first: PassSeat<T>,

@@ -1,4 +1,4 @@
-//! The rule of the lock, and what each step tells the pass that makes it.
+//! The rule of the lock, and what the pass that makes a step knows after it.
 //!
 //! The outcomes named here are part of the statement. A clause of `TurnLock` that speaks of a pass's
 //! number, of what it has seen, of whether it has the value in hand or of its misses means what these
@@ -10,7 +10,7 @@ use crate::view::View;
 use atomic_table::{Join, Play, Split, TableRule};
 use std::snapshot::Snapshot;
 
-/// What a lock is told when it is made: its first value, and how many passes it has.
+/// What a lock gets when it is made: its first value, and how many passes it has.
 #[derive(Drop)]
 pub struct Start<T> {
     pub value: Snapshot<T>,

@@ -48,7 +48,7 @@ no-more [] (y ∷ ys) k q e = absurd (omega (arith, q))
 no-more (x ∷ xs) (y ∷ ys) zero q e = absurd cc
 no-more (x ∷ xs) (y ∷ ys) (suc k) q e = no-more xs ys k (omega (arith, q)) e
 
--- what is left where all commands of lower phases are taken is of this phase or a later one
+-- what is left where all commands of lower phases are executed is of this phase or a later one
 pub through-tells : (net : Net real) (state : ServerState real) (phase : ℕ) (clients : List ℕ) (client : ℕ) → all_through real net state phase clients ≡ true → Has client clients
     → (c : PhasedCommand real) → slice_get (net.script client) (state.done client) ≡ Some c → phase ≤ c.phase
 through-tells net state phase [] client t h c e = absurd h
@@ -62,7 +62,7 @@ through-tells net state phase (x ∷ clients) client t h c e = go (λ u later. t
         grind (arith, nat_tests, b)
     go rest true p u (inr later) = rest u later
 
--- a command that may be taken next is one of the state that the core represents, of a client of its server
+-- a command that may be executed next is one of the state that the core represents, of a client of its server
 pub command-at : (net : Net real) (core : CoreParts) (state : ServerState real) (client phase : ℕ) → RepresentsServer net core state → HasCommand core client phase
     → Has client (net.clients core.server) × (c : PhasedCommand real) × (slice_get (net.script client) (state.done client) ≡ Some c) × (c.phase ≡ phase)
 command-at net core state client phase stands h =
@@ -99,7 +99,7 @@ module _ (net : NetParts) (last phase : ℕ) (old started now : List CellParts) 
   abbrev here : Net real
   here = net_at real (phased_net net) phase
 
-  -- to enter a phase takes no command
+  -- to enter a phase executes no command
   done-kept : (last phase : ℕ) (state : State real) (server : ℕ) → ((entered real (phased_net net) last phase state).state server).done ≡ (state.state server).done
   done-kept last phase state server = go (last == phase) (is_one_tree real (phased_net net) last phase)
     where

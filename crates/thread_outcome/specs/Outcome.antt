@@ -1,4 +1,4 @@
--- The cells of a net from phase to phase of a run.
+-- Defines the cells of a net from phase to phase of a run.
 use Rattle.std.specs.Prelude.{◌≡◌, ◌<◌, ◌⊎◌, ℕ, List, length, map, Some, slice_get}
 use Rattle.law_machine.specs.Journals.{Cell}
 use Rattle.law_phases.specs.Trees.{JournalEntry}
@@ -33,7 +33,7 @@ abbrev pub AreAtStart : List CellParts → Type 0
 AreAtStart cells = (k : ℕ) (cell : CellParts) → slice_get cells k ≡ Some cell → IsAtStart cell
 
 -- THE CELLS STAND BETWEEN TWO PHASES: the entries of all journals are a legal run from the opening to the state that the cells represent, at which all
--- links are empty, nothing is pending, and all commands of the phases below the next are taken; the next is a later one, or nothing was done
+-- links are empty, nothing is pending, and all commands of the phases below the next are executed; the next is a later one, or nothing was done
 pub record StandBetween (net : NetParts) (last next : ℕ) (cells : List CellParts) : Type 0 where
   pub ends : ℕ → Cell (machine_in net last)
   pub stand : RepresentCells net last cells ends

@@ -1,4 +1,4 @@
-//! The cells of a net from phase to phase.
+//! States what holds of the cells of a net from phase to phase.
 ghost use Rattle.std.specs.Prelude.{ℕ, suc, List, map};
 ghost use Rattle.net_model.specs.Parts.{NetParts, EntryParts};
 ghost use Rattle.net_model.specs.Nets.{phases_of};

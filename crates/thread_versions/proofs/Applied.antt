@@ -38,7 +38,7 @@ pub made-nothing : (p : Installed) (c : TableChange) → is_known p (pair_in c) 
 unfolding made
 made-nothing p c e = rw e refl
 
--- a published set is told by its parts
+-- an installed set is fixed by its parts
 pub of-parts : (p q : Installed) (pairs : List Pair) → IsOfSame q p → q.pairs ≡ pairs → q ≡ with_pairs p pairs
 of-parts p q pairs s e = λ i. record { width = s.width i; interfaces = s.interfaces i; pairs = e i }
 

@@ -1,4 +1,4 @@
--- What is published stays the fold of a beginning of the history.
+-- What is installed stays the fold of a beginning of the history.
 use Rattle.std.proofs.Common.{fold, ◌≡◌, ◌≢◌, ℕ, ◌+◌, List, [], ◌∷◌, ◌++◌, true, false, set, refl, sym, ap, ◌∙◌, subst, ⊎_elim, append_assoc}
 use Rattle.std.proofs.lemmas.List.{append-nil}
 use Rattle.std.proofs.lemmas.List.Sums.{fold-append}

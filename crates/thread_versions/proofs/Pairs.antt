@@ -57,7 +57,7 @@ route-is numbers pairs cs r e is = one-route numbers (pairs_after cs) r (route_o
 pub is-route : (numbers : List ℕ) (cs : List TableChange) (r : List ℕ) → r ≡ route_of numbers (pairs_after cs) → IsRouteBy numbers (pairs_after cs) r
 is-route numbers cs r e = subst (λ (x : List ℕ). IsRouteBy numbers (pairs_after cs) x) (sym e) (routes numbers (pairs_after cs))
 
--- a route is told by the members of a set alone
+-- a route is fixed by the members of a set alone
 pub by_members : (numbers : List ℕ) (a b : List Pair) (r : List ℕ) → ((x : Pair) → Has x a ↔ Has x b) → IsRouteBy numbers a r → IsRouteBy numbers b r
 by_members numbers a b r same is = record {
   rising = is.rising;

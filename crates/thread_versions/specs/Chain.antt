@@ -1,4 +1,4 @@
--- The rule of the versions: what is published is the fold of a beginning of the history.
+-- The rule of the versions: what is installed is the fold of a beginning of the history.
 use Rattle.std.specs.Prelude.{◌≡◌, ℕ, ◌+◌, List, [], ◌∷◌, ◌++◌, true, false}
 use mathlib.Core.Option.{some}
 use lib.ListN.{get_elem?}
@@ -42,11 +42,11 @@ Knows x v = v.named ≡ true → IsNamedBy x.front.seen.book x.forwarding.width 
 abbrev pub KeepsViews : Version → List View → Type 0
 KeepsViews x views = IsFolded x × ((seat : ℕ) (v : View) → get_elem? views seat ≡ some v → Knows x v)
 
--- what entering tells a viewer
+-- what a viewer knows after entering
 abbrev pub Sighted : View → Version → View → Type 0
 Sighted v x w = (w ≡ v) × IsFolded x × Knows x v
 
--- what publishing tells the publisher: one more show
+-- what the publisher knows after a table update: one more show
 abbrev pub ShownView : View → Version → View → Type 0
 ShownView v y w = IsFolded y × (w ≡ named_by (v.shows + 1) y.front.seen.book y.forwarding.width)
 
@@ -64,13 +64,13 @@ abbrev pub last_seen : Known → List Step → Known
 last_seen s [] = s
 last_seen s (x ∷ xs) = last_seen x.front.seen xs
 
--- after these steps what is published goes on in the same history, and each of their changes is known
+-- after these steps what is installed goes on in the same history, and each of their changes is known
 pub record MayShow (x : Version) (steps : List Step) : Type 0 where
   pub log : (last_seen x.front.seen steps).log ≡ x.front.seen.log ++ changes_of steps
   pub book : (last_seen x.front.seen steps).book ≡ x.front.seen.book
   pub known : all_known x.forwarding (changes_of steps) ≡ true
 
--- the version that is published with these steps
+-- the version that is installed with these steps
 pub record IsShownAfter (x : Version) (steps : List Step) (y : Version) : Type 0 where
   pub folded : IsFolded y
   pub seen : y.front.seen ≡ last_seen x.front.seen steps

@@ -7,31 +7,31 @@ use Rattle.thread_versions.specs.declared.publisher.Publisher.{Publisher}
 use Rattle.thread_versions.specs.declared.viewer.Viewer.{Viewer}
 use Rattle.thread_versions.specs.declared.ahead.Ahead.{Ahead}
 
--- all changes that were pending, in their order; those that are published stand first
+-- all changes that were pending, in their order; those that are installed come first
 abbrev pub pending : Publisher → List TableChange
 pending p = p.top.seen.log
 
--- the changes that are published
+-- the changes that are installed
 abbrev pub installed : Publisher → List TableChange
 installed p = p.shown.seen.log
 
--- the numbers and interfaces of a publisher, with the pairs that are published
+-- the numbers and interfaces of a publisher, with the pairs that are installed
 abbrev pub forwarding_of : Publisher → Installed
 forwarding_of p = p.writer.desk.shown.value.forwarding
 
--- how often it showed a version: each was one step, at which viewers came to see all that was published with it and none of it before
+-- how often it showed a version: each was one step, at which viewers came to see all that was installed with it and none of it before
 abbrev pub shows : Publisher → ℕ
 shows p = (view p.writer.desk.place).shows
 
--- the published changes that the viewer has seen
+-- the installed changes that the viewer has seen
 abbrev pub seen_by : Viewer → List TableChange
 seen_by v = v.front.seen.log
 
--- below which number all are that the viewer can see published
+-- below which number all are that the viewer can see installed
 abbrev pub width_of : Viewer → ℕ
 width_of v = (view v.reader.place).width
 
--- the published changes by which the match ahead has its route
+-- the installed changes by which the match ahead has its route
 abbrev pub seen_in : Ahead → List TableChange
 seen_in a = a.front.seen.log
 

@@ -1,4 +1,4 @@
--- The history of all pending changes, which exists in proofs alone: its one word is its length.
+-- Defines the history of all pending changes, which exists in proofs alone: its one word is its length.
 use Rattle.std.specs.Prelude.{ℕ, ◌≡◌, ◌==◌, true, List, [], ◌∷◌, ◌++◌, length, MatchBool}
 use Rattle.logbook.specs.Pages.{Cell, Step, View, Book, Named}
 use Rattle.match_routes.specs.declared.table_change.TableChange.{TableChange}

@@ -1,4 +1,4 @@
-//! Whether a match ahead is by all that is published.
+//! Finds whether a match ahead is by all that is installed.
 ghost use Rattle.std.specs.Prelude.{◌≡◌, ◌≤◌, ◌↔◌, length, IsTrue};
 ghost use mathlib.Core.List.{IsPrefix};
 ghost use Rattle.match_routes.specs.Routes.{IsRouteBy};
@@ -9,8 +9,8 @@ use crate::ahead::Ahead;
 use crate::publisher::Publisher;
 use crate::viewer::Viewer;
 
-/// Whether the match ahead has seen as many changes as are published, so that its route is the published one. After either answer the
-/// viewer has seen all that is published. The caller has a viewer of this publisher's, and one made the match. Nobody waits.
+/// Whether the match ahead has seen as many changes as are installed, so that its route is the installed one. After either answer the
+/// viewer has seen all that is installed. The caller has a viewer of this publisher's, and one made the match. Nobody waits.
 pub fn agree(publisher: &Publisher, viewer: &mut Viewer, ahead: &Ahead) -> bool
     requires viewer { IsViewerOf publisher.now viewer.old }
     requires ahead { IsAheadOf publisher.now ahead.now }

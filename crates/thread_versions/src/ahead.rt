@@ -7,7 +7,7 @@ use crate::history::Front;
 use base_bits::Row;
 use match_routes::Route;
 
-/// Matched numbers with their route by the first `seen` published changes.
+/// Matched numbers with their route by the first `seen` installed changes.
 #[derive(Drop)]
 pub struct Ahead {
     pub(crate) matched: Row,
@@ -43,7 +43,7 @@ impl Ahead {
         &self.route
     }
 
-    /// How many published changes were seen.
+    /// How many installed changes were seen.
     pub fn seen(&self) -> u128
         ensures { result ≡ length (seen_in self.now) }
     {

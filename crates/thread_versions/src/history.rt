@@ -1,4 +1,4 @@
-//! The history of all pending changes, which exists in proofs alone.
+//! Keeps the history of all pending changes, which exists in proofs alone.
 ghost use Rattle.std.specs.Prelude.{◌≡◌, length};
 
 use logbook::{Gain, Offer, Plain, Play, Rule, Seen, Start, Word};

@@ -14,7 +14,7 @@ pub fn pairs_are_applied()
     ensures further { (changes more : List TableChange) → pairs_after (changes ++ more) ≡ all_changed more (pairs_after changes) }
 {}
 
-/// Where the same pairs are published, in whatever order, routes are the same.
+/// Where the same pairs are installed, in whatever order, routes are the same.
 pub fn same_pairs_same_routes()
     ensures { (numbers : List ℕ) (a b : List Pair) (route : List ℕ) → ((x : Pair) → Has x a ↔ Has x b)
         → IsRouteBy numbers a route → IsRouteBy numbers b route }

@@ -14,7 +14,7 @@ use base::NoMemory;
 use std::alloc::Global;
 use std::sync::Wait;
 
-/// A publisher that has published nothing from these interfaces, which rise, and 1 to 3 viewers of it that have seen nothing.
+/// A publisher that has installed nothing from these interfaces, which rise, and 1 to 3 viewers of it that have seen nothing.
 /// Numbers will be below the width.
 pub fn versions<R: Wait>(
     alloc: Global,

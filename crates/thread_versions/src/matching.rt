@@ -51,7 +51,7 @@ fn try_match(
     }
 }
 
-/// Matched numbers with their route by the first published changes, no fewer than the viewer had seen, which has then seen those.
+/// Matched numbers with their route by the first installed changes, no fewer than the viewer had seen, which has then seen those.
 ///
 /// It tries again where it finds fewer, and where the reader is handed back. After running out of memory the viewer is as before.
 pub fn match_ahead<R: Wait>(

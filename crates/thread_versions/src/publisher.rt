@@ -9,9 +9,9 @@ use crate::rule::VersionWriter;
 use match_routes::TableChange;
 use std::alloc::Global;
 
-/// Who stages and publishes changes of what a server publishes. It isn't `Drop`: end it.
+/// Who makes changes of a server's table pending and installs them. It isn't `Drop`: end it.
 ///
-/// Pending changes wait until a publish hands them over.
+/// Pending changes wait until a table update hands them over.
 pub struct Publisher {
     pub(crate) alloc: Global,
     pub(crate) writer: VersionWriter,

@@ -21,14 +21,14 @@ use std::sync::Wait;
 const MOST: u64 = 1 << 62;
 
 impl Publisher {
-    /// How many changes are published.
+    /// How many changes are installed.
     pub fn count(&self) -> u128
         ensures { result ≡ length (installed self.now) }
     {
         u128::from(self.shown.count)
     }
 
-    /// The route of matched numbers by what is published.
+    /// The route of matched numbers by what is installed.
     pub fn route(&self, alloc: Global, matched: &Row) -> Result<Route, NoMemory>
         requires { matched.now.width ≡ (forwarding_of self.now).width }
         ensures { IfOk result (IsRouteBy matched.now.members (pairs_after (installed self.now))) }
@@ -36,7 +36,7 @@ impl Publisher {
         self.writer.published().forwarding.route(alloc, matched)
     }
 
-    /// Stages a change, whose number is below the width and whose interface is one of the server's. It wants memory where there
+    /// Makes a change pending, whose number is below the width and whose interface is one of the server's. It wants memory where there
     /// is none, and where 2^62 changes were pending.
     pub fn stage(&mut self, change: TableChange) -> Result<(), NoMemory>
         requires { IsKnown (forwarding_of self.old) (pair_in change) }

@@ -1,4 +1,4 @@
-//! The rule of what is published: each version is the fold of a beginning of the history, and each place that names a book
+//! The rule of what is installed: each version is the fold of a beginning of the history, and each place that names a book
 //! names that of this history, and the width that all versions have.
 use crate::version::{Step, Version};
 use atomic_table::{Join, Split};
@@ -16,7 +16,7 @@ pub struct View {
     pub log_name: u64,
     /// The name of its cells.
     pub cells_name: u64,
-    /// Below which number all published numbers are.
+    /// Below which number all installed numbers are.
     pub width: u64,
     /// How often this place showed a version. `Shows` alone counts, one for each step at which the versions turn.
     pub shows: u64,
@@ -42,7 +42,7 @@ impl Outcome<Version, View> for Sees {
     ghost then = { λ v x y w. Sighted v x w };
 }
 
-/// The publisher publishes.
+/// The publisher makes a table update.
 pub struct Shows;
 
 impl Outcome<Version, View> for Shows {
@@ -51,7 +51,7 @@ impl Outcome<Version, View> for Shows {
     ghost then = { λ v x y w. ShownView v y w };
 }
 
-/// The publisher tells a viewer the book, and the viewer learns it.
+/// The publisher hands a viewer the book, and the viewer keeps it.
 pub struct Notes;
 
 impl Split<View> for Notes {

@@ -1,4 +1,4 @@
-//! The table that viewers read, and how changes are absorbed into it.
+//! The type of the table that viewers read, and how changes are absorbed into it.
 ghost use Rattle.std.specs.Prelude.{◌≡◌, ◌<◌, ◌^◌, [], nat_lt, length, IfOk, List, fold};
 ghost use Rattle.base.specs.Sets.{IsRising};
 ghost use Rattle.match_routes.specs.Installed.{Installed};
@@ -12,7 +12,7 @@ use logbook::Seen;
 use match_routes::{Forwarding, TableChange};
 use std::alloc::{AllocError, Global};
 
-/// Changes that are published together, with the history up to the last of them.
+/// Changes that are installed together, with the history up to the last of them.
 #[derive(Drop)]
 pub struct Step {
     /// The changes, in their order.

@@ -5,7 +5,7 @@ ghost use Rattle.thread_versions.specs.Chain.{IsNamedBy};
 use crate::history::Front;
 use crate::rule::VersionReader;
 
-/// Who finds routes beside a publisher, maybe in another thread. It keeps how many published changes it has seen.
+/// Who finds routes beside a publisher, maybe in another thread. It keeps how many installed changes it has seen.
 #[derive(Drop)]
 pub struct Viewer {
     pub(crate) reader: VersionReader,

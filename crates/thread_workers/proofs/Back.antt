@@ -55,7 +55,7 @@ pub one-has : {X : Type 0} (P Q : X → Type 0) (xs : List X) (n : ℕ) → leng
 one-has P Q [] n e p q = absurd (omega (arith, e))
 one-has P Q (x ∷ xs) n e p q = (x, p 0 x (omega arith), q 0 x (omega arith))
 
--- the first journal is a beginning of the last, as a pass that saw the first tells
+-- the first journal is a beginning of the last, as a pass that saw the first shows
 pub seen-grown : (lock : CellLock) (cell : CellParts) (passes : List (Pass EntryParts Root)) (n : ℕ) → length passes ≡ suc n → All (HasSeenFirst lock) passes → All (λ p. IsPrefix (seen_by p) cell.journal) passes → HasGrown (first_value lock) cell
 seen-grown lock cell passes n e a p =
     let x = one-has (HasSeenFirst lock) (λ p. IsPrefix (seen_by p) cell.journal) passes n e a p in

@@ -1,4 +1,4 @@
--- The entries of a phase count the commands that were taken, and their last stamp is the clock.
+-- The entries of a phase count the commands that were executed, and their last stamp is the clock.
 use Rattle.std.proofs.Common.{◌≡◌, ℕ, suc, ◌+◌, ◌≤◌, ◌==◌, cond, Bool, false, List, [], ◌∷◌, Some, slice_get, refl, sym, ap, subst, ◌∙◌, arith}
 use Rattle.base.specs.Sets.{Has}
 use Rattle.base.specs.Numbers.{sum_over, count}

@@ -1,4 +1,4 @@
--- Beginnings of lists.
+-- Lemmas on beginnings of lists.
 use Rattle.std.proofs.Common.{◌≡◌, List, [], ◌∷◌, ◌++◌, sym, ap, ◌∙◌}
 use mathlib.Core.List.{IsPrefix}
 use Rattle.law_machine.proofs.Lists.{append-nothing, append-together}

@@ -1,4 +1,4 @@
--- The last cell of a row, with its viewers.
+-- Lemmas on the last cell of a row, with its viewers.
 use Rattle.std.proofs.Common.{◌≡◌, ℕ, zero, suc, ◌+◌, List, [], ◌∷◌, ◌++◌, map, length, Some, slice_get, refl, sym, ap, subst, ◌∙◌, arith}
 use Rattle.std.proofs.lemmas.List.{length-map, map-append}
 use Rattle.thread_lock.specs.Passes.{first_value}

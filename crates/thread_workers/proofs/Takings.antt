@@ -1,4 +1,4 @@
--- What holds after a taking of the cell, once it is put back.
+-- What holds after a worker had the cell in hand, once it is put back.
 use Rattle.std.proofs.Common.{◌≡◌, ℕ, List, sym, subst}
 use Rattle.std.specs.Prelude.{Result, IfOk}
 use mathlib.Core.List.{IsPrefix}

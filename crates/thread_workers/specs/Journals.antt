@@ -1,4 +1,4 @@
--- What the journal of a cell tells of the commands that were taken, and of the clock.
+-- What the journal of a cell shows of the commands that were executed, and of the clock.
 use Rattle.std.specs.Prelude.{◌≡◌, ◌⊎◌, ℕ, suc, ◌+◌, ◌≤◌, ◌==◌, Bool, false, List, [], ◌∷◌, map, drop}
 use mathlib.Core.List.{IsPrefix}
 use Rattle.base.specs.Sets.{Has}
@@ -29,7 +29,7 @@ commands_of client entries = sum_over (λ entry. count (is_command_of client ent
 abbrev pub entries_since : Root → List EntryParts → List EntryParts
 entries_since root journal = drop root.entries journal
 
--- A JOURNAL HAS EVERY COMMAND of the clients of the cell's server in the phases up to this one, with those that were taken before the cell entered
+-- A JOURNAL HAS EVERY COMMAND of the clients of the cell's server in the phases up to this one, with those that were executed before the cell entered
 -- its phase
 abbrev pub HasCommands : ℕ → Root → List EntryParts → Type 0
 HasCommands phase root journal = (s : SessionParts) → Has s root.core.value.clients → Has s.client (clients_of root.net.value root.server)

@@ -1,4 +1,4 @@
--- The workers of a phase: those of each lock.
+-- Defines the workers of a phase: those of each lock.
 use Rattle.std.specs.Prelude.{◌≡◌, ◌≤◌, ◌+◌, ◌/◌, ◌%◌, ◌++◌, ℕ, zero, suc, false, List, [], ◌∷◌, All, length, Some, slice_get, vec_capacity}
 use Rattle.filter_text.specs.MessageText.{Each}
 use Rattle.base_devices.specs.declared.gate.WorkerRole.{WorkerRole}

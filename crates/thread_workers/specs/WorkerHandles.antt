@@ -67,7 +67,7 @@ IsTried worker tries.Done root journal = EndsWith worker root journal None
 IsTried worker (tries.Ahead what number) root journal = Suits what root × CanMatch root number × IsOfWorker worker what
 IsTried worker (tries.Turned turned) root journal = Unit {0}
 
--- how a worker stands between two takings: a publication that it matched is of a turn of its own, and it has ended as it may
+-- the state of a worker while it has not got its cell in hand: a publication that it matched is of a turn of its own, and it has ended as it may
 abbrev pub IsWorkerState : WorkerRole → Root → List EntryParts → WorkerState → Type 0
 IsWorkerState worker root seen Free = Unit {0}
 IsWorkerState worker root seen (Matched what ahead) = Suits what root × IsAheadBy root.viewer.value ahead × IsOfWorker worker what

@@ -1,4 +1,4 @@
-//! What a worker gives back when it has ended.
+//! The type of what a worker gives back when it has ended.
 ghost use Rattle.std.specs.Prelude.{◌≡◌, IsFalse, Some};
 
 use net_model::Entry;

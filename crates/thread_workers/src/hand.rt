@@ -1,4 +1,4 @@
-//! What a worker does with the cell in hand.
+//! Makes the turns of a worker with the cell in hand.
 ghost use Rattle.std.specs.Prelude.{◌≡◌, ◌≤◌, ◌<◌, ℕ, suc, length, IfOk, IfSome, IfNone, IsErrOf, IsTrue, IsFalse};
 ghost use mathlib.Core.List.{IsPrefix};
 ghost use Rattle.net_model.specs.Sound.{IsSound};
@@ -17,7 +17,7 @@ use std::sync::Wait;
 use thread_cell::{Cell, Turned};
 use thread_versions::{Ahead, Viewer};
 
-// So many turns at most are made under one taking.
+// So many turns at most are made before the cell is put back.
 const TURNS: u32 = 64;
 
 /// Whether a client lives at the cell's server and has a command of its phase, or of one below it, left.
@@ -130,7 +130,7 @@ fn try_command<R: Wait>(rt: &R, cell: &mut Cell<'_>, at: &mut u32) -> Result<Tri
     }
 }
 
-/// A taking from a neighbour; a publication is to be matched ahead.
+/// A reception from a neighbour; a publication is to be matched ahead.
 fn look_from<R: Wait>(rt: &R, cell: &mut Cell<'_>, from: u32) -> Result<Tried, StepFault>
     requires { Suits (Act.Receive from) cell.old.root }
     ensures root { cell.new.root ≡ cell.old.root }
@@ -145,7 +145,7 @@ fn look_from<R: Wait>(rt: &R, cell: &mut Cell<'_>, from: u32) -> Result<Tried, S
     Ok(Tried::Turned(turned))
 }
 
-/// One try of the worker for links: a taking from the neighbour at this place, or behind the last one a table update.
+/// One try of the worker for links: a reception from the neighbour at this place, or behind the last one a table update.
 fn try_link<R: Wait>(
     rt: &R,
     cell: &mut Cell<'_>,
@@ -191,7 +191,7 @@ fn make_commands<R: Wait>(
     Ok(Tried::Turned(Turned::Made))
 }
 
-/// Takings from the neighbours in turn and table updates, so many at most, until a publication is to be matched ahead, or until from
+/// Receptions from the neighbours in turn and table updates, so many at most, until a publication is to be matched ahead, or until from
 /// each neighbour in turn nothing came and nothing was installed.
 fn make_takings<R: Wait>(
     rt: &R,

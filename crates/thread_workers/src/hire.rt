@@ -1,4 +1,4 @@
-//! Workers with all that they are given, in their threads.
+//! Puts workers, with all that they are given, into their threads.
 ghost use Rattle.std.specs.Prelude.{◌≡◌, ◌≤◌, ◌<◌, ◌*◌, ◌^◌, ℕ, suc, [], List, length, map, vec_capacity};
 ghost use Rattle.base_devices.specs.declared.gate.WorkerRole.{WorkerRole as WorkerKind};
 ghost use Rattle.thread_workers.specs.ServerWorkers.{AreBack, AreBackAt, AreAllWorkers, HaveRoom, IsBack, AreSpareOf, Pairwise};
@@ -95,7 +95,8 @@ pub(crate) fn hire_all<'l, 'a, R: Wait, G: Gate>(
     requires room { length locks.now ≤ vec_capacity spares.old }
     requires by_thread { HaveRoom (2 * length locks.now) (map (λ r. (length r.workers.items, r.room)) by_thread.old.items) }
     ensures hired { map (λ r. map (λ p. at_lock p.context.lock.now p.context.worker) r.workers.items) by_thread.new.items
-        ≡ with_all (length by_thread.old.items) 0 locks.now (map (λ r. map (λ p. at_lock p.context.lock.now p.context.worker) r.workers.items) by_thread.old.items) }
+        ≡ with_all (length by_thread.old.items) 0 locks.now
+        (map (λ r. map (λ p. at_lock p.context.lock.now p.context.worker) r.workers.items) by_thread.old.items) }
     ensures count { length by_thread.new.items ≡ length by_thread.old.items }
     ensures spares { Pairwise AreSpareOf locks.now spares.new.items }
     ensures capacity { vec_capacity spares.new ≡ vec_capacity spares.old }

@@ -102,7 +102,8 @@ pub(crate) fn lock_all<'a>(
     requires viewers { Pairwise AreViewersOf (cell_roots cells.old.items) viewers.old.items }
     requires empty { (locks.old.items ≡ []) × (all_workers.old.items ≡ []) }
     requires room { (length cells.old.items ≤ vec_capacity locks.old) × (length cells.old.items ≤ vec_capacity all_workers.old) }
-    ensures locked { MatchBool result (AreAllWorkers tables.now phase locks.new.items all_workers.new.items × (map lock_root locks.new.items ≡ cell_roots cells.old.items))
+    ensures locked { MatchBool result
+        (AreAllWorkers tables.now phase locks.new.items all_workers.new.items × (map lock_root locks.new.items ≡ cell_roots cells.old.items))
         ((locks.new.items ≡ []) × (all_workers.new.items ≡ [])) }
     ensures cells { MatchBool result ((cells.new.items ≡ []) × (viewers.new.items ≡ []))
         ((cell_roots cells.new.items ≡ cell_roots cells.old.items) × Pairwise AreViewersOf (cell_roots cells.old.items) viewers.new.items) }

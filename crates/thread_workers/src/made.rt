@@ -1,7 +1,7 @@
-//! How many turns a worker made under one taking.
+//! Counts the turns that a worker made before it put the cell back.
 use thread_cell::Turned;
 
-/// How many turns a worker made under one taking, and whether the first of them found its match ahead out of date.
+/// How many turns a worker made before it put the cell back, and whether the first of them found its match ahead out of date.
 #[derive(Drop)]
 pub(crate) struct Made {
     pub(crate) turns: u32,

@@ -22,7 +22,7 @@ use std::thread::Threads;
 use thread_cell::Cell;
 use thread_lock::TurnLock;
 
-// So many threads can be told apart.
+// So many threads can be numbered.
 const MOST: usize = 64;
 
 /// The threads for so many servers: one a worker, up to as many as are wanted.

@@ -1,4 +1,4 @@
-//! The workers of one lock, with their viewers and passes.
+//! The types of the workers of one lock, with their viewers and passes.
 use crate::worker_handles::WorkerHandles;
 use net_model::Entry;
 use thread_cell::Root;

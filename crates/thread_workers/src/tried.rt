@@ -1,4 +1,4 @@
-//! What came of one try with the cell in hand.
+//! The type of what came of one try with the cell in hand.
 use net_model::Act;
 use thread_cell::Turned;
 

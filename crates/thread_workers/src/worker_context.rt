@@ -55,7 +55,7 @@ impl<'l, 'a, R: Wait, G: Gate> WorkerContext<'l, 'a, R, G> {
         });
     }
 
-    /// Passes the gate after the turns of one taking, once for each.
+    /// Passes the gate after the turns that were made with the cell in hand, once for each.
     fn pass_made(&self, made: &Made) {
         if made.stale {
             self.pass_gate(Spot::Stale);
@@ -97,7 +97,7 @@ impl<'l, 'a, R: Wait, G: Gate> WorkerContext<'l, 'a, R, G> {
         Ok(ahead)
     }
 
-    /// What comes after a taking: the next publication is matched ahead, or the worker has ended.
+    /// What comes after turns with the cell in hand: the next publication is matched ahead, or the worker has ended.
     fn follow(
         &self,
         handles: &mut WorkerHandles<'a>,
@@ -181,7 +181,7 @@ impl<'l, 'a, R: Wait, G: Gate> WorkerContext<'l, 'a, R, G> {
         self.follow(handles, came, &made)
     }
 
-    /// One taking of the cell, where it can be had and the worker hasn't ended.
+    /// Turns with the cell in hand, where it can be had and the worker hasn't ended.
     fn step(
         &self,
         handles: &mut WorkerHandles<'a>,
@@ -201,8 +201,8 @@ impl<'l, 'a, R: Wait, G: Gate> WorkerContext<'l, 'a, R, G> {
         }
     }
 
-    /// The turns that it can make now, without waiting for the cell: so many takings in a row, with a match ahead between two of
-    /// them where a publication comes next.
+    /// The turns that it can make now, without waiting for the cell. It takes the cell in hand a bounded number of times, and
+    /// in between matches a publication ahead where one comes next.
     pub(crate) fn go(
         &self,
         handles: &mut WorkerHandles<'a>,

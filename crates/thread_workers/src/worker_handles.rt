@@ -1,4 +1,4 @@
-//! The handles of a worker while it works.
+//! The type of the handles of a worker while it works.
 ghost use Rattle.std.specs.Prelude.{◌≡◌};
 
 use crate::ended::Ended;

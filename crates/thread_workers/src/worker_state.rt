@@ -1,4 +1,4 @@
-//! How a worker stands between two takings of its cell.
+//! The type of the state of a worker while it doesn't have its cell in hand.
 ghost use Rattle.std.specs.Prelude.{◌≡◌, ℕ, List};
 ghost use Rattle.net_model.specs.Parts.{EntryParts};
 ghost use Rattle.thread_cell.specs.declared.held.Root.{Root};
@@ -11,7 +11,7 @@ use net_model::Act;
 use server_core::StepFault;
 use thread_versions::Ahead;
 
-/// How a worker stands between two takings of its cell.
+/// The state of a worker while it has not got its cell in hand.
 #[derive(Drop)]
 pub(crate) enum WorkerState {
     /// Nothing is matched.

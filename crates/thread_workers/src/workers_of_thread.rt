@@ -1,4 +1,4 @@
-//! The workers of one thread, which goes round them.
+//! The type of the workers of one thread, which goes round them.
 ghost use Rattle.std.specs.Prelude.{◌≡◌, ◌≤◌, [], IfOk, length, map, vec_capacity};
 ghost use Rattle.thread_workers.specs.ServerWorkers.{HaveRoom, IsBack, Pairwise, at_lock};
 

@@ -1,4 +1,4 @@
-//! Documents whose outcome may move from run to run.
+//! Lists documents whose outcome may move from run to run.
 
 /// A document.
 pub struct Document {

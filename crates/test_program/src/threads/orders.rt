@@ -1,4 +1,4 @@
-//! Four workers in every order of their first turns.
+//! Lets four workers take their first turns in every order.
 use super::tried::{free, held, is_written};
 use super::waiting::{add, counted, wait_for};
 use base_devices::{Gate, Place, WorkerRole};

@@ -16,7 +16,7 @@ const DOCUMENT: &str =
 /// The publication goes by the wider filter.
 const TEXT: &[u8] = b"client s\ndeliver p 1 x int 5\nclient p\n";
 
-/// In the second phase the worker for links waits for the first match ahead; then that for commands waits for the version;
+/// In the second phase the worker for links waits for the first match ahead; then that for commands waits for the table update;
 /// and then that for links waits for the turn of the publication.
 #[derive(Drop)]
 struct Overtaken {

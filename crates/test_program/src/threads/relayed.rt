@@ -17,7 +17,7 @@ const DOCUMENT: &str =
 const TEXT: &[u8] = b"client s\ndeliver p 1 x int 5\nclient p\n";
 
 /// In the second phase the workers for links wait for the publication, and the worker for commands of server 2 waits until that
-/// for links there has taken it.
+/// for links there has received it.
 #[derive(Drop)]
 struct Relayed {
     published: AtomicU64,

@@ -66,12 +66,12 @@ pub fn in_threads<R: Threads + Wait + Sync>(
     Ok(Tried { fault, text })
 }
 
-/// Whether this was written, and nothing told.
+/// Whether this was written, and nothing reported.
 pub fn is_written(came: &Tried, text: &[u8]) -> bool {
     came.fault.is_empty() && came.text.as_slice() == text
 }
 
-/// Prints whether this was written and nothing told, and where it wasn't, what came.
+/// Prints whether this was written and nothing reported, and where it wasn't, what came.
 pub fn print_written(
     rt: &impl Print,
     name: &str,
