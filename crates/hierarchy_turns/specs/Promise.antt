@@ -1,11 +1,12 @@
 -- What a network of a hierarchy is promised to have done, by its journal.
-use Rattle.std.specs.Prelude.{◌≡◌, ◌↔◌, ℕ, length, List}
+use Rattle.std.specs.Prelude.{◌≡◌, ◌≤◌, ◌↔◌, ℕ, length, List}
 use Rattle.base.specs.Sets.{Has}
 use Rattle.law_routing.specs.Server.{Publication}
 use Rattle.net_model.specs.Real.{real}
 use Rattle.law_hierarchy.specs.Masters.{top, master, IsLower, IsBelow, HierarchyLaws}
 use Rattle.law_hierarchy.specs.HierarchyRun.{HierarchyRun, Routed, IsSentTo, IsWanted, IsDelivered, IsInForce, IsPublished, IsOwedTo, IsAllowedTo}
-use Rattle.law_hierarchy.specs.HierarchyRun.{IsDeliveredOnce, IsInOrder, IsBounded, IsStable, inbox_of, times_put}
+use Rattle.law_hierarchy.specs.HierarchyRun.{IsDeliveredOnce, IsInOrder, IsBounded, IsStable, inbox_of, states, times_put}
+use Rattle.law_hierarchy.specs.HierarchyRun.{IsFloodOwedTo, IsByPhase, HappensBefore, AreGivenInOrder}
 use Rattle.net_model.specs.Parts.{NetParts, EntryParts}
 use Rattle.net_model.specs.Sound.{IsSound}
 use Rattle.hierarchy_turns.specs.Network.{net_of, IsLegal, IsDrainedBy, run_of}
@@ -54,6 +55,25 @@ abbrev pub DeliversStably : HierarchyRun real → Type 0
 DeliversStably run = (client : ℕ) → IsStable real run client → (publication : Publication real)
     → Has publication (inbox_of real run client) ↔ IsAllowedTo real run publication client
 
+-- and so is all that flooding owes, whatever is advertised
+abbrev pub DeliversFloodOwedOnce : HierarchyRun real → Type 0
+DeliversFloodOwedOnce run = (publication : Publication real) (client : ℕ) → IsFloodOwedTo real run publication client → IsDeliveredOnce real run publication client
+
+-- BARRIER ORDER: in each client's inbox, after any n entries, the phases of the publications never fall
+abbrev pub DeliversByPhase : HierarchyRun real → Type 0
+DeliversByPhase run = (n server client : ℕ) → Has client (run.net.clients server) → IsByPhase real run n server client
+
+-- CAUSAL ORDER: each inbox that has two publications of which one happened before the other, after any n entries, has them in this order
+abbrev pub DeliversCausally : HierarchyRun real → Type 0
+DeliversCausally run = (one : Publication real) (between : List (Publication real)) (other : Publication real) → HappensBefore real run one between other
+    → (n server client : ℕ) → Has client (run.net.clients server)
+    → Has one (((states real run n).state server).inbox client) → Has other (((states real run n).state server).inbox client)
+    → AreGivenInOrder real run n server client one other
+
+-- no publication was put twice on a link, by any moment
+abbrev pub CarriesOnce : HierarchyRun real → Type 0
+CarriesOnce run = (n from to publisher ordinal : ℕ) → times_put real run n from to publisher ordinal ≤ 1
+
 -- WHAT IS PROMISED of a legal, drained journal
 pub record HierarchyPromise (net : NetParts) (journal : List EntryParts) : Type 0 where
   pub laws : HierarchyLaws real (net_of net)
@@ -64,9 +84,13 @@ pub record HierarchyPromise (net : NetParts) (journal : List EntryParts) : Type 
   pub carries_wanted_down : CarriesWantedDown (run_of net laws journal legal)
   pub in_force : DeliversByInstalled (run_of net laws journal legal)
   pub owed_once : DeliversOwedOnce (run_of net laws journal legal)
+  pub flood_owed_once : DeliversFloodOwedOnce (run_of net laws journal legal)
   pub allowed : DeliversAllowed (run_of net laws journal legal)
   pub stable : DeliversStably (run_of net laws journal legal)
   pub in_order : (publisher : ℕ) → IsInOrder real (run_of net laws journal legal) publisher (length journal)
+  pub by_phase : DeliversByPhase (run_of net laws journal legal)
+  pub causal : DeliversCausally (run_of net laws journal legal)
+  pub carries_once : CarriesOnce (run_of net laws journal legal)
   pub bounded : IsBounded real (run_of net laws journal legal)
 
 -- a journal is a whole run of a hierarchy: legal, of a sound net, and all is drained at its end

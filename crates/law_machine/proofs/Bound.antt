@@ -95,7 +95,7 @@ module _ (m : Machine) (k : Measure m) (laws : MeasureLaws m k) where
   sum-stamped u t c [] = refl
   sum-stamped u t c (x ∷ xs) = omega (arith, sum-stamped u t c xs)
 
-  plain-heft : (u t : ℕ) (x : m.Message) → k.wide x ≡ false → weight_of m k u t x ≡ k.size u t
+  pub plain-heft : (u t : ℕ) (x : m.Message) → k.wide x ≡ false → weight_of m k u t x ≡ k.size u t
   plain-heft u t x e = rw e refl
 
   wide-heft : (u t : ℕ) (x : m.Message) → k.wide x ≡ true → weight_of m k u t x ≡ n * k.size u t

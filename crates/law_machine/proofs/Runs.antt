@@ -7,7 +7,7 @@ use Rattle.law_machine.specs.Runs.{raised, IsReady, IsRun, IsWithinPuts}
 use Rattle.base.specs.Numbers.{sum_over, count}
 use Rattle.law_machine.specs.Load.{Measure, MeasureLaws, weight_of, load, pending_count, is_reception, is_update, is_command, receptions, updates, commands, remaining}
 use Rattle.law_machine.proofs.Lists.{Same, Is, Not, compare}
-use Rattle.law_machine.proofs.Bound.{sum-le, sum-more, sum-times, only, only-at, sum-same, sum-only, only-sum, short-sum, any-heft, some-servers, heavier, lighter}
+use Rattle.law_machine.proofs.Bound.{sum-le, sum-more, sum-times, only, only-at, sum-same, sum-only, only-sum, short-sum, plain-heft, any-heft, some-servers, heavier, lighter}
 use Rattle.base.proofs.Numbers.{sum_over-zero}
 
 square : (n x : ℕ) → suc x ≡ n → n * x ≤ n * n
@@ -126,6 +126,38 @@ module _ (m : Machine) (k : Measure m) (laws : MeasureLaws m k) where
       subst (λ z. count (is_update m k z) + pending_count m k v ≤ pending_count m k x + (count (is_reception m k z) + count (is_command m k z))) (sym act) (subst (λ z. count (is_update m k (act_of m d)) + pending_count m k z ≤ pending_count m k x + (count (is_reception m k (act_of m d)) + count (is_command m k (act_of m d)))) after (staging x e.server d r made)) in
       let ih = counted v q es w' p' rest in_v in
       (omega (arith, one, same.0, ih.0, more-by (count (is_command m k e.act)) (commands m k es) (n * n)), omega (arith, two, same.1, ih.1), omega (arith, kinds e.act, ih.2))
+
+  -- where no message makes one back, a command leads to fewer receptions than there are servers
+  module _ (narrow : (x : m.Message) → k.wide x ≡ false) where
+    command-narrow : (w : NetworkState m) (t : ℕ) (a : m.Task) (r : Outcome m.State m.Message) → IsWithinPuts m w → m.step t (w.state t) (Does a) ≡ Some r → load m k (network_after m w t (Does a) r) + 1 ≤ load m k w + n
+    command-narrow w t a r within made =
+        omega (
+          arith,
+          heavier m k laws w t (Does a) r within (k.size t) (λ b h. short-sum (weight_of m k t b) (k.size t b) (r.outs b) (laws.one t (w.state t) (Does a) r made b h) (λ y i. omega (arith, plain-heft m k laws t b y (narrow y)))),
+          laws.total t (laws.among t (w.state t) (Does a) r made),
+        )
+
+    weighs-narrow : (w : NetworkState m) (t : ℕ) (d : Input m.Task (Stamped m.Message)) (r : Outcome m.State m.Message) → IsWithinPuts m w → m.step t (w.state t) (unstamped m d) ≡ Some r → IsAvailable m w t d
+        → count (is_reception m k (act_of m d)) + count (is_command m k (act_of m d)) + load m k (network_after m w t d r) ≤ load m k w + count (is_command m k (act_of m d)) * n
+    weighs-narrow w t (Receives u s) r within made given = omega (arith, lighter m k laws w t u s r within given made)
+    weighs-narrow w t (Does a) r within made given = go (k.table_update a) refl
+      where
+        go : (b : Bool) → k.table_update a ≡ b → 0 + count (cond b false true) + load m k (network_after m w t (Does a) r) ≤ load m k w + count (cond b false true) * n
+        go true e = omega (arith, silent w t a r within made e)
+        go false e = omega (arith, command-narrow w t a r within made)
+
+    pub counted-narrow : (w : NetworkState m) (p : ℕ) (es : List (Entry m)) (w' : NetworkState m) (p' : ℕ) → IsRun m w p es w' p' → IsWithinPuts m w
+        → receptions m k es + commands m k es + load m k w' ≤ load m k w + commands m k es * n
+    counted-narrow w p [] w' p' (e, f) within = omega (arith, ap (load m k) e)
+    counted-narrow w p (e ∷ es) w' p' (x, v, q, ready, (d, r, made, entry_of, given, after), rest) within =
+        let same : (load m k x ≡ load m k w) × IsWithinPuts m x =
+        ready-same (λ z. (load m k z ≡ load m k w) × IsWithinPuts m z) (λ z b. b) w p (act_phase m e.server (w.state e.server) e.act) x q ready (refl, within) in
+        let act : e.act ≡ act_of m d = ap (λ (z : Entry m). z.act) entry_of in
+        let in_v : IsWithinPuts m v = subst (IsWithinPuts m) after (within-after x e.server d r same.1 given) in
+        let one : count (is_reception m k e.act) + count (is_command m k e.act) + load m k v ≤ load m k x + count (is_command m k e.act) * n =
+        subst (λ z. count (is_reception m k z) + count (is_command m k z) + load m k v ≤ load m k x + count (is_command m k z) * n) (sym act) (subst (λ z. count (is_reception m k (act_of m d)) + count (is_command m k (act_of m d)) + load m k z ≤ load m k x + count (is_command m k (act_of m d)) * n) after (weighs-narrow x e.server d r same.1 made given)) in
+        let ih = counted-narrow v q es w' p' rest in_v in
+        omega (arith, one, same.0, ih, more-by (count (is_command m k e.act)) (commands m k es) n)
 
   left-same : (w : NetworkState m) (t : ℕ) (d : Input m.Task (Stamped m.Message)) (r : Outcome m.State m.Message) → m.step t (w.state t) (unstamped m d) ≡ Some r → remaining m k (network_after m w t d r) ≤ remaining m k w
   left-same w t d r made = sum-same (λ x. k.left x ((network_after m w t d r).state x)) (λ x. k.left x (w.state x)) m.servers (λ x h. each x (compare x t))

@@ -1,5 +1,5 @@
 -- Counts the entries of a run over trees.
-use Rattle.std.proofs.Common.{◌≡◌, ℕ, suc, ◌+◌, ◌*◌, ◌≤◌, cond, List, [], ◌∷◌, inl, inr, length, Option, Some, None, refl, sym, ap, subst, ◌∙◌, arith, mul-le-mul_right}
+use Rattle.std.proofs.Common.{◌≡◌, ℕ, zero, suc, ◌+◌, ◌*◌, ◌-◌, ◌≤◌, false, cond, List, [], ◌∷◌, inl, inr, length, Option, Some, None, refl, sym, ap, subst, ◌∙◌, arith, mul-le-mul_right}
 use Rattle.base.specs.Sets.{Has}
 use Rattle.base.specs.Numbers.{sum_over, count}
 use Rattle.base.proofs.Numbers.{Same, Is, Not, compare}
@@ -8,15 +8,15 @@ use Rattle.law_machine.specs.Machine.{Act, Did, Received, act_phase}
 use Rattle.law_machine.specs.Network.{IsStep}
 use Rattle.law_machine.specs.Runs.{raised, IsReady, IsRun, HasStampsUpTo, IsWithinPuts}
 use Rattle.law_machine.specs.Load.{MeasureLaws, load, pending_count, remaining, is_reception as reception_one, is_update as version_one, is_command as command_one}
-use Rattle.law_machine.proofs.Runs.{counted, within-left, within-after}
+use Rattle.law_machine.proofs.Runs.{counted, counted-narrow, within-left, within-after}
 use Rattle.law_machine.proofs.Stamps.{greatest-below, run-stamps}
 use Rattle.law_routing.specs.Theory.{Theory, TheoryLaws}
 use Rattle.law_routing.specs.Net.{Net}
 use Rattle.law_routing.specs.Step.{Task, NextCommand, TableUpdate}
-use Rattle.law_routing.specs.Routing.{routing_machine, measure, all_commands}
+use Rattle.law_routing.specs.Routing.{routing_machine, measure, narrow_measure, all_commands}
 use Rattle.law_routing.specs.Change.{on_tree}
 use Rattle.law_routing.proofs.Along.{strict, tree}
-use Rattle.law_routing.proofs.Spreading.{spreads}
+use Rattle.law_routing.proofs.Spreading.{spreads, spreads-narrow}
 use Rattle.law_routing.proofs.Total.{all-zero}
 use Rattle.law_phases.specs.Trees.{JournalEntry, State, on, off, entry_on, trees_by, PhasedNet, PhasedNetLaws, tree_at, net_at, machine_at, at_phase}
 use Rattle.law_phases.specs.Moments.{Moment, begun, opening_moment}
@@ -31,6 +31,9 @@ module _ (th : Theory) (laws : TheoryLaws th) where
   abbrev load-on : Net th → State th → ℕ
   load-on z s = load (routing_machine th z) (measure th z (side_size z.hop z.servers)) (on th z s)
 
+  abbrev narrow-on : Net th → State th → ℕ
+  narrow-on z s = load (routing_machine th z) (narrow_measure th z (side_size z.hop z.servers)) (on th z s)
+
   abbrev pending-on : Net th → State th → ℕ
   pending-on z s = pending_count (routing_machine th z) (measure th z (side_size z.hop z.servers)) (on th z s)
 
@@ -40,6 +43,7 @@ module _ (th : Theory) (laws : TheoryLaws th) where
   -- from one net and state to another nothing grows
   record Kept (n : ℕ) (z : Net th) (s : State th) (y : Net th) (x : State th) : Type 0 where
     load : load-on y x ≤ load-on z s
+    narrow : narrow-on y x ≤ narrow-on z s
     pending : pending-on y x ≤ pending-on z s
     left : left-on y x ≤ left-on z s
     within : IsWithinPuts (routing_machine th y) (on th y x)
@@ -49,12 +53,15 @@ module _ (th : Theory) (laws : TheoryLaws th) where
     spread : (k : ℕ) → MeasureLaws (machine_at th net k) (measure th (net_at th net k) (side_size (net_at th net k).hop (net_at th net k).servers))
     spread k = spreads th (strict th laws (net_at th net k) (net-laws th net good k)) (net_at th net k) (side_size (net_at th net k).hop (net_at th net k).servers) good.single (tree th laws (net_at th net k) (net-laws th net good k))
 
+    spread-narrow : net.adverts ≡ false → (k : ℕ) → MeasureLaws (machine_at th net k) (narrow_measure th (net_at th net k) (side_size (net_at th net k).hop (net_at th net k).servers))
+    spread-narrow plain k = spreads-narrow th (strict th laws (net_at th net k) (net-laws th net good k)) (net_at th net k) plain (side_size (net_at th net k).hop (net_at th net k).servers) good.single (tree th laws (net_at th net k) (net-laws th net good k))
+
     -- the rule of phases
     kept : (n : ℕ) (s : State th) (p : ℕ) (o : Option ℕ) (x : State th) (q : ℕ) → ActFinds th net s p o x q → IsWithinPuts (machine_at th net p) (at_phase th net p s) → HasStampsUpTo (machine_at th net p) n (at_phase th net p s) → Kept n (net_at th net p) s (net_at th net q) x
     kept n s p o x q ready within stamps = go o ready
       where
         same : Kept n (net_at th net p) s (net_at th net p) s
-        same = record { load = omega arith; pending = omega arith; left = omega arith; within = within; stamps = stamps }
+        same = record { load = omega arith; narrow = omega arith; pending = omega arith; left = omega arith; within = within; stamps = stamps }
 
         up : State th
         up = off th (net_at th net p) (raised (machine_at th net p) (at_phase th net p s))
@@ -63,11 +70,12 @@ module _ (th : Theory) (laws : TheoryLaws th) where
         moved k = off th (net_at th net k) (on_tree th (net_at th net p) (tree_at th net k).links (tree_at th net k).hop (at_phase th net p s))
 
         risen : Kept n (net_at th net p) s (net_at th net p) up
-        risen = record { load = omega arith; pending = omega arith; left = omega arith; within = within; stamps = record { clocks = λ t. greatest-below (machine_at th net p) n s.clock net.servers (λ u h. stamps.clocks u); puts = stamps.puts } }
+        risen = record { load = omega arith; narrow = omega arith; pending = omega arith; left = omega arith; within = within; stamps = record { clocks = λ t. greatest-below (machine_at th net p) n s.clock net.servers (λ u h. stamps.clocks u); puts = stamps.puts } }
 
         gone : (k : ℕ) → Kept n (net_at th net p) s (net_at th net k) (moved k)
         gone k = record {
           load = omega (arith, all-zero (λ u. sum_over (λ t. 0) ((net_at th net k).links u)) net.servers (λ u. all-zero (λ t. 0) ((net_at th net k).links u) (λ t. refl)));
+          narrow = omega (arith, all-zero (λ u. sum_over (λ t. 0) ((net_at th net k).links u)) net.servers (λ u. all-zero (λ t. 0) ((net_at th net k).links u) (λ t. refl)));
           pending = omega (arith, all-zero (λ t. 0) net.servers (λ t. refl));
           left = omega arith;
           within = λ a b. omega arith;
@@ -112,6 +120,18 @@ module _ (th : Theory) (laws : TheoryLaws th) where
     command-same q (Did TableUpdate) = refl
     command-same q (Received u) = refl
 
+    reception-narrow : (q : ℕ) (a : Act Task) → count (reception_one (machine_at th net q) (narrow_measure th (net_at th net q) (side_size (net_at th net q).hop (net_at th net q).servers)) a) ≡ count (is_reception a)
+    reception-narrow q (Did b) = refl
+    reception-narrow q (Received u) = refl
+
+    command-narrow : (q : ℕ) (a : Act Task) → count (command_one (machine_at th net q) (narrow_measure th (net_at th net q) (side_size (net_at th net q).hop (net_at th net q).servers)) a) ≡ count (is_command a)
+    command-narrow q (Did (NextCommand c)) = refl
+    command-narrow q (Did TableUpdate) = refl
+    command-narrow q (Received u) = refl
+
+    narrow-nums : (t t' c c' l l' n : ℕ) → t ≡ t' → c ≡ c' → (t + 0) + (c + 0) + l ≤ l' + (c + 0) * n → t' + c' + l ≤ l' + c' * n
+    narrow-nums t t' c c' l l' n e f h = let g : (t' + 0) + (c' + 0) + l ≤ l' + (c' + 0) * n = subst (λ z. (z + 0) + (c' + 0) + l ≤ l' + (c' + 0) * n) e (subst (λ z. (t + 0) + (z + 0) + l ≤ l' + (z + 0) * n) f h) in omega (arith, g)
+
     abbrev square : ℕ
     square = length net.servers * length net.servers
 
@@ -129,6 +149,7 @@ module _ (th : Theory) (laws : TheoryLaws th) where
 
     record Counted (n : ℕ) (s : State th) (p : ℕ) (es : List JournalEntry) (s' : State th) (p' : ℕ) : Type 0 where
       receptions : receptions_in es + load-on (net_at th net p') s' ≤ load-on (net_at th net p) s + commands_in es * square
+      narrow : net.adverts ≡ false → receptions_in es + commands_in es + narrow-on (net_at th net p') s' ≤ narrow-on (net_at th net p) s + commands_in es * length net.servers
       updates : updates_in es + pending-on (net_at th net p') s' ≤ pending-on (net_at th net p) s + (receptions_in es + commands_in es)
       all : receptions_in es + updates_in es + commands_in es ≡ length es
       left : commands_in es + left-on (net_at th net p') s' ≤ left-on (net_at th net p) s
@@ -140,7 +161,7 @@ module _ (th : Theory) (laws : TheoryLaws th) where
 
     count-all : (n : ℕ) (s : State th) (p : ℕ) (es : List JournalEntry) (s' : State th) (p' : ℕ) → IsPhasedRun th net s p es s' p' → IsWithinPuts (machine_at th net p) (at_phase th net p s) → HasStampsUpTo (machine_at th net p) n (at_phase th net p s) → Counted n s p es s' p'
     count-all n s p [] s' p' (a, b) within stamps =
-        subst (λ z. Counted n s p [] s' z) b (subst (λ (z : State th). Counted n s p [] z p) a (record { receptions = omega arith; updates = omega arith; all = refl; left = omega arith; stamps = λ e h. absurd h; ends = subst (λ z. HasStampsUpTo (machine_at th net p) z (at_phase th net p s)) (none n) stamps }))
+        subst (λ z. Counted n s p [] s' z) b (subst (λ (z : State th). Counted n s p [] z p) a (record { receptions = omega arith; narrow = λ plain. omega arith; updates = omega arith; all = refl; left = omega arith; stamps = λ e h. absurd h; ends = subst (λ z. HasStampsUpTo (machine_at th net p) z (at_phase th net p s)) (none n) stamps }))
       where
         none : (a : ℕ) → a ≡ a + 0
         none a = omega arith
@@ -167,6 +188,12 @@ module _ (th : Theory) (laws : TheoryLaws th) where
         let one-left : count (is_command e.act) + left-on (net_at th net q) v ≤ left-on (net_at th net q) x = left-nums m-command d (left-on (net_at th net q) v) (left-on (net_at th net q) x) (command-same q e.act) l in
         record {
           receptions = omega (arith, one-load, k.load, ih.receptions, more-by (count (is_command e.act)) (commands_in es) square);
+          narrow = λ plain.
+              (let n = narrow_measure th (net_at th net q) (side_size (net_at th net q).hop (net_at th net q).servers) in
+              let some = counted-narrow (machine_at th net q) n (spread-narrow plain q) (λ y. refl) (at_phase th net q x) q (entry_on th (net_at th net q) e ∷ []) (at_phase th net q v) q one k.within in
+              let one-narrow : count (is_reception e.act) + count (is_command e.act) + narrow-on (net_at th net q) v ≤ narrow-on (net_at th net q) x + count (is_command e.act) * length net.servers =
+              narrow-nums (count (reception_one (machine_at th net q) n e.act)) (count (is_reception e.act)) (count (command_one (machine_at th net q) n e.act)) (count (is_command e.act)) (narrow-on (net_at th net q) v) (narrow-on (net_at th net q) x) (length net.servers) (reception-narrow q e.act) (command-narrow q e.act) some in
+              omega (arith, one-narrow, k.narrow, ih.narrow plain, more-by (count (is_command e.act)) (commands_in es) (length net.servers)));
           updates = omega (arith, one-pending, k.pending, ih.updates);
           all = omega (arith, ih.all, one-all);
           left = omega (arith, one-left, k.left, ih.left);
@@ -190,11 +217,13 @@ module _ (th : Theory) (laws : TheoryLaws th) where
       let s = (opening_moment th run.net).state in
       let c = count-all run.net run.laws 0 (opening_moment th run.net).state 0 run.journal run.end run.last run.legal (λ a b. omega arith) (record { clocks = λ t. omega arith; puts = λ a b y h. absurd h }) in
       let no-load : load-on (net_at th run.net 0) (opening_moment th run.net).state ≡ 0 = all-zero (λ u. sum_over (λ t. 0) ((net_at th run.net 0).links u)) run.net.servers (λ u. all-zero (λ t. 0) ((net_at th run.net 0).links u) (λ t. refl)) in
+      let no-narrow : narrow-on (net_at th run.net 0) (opening_moment th run.net).state ≡ 0 = all-zero (λ u. sum_over (λ t. 0) ((net_at th run.net 0).links u)) run.net.servers (λ u. all-zero (λ t. 0) ((net_at th run.net 0).links u) (λ t. refl)) in
       let none : pending-on (net_at th run.net 0) (opening_moment th run.net).state ≡ 0 = all-zero (λ t. 0) run.net.servers (λ t. refl) in
       let less : commands_in run.journal ≤ all_commands th (net_at th run.net 0) = omega (arith, c.left) in
       let few : length run.journal ≤ 2 * (commands_in run.journal * (length run.net.servers * length run.net.servers + 1)) = entries (receptions_in run.journal) (updates_in run.journal) (commands_in run.journal) (length run.journal) (length run.net.servers * length run.net.servers) (omega (arith, c.receptions, no-load)) (omega (arith, c.updates, none)) c.all in
       record {
         receptions = omega (arith, c.receptions, no-load);
+        fewer = λ plain. one-less (receptions_in run.journal) (commands_in run.journal) (length run.net.servers) (omega (arith, c.narrow plain, no-narrow));
         updates = omega (arith, c.updates, none);
         entries = few;
         commands = less;
@@ -204,5 +233,12 @@ module _ (th : Theory) (laws : TheoryLaws th) where
         puts = λ a b y h. omega (arith, c.ends.puts a b y h);
       }
     where
+      before : (n : ℕ) → suc n - 1 ≡ n
+      before n = omega arith
+
+      one-less : (r c n : ℕ) → r + c ≤ c * n → r ≤ c * (n - 1)
+      one-less r c zero l = omega (arith, l)
+      one-less r c (suc n) l = let g : c * suc n ≡ c * n + c = omega arith in let h : r ≤ c * n = omega (arith, g, l) in subst (λ z. r ≤ c * z) (sym (before n)) h
+
       entries : (t v c l n : ℕ) → t ≤ c * n → v ≤ t + c → t + v + c ≡ l → l ≤ 2 * (c * (n + 1))
       entries t v c l n a b d = let g : c * (n + 1) ≡ c * n + c = omega arith in omega (arith, a, b, d, g)

@@ -1,5 +1,5 @@
 -- How many entries a run over trees can have.
-use Rattle.std.specs.Prelude.{ℕ, ◌+◌, ◌*◌, ◌≤◌, Bool, true, false, List, length}
+use Rattle.std.specs.Prelude.{◌≡◌, ℕ, ◌+◌, ◌*◌, ◌-◌, ◌≤◌, Bool, true, false, List, length}
 use Rattle.base.specs.Sets.{Has}
 use Rattle.base.specs.Numbers.{sum_over, count}
 use Rattle.law_machine.specs.Machine.{Act, Did, Received, Stamped}
@@ -48,6 +48,8 @@ module _ (theory : Theory) (run : PhasedRun theory) where
   -- and the stamps by the entries
   pub record KeepsBounds : Type 0 where
     pub receptions : receptions_in run.journal ≤ commands_in run.journal * (length run.net.servers * length run.net.servers)
+    -- under subscription semantics a command leads to at most one reception at each other server
+    pub fewer : run.net.adverts ≡ false → receptions_in run.journal ≤ commands_in run.journal * (length run.net.servers - 1)
     pub updates : updates_in run.journal ≤ receptions_in run.journal + commands_in run.journal
     pub entries : length run.journal ≤ 2 * (commands_in run.journal * (length run.net.servers * length run.net.servers + 1))
     pub commands : commands_in run.journal ≤ commands_of

@@ -1,16 +1,16 @@
 -- At rest, without advertisements, a server holds of a neighbour the roots of all that the clients beyond subscribe to.
 use Rattle.std.proofs.Common.{◌≡◌, ℕ, zero, suc, ◌+◌, ◌≤◌, ◌<◌, ◌==◌, Bool, true, false, cond, not, ◌&&◌, ◌||◌, List, [], ◌∷◌, ◌⊎◌, inl, inr, filter, map, refl, sym, ap, subst, ◌∙◌, arith, ne_eqb, eq-eqb}
 use Rattle.std.specs.List.{flat_map}
-use Rattle.base.specs.Sets.{Has, roots, set_of}
+use Rattle.base.specs.Sets.{Has, same_list, minus, roots, set_of}
 use Rattle.base.proofs.Lists.{filter-true}
 use Rattle.base.proofs.Numbers.{Same, Is, Not, compare}
 use Rattle.base.proofs.Roots.{Has-filter, filter-Has, roots-iff, covered_by_root}
-use Rattle.base.proofs.Sets.{has-flat_map, flat_map-has, ext, rising-roots, rising-set_of, has-set_of, has-append, has-append-left, has-append-right, has-map, map-has}
+use Rattle.base.proofs.Sets.{same_list-self, has-flat_map, flat_map-has, ext, rising-roots, rising-set_of, has-set_of, has-append, has-append-left, has-append-right, has-map, map-has}
 use Rattle.base_tree.specs.Hops.{side, side_size}
 use Rattle.law_routing.specs.Theory.{Theory, TheoryLaws}
 use Rattle.law_routing.specs.Net.{Net, NetLaws}
 use Rattle.law_routing.specs.Clients.{some_pass}
-use Rattle.law_routing.specs.Server.{union_except, interfaces}
+use Rattle.law_routing.specs.Server.{Message, Subs, Advs, ServerState, union_except, interfaces, sent, sent_adverts, filter_change, advert_change, messages_to}
 use Rattle.law_routing.specs.Routing.{Network}
 use Rattle.law_routing.specs.Rest.{filters_of, IsAtRest}
 use Rattle.law_routing.specs.Beyond.{clients_beyond, filters_beyond}
@@ -208,3 +208,43 @@ module _ (th : Theory) (laws : TheoryLaws th) (net : Net th) (good : NetLaws th 
 
   pub held-roots : (t u : ℕ) → Has u (net.links t) → (w.state t).subs u ≡ roots th.covers th.before (all-beyond t u)
   held-roots t u near = within (side_size net.hop net.servers t u) t u near (omega arith)
+
+-- a change of filters on a link is the difference of two sets that differ
+module _ (th : Theory) (laws : TheoryLaws th) (net : Net th) (old new : ServerState th) (server link : ℕ) (out add : List th.Filter) where
+  abbrev sent-old : List th.Filter
+  sent-old = sent th net old server link
+
+  abbrev sent-new : List th.Filter
+  sent-new = sent th net new server link
+
+  abbrev IsChanged : Type 0
+  IsChanged = (sent-old ≡ sent-new → ⊥) × (out ≡ minus th.before sent-old sent-new) × (add ≡ minus th.before sent-new sent-old)
+
+  in-filters : (b : Bool) → same_list th.before sent-old sent-new ≡ b
+      → Has {T = Message th} (Subs out add) (cond b [] (Subs (minus th.before sent-old sent-new) (minus th.before sent-new sent-old) ∷ [])) → IsChanged
+  in-filters true e h = absurd h
+  in-filters false e (inl q) = ((λ same. differ (subst (λ z. same_list th.before sent-old z ≡ false) (sym same) e)), outs q, adds q)
+    where
+      differ : same_list th.before sent-old sent-old ≡ false → ⊥
+      differ f = grind (arith, f, same_list-self laws.filters sent-old)
+
+      outs : ◌≡◌ {A = Message th} (Subs out add) (Subs (minus th.before sent-old sent-new) (minus th.before sent-new sent-old)) → out ≡ minus th.before sent-old sent-new
+      outs e = cc
+
+      adds : ◌≡◌ {A = Message th} (Subs out add) (Subs (minus th.before sent-old sent-new) (minus th.before sent-new sent-old)) → add ≡ minus th.before sent-new sent-old
+      adds e = cc
+  in-filters false e (inr h) = absurd h
+
+  in-adverts : (b : Bool) (xs ys : List th.Advert) → Has {T = Message th} (Subs out add) (cond b [] (Advs xs ys ∷ [])) → ⊥
+  in-adverts true xs ys h = absurd h
+  in-adverts false xs ys (inl q) = absurd cc
+  in-adverts false xs ys (inr h) = absurd h
+
+  pub changed-only : Has (Subs out add) (messages_to th net old new server link) → IsChanged
+  changed-only h =
+      elim (has-append (Subs out add) (filter_change th net sent-old sent-new) (advert_change th net (sent_adverts th net old server link) (sent_adverts th net new server link)) h) [
+          inl a ↦ in-filters (same_list th.before sent-old sent-new) refl a
+        | inr b ↦ absurd (in-adverts (same_list th.before_advert (sent_adverts th net old server link) (sent_adverts th net new server link))
+            (minus th.before_advert (sent_adverts th net old server link) (sent_adverts th net new server link))
+            (minus th.before_advert (sent_adverts th net new server link) (sent_adverts th net old server link)) b)
+      ]

@@ -12,7 +12,7 @@ use Rattle.law_routing.specs.Net.{Net, PhasedCommand}
 use Rattle.law_routing.specs.Server.{Message, Subs, Advs, Noticed, ServerState, is_among, union_except, interfaces, sent, sent_adverts, filter_change, advert_change}
 use Rattle.law_routing.specs.Step.{Task, NextCommand, TableUpdate, Work, SetsFilters, SetsAdverts, Routes, InstallsTable, Nothing, with_filters, with_adverts, with_command_executed, command_outcome, command_work, full_effect, effect, message_work, local_step}
 use Rattle.law_routing.specs.Clients.{some_pass}
-use Rattle.law_routing.specs.Routing.{routing_machine, is_advert_message, is_update, commands_left, measure}
+use Rattle.law_routing.specs.Routing.{routing_machine, is_advert_message, is_update, commands_left, measure, narrow_measure}
 use Rattle.law_routing.specs.Tree.{IsTreeBySizes, StrictOrders}
 use Rattle.law_routing.proofs.Laws.{one-has, cond-some, machine-laws}
 use Rattle.base.proofs.Numbers.{sum_over-zero}
@@ -227,3 +227,41 @@ module _ (th : Theory) (strict : StrictOrders th) (net : Net th) where
     uses = uses housed;
     keeps = keeps;
   }
+
+  -- under subscription semantics no message makes one back
+  module _ (plain-net : net.adverts ≡ false) where
+    sent-alike : (t : ℕ) (s : ServerState th) (u : ℕ) (set : List th.Advert) → sent th net s t u ≡ sent th net (with_adverts th net s u set) t u
+    sent-alike t s u set =
+        ap (λ (b : Bool). roots th.covers th.before (filter (λ f. not b || some_pass (th.overlaps f) (s.advs u)) (union_except th.before s.subs u (interfaces th net t)))) plain-net
+        ∙ sym (ap (λ (b : Bool). roots th.covers th.before (filter (λ f. not b || some_pass (th.overlaps f) (at s.advs u set u)) (union_except th.before s.subs u (interfaces th net t)))) plain-net)
+
+    wide-none-back : (t : ℕ) (s : ServerState th) (u : ℕ) (x : Message th) → (full_effect th net t s (message_work th net s u x)).outs u ≡ []
+    wide-none-back t s u (Subs out add) = wide-back t s u (Subs out add) refl
+    wide-none-back t s u (Advs out add) =
+        let set = Rattle.base.specs.Sets.union th.before_advert (Rattle.base.specs.Sets.minus th.before_advert (s.advs u) out) add in
+        advs-back t s u set ∙ change-same (sent th net s t u) (sent th net (with_adverts th net s u set) t u) (sent-alike t s u set)
+    wide-none-back t s u (Noticed p o n) = wide-back t s u (Noticed p o n) refl
+
+    none-back : (t : ℕ) (s : ServerState th) (u : ℕ) (x : Message th) → (effect th net t s (message_work th net s u x)).outs u ≡ []
+    none-back t s u x = near t s (λ z. z ≡ []) refl ((full_effect th net t s (message_work th net s u x)).outs u) (wide-none-back t s u x) (is_among u (net.links t))
+
+    pub spreads-narrow : (size : ℕ → ℕ → ℕ) → ((t : ℕ) → IsDistinct (net.clients t)) → IsTreeBySizes net.servers net.links size → MeasureLaws (routing_machine th net) (narrow_measure th net size)
+    spreads-narrow size housed tree = record {
+      distinct = tree.distinct;
+      single = tree.single;
+      linked = tree.linked;
+      both = tree.both;
+      apart = tree.apart;
+      weighs = tree.weighs;
+      total = tree.total;
+      among = (machine-laws th net).among;
+      one = λ t s d r e v h. one t s d r e v;
+      from = λ t s u x r e. (reception_of t s u x r e).0;
+      silent = silent;
+      back = λ t s u x r e f. subst (λ (z : Outcome (ServerState th) (Message th)). z.outs u ≡ []) (reception_of t s u x r e).1 (none-back t s u x);
+      plain = λ t s u x r e f v y h. refl;
+      back_plain = λ t s u x r e y h. refl;
+      clears = clears;
+      uses = uses housed;
+      keeps = keeps;
+    }

@@ -88,3 +88,7 @@ module _ (theory : Theory) (net : Net theory) where
   -- what the load of a net is measured by, with the sizes of its sides
   abbrev pub measure : (ℕ → ℕ → ℕ) → Measure routing_machine
   measure size = record { size = size; wide = is_advert_message; table_update = is_update; left = commands_left }
+
+  -- the same under subscription semantics, where no message makes one back
+  abbrev pub narrow_measure : (ℕ → ℕ → ℕ) → Measure routing_machine
+  narrow_measure size = record { size = size; wide = λ message. false; table_update = is_update; left = commands_left }

@@ -9,7 +9,7 @@
 #![tactic(auto)]
 
 ghost use Rattle.std.specs.Prelude.{Bool, false, ◌≡◌, ◌≤◌, ◌<◌, ◌⊎◌, ◌↔◌, ℕ, suc, List, [], ◌∷◌, length, take};
-ghost use Rattle.base.specs.Sets.{Has, roots};
+ghost use Rattle.base.specs.Sets.{Has, minus, roots};
 ghost use Rattle.base_tree.specs.Hops.{AreHops, side_size};
 ghost use Rattle.law_machine.specs.Runs.{MachineLaws};
 ghost use Rattle.law_machine.specs.Content.{ContentLaws};
@@ -18,7 +18,7 @@ ghost use Rattle.law_machine.specs.Load.{MeasureLaws};
 ghost use Rattle.law_routing.specs.Theory.{Theory, TheoryLaws};
 ghost use Rattle.law_routing.specs.Net.{Net, NetLaws, Subscribe, Unsubscribe, Advertise, Unadvertise};
 ghost use Rattle.law_routing.specs.Clients.{filters_step, adverts_step, refused_after, IsRefused};
-ghost use Rattle.law_routing.specs.Server.{Publication, ServerState, sent};
+ghost use Rattle.law_routing.specs.Server.{Publication, ServerState, Subs, sent, messages_to};
 ghost use Rattle.law_routing.specs.Routing.{Network, routing_machine, opening, measure};
 ghost use Rattle.law_routing.specs.Rest.{IsAtRest, IsOnwardWay, end_of, HasWay};
 ghost use Rattle.law_routing.specs.Beyond.{filters_beyond};
@@ -273,6 +273,15 @@ pub fn rest_holds_roots<M: Matching>()
     ensures { (net : Net M.theory) → NetLaws M.theory net → net.adverts ≡ false → (network : Network M.theory net) → IsAtRest M.theory net network
         → (server neighbour : ℕ) → Has neighbour (net.links server)
         → (network.state server).subs neighbour ≡ roots M.theory.covers M.theory.before (filters_beyond M.theory net network server neighbour) }
+{}
+
+/// A change of filters goes over a link only where it changes the set that is sent there, and it has what leaves that set and what joins it.
+pub fn no_idle_change<M: Matching>()
+    ensures { (net : Net M.theory) (old new : ServerState M.theory) (server link : ℕ) (out add : List M.theory.Filter)
+        → Has (Subs out add) (messages_to M.theory net old new server link)
+        → (sent M.theory net old server link ≡ sent M.theory net new server link → ⊥)
+        × (out ≡ minus M.theory.before (sent M.theory net old server link) (sent M.theory net new server link))
+        × (add ≡ minus M.theory.before (sent M.theory net new server link) (sent M.theory net old server link)) }
 {}
 
 /// Servers set on a tree by their clients' sets alone agree on its links.

@@ -1,6 +1,5 @@
 -- What the clients of a hierarchy have, by the scripts alone.
 use Rattle.std.proofs.Common.{◌≡◌, ◌≤◌, ◌<◌, ℕ, List, length, slice_get, Some, refl, sym, ap, ◌∙◌, subst}
-use Rattle.base.specs.Sets.{Has}
 use Rattle.law_routing.specs.AsOf.{times_delivered}
 use Rattle.law_routing.specs.Order.{IsStrictlyRising, ordinals_delivered}
 use Rattle.law_routing.specs.Routing.{Network}
@@ -8,7 +7,7 @@ use Rattle.law_routing.specs.Server.{Publication}
 use Rattle.law_routing.specs.Owed.{IsPublication}
 use Rattle.law_phases.specs.Trees.{PhasedNetLaws}
 use Rattle.law_phases.specs.Sequence.{AreByPhase}
-use Rattle.law_hierarchy.specs.HierarchyRun.{HierarchyRun, IsInOrder, IsByPhase, IsFloodOwedTo, IsDeliveredOnce, inbox_of, states, last_state}
+use Rattle.law_hierarchy.specs.HierarchyRun.{HierarchyRun, IsInOrder, inbox_of, states, last_state}
 use Rattle.hierarchy_turns.specs.Network.{net_of, entry_in, run_of}
 use Rattle.hierarchy_turns.specs.Promise.{HierarchyPromise, IsWholeRun}
 use Rattle.net_model.specs.Real.{real}
@@ -41,12 +40,6 @@ module _ (net : NetParts) (journal : List EntryParts) (whole : IsWholeRun net jo
   abbrev pub DeliversOnce : Type 0
   DeliversOnce = (n server client publisher ordinal : ℕ) → times_delivered real run.net publisher ordinal (((states real run n).state server).inbox client) ≤ 1
 
-  abbrev pub DeliversByPhase : Type 0
-  DeliversByPhase = (n server client : ℕ) → Has client (run.net.clients server) → IsByPhase real run n server client
-
-  abbrev pub DeliversFloodOwed : Type 0
-  DeliversFloodOwed = (publication : Publication real) (client : ℕ) → IsFloodOwedTo real run publication client → IsDeliveredOnce real run publication client
-
   -- the phases of the publications in a client's inbox never fall, in the state of all servers
   abbrev IsByPhaseIn : ℕ → Network real (net_of net) → Type 0
   IsByPhaseIn client z = (one other : Publication real) (place later phase next : ℕ) → place < later
@@ -55,7 +48,7 @@ module _ (net : NetParts) (journal : List EntryParts) (whole : IsWholeRun net jo
       → IsPublication real (net_of net) one.publisher one.ordinal phase one.notice
       → IsPublication real (net_of net) other.publisher other.ordinal next other.notice → phase ≤ next
 
-  module _ (last : EndsAtEnd) (twice : DeliversOnce) (laws : PhasedNetLaws real (phased_net net)) (phased : DeliversByPhase) (flooded : DeliversFloodOwed) where
+  module _ (last : EndsAtEnd) (twice : DeliversOnce) (laws : PhasedNetLaws real (phased_net net)) where
     refuses : RefusesByScripts net (hierarchy_lists net journal)
     refuses = λ client is. ap (refused_ordinals net client) (whole.drained.taken (home_of net client) client (client-lives net client is))
 
@@ -72,7 +65,7 @@ module _ (net : NetParts) (journal : List EntryParts) (whole : IsWholeRun net jo
 
     by-phase : (client : ℕ) → IsClient net client → AreByPhase real (phased_net net) (inbox_of real run client)
     by-phase client is = λ one other phase next s a b.
-        subst (IsByPhaseIn client) last (phased (length run.journal) (home_of net client) client (client-lives net client is))
+        subst (IsByPhaseIn client) last (p.by_phase (length run.journal) (home_of net client) client (client-lives net client is))
         one other s.place s.later phase next s.before s.here s.there
         (published net phase 0 one.publisher one.ordinal phase one.notice a) (published net next 0 other.publisher other.ordinal next other.notice b)
 
@@ -87,7 +80,7 @@ module _ (net : NetParts) (journal : List EntryParts) (whole : IsWholeRun net jo
           ∙ (p.owed_once publication client (to-owed net p.laws journal p.legal publication client owed)).1;
       due_once = λ publication client due.
           times-delivered (net_of net) (id_of publication) (inbox_of real run client)
-          ∙ (flooded publication client (to-flood-owed net p.laws journal p.legal publication client due)).1;
+          ∙ (p.flood_owed_once publication client (to-flood-owed net p.laws journal p.legal publication client due)).1;
       allowed = λ client d is h.
           let m = has-map delivery_of (inbox_of real run client) d h in
           let a = from-allowed net p.laws journal p.legal m.0 client (p.allowed m.0 client (client-lives net client is) m.1) in record {

@@ -1,11 +1,12 @@
 -- What the network is promised to have done: by its journal.
-use Rattle.std.specs.Prelude.{◌≡◌, ◌↔◌, ℕ, List}
+use Rattle.std.specs.Prelude.{◌≡◌, ◌↔◌, ℕ, false, List}
 use Rattle.base.specs.Sets.{Has}
 use Rattle.law_routing.specs.Server.{Publication}
 use Rattle.law_phases.specs.Trees.{PhasedNetLaws}
 use Rattle.law_phases.specs.Runs.{PhasedRun}
 use Rattle.law_phases.specs.Routes.{Routed, IsSentTo, IsWanted, IsDelivered, IsInForce}
 use Rattle.law_phases.specs.Sequence.{HappensBefore, AreGivenInOrder}
+use Rattle.law_phases.specs.Looking.{IsQuietLink, HoldsRoots}
 use Rattle.law_phases.specs.Economy.{CarriesNoMore, CarriesAsManyWhereDue}
 pub use Rattle.law_phases.specs.Settled.{IsSettledOn}
 use Rattle.law_phases.specs.Settled.{IsAllReceivedBy, IsDeliveredOnceBy}
@@ -57,14 +58,19 @@ abbrev pub GivesSettledBy : PhasedRun real → Type 0
 GivesSettledBy run = (publication : Publication real) (client : ℕ) (on_way : IsSettledOn real run publication client) (n : ℕ)
     → IsAllReceivedBy real run n publication client on_way → IsDeliveredOnceBy real run n publication client
 
+-- COVERING: under subscription semantics, whenever all links are empty and nothing is pending, a server holds of a neighbour exactly the covering roots of the
+-- union of the lists of the clients that live at the neighbour or beyond it
+abbrev pub SendsRoots : PhasedRun real → Type 0
+SendsRoots run = run.net.adverts ≡ false → (n server neighbour : ℕ) → IsQuietLink real run n server neighbour → HoldsRoots real run n server neighbour
+
 -- CAUSAL ORDER: a publication stood in each inbox, after any n entries, before all that happened behind it
 abbrev pub GivesCausally : PhasedRun real → Type 0
 GivesCausally run = (one : Publication real) (between : List (Publication real)) (other : Publication real) → HappensBefore real run one between other
     → (n server client : ℕ) → AreGivenInOrder real run n server client one other
 
 -- WHAT THE NETWORK IS PROMISED TO HAVE DONE: its journal is legal and drained and gives these lists and this trace; a link carries only what a filter held
--- beyond it, as last announced, matches; a settled publication was delivered exactly once; what an entry delivers goes by the filters in force; and the
--- entries are bounded by the commands and the servers, the stamps by the entries
+-- beyond it, as last announced, matches; a settled publication was delivered exactly once; what an entry delivers goes by the filters in force; what servers
+-- hold of each other at rest are the covering roots; and the entries are bounded by the commands and the servers, the stamps by the entries
 pub record RunPromise (shown : Shown) (net : NetParts) (journal : List EntryParts) (lists : ClientLists) (trace : List ℕ) : Type 0 where
   pub laws : PhasedNetLaws real (phased_net net)
   pub legal : IsLegal net journal
@@ -78,6 +84,7 @@ pub record RunPromise (shown : Shown) (net : NetParts) (journal : List EntryPart
   pub never_more : CarriesNoMore real (run_of net laws journal legal) (clients_in net)
   pub as_many : CarriesAsManyWhereDue real (run_of net laws journal legal) (clients_in net)
   pub in_force : DeliversByInstalled (run_of net laws journal legal)
+  pub sends_roots : SendsRoots (run_of net laws journal legal)
   pub bounded : KeepsBounds real (run_of net laws journal legal)
 
 -- and by a schedule: its journal goes by it besides

@@ -26,7 +26,5 @@ pub fn lemma_hierarchy_promise()
     hierarchy_turns::law::promise();
     net_model::law::lemma_lawful_net();
     law_hierarchy::never_twice::<Real>();
-    law_hierarchy::flood_owed_once::<Real>();
-    law_hierarchy::delivered_by_phase::<Real>();
     law_hierarchy::last_moment::<Real>();
 }

@@ -38,6 +38,7 @@ pub fn lemma_promise()
     law_phases::causal_order::<Real>();
     law_phases::economy::<Real>();
     law_phases::in_force::<Real>();
+    law_phases::holds_roots::<Real>();
     law_phases::bounded::<Real>();
     output_report::law::flood_as_delivered();
 }

@@ -19,6 +19,10 @@ returns c = λ net journal whole.
       carries_wanted_down = c.goes_down.ensures.only run;
       in_force = c.in_force.ensures run;
       owed_once = c.owed_once.ensures run whole.drained;
+      flood_owed_once = c.flood_owed_once.ensures run whole.drained;
+      by_phase = c.delivered_by_phase.ensures run;
+      causal = c.causal_order.ensures run;
+      carries_once = c.never_twice.ensures.put run;
       allowed = λ publication client lives h. c.delivered_allowed.ensures run (length run.journal) (run.net.home client) client publication lives
           (subst (λ (z : Network real (net_of net)). Has publication ((z.state (run.net.home client)).inbox client)) (sym (c.last_moment.ensures run)) h);
       stable = c.stable_inputs.ensures run whole.drained;

@@ -76,6 +76,7 @@ returns-clause-run c = λ shown net journal whole.
       never_more = c.economy.ensures.never_more run (clients_in net) (are-clients net);
       as_many = c.economy.ensures.as_many run whole.drained (clients_in net) (are-clients net);
       in_force = c.in_force.ensures run;
+      sends_roots = c.holds_roots.ensures run;
       bounded = c.bounded.ensures run;
     }
 
