@@ -17,7 +17,7 @@ use Rattle.net_model.specs.Meaning.{command_of, entry_of, journal_of, phased_com
 use Rattle.net_model.specs.Nets.{home_of, of_clients, phased_net, script_in, script_of}
 use Rattle.net_turns.specs.Network.{moment_by, received_by}
 use Rattle.net_turns.specs.Told.{told_by, told_from, told_of}
-use Rattle.document_reader.proofs.Members.{Each}
+use Rattle.filter_text.specs.MessageText.{Each}
 use Rattle.document_format.proofs.ClientStands.{AreApart as AreApartInText, IsWritableClient}
 use Rattle.document_format.proofs.Shown.{command_shown}
 use Rattle.document_format.proofs.WordLaws.{name_word, word_shown}

@@ -18,7 +18,7 @@ use Rattle.document_reader.specs.declared.draft.Draft.{Draft}
 use Rattle.document_reader.specs.declared.version.Version.{Version}
 use Rattle.document_reader.specs.declared.state.Place.{Place}
 use Rattle.document_reader.specs.declared.state.Place.TheVariants as at
-use Rattle.document_reader.proofs.Members.{Each}
+use Rattle.filter_text.specs.MessageText.{Each}
 use Rattle.document_format.specs.DocumentText.{client_line, is_idle}
 use Rattle.document_format.proofs.TreeStands.{server_test}
 use Rattle.document_format.proofs.Stands.{state, stands_next, client_stands}

@@ -38,7 +38,8 @@ use Rattle.document_reader.specs.declared.version.Version.TheVariants.{One, Two}
 use Rattle.document_reader.specs.declared.state.State.{State}
 use Rattle.document_reader.specs.declared.state.Place.{Place}
 use Rattle.document_reader.specs.declared.state.Place.TheVariants as at
-use Rattle.document_reader.proofs.Members.{Each, each_changed, each_more}
+use Rattle.filter_text.specs.MessageText.{Each}
+use Rattle.document_reader.proofs.Members.{each_changed, each_more}
 use Rattle.document_reader.proofs.Meaning.{stands_ok}
 use Rattle.document_reader.proofs.Standing.{need_ok, same_ok, want_ok, bind_ok, late, in-schedule}
 use Rattle.base.proofs.Bools.{if-cases}

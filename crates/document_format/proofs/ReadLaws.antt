@@ -28,7 +28,7 @@ use Rattle.document_reader.specs.declared.state.State.{State}
 use Rattle.document_reader.specs.declared.state.Place.{Place}
 use Rattle.document_reader.specs.declared.state.Place.TheVariants as at
 use Rattle.document_reader.proofs.Meaning.{net_means}
-use Rattle.document_reader.proofs.Members.{Each}
+use Rattle.filter_text.specs.MessageText.{Each}
 use Rattle.document_format.specs.Edges.{edges_of}
 use Rattle.document_format.specs.DocumentText.{first_lines, semantics_word, edge_line, tree_lines, phase_lines, client_line, barrier_lines, step_lines, script_lines, is_idle, turn_line, name_in, schedule_lines, lines_before, trees_lines, document_text, on_lines, as_written}
 use Rattle.document_format.specs.Limits.{counts_after, counts_of, FitsDocument}

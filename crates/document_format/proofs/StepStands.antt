@@ -21,7 +21,7 @@ use Rattle.document_reader.specs.declared.version.Version.{Version}
 use Rattle.document_reader.specs.declared.state.Place.{Place}
 use Rattle.document_reader.specs.declared.state.Place.TheVariants as at
 use Rattle.document_reader.proofs.Spelled.{command_told}
-use Rattle.document_reader.proofs.Members.{Each}
+use Rattle.filter_text.specs.MessageText.{Each}
 use Rattle.document_format.specs.DocumentText.{script_lines, step_lines, barrier_lines, is_idle}
 use Rattle.document_format.specs.Limits.{counted, counts_after}
 use Rattle.document_format.proofs.Stands.{state, stands_on, stands_next, IsOpen}

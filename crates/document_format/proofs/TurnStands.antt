@@ -24,7 +24,7 @@ use Rattle.document_reader.specs.declared.draft.Draft.{Draft}
 use Rattle.document_reader.specs.declared.version.Version.{Version}
 use Rattle.document_reader.specs.declared.state.Place.{Place}
 use Rattle.document_reader.specs.declared.state.Place.TheVariants as at
-use Rattle.document_reader.proofs.Members.{Each}
+use Rattle.filter_text.specs.MessageText.{Each}
 use Rattle.document_format.specs.Edges.{edges_of}
 use Rattle.document_format.specs.DocumentText.{turn_line, name_in, on_lines, schedule_lines}
 use Rattle.document_format.proofs.EdgeLaws.{near-edge}

@@ -33,7 +33,8 @@ use Rattle.document_reader.specs.declared.version.Version.{Version}
 use Rattle.document_reader.specs.declared.version.Version.TheVariants.{Two}
 use Rattle.document_reader.specs.declared.state.State.{State}
 use Rattle.document_reader.proofs.Meaning.{taken_stands}
-use Rattle.document_reader.proofs.Members.{Each, each_more}
+use Rattle.filter_text.specs.MessageText.{Each}
+use Rattle.document_reader.proofs.Members.{each_more}
 use Rattle.document_reader.proofs.SoundDocuments.{document_is_sound}
 use Rattle.document_format.specs.Limits.{counted, counts_after}
 use Rattle.document_format.proofs.TreeStands.{AreDrawable, drawn_all, all_blocks, all_servers, server_test}

@@ -24,7 +24,8 @@ use Rattle.document_reader.specs.declared.version.Version.TheVariants.{One, Two}
 use Rattle.document_reader.specs.declared.state.State.{State}
 use Rattle.document_reader.specs.declared.state.Place.{Place}
 use Rattle.document_reader.specs.declared.state.Place.TheVariants as at
-use Rattle.document_reader.proofs.Members.{Each, each_has, each_map, get-mapped, sum_map}
+use Rattle.filter_text.specs.MessageText.{Each}
+use Rattle.document_reader.proofs.Members.{each_has, each_map, get-mapped, sum_map}
 use Rattle.document_reader.proofs.Meaning.{stands_ok, taken_stands}
 use Rattle.document_reader.proofs.SoundParts.{has_trees}
 use Rattle.document_reader.proofs.Standing.{Standing, barrier_stands, client_stands, command_stands, command_turn_stands, edge_stands, header_stands, need_ok, phase_stands, same_ok, schedule_stands, script_stands, semantics_stands, servers_stands, take_turn_stands, version_turn_stands}

@@ -33,7 +33,8 @@ use Rattle.document_reader.specs.declared.state.Place.{Place}
 use Rattle.document_reader.specs.declared.state.Place.TheVariants as at
 use Rattle.document_reader.proofs.Drafting.{changed_length, changed_names}
 use Rattle.document_reader.proofs.NamePlaces.{differs, no-place, place_within}
-use Rattle.document_reader.proofs.Members.{Each, each_by, each_changed, each_more, sum_changed, sum_more}
+use Rattle.filter_text.specs.MessageText.{Each}
+use Rattle.document_reader.proofs.Members.{each_by, each_changed, each_more, sum_changed, sum_more}
 use Rattle.document_reader.proofs.SoundParts.{Rises, controls_more, is_control, publishes_more, rises_edges, rises_phase, sound_barrier, sound_command, sound_scriptless}
 use Rattle.base.proofs.Lists.{length-push, map-push}
 

@@ -11,7 +11,7 @@ use Rattle.std.proofs.lemmas.Option.{same_Some}
 use Rattle.filter_constraints.specs.Constraint.{ConstraintParts}
 use Rattle.filter_types.specs.Canonical.{canonical}
 use Rattle.filter_types.specs.Notice.{Attribute, AreRising}
-use Rattle.filter_types.proofs.Lists.{Has}
+use Rattle.base.specs.Sets.{Has}
 use Rattle.filter_text.specs.declared.command.Command.{Command}
 use Rattle.filter_text.specs.declared.command.Command.TheVariants as commands
 use Rattle.document_script.specs.declared.form.Given.{Given}

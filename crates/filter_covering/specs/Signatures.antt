@@ -13,12 +13,12 @@ use Rattle.filter_values.specs.Value.{same_kind}
 use Rattle.filter_constraints.proofs.BytesLemmas.{bytes_eq-tells}
 use Rattle.std.specs.Str.{bytes_eq}
 use Rattle.filter_types.specs.Cover.{filter_covers, advert_covers, covers_some, some_covers}
-use Rattle.filter_types.proofs.Lists.{Has, all-has}
-use Rattle.base.specs.Sets.{Has as IsIn}
+use Rattle.base.specs.Sets.{Has}
+use Rattle.filter_types.proofs.Lists.{all-has}
 use Rattle.base.specs.Signature.{marks, other_marks}
 use Rattle.base.proofs.Signatures.{names-among, others-among, marks-within}
 use Rattle.std.proofs.lemmas.Bool.{and_parts}
-use Rattle.base.proofs.Sets.{any-some}
+use Rattle.base.proofs.Sets.{any-some, has-append, has-append-left, has-append-right}
 
 -- the sign of the one number that a normal form lets pass, beside a name
 abbrev pub number_signs : List ℕ → Numbers → List (List ℕ)
@@ -75,17 +75,6 @@ sub_marks f = cond (list_any is_void f) (2 ^ 64 - 1) (marks (λ s. s) (all_signs
 abbrev pub ad_marks : List ConstraintParts → ℕ
 ad_marks a = other_marks (λ c. c.name) a
 
--- the two words for a member are one
-in-has : (c : ConstraintParts) (cs : List ConstraintParts) → IsIn c cs → Has c cs
-in-has c [] h = h
-in-has c (d ∷ ds) (inl q) = inl q
-in-has c (d ∷ ds) (inr h) = inr (in-has c ds h)
-
-has-in : (c : ConstraintParts) (cs : List ConstraintParts) → Has c cs → IsIn c cs
-has-in c [] h = h
-has-in c (d ∷ ds) (inl q) = inl q
-has-in c (d ∷ ds) (inr h) = inr (has-in c ds h)
-
 covered-name : (c d : ConstraintParts) → constraint_covers c d ≡ true → c.name ≡ d.name
 unfolding constraint_covers
 covered-name c d e = bytes_eq-tells c.name d.name
@@ -93,9 +82,9 @@ covered-name c d e = bytes_eq-tells c.name d.name
     (and_parts (same_subject c d) (form_covers (form_of c.kind c.op c.operand) (form_of d.kind d.op d.operand)) e).0).0
 
 -- a covered form that lets a value pass has the signs of the one that covers it
-number-keeps : (name : List ℕ) (k m : Numbers) → number_covers k m ≡ true → is_void_number m ≡ false → (s : List ℕ) → IsIn s (number_signs name k)
-    → IsIn s (number_signs name m)
-number-keeps name (Numbers.equal u) (Numbers.equal v) e f s h = subst (λ z. IsIn s (number_signs name (Numbers.equal z))) ((signed_Decides u v).0 e) h
+number-keeps : (name : List ℕ) (k m : Numbers) → number_covers k m ≡ true → is_void_number m ≡ false → (s : List ℕ) → Has s (number_signs name k)
+    → Has s (number_signs name m)
+number-keeps name (Numbers.equal u) (Numbers.equal v) e f s h = subst (λ z. Has s (number_signs name (Numbers.equal z))) ((signed_Decides u v).0 e) h
 number-keeps name (Numbers.equal u) Numbers.empty e f s h = absurd cc
 number-keeps name (Numbers.equal u) Numbers.all e f s h = absurd cc
 number-keeps name (Numbers.equal u) (Numbers.unequal v) e f s h = absurd cc
@@ -107,9 +96,9 @@ number-keeps name (Numbers.unequal u) m e f s h = absurd h
 number-keeps name (Numbers.at_most u) m e f s h = absurd h
 number-keeps name (Numbers.at_least u) m e f s h = absurd h
 
-text-keeps : (name : List ℕ) (k m : Texts) → text_covers k m ≡ true → is_void_text m ≡ false → (s : List ℕ) → IsIn s (text_signs name k)
-    → IsIn s (text_signs name m)
-text-keeps name (Texts.equal u) (Texts.equal v) e f s h = subst (λ z. IsIn s (text_signs name (Texts.equal z))) (sym (bytes_eq-tells v u e)) h
+text-keeps : (name : List ℕ) (k m : Texts) → text_covers k m ≡ true → is_void_text m ≡ false → (s : List ℕ) → Has s (text_signs name k)
+    → Has s (text_signs name m)
+text-keeps name (Texts.equal u) (Texts.equal v) e f s h = subst (λ z. Has s (text_signs name (Texts.equal z))) (sym (bytes_eq-tells v u e)) h
 text-keeps name (Texts.equal u) Texts.empty e f s h = absurd cc
 text-keeps name (Texts.equal u) Texts.all e f s h = absurd cc
 text-keeps name (Texts.equal u) (Texts.unequal v) e f s h = absurd cc
@@ -131,8 +120,8 @@ text-keeps name (Texts.prefix u) m e f s h = absurd h
 text-keeps name (Texts.suffix u) m e f s h = absurd h
 text-keeps name (Texts.contains u) m e f s h = absurd h
 
-form-keeps : (name : List ℕ) (k m : Form) → form_covers k m ≡ true → is_void_form m ≡ false → (s : List ℕ) → IsIn s (value_signs name k)
-    → IsIn s (value_signs name m)
+form-keeps : (name : List ℕ) (k m : Form) → form_covers k m ≡ true → is_void_form m ≡ false → (s : List ℕ) → Has s (value_signs name k)
+    → Has s (value_signs name m)
 form-keeps name (number k) (number m) e f s h = number-keeps name k m e f s h
 form-keeps name (text k) (text m) e f s h = text-keeps name k m e f s h
 form-keeps name (time k) (time m) e f s h = number-keeps name k m e f s h
@@ -151,52 +140,38 @@ form-keeps name (time k) no_form e f s h = absurd cc
 form-keeps name (truth k) m e f s h = absurd h
 form-keeps name no_form m e f s h = absurd h
 
-signs-kept : (c d : ConstraintParts) → constraint_covers c d ≡ true → is_void d ≡ false → (s : List ℕ) → IsIn s (signs c) → IsIn s (signs d)
+signs-kept : (c d : ConstraintParts) → constraint_covers c d ≡ true → is_void d ≡ false → (s : List ℕ) → Has s (signs c) → Has s (signs d)
 unfolding constraint_covers
 signs-kept c d e f s h =
     let parts = and_parts (same_subject c d) (form_covers (form_of c.kind c.op c.operand) (form_of d.kind d.op d.operand)) e in
     let name : c.name ≡ d.name = bytes_eq-tells c.name d.name (and_parts (bytes_eq c.name d.name) (same_kind c.kind d.kind) parts.0).0 in
     go name parts.1 h
   where
-    go : c.name ≡ d.name → form_covers (form_of c.kind c.op c.operand) (form_of d.kind d.op d.operand) ≡ true → IsIn s (signs c) → IsIn s (signs d)
+    go : c.name ≡ d.name → form_covers (form_of c.kind c.op c.operand) (form_of d.kind d.op d.operand) ≡ true → Has s (signs c) → Has s (signs d)
     go n g (inl q) = inl (q ∙ n)
     go n g (inr m) =
         inr (form-keeps d.name (form_of c.kind c.op c.operand) (form_of d.kind d.op d.operand) g f s
-        (subst (λ z. IsIn s (value_signs z (form_of c.kind c.op c.operand))) n m))
+        (subst (λ z. Has s (value_signs z (form_of c.kind c.op c.operand))) n m))
 
 -- the signs of a list are those of its members
-in-front : (s : List ℕ) (xs ys : List (List ℕ)) → IsIn s xs → IsIn s (xs ++ ys)
-in-front s [] ys h = absurd h
-in-front s (x ∷ xs) ys (inl q) = inl q
-in-front s (x ∷ xs) ys (inr h) = inr (in-front s xs ys h)
-
-in-back : (s : List ℕ) (xs ys : List (List ℕ)) → IsIn s ys → IsIn s (xs ++ ys)
-in-back s [] ys h = h
-in-back s (x ∷ xs) ys h = inr (in-back s xs ys h)
-
-in-either : (s : List ℕ) (xs ys : List (List ℕ)) → IsIn s (xs ++ ys) → IsIn s xs ⊎ IsIn s ys
-in-either s [] ys h = inr h
-in-either s (x ∷ xs) ys (inl q) = inl (inl q)
-in-either s (x ∷ xs) ys (inr h) = elim (in-either s xs ys h) [ inl m ↦ inl (inr m) | inr m ↦ inr m ]
-
-one-of : (s : List ℕ) (f : List ConstraintParts) → IsIn s (all_signs f) → (c : ConstraintParts) × IsIn c f × IsIn s (signs c)
+one-of : (s : List ℕ) (f : List ConstraintParts) → Has s (all_signs f) → (c : ConstraintParts) × Has c f × Has s (signs c)
 one-of s [] h = absurd h
-one-of s (c ∷ cs) h = elim (in-either s (signs c) (all_signs cs) h) [
+one-of s (c ∷ cs) h = elim (has-append s (signs c) (all_signs cs) h) [
   | inl m ↦ (c, inl refl, m)
   | inr m ↦ let r = one-of s cs m in (r.0, inr r.1, r.2)
 ]
 
-of-one : (s : List ℕ) (g : List ConstraintParts) (d : ConstraintParts) → IsIn d g → IsIn s (signs d) → IsIn s (all_signs g)
+of-one : (s : List ℕ) (g : List ConstraintParts) (d : ConstraintParts) → Has d g → Has s (signs d) → Has s (all_signs g)
 of-one s [] d m h = absurd m
-of-one s (c ∷ cs) d (inl q) h = in-front s (signs c) (all_signs cs) (subst (λ z. IsIn s (signs z)) q h)
-of-one s (c ∷ cs) d (inr m) h = in-back s (signs c) (all_signs cs) (of-one s cs d m h)
+of-one s (c ∷ cs) d (inl q) h = has-append-left s (signs c) (all_signs cs) (subst (λ z. Has s (signs z)) q h)
+of-one s (c ∷ cs) d (inr m) h = has-append-right s (signs c) (all_signs cs) (of-one s cs d m h)
 
-none-void : (g : List ConstraintParts) → list_any is_void g ≡ false → (d : ConstraintParts) → IsIn d g → is_void d ≡ false
+none-void : (g : List ConstraintParts) → list_any is_void g ≡ false → (d : ConstraintParts) → Has d g → is_void d ≡ false
 none-void [] e d m = absurd m
 none-void (c ∷ cs) e d m = go (is_void c) (list_any is_void cs) refl refl e m (none-void cs)
   where
-    go : (a b : Bool) → is_void c ≡ a → list_any is_void cs ≡ b → (a || b) ≡ false → IsIn d (c ∷ cs)
-        → (list_any is_void cs ≡ false → (d : ConstraintParts) → IsIn d cs → is_void d ≡ false) → is_void d ≡ false
+    go : (a b : Bool) → is_void c ≡ a → list_any is_void cs ≡ b → (a || b) ≡ false → Has d (c ∷ cs)
+        → (list_any is_void cs ≡ false → (d : ConstraintParts) → Has d cs → is_void d ≡ false) → is_void d ≡ false
     go true b p q r m ih = absurd cc
     go false true p q r m ih = absurd cc
     go false false p q r (inl s) ih = subst (λ z. is_void z ≡ false) (sym s) p
@@ -270,7 +245,7 @@ void-passes c d e f = go (is_void c) refl
         (and_parts (same_subject c d) (form_covers (form_of c.kind c.op c.operand) (form_of d.kind d.op d.operand)) e).1 p in
         absurd cc
 
-void-none : (f : List ConstraintParts) → ((c : ConstraintParts) → IsIn c f → is_void c ≡ false) → list_any is_void f ≡ false
+void-none : (f : List ConstraintParts) → ((c : ConstraintParts) → Has c f → is_void c ≡ false) → list_any is_void f ≡ false
 void-none [] h = refl
 void-none (c ∷ cs) h = rw (h c (inl refl)) (void-none cs (λ d m. h d (inr m)))
 
@@ -278,10 +253,10 @@ pub sub_never_misses : (f g : List ConstraintParts) → filter_covers f g ≡ tr
 unfolding filter_covers
 sub_never_misses f g e = go (list_any is_void g) refl
   where
-    covered : (c : ConstraintParts) → IsIn c f → (d : ConstraintParts) × IsIn d g × (constraint_covers c d ≡ true)
+    covered : (c : ConstraintParts) → Has c f → (d : ConstraintParts) × Has d g × (constraint_covers c d ≡ true)
     covered c m =
-        let r = any-some (λ d. constraint_covers c d) g (all-has (λ c. covers_some c g) c f e (in-has c f m)) in
-        (r.0, has-in r.0 g r.1, r.2)
+        let r = any-some (λ d. constraint_covers c d) g (all-has (λ c. covers_some c g) c f e m) in
+        r
 
     within : sub_marks f < 2 ^ 64
     within = ends (list_any is_void f)
@@ -296,7 +271,7 @@ sub_never_misses f g e = go (list_any is_void g) refl
         let none : list_any is_void f ≡ false = void-none f (λ c m. let r = covered c m in void-passes c r.0 r.2 (none-void g v r.0 r.1)) in
         rw (v, none) (names-among (λ s. s) (all_signs f) (all_signs g) kept)
       where
-        kept : (s : List ℕ) → IsIn s (all_signs f) → (t : List ℕ) × IsIn t (all_signs g) × (s ≡ t)
+        kept : (s : List ℕ) → Has s (all_signs f) → (t : List ℕ) × Has t (all_signs g) × (s ≡ t)
         kept s m =
             let c = one-of s f m in
             let d = covered c.0 c.1 in
@@ -306,7 +281,7 @@ pub ad_never_misses : (a b : List ConstraintParts) → advert_covers a b ≡ tru
 unfolding advert_covers
 ad_never_misses a b e = others-among (λ c. c.name) b a names
   where
-    names : (d : ConstraintParts) → IsIn d b → (c : ConstraintParts) × IsIn c a × (d.name ≡ c.name)
+    names : (d : ConstraintParts) → Has d b → (c : ConstraintParts) × Has c a × (d.name ≡ c.name)
     names d m =
-        let r = any-some (λ c. constraint_covers c d) a (all-has (λ d. some_covers a d) d b e (in-has d b m)) in
-        (r.0, has-in r.0 a r.1, sym (covered-name r.0 d r.2))
+        let r = any-some (λ c. constraint_covers c d) a (all-has (λ d. some_covers a d) d b e m) in
+        (r.0, r.1, sym (covered-name r.0 d r.2))

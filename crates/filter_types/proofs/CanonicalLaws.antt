@@ -12,7 +12,7 @@ use Rattle.filter_constraints.specs.Order.{constraint_cmp}
 use Rattle.filter_constraints.specs.OrderTotal.{constraint_total}
 use Rattle.filter_constraints.proofs.OrderLaws.{parts-tied}
 use Rattle.filter_types.specs.Canonical.{placed, put, canonical, IsBelow, AreInCanonicalOrder}
-use Rattle.filter_types.proofs.Lists.{Has}
+use Rattle.base.specs.Sets.{Has}
 
 itself : (c : ConstraintParts) → constraint_cmp c c ≡ Equal
 itself c = tied_itself constraint_total c

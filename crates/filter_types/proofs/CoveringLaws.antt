@@ -8,7 +8,8 @@ use Rattle.filter_constraints.proofs.BytesLemmas.{bytes_eq-tells, bytes_eq-told}
 use Rattle.filter_constraints.proofs.ConstraintLaws.{covers-self, covers-covers, covers-sound, covers-name}
 use Rattle.filter_types.specs.Notice.{Attribute, attribute_at, AreValues}
 use Rattle.filter_types.specs.Cover.{attribute_satisfies, matches, allows, filter_covers, advert_covers}
-use Rattle.filter_types.proofs.Lists.{Has, all-has, has-all, has-any}
+use Rattle.base.specs.Sets.{Has}
+use Rattle.filter_types.proofs.Lists.{all-has, has-all, has-any}
 use Rattle.std.proofs.lemmas.Bool.{and_parts, and_from}
 use Rattle.base.proofs.Sets.{any-some}
 

@@ -1,11 +1,8 @@
 -- Lemmas on tests of all and of some members.
-use Rattle.std.proofs.Common.{inl, inr, ◌⊎◌, ◌≡◌, Bool, true, false, ◌&&◌, ◌||◌, refl, sym, ap, ◌∙◌, arith, List, [], ◌∷◌, length}
+use Rattle.std.proofs.Common.{inl, inr, ◌≡◌, Bool, true, false, ◌&&◌, ◌||◌, refl, sym, ap, ◌∙◌, arith, List, [], ◌∷◌, length}
 use Rattle.std.specs.List.{list_all, list_any}
+use Rattle.base.specs.Sets.{Has}
 use Rattle.std.proofs.lemmas.Bool.{and_parts, and_from, or_left, or_right}
-
-abbrev pub Has : {X : Type 0} → X → List X → Type 0
-Has x [] = ⊥
-Has x (y ∷ ys) = (x ≡ y) ⊎ Has x ys
 
 pub all-has : {X : Type 0} (p : X → Bool) (x : X) (xs : List X) → list_all p xs ≡ true → Has x xs → p x ≡ true
 all-has p x [] h m = absurd m

@@ -30,7 +30,7 @@ use Rattle.std.proofs.lemmas.Bool.Decides.{nat_tests}
 use Rattle.hierarchy_turns.specs.Network.{network_parts, phase_in, net_of, servers_of, moment_by, executed_by, next_phase_by}
 use Rattle.hierarchy_turns.specs.Turns.{IsMade, IsBarred}
 use Rattle.hierarchy_turns.proofs.Lawful.{laws-of}
-use Rattle.sequential_network.specs.Links.{WaitingParts, AreOnLinks, waiting_in}
+use Rattle.sequential_network.specs.Links.{StampedMessageParts, AreOnLinks, waiting_in}
 use Rattle.sequential_network.proofs.Commanding.{no-map, all-taken, Next, Comes, next-is, client_lives, home_low}
 use Rattle.sequential_network.proofs.Standing.{At, Found, get-at}
 use Rattle.base_tree.proofs.Servers.{server-in}
@@ -141,7 +141,7 @@ module _ (net : NetParts) (last own : ℕ) (now : Servers HierarchyParts) (kept 
       (raised (servers_of net) (moment_by net now.journal).network) own
   ready_later = (refl, inr (subst (λ z. z < own) (sym kept.in_hand) later, through, quiet, refl))
 
-  pub links_later : (messages : ℕ → ℕ → List WaitingParts) → ((a b : ℕ) → messages a b ≡ now.messages a b)
+  pub links_later : (messages : ℕ → ℕ → List StampedMessageParts) → ((a b : ℕ) → messages a b ≡ now.messages a b)
       → AreOnLinks net (state_in net (raised (servers_of net) (moment_by net now.journal).network)) messages
   links_later messages same = record { messages_are = λ a b. same a b ∙ kept.links.messages_are a b; within = kept.links.within }
 

@@ -17,7 +17,7 @@ use Rattle.hierarchy_turns.specs.Limits.{StaysLow}
 use Rattle.hierarchy_turns.proofs.Lawful.{laws-of, low-of}
 use Rattle.law_hierarchy.proofs.Spread.{bounded-run}
 use Rattle.net_model.specs.Real.{real_laws}
-use Rattle.sequential_network.specs.Links.{WaitingParts, waiting_in}
+use Rattle.sequential_network.specs.Links.{StampedMessageParts, waiting_in}
 use Rattle.sequential_network.proofs.Standing.{At, Found, get-at, drop-has}
 use Rattle.sequential_network.specs.Seen.{CanAct}
 use Rattle.hierarchy_network.specs.Kept.{AreServers, IsNetwork}
@@ -61,16 +61,16 @@ module _ (net : NetParts) (phase : ℕ) (now : Servers HierarchyParts) (kept : I
   pub puts_low : (from to : ℕ) (m : Stamped (Message real)) → Has m ((moment_by net now.journal).network.put from to) → m.stamp < last_stamp
   puts_low from to m h = let l = (low_at net now.journal kept.sound kept.legal).puts from to m h in omega (arith, l)
 
-  waiting-of : (from to : ℕ) (w : WaitingParts) → Has w (now.messages from to) → (m : Stamped (Message real)) × Has m ((moment_by net now.journal).network.put from to) × (w ≡ waiting_in net m)
+  waiting-of : (from to : ℕ) (w : StampedMessageParts) → Has w (now.messages from to) → (m : Stamped (Message real)) × Has m ((moment_by net now.journal).network.put from to) × (w ≡ waiting_in net m)
   waiting-of from to w h =
       let m = has-map (waiting_in net) (drop ((moment_by net now.journal).network.taken from to) ((moment_by net now.journal).network.put from to)) w (subst (Has w) (kept.links.messages_are from to) h) in
       (m.0, drop-has ((moment_by net now.journal).network.put from to) ((moment_by net now.journal).network.taken from to) m.0 m.1, m.2)
 
-  pub waiting_low : (from to : ℕ) (w : WaitingParts) → Has w (now.messages from to) → w.stamp < last_stamp
+  pub waiting_low : (from to : ℕ) (w : StampedMessageParts) → Has w (now.messages from to) → w.stamp < last_stamp
   waiting_low from to w h =
       let m = waiting-of from to w h in
       subst (λ z. z < last_stamp) (sym (ap (λ z. z.stamp) m.2)) (puts_low from to m.0 m.1)
 
   -- they are of the net
-  pub waiting_of_net : (from to : ℕ) (w : WaitingParts) → Has w (now.messages from to) → w.sent.net ≡ net
+  pub waiting_of_net : (from to : ℕ) (w : StampedMessageParts) → Has w (now.messages from to) → w.sent.net ≡ net
   waiting_of_net from to w h = ap (λ z. z.sent.net) (waiting-of from to w h).2

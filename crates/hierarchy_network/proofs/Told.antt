@@ -19,7 +19,7 @@ use Rattle.law_hierarchy.proofs.Spread.{measure-laws}
 use Rattle.law_hierarchy.proofs.Told.{kept as kept-run}
 use Rattle.server_message.specs.Parts.{SendingParts, sent_by}
 use Rattle.net_model.specs.Parts.{NetParts, EntryParts}
-use Rattle.sequential_network.specs.Links.{waiting_in, waiting_as, waiting_parts}
+use Rattle.sequential_network.specs.Links.{waiting_in, waiting_as, stamped_message_parts}
 use Rattle.sequential_network.specs.Last.{LieLast, text_of_sending}
 use Rattle.server_core.proofs.SentOnLinks.{receivers-told, sent-to, sent-of}
 use Rattle.sequential_network.proofs.Told.{alone, texts-are, step-outcome}
@@ -172,7 +172,7 @@ module _ (net : NetParts) (phase : ℕ) (servers : Servers HierarchyParts) (kept
       only s h =
           let m = sent-of net messages ((net_of net).links entry.server) s h in
           ap (λ z. map (waiting_in net) (stamped (servers_of net) entry.stamp z)) (alone (messages s.to) m.0 m.1 (one s.to (sent-to net messages ((net_of net).links entry.server) s h)))
-          ∙ (λ i. waiting_parts entry.stamp (sym m.2 i) ∷ [])
+          ∙ (λ i. stamped_message_parts entry.stamp (sym m.2 i) ∷ [])
 
   -- its texts are what is told
   pub texts_then : map text_of_sending sent_then ≡ told_of net (found_of net servers.journal (length before) entry) entry

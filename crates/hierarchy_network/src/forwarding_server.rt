@@ -23,7 +23,7 @@ use match_routes::Forwarding;
 use net_model::Delivery;
 use net_tables::Tables;
 use sequential_network::{
-    Networked, Ruled, Server, Servers, Waiting, route, routed, unexhausted, unpublished,
+    Networked, Ruled, Server, Servers, StampedMessage, route, routed, unexhausted, unpublished,
 };
 use server_core::Step;
 use server_session::Session;
@@ -168,7 +168,7 @@ impl<'a> Server<'a> for ForwardingServer<'a> {
         &mut self,
         alloc: Global,
         from: u32,
-        waiting: &Waiting<'a>,
+        waiting: &StampedMessage<'a>,
     ) -> Result<Step<'a>, NoMemory> {
         let tables = self.core.tables();
         let load = waiting.message.load();

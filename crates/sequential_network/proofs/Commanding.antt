@@ -32,7 +32,7 @@ use Rattle.net_turns.specs.Sessions.{is_phase_below}
 use Rattle.std.proofs.lemmas.Bool.Decides.{nat_tests}
 use Rattle.net_turns.specs.Network.{network_parts, moment_by, IsLegal, executed_by, phase_in, next_phase_by}
 use Rattle.net_turns.specs.Turns.{IsMade, IsBarred}
-use Rattle.sequential_network.specs.Links.{WaitingParts, AreOnLinks, waiting_in}
+use Rattle.sequential_network.specs.Links.{StampedMessageParts, AreOnLinks, waiting_in}
 use Rattle.sequential_network.specs.Kept.{AreServers, IsNetwork}
 use Rattle.sequential_network.specs.Acted.{Servers, IsActed}
 use Rattle.sequential_network.proofs.Acted.{network-step, IsNetworkStep}
@@ -188,7 +188,7 @@ module _ (net : NetParts) (last own : ℕ) (now : Servers CoreParts) (kept : IsN
   pub messages_none : (a b : ℕ) → now.messages a b ≡ []
   messages_none a b = kept.links.messages_are a b ∙ ap (map (waiting_in net)) (ap (λ z. drop z ((moment_by net now.journal).state.put a b)) (quiet.empty a b) ∙ drop-length ((moment_by net now.journal).state.put a b))
 
-  pub links_later : (messages : ℕ → ℕ → List WaitingParts) → ((a b : ℕ) → messages a b ≡ now.messages a b) → AreOnLinks net (begun real (phased_net net) last own (moment_by net now.journal).state) messages
+  pub links_later : (messages : ℕ → ℕ → List StampedMessageParts) → ((a b : ℕ) → messages a b ≡ now.messages a b) → AreOnLinks net (begun real (phased_net net) last own (moment_by net now.journal).state) messages
   links_later messages same = go (is_one_tree real (phased_net net) last own)
     where
       go : (b : Bool) → AreOnLinks net (cond b (with_clocks_raised real (phased_net net) last (moment_by net now.journal).state) (with_tree_changed real (phased_net net) last own (moment_by net now.journal).state)) messages

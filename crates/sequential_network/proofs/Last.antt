@@ -8,7 +8,7 @@ use Rattle.law_machine.proofs.Lists.{get-after}
 use Rattle.filter_text.specs.declared.sent.Sent.{Sent}
 use Rattle.server_spec.specs.Control.{sent_to}
 use Rattle.server_message.specs.Parts.{SendingParts}
-use Rattle.sequential_network.specs.Links.{WaitingParts, waiting_as}
+use Rattle.sequential_network.specs.Links.{StampedMessageParts, waiting_as}
 use Rattle.sequential_network.specs.Last.{LieLast, text_of_sending}
 
 pub split-last : {T : Type 0} (xs : List T) (x : T) → slice_get xs (length xs - 1) ≡ Some x → (before : List T) × (xs ≡ before ++ x ∷ [])
@@ -48,17 +48,17 @@ some-sent [] l = absurd (omega (arith, l))
 some-sent (x ∷ xs) l = x
 
 -- so many texts are told
-abbrev pub AreToldTo : ℕ → (ℕ → ℕ → List WaitingParts) → ℕ → List ℕ → List Sent → Type 0
+abbrev pub AreToldTo : ℕ → (ℕ → ℕ → List StampedMessageParts) → ℕ → List ℕ → List Sent → Type 0
 AreToldTo n messages server outs told = (sent : List SendingParts) → LieLast messages server outs sent → told ≡ map text_of_sending (take n sent)
 
-pub told_none : (messages : ℕ → ℕ → List WaitingParts) (server : ℕ) (outs : List ℕ) (told : List Sent) → told ≡ [] → AreToldTo 0 messages server outs told
+pub told_none : (messages : ℕ → ℕ → List StampedMessageParts) (server : ℕ) (outs : List ℕ) (told : List Sent) → told ≡ [] → AreToldTo 0 messages server outs told
 told_none messages server outs told e sent lies = e
 
-long-as : (messages : ℕ → ℕ → List WaitingParts) (server : ℕ) (outs : List ℕ) (sent : List SendingParts) → LieLast messages server outs sent → length outs ≡ length sent
+long-as : (messages : ℕ → ℕ → List StampedMessageParts) (server : ℕ) (outs : List ℕ) (sent : List SendingParts) → LieLast messages server outs sent → length outs ≡ length sent
 long-as messages server outs sent lies = ap length lies.receivers ∙ length-map sent (λ s. s.to)
 
-pub told_more : (n : ℕ) (messages : ℕ → ℕ → List WaitingParts) (server : ℕ) (outs : List ℕ) (told after : List Sent) (x : Sent) → n < length outs
-    → ((before : List WaitingParts) (last : WaitingParts) → messages server (slice_index_or outs n 0) ≡ before ++ last ∷ [] → x ≡ sent_to (slice_index_or outs n 0) last.sent.message)
+pub told_more : (n : ℕ) (messages : ℕ → ℕ → List StampedMessageParts) (server : ℕ) (outs : List ℕ) (told after : List Sent) (x : Sent) → n < length outs
+    → ((before : List StampedMessageParts) (last : StampedMessageParts) → messages server (slice_index_or outs n 0) ≡ before ++ last ∷ [] → x ≡ sent_to (slice_index_or outs n 0) last.sent.message)
     → after ≡ told ++ x ∷ [] → AreToldTo n messages server outs told → AreToldTo (n + 1) messages server outs after
 told_more n messages server outs told after x less last e so sent lies =
     let low : n < length sent = subst (λ z. n < z) (long-as messages server outs sent lies) less in
@@ -73,7 +73,7 @@ told_more n messages server outs told after x less last e so sent lies =
     more : (xs : List SendingParts) (k : ℕ) (d : SendingParts) → k < length xs → map text_of_sending (take (k + 1) xs) ≡ map text_of_sending (take k xs) ++ text_of_sending (get_or xs k d) ∷ []
     more xs k d l = ap (map text_of_sending) (take_more xs k d l) ∙ map-append text_of_sending (take k xs) (get_or xs k d ∷ [])
 
-pub told_all : (n : ℕ) (messages : ℕ → ℕ → List WaitingParts) (server : ℕ) (outs : List ℕ) (told : List Sent) → n ≤ length outs → length outs ≤ n → AreToldTo n messages server outs told
+pub told_all : (n : ℕ) (messages : ℕ → ℕ → List StampedMessageParts) (server : ℕ) (outs : List ℕ) (told : List Sent) → n ≤ length outs → length outs ≤ n → AreToldTo n messages server outs told
     → (sent : List SendingParts) → LieLast messages server outs sent → told ≡ map text_of_sending sent
 told_all n messages server outs told most end so sent lies =
     let all : n ≡ length outs = omega (arith, most, end) in

@@ -5,7 +5,7 @@ use Rattle.base.specs.Numbers.{IsDistinct}
 use Rattle.base.proofs.Numbers.{Same, Is, Not, compare}
 use Rattle.law_machine.proofs.Lists.{append-nothing, append-together}
 use Rattle.server_message.specs.Parts.{SendingParts}
-use Rattle.sequential_network.specs.Links.{WaitingParts}
+use Rattle.sequential_network.specs.Links.{StampedMessageParts}
 use Rattle.net_model.specs.declared.turn.Act.{Act as EntryAct}
 use Rattle.net_model.specs.Parts.{entry_parts}
 use Rattle.law_machine.specs.Machine.{Receives, Stamped}
@@ -46,7 +46,7 @@ module _ (all : List SendingParts) (server stamp : ℕ) (old : List QueueParts) 
     room = λ s h. subst (λ z. has_room z server s.to ≡ true) (sym same) (room s h);
   }
 
-  pub put_more : (put : List SendingParts) (x : SendingParts) (new next : List QueueParts) (frame : WaitingParts) → ArePut all server stamp old new put → slice_get all (length put) ≡ Some x
+  pub put_more : (put : List SendingParts) (x : SendingParts) (new next : List QueueParts) (frame : StampedMessageParts) → ArePut all server stamp old new put → slice_get all (length put) ≡ Some x
       → IsDistinct (map (λ s. s.to) all) → frame ≡ waiting_as stamp x
       → messages_at next server x.to ≡ messages_at new server x.to ++ frame ∷ []
       → ((a b : ℕ) → (a ≡ server → b ≡ x.to → ⊥) → messages_at next a b ≡ messages_at new a b)
@@ -86,7 +86,7 @@ pub acted_by : {P : Type 0} (kind : Stepping P) (place server : ℕ) (input : St
     → slice_get old.cores place ≡ Some core → (kind.core core).server ≡ server → kind.Steps (input_of input) (stamp_of input) core next stamp sent
     → new.run ≡ old.run → new.cores ≡ slice_set old.cores place next
     → new.journal ≡ old.journal ++ entry_parts stamp server act (map (λ s. s.to) sent) ∷ []
-    → (left : ℕ → ℕ → List WaitingParts) → ((a b : ℕ) → left a b ≡ messages_left input server old.messages a b)
+    → (left : ℕ → ℕ → List StampedMessageParts) → ((a b : ℕ) → left a b ≡ messages_left input server old.messages a b)
     → ((b : ℕ) → new.messages server b ≡ left server b ++ messages_to stamp sent b)
     → ((a b : ℕ) → (a ≡ server → ⊥) → new.messages a b ≡ left a b)
     → IsActed kind place input act old new
@@ -122,10 +122,10 @@ first_left old mid new server from m same here others a b = go (compare a from) 
     go (Is e v) (Not n w) = rw (v, w) (others a b (λ p q. n q) ∙ same a b)
     go (Not n v) s = rw v (others a b (λ p q. n p) ∙ same a b)
 
-pub nothing_put : (messages : List WaitingParts) → messages ≡ messages ++ []
+pub nothing_put : (messages : List StampedMessageParts) → messages ≡ messages ++ []
 nothing_put messages = sym (append-nothing messages)
 
 -- what has no message has no first one
-pub nothing_first : (messages : List WaitingParts) (first : WaitingParts) → messages ≡ [] → slice_get messages 0 ≡ Some first → ⊥
+pub nothing_first : (messages : List StampedMessageParts) (first : StampedMessageParts) → messages ≡ [] → slice_get messages 0 ≡ Some first → ⊥
 nothing_first [] first none is = cc
 nothing_first (x ∷ messages) first none is = cc

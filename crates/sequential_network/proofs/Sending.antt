@@ -9,7 +9,7 @@ use Rattle.net_model.specs.Real.{real}
 use Rattle.server_message.specs.Parts.{onto, sent_by}
 use Rattle.net_model.specs.Parts.{NetParts}
 use Rattle.server_core.proofs.SentOnLinks.{sent-for}
-use Rattle.sequential_network.specs.Links.{WaitingParts, waiting_in, waiting_as, messages_to}
+use Rattle.sequential_network.specs.Links.{StampedMessageParts, waiting_in, waiting_as, messages_to}
 
 -- lists
 
@@ -20,7 +20,7 @@ messages-told of outs net stamp links apart b = ap (map (waiting_as stamp)) (sen
   where
     put : (ms : List (Message real)) → map (waiting_as stamp) (map (onto of b) ms) ≡ map (waiting_in of) (stamped (routing_machine real net) stamp ms)
     put [] = refl
-    put (m ∷ ms) = ap (λ (z : List WaitingParts). waiting_in of (record { stamp = stamp; message = m }) ∷ z) (put ms)
+    put (m ∷ ms) = ap (λ (z : List StampedMessageParts). waiting_in of (record { stamp = stamp; message = m }) ∷ z) (put ms)
 
     go : (a : Bool) → map (waiting_as stamp) (cond a (map (onto of b) (outs b)) []) ≡ cond a (map (waiting_in of) (stamped (routing_machine real net) stamp (outs b))) []
     go true = put (outs b)

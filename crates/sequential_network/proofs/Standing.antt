@@ -7,7 +7,7 @@ use Rattle.law_phases.specs.Trees.{State, net_at}
 use Rattle.law_phases.specs.Runs.{PhasedRun}
 use Rattle.net_model.specs.Real.{real}
 use Rattle.base_tree.specs.Tree.{links_of}
-use Rattle.sequential_network.specs.Links.{WaitingParts, waiting_in}
+use Rattle.sequential_network.specs.Links.{StampedMessageParts, waiting_in}
 use Rattle.net_model.specs.Parts.{NetParts, EntryParts}
 use Rattle.net_model.specs.Meaning.{journal_of}
 use Rattle.net_model.specs.Nets.{phased_net, first_tree, topology_at}
@@ -86,16 +86,16 @@ module _ (net : NetParts) (phase : ℕ) (now : Servers CoreParts) (kept : IsNetw
   pub puts_low : (from to : ℕ) (m : Stamped (Message real)) → Has m ((moment_by net now.journal).state.put from to) → m.stamp < last_stamp
   puts_low from to m h = let l = (low_at net now.journal kept.sound kept.legal).puts from to m h in omega (arith, l)
 
-  waiting-of : (from to : ℕ) (w : WaitingParts) → Has w (now.messages from to) → (m : Stamped (Message real)) × Has m ((moment_by net now.journal).state.put from to) × (w ≡ waiting_in net m)
+  waiting-of : (from to : ℕ) (w : StampedMessageParts) → Has w (now.messages from to) → (m : Stamped (Message real)) × Has m ((moment_by net now.journal).state.put from to) × (w ≡ waiting_in net m)
   waiting-of from to w h =
       let m = has-map (waiting_in net) (drop ((moment_by net now.journal).state.taken from to) ((moment_by net now.journal).state.put from to)) w (subst (Has w) (kept.links.messages_are from to) h) in
       (m.0, drop-has ((moment_by net now.journal).state.put from to) ((moment_by net now.journal).state.taken from to) m.0 m.1, m.2)
 
-  pub waiting_low : (from to : ℕ) (w : WaitingParts) → Has w (now.messages from to) → w.stamp < last_stamp
+  pub waiting_low : (from to : ℕ) (w : StampedMessageParts) → Has w (now.messages from to) → w.stamp < last_stamp
   waiting_low from to w h =
       let m = waiting-of from to w h in
       subst (λ z. z < last_stamp) (sym (ap (λ z. z.stamp) m.2)) (puts_low from to m.0 m.1)
 
   -- they are of the net
-  pub waiting_of_net : (from to : ℕ) (w : WaitingParts) → Has w (now.messages from to) → w.sent.net ≡ net
+  pub waiting_of_net : (from to : ℕ) (w : StampedMessageParts) → Has w (now.messages from to) → w.sent.net ≡ net
   waiting_of_net from to w h = ap (λ z. z.sent.net) (waiting-of from to w h).2

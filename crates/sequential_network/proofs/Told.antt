@@ -26,7 +26,7 @@ use Rattle.net_model.specs.Parts.{NetParts, EntryParts}
 use Rattle.net_model.specs.Meaning.{entry_of, journal_of}
 use Rattle.net_model.specs.Nets.{phased_net}
 use Rattle.net_turns.specs.Network.{moment_by}
-use Rattle.sequential_network.specs.Links.{waiting_in, waiting_as, waiting_parts}
+use Rattle.sequential_network.specs.Links.{waiting_in, waiting_as, stamped_message_parts}
 use Rattle.sequential_network.specs.Kept.{IsNetwork}
 use Rattle.sequential_network.specs.Acted.{Servers}
 use Rattle.sequential_network.specs.Last.{LieLast, text_of_sending}
@@ -154,7 +154,7 @@ module _ (net : NetParts) (phase : ℕ) (servers : Servers CoreParts) (kept : Is
       only s h =
           let m = sent-of net messages (net-then.links entry.server) s h in
           ap (λ z. map (waiting_in net) (stamped (routing_machine real net-then) entry.stamp z)) (alone (messages s.to) m.0 m.1 (one s.to (sent-to net messages (net-then.links entry.server) s h)))
-          ∙ (λ i. waiting_parts entry.stamp (sym m.2 i) ∷ [])
+          ∙ (λ i. stamped_message_parts entry.stamp (sym m.2 i) ∷ [])
 
   -- its texts are what is told
   pub texts_then : map text_of_sending sent_then ≡ told_of net found entry

@@ -7,14 +7,14 @@ use Rattle.net_model.specs.Real.{real}
 use Rattle.server_message.specs.Parts.{SendingParts}
 use Rattle.net_model.specs.declared.turn.Act.{Act as EntryAct}
 use Rattle.net_model.specs.Parts.{NetParts, EntryParts, entry_parts}
-use Rattle.sequential_network.specs.Links.{WaitingParts, messages_to}
+use Rattle.sequential_network.specs.Links.{StampedMessageParts, messages_to}
 use Rattle.sequential_network.specs.Stepping.{Stepping}
 
 -- the net whose run it is, the servers at their places, what is on each link, and the journal
 pub record Servers (P : Type 0) : Type 0 where
   pub run : NetParts
   pub cores : List P
-  pub messages : ℕ → ℕ → List WaitingParts
+  pub messages : ℕ → ℕ → List StampedMessageParts
   pub journal : List EntryParts
 
 -- an input whose message has its stamp
@@ -35,7 +35,7 @@ recorded_as (Does task) = Did task
 recorded_as (Receives from m) = Received from
 
 -- what an input of a server leaves on the links: a reception takes the first message of its link
-abbrev pub messages_left : StampedInput → ℕ → (ℕ → ℕ → List WaitingParts) → ℕ → ℕ → List WaitingParts
+abbrev pub messages_left : StampedInput → ℕ → (ℕ → ℕ → List StampedMessageParts) → ℕ → ℕ → List StampedMessageParts
 messages_left (Does task) server messages a b = messages a b
 messages_left (Receives from m) server messages a b = cond ((a == from) && (b == server)) (drop 1 (messages a b)) (messages a b)
 

@@ -7,13 +7,13 @@ use Rattle.filter_text.specs.declared.sent.Sent.{Sent}
 use Rattle.filter_text.specs.MessageText.{change_text}
 use Rattle.server_spec.specs.Control.{sent_to}
 use Rattle.server_message.specs.Parts.{SendingParts}
-use Rattle.sequential_network.specs.Links.{WaitingParts, waiting_as}
+use Rattle.sequential_network.specs.Links.{StampedMessageParts, waiting_as}
 
 -- on each of these links of a server the message for it lies last
-pub record LieLast (messages : ℕ → ℕ → List WaitingParts) (server : ℕ) (outs : List ℕ) (sent : List SendingParts) : Type 0 where
+pub record LieLast (messages : ℕ → ℕ → List StampedMessageParts) (server : ℕ) (outs : List ℕ) (sent : List SendingParts) : Type 0 where
   pub stamp : ℕ
   pub receivers : outs ≡ map (λ s. s.to) sent
-  pub last : (s : SendingParts) → Has s sent → (before : List WaitingParts) × (messages server s.to ≡ before ++ waiting_as stamp s ∷ [])
+  pub last : (s : SendingParts) → Has s sent → (before : List StampedMessageParts) × (messages server s.to ≡ before ++ waiting_as stamp s ∷ [])
 
 -- the text of a message on its way to a neighbour
 abbrev pub text_of_sending : SendingParts → Sent

@@ -26,7 +26,7 @@ use Rattle.net_turns.specs.Kinds.{Trying, Telling}
 use Rattle.sequential_network.specs.Acted.{Servers, IsActed}
 use Rattle.sequential_network.specs.Inboxes.{HaveInboxes}
 use Rattle.sequential_network.specs.Last.{LieLast, text_of_sending}
-use Rattle.sequential_network.specs.Links.{WaitingParts, waiting_in}
+use Rattle.sequential_network.specs.Links.{StampedMessageParts, waiting_in}
 use Rattle.sequential_network.specs.Seen.{AreCalmCores, CanAct}
 use Rattle.sequential_network.specs.Stepping.{Stepping}
 
@@ -74,8 +74,8 @@ pub record Stands {P : Type 0} (kind : Stepping P) (trying : Trying) (net : NetP
   pub nets : (place : ℕ) (core : P) → slice_get now.cores place ≡ Some core → (kind.core core).net ≡ net
   pub able : (server : ℕ) → 1 ≤ server → server ≤ (first_tree net.trees).count
       → CanAct kind server (links_of (topology_at net (trying.tree_phase phase)) server) now.cores
-  pub low : (from to : ℕ) (w : WaitingParts) → Has w (now.messages from to) → w.stamp < last_stamp
-  pub waiting : (from to : ℕ) (w : WaitingParts) → Has w (now.messages from to) → w.sent.net ≡ net
+  pub low : (from to : ℕ) (w : StampedMessageParts) → Has w (now.messages from to) → w.stamp < last_stamp
+  pub waiting : (from to : ℕ) (w : StampedMessageParts) → Has w (now.messages from to) → w.sent.net ≡ net
 
 -- WHAT A KIND OF NETWORK KEEPS
 pub record Ruling (P : Type 0) : Type 1 where

@@ -21,7 +21,7 @@ use crate::routing::{route, routed};
 use crate::ruled::{Networked, Ruled};
 use crate::server::Server;
 use crate::servers::Servers;
-use crate::waiting::Waiting;
+use crate::stamped_message::StampedMessage;
 use base::NoMemory;
 use match_routes::Forwarding;
 use net_model::Delivery;
@@ -190,7 +190,7 @@ impl<'a> Server<'a> for ForwardingServer<'a> {
         &mut self,
         alloc: Global,
         from: u32,
-        waiting: &Waiting<'a>,
+        waiting: &StampedMessage<'a>,
     ) -> Result<Step<'a>, NoMemory> {
         let tables = self.core.tables();
         let load = waiting.message.load();

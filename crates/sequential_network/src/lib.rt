@@ -36,7 +36,7 @@ mod server;
 mod servers;
 mod telling;
 mod texts;
-mod waiting;
+mod stamped_message;
 mod walking;
 
 pub use forwarding_server::{ForwardingServer, unexhausted, unpublished};
@@ -48,4 +48,4 @@ pub use routing::{route, routed};
 pub use ruled::{Networked, Ruled};
 pub use server::{Server, greatest_clock};
 pub use servers::Servers;
-pub use waiting::Waiting;
+pub use stamped_message::StampedMessage;

@@ -5,7 +5,7 @@ ghost use Rattle.base.specs.Sets.{Has};
 ghost use Rattle.sequential_network.specs.Links.{link_place, messages_at, has_room, AreSame};
 
 use crate::queue::Queue;
-use crate::waiting::Waiting;
+use crate::stamped_message::StampedMessage;
 use base::NoMemory;
 use std::alloc::Global;
 use std::marker::Model;
@@ -61,7 +61,7 @@ impl<'a> Links<'a> {
     }
 
     /// The next message on a link.
-    pub fn first(&self, from: u32, to: u32) -> Option<&Waiting<'a>>
+    pub fn first(&self, from: u32, to: u32) -> Option<&StampedMessage<'a>>
         requires { (from ≤ 64) × (to ≤ 64) }
         ensures some { IfSome result (λ first. slice_get (messages_at self.now from to) 0 ≡ Some first.now) }
         ensures none { IfNone result (messages_at self.now from to ≡ []) }
@@ -78,7 +78,7 @@ impl<'a> Links<'a> {
     }
 
     /// The last message on a link.
-    pub fn last(&self, from: u32, to: u32) -> Option<&Waiting<'a>>
+    pub fn last(&self, from: u32, to: u32) -> Option<&StampedMessage<'a>>
         requires { (from ≤ 64) × (to ≤ 64) }
         ensures some { IfSome result (λ last. slice_get (messages_at self.now from to) (length (messages_at self.now from to) - 1) ≡ Some last.now) }
         ensures none { IfNone result (messages_at self.now from to ≡ []) }
@@ -110,7 +110,7 @@ impl<'a> Links<'a> {
     }
 
     /// Puts a message on a link, where there is room for it. It takes no memory.
-    pub fn put(&mut self, from: u32, to: u32, message: Waiting<'a>)
+    pub fn put(&mut self, from: u32, to: u32, message: StampedMessage<'a>)
         requires small { (from ≤ 64) × (to ≤ 64) }
         requires room { has_room self.old from to ≡ true }
         ensures here { messages_at self.new from to ≡ messages_at self.old from to ++ message.entry ∷ [] }

@@ -1,7 +1,7 @@
 //! The type of the queue of one link.
 ghost use Rattle.std.specs.Prelude.{◌≡◌, ◌-◌, true, false, drop, ◌∷◌, ◌++◌, [], length, IfSome, IfNone, OnOk, OnErr, slice_get, Some};
 
-use crate::waiting::Waiting;
+use crate::stamped_message::StampedMessage;
 use base::NoMemory;
 use std::alloc::Global;
 use std::collections::VecDeque;
@@ -10,7 +10,7 @@ use std::marker::Model;
 /// The messages on a link that are not received yet, in the order in which they were put; there may be room for one more.
 #[derive(Drop)]
 pub(crate) struct Queue<'a> {
-    messages: VecDeque<Waiting<'a>>,
+    messages: VecDeque<StampedMessage<'a>>,
     has_room: bool,
 }
 
@@ -50,7 +50,7 @@ impl<'a> Queue<'a> {
     }
 
     /// Puts a message at the end, for which there is room. It takes no memory.
-    pub(crate) fn put(&mut self, message: Waiting<'a>)
+    pub(crate) fn put(&mut self, message: StampedMessage<'a>)
         requires { self.old.room ≡ true }
         ensures { self.new ≡ queue_parts (self.old.messages ++ message.entry ∷ []) false }
     {
@@ -59,7 +59,7 @@ impl<'a> Queue<'a> {
     }
 
     /// The next message.
-    pub(crate) fn first(&self) -> Option<&Waiting<'a>>
+    pub(crate) fn first(&self) -> Option<&StampedMessage<'a>>
         ensures some { IfSome result (λ first. slice_get self.now.messages 0 ≡ Some first.now) }
         ensures none { IfNone result (self.now.messages ≡ []) }
     {
@@ -67,7 +67,7 @@ impl<'a> Queue<'a> {
     }
 
     /// The last message.
-    pub(crate) fn last(&self) -> Option<&Waiting<'a>>
+    pub(crate) fn last(&self) -> Option<&StampedMessage<'a>>
         ensures some { IfSome result (λ last. slice_get self.now.messages (length self.now.messages - 1) ≡ Some last.now) }
         ensures none { IfNone result (self.now.messages ≡ []) }
     {

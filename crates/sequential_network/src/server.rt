@@ -10,7 +10,7 @@ ghost use Rattle.server_core.specs.Pending.{is_some_there};
 ghost use Rattle.server_core.specs.Step.{last_stamp};
 ghost use Rattle.sequential_network.specs.Stepping.{IsSome, GoesOn, greatest_clock};
 
-use crate::waiting::Waiting;
+use crate::stamped_message::StampedMessage;
 use base::NoMemory;
 use net_model::Delivery;
 use server_core::Step;
@@ -38,7 +38,7 @@ pub trait Server<'a>: Drop {
         &mut self,
         alloc: Global,
         from: u32,
-        waiting: &Waiting<'a>,
+        waiting: &StampedMessage<'a>,
     ) -> Result<Step<'a>, NoMemory>
         requires from { Has from (stepping.core self.old).control.links }
         requires stands { IsSome stepping self.old }

@@ -15,11 +15,11 @@ ghost use Rattle.server_core.specs.Clients.{client_numbers};
 ghost use Rattle.server_core.specs.Step.{last_stamp};
 ghost use Rattle.sequential_network.specs.Acted.{IsActed};
 ghost use Rattle.sequential_network.specs.Seen.{CanAct, seen, IsUnchanged};
-ghost use Rattle.sequential_network.specs.Links.{WaitingParts, messages_at, messages_to, waiting_in, has_room};
+ghost use Rattle.sequential_network.specs.Links.{StampedMessageParts, messages_at, messages_to, waiting_in, has_room};
 
 use crate::links::Links;
 use crate::server::Server;
-use crate::waiting::Waiting;
+use crate::stamped_message::StampedMessage;
 use base::NoMemory;
 use net_journal::Journal;
 use net_model::{Act, Entry};
@@ -65,7 +65,7 @@ fn put_all<'a>(
         let to = sending.to;
         outs.push(to).unwrap();
         let message = sending.message;
-        links.put(server, to, Waiting { stamp, message });
+        links.put(server, to, StampedMessage { stamp, message });
     }
 }
 
@@ -158,8 +158,8 @@ impl<'a, P: Server<'a>> Servers<'a, P> {
     pub fn take(&mut self, server: u32, from: u32, neighbours: &[u32]) -> Result<bool, NoMemory>
         requires able { CanAct P.stepping server neighbours.now self.old.places.items }
         requires from { Has from neighbours.now }
-        requires low { (w : WaitingParts) → Has w (messages_at self.old.links from server) → w.stamp < last_stamp }
-        requires run { (w : WaitingParts) (core : P) → Has w (messages_at self.old.links from server)
+        requires low { (w : StampedMessageParts) → Has w (messages_at self.old.links from server) → w.stamp < last_stamp }
+        requires run { (w : StampedMessageParts) (core : P) → Has w (messages_at self.old.links from server)
             → slice_get self.old.places.items (server - 1) ≡ Some core → w.sent.net ≡ (P.stepping.core core).net }
         ensures acted { (net : NetParts) (m : Stamped (Message real)) → slice_get (messages_at self.old.links from server) 0 ≡ Some (waiting_in net m)
             → IfOk result (λ made. (made ≡ true) × IsActed P.stepping (server - 1) (Receives from m) (acts.Receive from) (seen self.old) (seen self.new)) }

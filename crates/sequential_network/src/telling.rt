@@ -5,7 +5,7 @@ ghost use Rattle.server_spec.specs.Control.{sent_to};
 ghost use Rattle.server_message.specs.Parts.{SendingParts};
 ghost use Rattle.net_model.specs.Parts.{EntryParts};
 ghost use Rattle.sequential_network.specs.Last.{LieLast, text_of_sending};
-ghost use Rattle.sequential_network.specs.Links.{WaitingParts, messages_at};
+ghost use Rattle.sequential_network.specs.Links.{StampedMessageParts, messages_at};
 ghost use Rattle.sequential_network.specs.Ruling.{RulingLaws};
 ghost use Rattle.sequential_network.specs.Seen.{seen};
 
@@ -28,8 +28,8 @@ fn last_sent(
     to: u32,
 ) -> Result<Sent, NoMemory>
     requires small { (from ≤ 64) × (to ≤ 64) }
-    requires run { (w : WaitingParts) → Has w (messages_at links.now from to) → w.sent.net ≡ tables.now }
-    ensures { (before : List WaitingParts) (last : WaitingParts) → messages_at links.now from to ≡ before ++ last ∷ []
+    requires run { (w : StampedMessageParts) → Has w (messages_at links.now from to) → w.sent.net ≡ tables.now }
+    ensures { (before : List StampedMessageParts) (last : StampedMessageParts) → messages_at links.now from to ≡ before ++ last ∷ []
         → IfOk result (λ sent. sent ≡ sent_to to last.sent.message) }
 {
     match links.last(from, to) {
@@ -53,7 +53,7 @@ pub(crate) fn last_on(
     outs: &[u32],
 ) -> Result<Lists<Sent>, NoMemory>
     requires small { (to : ℕ) → Has to outs.now → (server ≤ 64) × (to ≤ 64) }
-    requires run { (to : ℕ) (w : WaitingParts) → Has w (messages_at links.now server to) → w.sent.net ≡ tables.now }
+    requires run { (to : ℕ) (w : StampedMessageParts) → Has w (messages_at links.now server to) → w.sent.net ≡ tables.now }
     ensures { IfOk result (λ told. (sent : List SendingParts) → LieLast (messages_at links.now) server outs.now sent → told ≡ map text_of_sending sent) }
 {
     let mut told = Vec::with_capacity(alloc, outs.len())?;

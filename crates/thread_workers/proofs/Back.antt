@@ -14,7 +14,7 @@ use Rattle.thread_cell.specs.Cell.{CellParts}
 use Rattle.thread_cell.specs.Together.{HasGrown, HaveGrown}
 use Rattle.thread_workers.specs.ServerWorkers.{HasSeenFirst}
 use Rattle.thread_workers.specs.WorkerHandles.{CellLock}
-use Rattle.thread_workers.specs.Journals.{commands_of, entries_since, HasCommands, IsWornBy, HasTaken}
+use Rattle.thread_workers.specs.Journals.{commands_of, entries_since, HasCommands, IsWornBy, HasExecuted}
 use Rattle.thread_workers.specs.Work.{EndsWith}
 
 commands-more : (client : ℕ) (es fs : List EntryParts) → commands_of client es ≤ commands_of client (es ++ fs)
@@ -34,10 +34,10 @@ has-more phase root seen journal p has s h lives =
     omega (arith, here, more)
 
 -- how far the cell is, by how the worker for commands ended
-pub back-taken : (cell : CellParts) (seen : List EntryParts) (fault : Option StepFault) → IsPrefix seen cell.journal → EndsWith Commands cell.root seen fault → (fault ≡ Some NoMemory → ⊥) → HasTaken cell
-back-taken cell seen None p ends some = inl (has-more cell.root.phase cell.root seen cell.journal p ends)
-back-taken cell seen (Some NoMemory) p ends some = absurd (some refl)
-back-taken cell seen (Some (StampsExhausted s)) p ends some = inr (seen, p, subst (λ z. IsWornBy z cell.root seen) ends.0 ends)
+pub back-executed : (cell : CellParts) (seen : List EntryParts) (fault : Option StepFault) → IsPrefix seen cell.journal → EndsWith Commands cell.root seen fault → (fault ≡ Some NoMemory → ⊥) → HasExecuted cell
+back-executed cell seen None p ends some = inl (has-more cell.root.phase cell.root seen cell.journal p ends)
+back-executed cell seen (Some NoMemory) p ends some = absurd (some refl)
+back-executed cell seen (Some (StampsExhausted s)) p ends some = inr (seen, p, subst (λ z. IsWornBy z cell.root seen) ends.0 ends)
 
 -- one more cell at the end
 pub grown-more : (xs ys : List CellParts) (x y : CellParts) → HaveGrown xs ys → HasGrown x y → HaveGrown (xs ++ x ∷ []) (ys ++ y ∷ [])

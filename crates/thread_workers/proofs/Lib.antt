@@ -10,4 +10,4 @@ pub mod WorkersByThread
 pub mod Sends
 pub mod Back
 pub mod Finished
-pub mod Takings
+pub mod Receptions

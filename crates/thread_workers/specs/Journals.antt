@@ -49,6 +49,6 @@ abbrev pub IsWornBy : ℕ → Root → List EntryParts → Type 0
 IsWornBy stamp root journal = (stamp ≡ last_stamp) × (clock_by root journal ≡ stamp)
 
 -- HOW FAR A CELL IS once its workers are back: its journal has every command of its phase and those before, or a pass saw by it that no stamp is left
-abbrev pub HasTaken : CellParts → Type 0
-HasTaken cell = HasCommands cell.root.phase cell.root cell.journal
+abbrev pub HasExecuted : CellParts → Type 0
+HasExecuted cell = HasCommands cell.root.phase cell.root cell.journal
     ⊎ ((seen : List EntryParts) × IsPrefix seen cell.journal × IsWornBy last_stamp cell.root seen)

@@ -193,7 +193,7 @@ fn make_commands<R: Wait>(
 
 /// Receptions from the neighbours in turn and table updates, so many at most, until a publication is to be matched ahead, or until from
 /// each neighbour in turn nothing came and nothing was installed.
-fn make_takings<R: Wait>(
+fn make_receptions<R: Wait>(
     rt: &R,
     cell: &mut Cell<'_>,
     server: u32,
@@ -241,7 +241,7 @@ pub(crate) fn make_turns<R: Wait>(
 {
     match worker {
         WorkerRole::Commands => make_commands(rt, cell, at, made),
-        WorkerRole::Links => make_takings(rt, cell, server, at, made),
+        WorkerRole::Links => make_receptions(rt, cell, server, at, made),
     }
 }
 

@@ -6,7 +6,7 @@ ghost use Rattle.filter_text.specs.MessageText.{Each};
 ghost use Rattle.thread_cell.specs.Together.{cell_roots, HaveGrown};
 ghost use Rattle.thread_workers.specs.ServerWorkers.{AreBackAt, AreAllWorkers, AreViewersOf, AreInPlace, HasSeenFirst, AreWorkersOf, IsFreePass, AreSpareOf, Pairwise};
 ghost use Rattle.thread_workers.specs.WorkerHandles.{IsLockFor, lock_root};
-ghost use Rattle.thread_workers.specs.Journals.{HasTaken};
+ghost use Rattle.thread_workers.specs.Journals.{HasExecuted};
 
 use crate::ended::{Ended, lacked_memory};
 use crate::server_workers::{Both, ServerWorkers, SparePasses, Viewers};
@@ -65,7 +65,7 @@ fn unlock<'a>(
     requires back { AreBackAt lock done }
     ensures root { result.0.root ≡ lock_root lock.entry }
     ensures grown { IsPrefix (first_value lock.entry).journal result.0.journal }
-    ensures taken { (done.entry.commands.fault ≡ Some StepFault.NoMemory → ⊥) → HasTaken result.0 }
+    ensures executed { (done.entry.commands.fault ≡ Some StepFault.NoMemory → ⊥) → HasExecuted result.0 }
     ensures viewers { AreViewersOf (lock_root lock.entry) result.1 }
 {
     let SparePasses { mut passes } = spare;
@@ -149,7 +149,7 @@ pub(crate) fn unlock_all<'a>(
     ensures empty { locks.new.items ≡ [] }
     ensures roots { cell_roots cells.new.items ≡ map lock_root locks.old.items }
     ensures grown { HaveGrown (map first_value locks.old.items) cells.new.items }
-    ensures taken { IsTrue result → Each HasTaken cells.new.items }
+    ensures executed { IsTrue result → Each HasExecuted cells.new.items }
     ensures viewers { Pairwise AreViewersOf (cell_roots cells.new.items) viewers.new.items }
     ensures capacity { (vec_capacity cells.new ≡ vec_capacity cells.old) × (vec_capacity viewers.new ≡ vec_capacity viewers.old) }
 {

@@ -3,7 +3,7 @@ ghost use Rattle.std.specs.Prelude.{◌≡◌, ◌≤◌, ◌<◌, ◌*◌, ◌^
 ghost use Rattle.filter_text.specs.MessageText.{Each};
 ghost use Rattle.thread_cell.specs.Together.{cell_roots, HaveGrown};
 ghost use Rattle.thread_workers.specs.ServerWorkers.{AreBackAt, AreAllWorkers, AreViewersOf, AreInPlace, HaveRoom, AreSpareOf, Pairwise};
-ghost use Rattle.thread_workers.specs.Journals.{HasTaken};
+ghost use Rattle.thread_workers.specs.Journals.{HasExecuted};
 
 use crate::ended::Ended;
 use crate::hire::{hire_all, take_all};
@@ -76,7 +76,7 @@ pub fn run_phase<'a, R: Threads + Wait + Sync, G: Gate + Sync>(
     requires viewers { Pairwise AreViewersOf (cell_roots cells.old.items) viewers.old.items }
     ensures roots { cell_roots cells.new.items ≡ cell_roots cells.old.items }
     ensures grown { HaveGrown cells.old.items cells.new.items }
-    ensures taken { OnOk result (Each HasTaken cells.new.items) }
+    ensures executed { OnOk result (Each HasExecuted cells.new.items) }
     ensures viewers { Pairwise AreViewersOf (cell_roots cells.new.items) viewers.new.items }
 {
     let count = cells.len();

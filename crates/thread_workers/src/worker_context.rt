@@ -19,7 +19,7 @@ use thread_lock::{Pass, TurnLock};
 use thread_versions::{Ahead, Viewer, match_ahead};
 
 // So often in a row a worker takes its cell before the next worker of its thread has its turn.
-const TAKINGS: u32 = 16;
+const RECEPTIONS: u32 = 16;
 
 /// What a worker is given that stays: the tables of its net, its server, the phase, which worker it is, its lock and the gate.
 #[derive(Drop)]
@@ -215,7 +215,7 @@ impl<'l, 'a, R: Wait, G: Gate> WorkerContext<'l, 'a, R, G> {
     {
         let mut state = WorkerState::Free;
         let mut progress = Progress::Nothing;
-        for _ in 0..TAKINGS {
+        for _ in 0..RECEPTIONS {
             let (next, now) = self.step(handles, at, state);
             state = next;
             progress = progress.and(now);

@@ -3,7 +3,7 @@ use Rattle.std.proofs.lemmas.Iterator.Adapters.{YieldsList-from_vec}
 use Rattle.std.proofs.lemmas.Iterator.Consumers.{YieldsList-turn}
 use Rattle.server_core.proofs.Going.{prefix-more}
 use Rattle.server_message.specs.Parts.{SendingParts}
-use Rattle.sequential_network.specs.Links.{waiting_parts, waiting_as, messages_at, has_room}
+use Rattle.sequential_network.specs.Links.{stamped_message_parts, waiting_as, messages_at, has_room}
 use Rattle.sequential_network.proofs.Putting.{put_none, put_more}
 use Rattle.sequential_network.proofs.servers.put_all.Goals as goal
 use Rattle.base.proofs.Lists.{get-get_or}
@@ -31,9 +31,9 @@ loop-sending-preserved c =
       pushed ∙ ap (λ z. z ++ c.in-Some.sending.to ∷ []) c.loop-sending.invariant.1 ∙ sym (map-append (λ (s : SendingParts). s.to) c.loop-sending.yielded (c.in-Some.sending ∷ [])),
       search (rules, longer),
       search rules,
-      put_more c.args.sent.items c.args.server c.args.stamp c.args.links.now c.loop-sending.yielded c.in-Some.sending c.loop-sending.links c.put.new.self (waiting_parts c.args.stamp c.sending.inside.message)
+      put_more c.args.sent.items c.args.server c.args.stamp c.args.links.now c.loop-sending.yielded c.in-Some.sending c.loop-sending.links c.put.new.self (stamped_message_parts c.args.stamp c.sending.inside.message)
           c.loop-sending.invariant.4 at c.requires.apart (ap (waiting_as c.args.stamp) c.sending.view_is)
-          (subst (λ z. messages_at c.put.new.self c.args.server z ≡ messages_at c.loop-sending.links c.args.server z ++ waiting_parts c.args.stamp c.sending.inside.message ∷ []) to-is c.put.ensures.here)
+          (subst (λ z. messages_at c.put.new.self c.args.server z ≡ messages_at c.loop-sending.links c.args.server z ++ stamped_message_parts c.args.stamp c.sending.inside.message ∷ []) to-is c.put.ensures.here)
           (subst (λ z. (a b : ℕ) → (a ≡ c.args.server → b ≡ z → ⊥) → messages_at c.put.new.self a b ≡ messages_at c.loop-sending.links a b) to-is c.put.ensures.others)
           (subst (λ z. (a b : ℕ) → (a ≡ c.args.server → b ≡ z → ⊥) → has_room c.loop-sending.links a b ≡ true → has_room c.put.new.self a b ≡ true) to-is c.put.ensures.rooms),
     )

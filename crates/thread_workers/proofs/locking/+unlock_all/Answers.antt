@@ -6,7 +6,7 @@ use Rattle.std.proofs.Common.{◌++◌, ◌∷◌, [], map}
 use Rattle.thread_lock.specs.Passes.{first_value}
 use Rattle.filter_text.specs.MessageText.{Each}
 use Rattle.thread_cell.specs.Together.{HaveGrown}
-use Rattle.thread_workers.specs.Journals.{HasTaken}
+use Rattle.thread_workers.specs.Journals.{HasExecuted}
 use Rattle.thread_workers.proofs.Back.{firsts-more, grown-more, each-more}
 use Rattle.thread_workers.proofs.locking.+unlock_all.Goals as goal
 
@@ -58,7 +58,7 @@ returns-else-rest-clause-grown t c =
     (subst (λ l. HaveGrown (map first_value c.pop.new.self.items ++ first_value c.in-Some.lock ∷ []) l) (sym c.push_reserved.ensures.items)
     (grown-more (map first_value c.pop.new.self.items) c.unlock_all-rest.new.cells.items (first_value c.in-Some.lock) c.unlock-cell.result.0 c.unlock_all-rest.ensures.grown c.unlock-cell.ensures.grown))
 
-pub returns-then-rest-clause-taken : goal.returns-then-rest-clause-taken
-returns-then-rest-clause-taken t c here =
-    subst (λ l. Each HasTaken l) (sym c.push_reserved.ensures.items)
-    (each-more HasTaken c.unlock_all-rest.new.cells.items c.unlock-cell.result.0 (c.unlock_all-rest.ensures.taken c.if-rest.true) (c.unlock-cell.ensures.taken (c.had_both-here.ensures here)))
+pub returns-then-rest-clause-executed : goal.returns-then-rest-clause-executed
+returns-then-rest-clause-executed t c here =
+    subst (λ l. Each HasExecuted l) (sym c.push_reserved.ensures.items)
+    (each-more HasExecuted c.unlock_all-rest.new.cells.items c.unlock-cell.result.0 (c.unlock_all-rest.ensures.executed c.if-rest.true) (c.unlock-cell.ensures.executed (c.had_both-here.ensures here)))

@@ -34,8 +34,8 @@ returns-then-enough-clause-grown g c = subst (λ l. HaveGrown l c.unlock_all-eno
 pub returns-clause-grown : goal.returns-clause-grown
 returns-clause-grown g c = subst (λ l. HaveGrown l c.unlock_all-enough.new.cells.items) c.if-not-lock_all.ensures.values c.unlock_all-enough.ensures.grown
 
-pub returns-then-enough-clause-taken : goal.returns-then-enough-clause-taken
-returns-then-enough-clause-taken g c = c.unlock_all-enough.ensures.taken c.if-enough.true
+pub returns-then-enough-clause-executed : goal.returns-then-enough-clause-executed
+returns-then-enough-clause-executed g c = c.unlock_all-enough.ensures.executed c.if-enough.true
 
 pub returns-in_err-by_thread-clause-grown : goal.returns-in_err-by_thread-clause-grown
 returns-in_err-by_thread-clause-grown g c = grown-same c.args.cells.now.items

@@ -2,7 +2,7 @@ use Rattle.std.proofs.Common.{◌<◌, sym, subst, IfOk, ◌≡◌, length, ap, 
 use Rattle.server_core.specs.Core.{CoreParts}
 use Rattle.server_core.specs.Step.{last_stamp}
 use Rattle.sequential_network.specs.Stepping.{IsSome, peers, GoesOn}
-use Rattle.sequential_network.specs.Links.{WaitingParts}
+use Rattle.sequential_network.specs.Links.{StampedMessageParts}
 use Rattle.sequential_network.proofs.Placed.{not_exhausted_reception, placed_after_reception}
 use Rattle.sequential_network.proofs.Sent.{handed, sends}
 use Rattle.law_machine.specs.Machine.{Receives}
@@ -15,7 +15,7 @@ use Rattle.sequential_network.proofs.forwarding_server.ForwardingServerServer.ta
 pub unexhausted-requires : goal.unexhausted-requires
 unexhausted-requires c =
     not_exhausted_reception c.receive_message.result c.self.inside.core.clock c.waiting.inside.stamp
-    (subst (λ (z : CoreParts). z.clock < last_stamp) (sym c.self.view_is) c.requires.low.0, subst (λ (z : WaitingParts). z.stamp < last_stamp) (sym c.waiting.view_is) c.requires.low.1)
+    (subst (λ (z : CoreParts). z.clock < last_stamp) (sym c.self.view_is) c.requires.low.0, subst (λ (z : StampedMessageParts). z.stamp < last_stamp) (sym c.waiting.view_is) c.requires.low.1)
     c.receive_message.ensures.exhausted
 
 pub invariant_of-self : goal.invariant_of-self
@@ -27,7 +27,7 @@ invariant_of-self c =
 pub returns-clause-sends : goal.returns-clause-sends
 returns-clause-sends c =
     subst (λ (z : CoreParts). IfOk c.unexhausted.result (λ s. GoesOn z.control.links s.stamp s.sent.items)) c.self.view_is
-    (sends c.self.inside.core (subst (IsSome peers) (sym c.self.view_is) c.requires.stands) (subst (λ (z : CoreParts). z.clock < last_stamp) (sym c.self.view_is) c.requires.low.0) (Receives c.args.from c.waiting.inside.message.message) c.waiting.inside.stamp (subst (λ (z : WaitingParts). z.stamp < last_stamp) (sym c.waiting.view_is) c.requires.low.1)
+    (sends c.self.inside.core (subst (IsSome peers) (sym c.self.view_is) c.requires.stands) (subst (λ (z : CoreParts). z.clock < last_stamp) (sym c.self.view_is) c.requires.low.0) (Receives c.args.from c.waiting.inside.message.message) c.waiting.inside.stamp (subst (λ (z : StampedMessageParts). z.stamp < last_stamp) (sym c.waiting.view_is) c.requires.low.1)
     c.receive_message.new.self c.unexhausted.result (λ s. s.stamp) (λ s. s.sent.items) (handed _ c.receive_message.result c.unexhausted.result c.receive_message.ensures.step c.unexhausted.ensures.ok))
 
 pub route-requires-clause-wide : goal.route-requires-clause-wide
@@ -37,7 +37,7 @@ pub receive_message-requires-clause-route : goal.receive_message-requires-clause
 receive_message-requires-clause-route c =
     let core = c.self.inside.core in
     let load = c.load-load.result.now in
-    let net-same = ap (λ (z : WaitingParts). z.sent.net) c.waiting.view_is ∙ (c.requires.run ∙ (sym (ap (λ (z : CoreParts). z.net) c.self.view_is) ∙ sym c.tables-tables.ensures)) in
+    let net-same = ap (λ (z : StampedMessageParts). z.sent.net) c.waiting.view_is ∙ (c.requires.run ∙ (sym (ap (λ (z : CoreParts). z.net) c.self.view_is) ∙ sym c.tables-tables.ensures)) in
     let routes : RoutesMessage core (represented c.tables-tables.result.now load) c.in_ok-route.route = c.in_ok-route.ensures core (sym c.tables-tables.ensures) c.self.invariant in
     subst (RoutesMessage core c.waiting.inside.message.message) (sym c.interfaces.ensures)
     (subst (λ m. RoutesMessage core m c.in_ok-route.route) (sym c.load-load.ensures.represents) (subst (λ (n : NetParts). RoutesMessage core (represented n load) c.in_ok-route.route) (sym net-same) routes))

@@ -6,7 +6,7 @@ use Rattle.server_message.specs.Parts.{SendingParts}
 use Rattle.net_model.specs.Parts.{entry_parts}
 use Rattle.net_model.specs.declared.turn.Act.TheVariants as acts
 use Rattle.server_core.specs.Step.{last_stamp}
-use Rattle.sequential_network.specs.Links.{WaitingParts, messages_at, waiting_in}
+use Rattle.sequential_network.specs.Links.{StampedMessageParts, messages_at, waiting_in}
 use Rattle.sequential_network.proofs.Able.{neighbours_small, place_within, core_is, some_server, goes_to}
 use Rattle.sequential_network.proofs.Putting.{acted_by, first_left, nothing_first}
 use Rattle.sequential_network.proofs.servers.Servers.take.Goals as goal
@@ -95,7 +95,7 @@ returns-clause-acted g c = λ net m first.
     let is = core_is g.P.Server.stepping c.args.server c.args.neighbours.now c.args.self.now.places.items c.requires.able c.index_mut-place.result.now (c.index_mut-place.ensures.value ∙ ap (λ z. slice_index_or z (c.args.server - 1) c.index_mut-place.result.now) c.make_room.ensures.same.cores) in
     let same : c.in-Some.waiting.now ≡ waiting_in net m = same_Some _ _ (sym at ∙ first) in
     let step = subst (λ z. g.P.Server.stepping.Steps (Receives c.args.from m.message) m.stamp z c.take.new.self c.in_ok-stepped.stepped.stamp c.in_ok-stepped.stepped.sent.items) is
-    (subst (λ (z : WaitingParts). g.P.Server.stepping.Steps (Receives c.args.from z.sent.message) z.stamp c.index_mut-place.result.now c.take.new.self c.in_ok-stepped.stepped.stamp c.in_ok-stepped.stepped.sent.items) same
+    (subst (λ (z : StampedMessageParts). g.P.Server.stepping.Steps (Receives c.args.from z.sent.message) z.stamp c.index_mut-place.result.now c.take.new.self c.in_ok-stepped.stepped.stamp c.in_ok-stepped.stepped.sent.items) same
     c.in_ok-stepped.ensures.step) in (
       refl,
       acted_by g.P.Server.stepping (c.args.server - 1) c.args.server (Receives c.args.from m) (acts.Receive c.args.from) _ _ c.requires.able.core c.take.new.self c.in_ok-stepped.stepped.stamp

@@ -1,6 +1,6 @@
 use Rattle.std.proofs.Common.{◌∙◌}
 use Rattle.thread_workers.proofs.Later.{later-along, same-viewer}
-use Rattle.thread_workers.proofs.Takings.{put-later, tried-at, worn-at}
+use Rattle.thread_workers.proofs.Receptions.{put-later, tried-at, worn-at}
 use Rattle.thread_workers.proofs.worker_context.WorkerContext.turn_matched.Goals as goal
 
 pub follow-requires-clause-handles : goal.follow-requires-clause-handles

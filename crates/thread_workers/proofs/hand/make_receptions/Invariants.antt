@@ -1,6 +1,6 @@
 use Rattle.std.proofs.Common.{◌≡◌}
 use mathlib.Core.List.{IsPrefix}
-use Rattle.thread_workers.proofs.hand.make_takings.Given as goal
+use Rattle.thread_workers.proofs.hand.make_receptions.Given as goal
 
 abbrev pub invariant-loop : goal.invariant-loop
 invariant-loop g l = record {

@@ -1,6 +1,6 @@
 use Rattle.std.proofs.Common.{refl, ◌∙◌}
 use Rattle.thread_workers.proofs.Lists.{prefix-of, prefix-along}
-use Rattle.thread_workers.proofs.hand.make_takings.Goals as goal
+use Rattle.thread_workers.proofs.hand.make_receptions.Goals as goal
 
 pub loop-init : goal.loop-init
 loop-init g c = record { root = refl; grows = prefix-of _ _ refl }
