@@ -12,22 +12,14 @@ use Rattle.net_model.proofs.SoundNets.{few-servers}
 use Rattle.output_traffic.specs.declared.loads.Direction.{Direction}
 use Rattle.output_traffic.specs.Links.{is_link, links_from, links_in}
 use Rattle.output_traffic.specs.Text.{Loads, client_nodes, direction_arrow, direction_line, direction_of, in_all, link_printed, server_node, total_line, traffic_printed}
-use Rattle.base.proofs.Sets.{has-append, has-map}
+use Rattle.base.proofs.Sets.{has-flat_map, has-map}
 use Rattle.std.proofs.lemmas.Bool.{and_parts}
 use Rattle.base.proofs.Numbers.{sum_over-same}
-
-pub has-flat : {X Y : Type 0} (f : X → List Y) (y : Y) (xs : List X) → Has y (flat_map f xs) → (x : X) × Has x xs × Has y (f x)
-has-flat f y [] h = absurd h
-has-flat f y (x ∷ xs) h = go (has-append y (f x) (flat_map f xs) h) (has-flat f y xs)
-  where
-    go : Has y (f x) ⊎ Has y (flat_map f xs) → (Has y (flat_map f xs) → (z : _) × Has z xs × Has y (f z)) → (z : _) × Has z (x ∷ xs) × Has y (f z)
-    go (inl i) ih = (x, inl refl, i)
-    go (inr i) ih = let r = ih i in (r.0, inr r.1, r.2)
 
 -- the ends of a link are servers
 pub link-ends : (net : NetParts) → IsSound net → (link : ℕ × ℕ) → Has link (links_in net) → Has link.0 (servers_in net) × Has link.1 (servers_in net) × (is_link net.trees link.0 link.1 ≡ true)
 link-ends net sound link h =
-    let r = has-flat (links_from net.trees (servers_in net)) link (servers_in net) h in
+    let r = has-flat_map (links_from net.trees (servers_in net)) (servers_in net) link h in
     let a = r.0 in
     let m = has-map (λ b. (a, b)) (filter (λ b. nat_lt a b && is_link net.trees a b) (servers_in net)) link r.2 in
     let f = filter-Has (λ b. nat_lt a b && is_link net.trees a b) m.0 (servers_in net) m.1 in

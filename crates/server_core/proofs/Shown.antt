@@ -8,7 +8,7 @@ use Rattle.filter_types.specs.Cover.{filter_covers, advert_covers, overlaps}
 use Rattle.filter_covering.specs.Laws.{sub_laws, ad_laws}
 use Rattle.base.specs.Laws.{CoverLaws}
 use Rattle.base.specs.Sets.{Has, IsRising, roots}
-use Rattle.base.proofs.Sets.{ext, rising-set_of, rising-roots, rising-filter, same_list-self, has-map, map-has}
+use Rattle.base.proofs.Sets.{ext, rising-set_of, rising-roots, rising-filter, same_list-self, has-map, map-has, has-flat_map, flat_map-has}
 use Rattle.filter_text.specs.Messages.{Lists}
 use Rattle.filter_text.specs.declared.semantics.Semantics.{Semantics}
 use Rattle.filter_text.specs.declared.semantics.Semantics.TheVariants.{Subscription, Advertisement}
@@ -25,31 +25,6 @@ use Rattle.server_core.specs.Showing.{holdings_by, shown, AnnouncesFilters, Anno
 use Rattle.law_routing.proofs.Listing.{some_pass-any}
 use Rattle.std.proofs.lemmas.List.{append-nil}
 
--- the members of a list of lists
-module _ {A B : Type 0} (f : A → List B) where
-  flat-has : (xs : List A) (y : B) → Has y (flat_map f xs) → (x : A) × Has x xs × Has y (f x)
-  flat-has [] y h = absurd h
-  flat-has (x ∷ xs) y h = split (f x) (λ z k. k) (λ k. flat-has xs y k) h
-    where
-      split : (ys : List B) → ((z : B) → Has z ys → Has z (f x)) → (Has y (flat_map f xs) → (z : A) × Has z xs × Has y (f z)) → Has y (ys ++ flat_map f xs) → (z : A) × Has z (x ∷ xs) × Has y (f z)
-      split [] sub later k = let r = later k in (r.0, inr r.1, r.2)
-      split (z ∷ zs) sub later (inl q) = (x, inl refl, sub y (inl q))
-      split (z ∷ zs) sub later (inr k) = split zs (λ w m. sub w (inr m)) later k
-
-  has-flat : (xs : List A) (x : A) (y : B) → Has x xs → Has y (f x) → Has y (flat_map f xs)
-  has-flat [] x y h k = absurd h
-  has-flat (z ∷ xs) x y (inl q) k = front (f z) (subst (λ w. Has y (f w)) q k)
-    where
-      front : (ys : List B) → Has y ys → Has y (ys ++ flat_map f xs)
-      front [] m = absurd m
-      front (w ∷ ws) (inl e) = inl e
-      front (w ∷ ws) (inr m) = inr (front ws m)
-  has-flat (z ∷ xs) x y (inr h) k = back (f z) (has-flat xs x y h k)
-    where
-      back : (ys : List B) → Has y (flat_map f xs) → Has y (ys ++ flat_map f xs)
-      back [] m = m
-      back (w ∷ ws) m = inr (back ws m)
-
 abbrev Pair : Type 0
 Pair = Holding (List ConstraintParts)
 
@@ -60,13 +35,13 @@ at i x = record { interface = i; item = x }
 module _ (is : List ℕ) (held : ℕ → Lists) where
   by-has : (h : Pair) → Has h (holdings_by is held) → Has h.interface is × Has h.item (held h.interface)
   by-has h m =
-      let r = flat-has (λ i. map (at i) (held i)) is h m in
+      let r = has-flat_map (λ i. map (at i) (held i)) is h m in
       let x = has-map (at r.0) (held r.0) h r.2 in
       let i : h.interface ≡ r.0 = ap (λ (z : Pair). z.interface) x.2 in
       (subst (λ z. Has z is) (sym i) r.1, subst (λ z. Has h.item (held z)) (sym i) (subst (λ z. Has z (held r.0)) (sym (ap (λ (z : Pair). z.item) x.2)) x.1))
 
   has-by : (i : ℕ) (x : List ConstraintParts) → Has i is → Has x (held i) → Has (at i x) (holdings_by is held)
-  has-by i x m h = has-flat (λ i. map (at i) (held i)) is i (at i x) m (map-has (at i) (held i) x h)
+  has-by i x m h = flat_map-has (λ i. map (at i) (held i)) is i (at i x) m (map-has (at i) (held i) x h)
 
   -- what is held from an interface
   module _ {covers : List ConstraintParts → List ConstraintParts → Bool} (laws : CoverLaws covers list_before) (rises : (i : ℕ) → IsRising list_before (held i))
