@@ -6,7 +6,7 @@ use Rattle.server_stock.specs.declared.sides.Side.{Side}
 use Rattle.server_stock.specs.Sides.{turned}
 use Rattle.base_order.proofs.Over.{get-set-same, get-set-other}
 use Rattle.server_stock.proofs.Turns.{get-read, get-within}
-use Rattle.server_stock.proofs.table.turn_all.Goals as goal
+use Rattle.server_stock.proofs.sides.turn_all.Goals as goal
 
 pub turn-requires-clause-offered_width : goal.turn-requires-clause-offered_width
 turn-requires-clause-offered_width g c =
