@@ -191,45 +191,36 @@ module _ {T : Type 0} (covers : T → T → Bool) (items : List T) (rows : List 
   pub due : (q : ℕ) (s : Side) → IsSide covers items rows q s → ((k : ℕ) → needs rows q k ≡ true → k < length items) → IsDue covers items (set rows p (with (without (row_at rows p) out) add)) out add q s
   due q s is below =
       record {
-        offered = is.offered;
-        need = ap (λ (z : Numbers). z.width) is.need;
-        roots = ap (λ (z : Numbers). z.width) is.roots;
-        withdrawn = is.withdrawn;
-        added = is.added;
-        known = ap (λ (z : Numbers). z.members) is.roots ∙ ap (root_numbers covers items) (sym members);
+        wide = is.wide;
+        known = is.roots ∙ ap (root_numbers covers items) (sym is.need);
         kept = λ k h n.
-            let w = wanted-parts s.offered.members rows q k (has-passing (wanted s.offered.members rows q) (length items) k (subst (Has k) members h)).1 in
+            let w = wanted-parts s.offered.members rows q k (has-passing (wanted s.offered.members rows q) (length items) k (subst (Has k) is.need h)).1 in
             wanted-both s.offered.members now q k (needs-kept rows p out add there q k w.0 n) w.1;
         fresh = λ k e n.
             let v = wanted-parts s.offered.members now q k e in
             let w = needs-fresh rows p out add there q k v.0 n in
-            subst (Has k) (sym members) (passing-has (wanted s.offered.members rows q) (length items) k (below k w) (wanted-both s.offered.members rows q k w v.1));
+            subst (Has k) (sym is.need) (passing-has (wanted s.offered.members rows q) (length items) k (below k w) (wanted-both s.offered.members rows q k w v.1));
       }
     where
       now : List Numbers
       now = set rows p (with (without (row_at rows p) out) add)
-
-      members : s.need.members ≡ wanted_numbers (length items) s.offered.members rows q
-      members = ap (λ (z : Numbers). z.members) is.need
 
 module _ {T : Type 0} (covers : T → T → Bool) (items : List T) (rows : List Numbers) where
   -- what is announced of a turn
   pub announced-turned : (q : ℕ) (s : Side) (offered : Numbers) (then : List Numbers) → IsSide covers items rows q s
       → announced_of (turned covers items offered then q s) ≡ announced_from (sent_numbers covers items s.offered.members rows q) (sent_numbers covers items offered.members then q)
   announced-turned q s offered then is =
-      ap (λ z. announced_from z (sent_numbers covers items offered.members then q)) (ap (λ (z : Numbers). z.members) is.roots)
+      ap (λ z. announced_from z (sent_numbers covers items offered.members then q)) is.roots
 
   pub side-turned : (q : ℕ) (s : Side) (offered : Numbers) (then : List Numbers) → offered.width ≡ length items → IsSide covers items then q (turned covers items offered then q s)
-  side-turned q s offered then w = record { offered = w; need = refl; roots = refl; withdrawn = refl; added = refl }
+  side-turned q s offered then w = record { wide = record { offered = w; need = refl; roots = refl; withdrawn = refl; added = refl }; need = refl; roots = refl }
 
   pub side-empty : (q : ℕ) → ((k : ℕ) → needs rows q k ≡ false) → IsSide covers items rows q (empty_side (length items))
   side-empty q none =
       record {
-        offered = refl;
-        need = ap (λ z. record { width = length items; members = z }) (sym e);
-        roots = ap (λ z. record { width = length items; members = z }) (sym (ap (root_numbers covers items) e));
-        withdrawn = refl;
-        added = refl;
+        wide = record { offered = refl; need = refl; roots = refl; withdrawn = refl; added = refl };
+        need = sym e;
+        roots = sym (ap (root_numbers covers items) e);
       }
     where
       all : List ℕ
@@ -254,7 +245,7 @@ module _ {T : Type 0} (covers : T → T → Bool) (items : List T) (old new : Li
             let l = get-within new q x e in
             let s = get-some old q (omega (arith, l, long)) in
             subst (IsSide covers items then.rows q) (same_Some (turned covers items s.0.offered then.rows q s.0) x (sym (each q s.0 s.1) ∙ e))
-            (side-turned covers items then.rows q s.0 s.0.offered then.rows (are.each q s.0 s.1).offered);
+            (side-turned covers items then.rows q s.0 s.0.offered then.rows (are.each q s.0 s.1).wide.offered);
       }
 
 -- the rows of a link, once something else is offered there
@@ -275,6 +266,5 @@ module _ {T : Type 0} (covers : T → T → Bool) (items : List T) (held : Held)
       each : (q : ℕ) (x : Side) → slice_get (set sides p new) q ≡ Some x → ((q ≡ p) ⊎ (q ≡ p → ⊥)) → IsSide covers items held.rows q x
       each q x f (inl a) =
           let b : new ≡ x = same_Some new x (sym (get-set-same sides p new there) ∙ subst (λ z. slice_get (set sides p new) z ≡ Some x) a f) in
-          subst (λ z. IsSide covers items held.rows z x) (sym a) (subst (IsSide covers items held.rows p) (sym e ∙ b)
-          (record { offered = w; need = refl; roots = refl; withdrawn = refl; added = refl }))
+          subst (λ z. IsSide covers items held.rows z x) (sym a) (subst (IsSide covers items held.rows p) (sym e ∙ b) (side-turned covers items held.rows p s offered held.rows w))
       each q x f (inr d) = are.each q x (sym (get-set-other sides p q new d) ∙ f)

@@ -29,6 +29,14 @@ offered_at items s = picked items s.offered.members
 abbrev pub announced_from : List ℕ → List ℕ → Announced
 announced_from old new = record { withdrawn = minus nat_lt old new; added = minus nat_lt new old }
 
+-- each row of a link has the width
+pub record IsWide (width : ℕ) (s : Side) : Type 0 where
+  pub offered : s.offered.width ≡ width
+  pub need : s.need.width ≡ width
+  pub roots : s.roots.width ≡ width
+  pub withdrawn : s.withdrawn.width ≡ width
+  pub added : s.added.width ≡ width
+
 module _ {T : Type 0} (covers : T → T → Bool) (items : List T) where
   -- the numbers sent on the link at a place: the roots of those that are held from other places and offered there
   abbrev pub sent_numbers : List ℕ → List Numbers → ℕ → List ℕ
@@ -47,20 +55,14 @@ module _ {T : Type 0} (covers : T → T → Bool) (items : List T) where
 
   -- a link's rows are those that it needs and sends
   pub record IsSide (rows : List Numbers) (p : ℕ) (s : Side) : Type 0 where
-    pub offered : s.offered.width ≡ length items
-    pub need : s.need ≡ record { width = length items; members = wanted_numbers (length items) s.offered.members rows p }
-    pub roots : s.roots ≡ record { width = length items; members = sent_numbers s.offered.members rows p }
-    pub withdrawn : s.withdrawn.width ≡ length items
-    pub added : s.added.width ≡ length items
+    pub wide : IsWide (length items) s
+    pub need : s.need.members ≡ wanted_numbers (length items) s.offered.members rows p
+    pub roots : s.roots.members ≡ sent_numbers s.offered.members rows p
 
   -- a link's rows are to be brought up to these rows: its roots are those of its need, only numbers of `out` have left this since, and only
   -- numbers of `add` have joined it
   pub record IsDue (rows : List Numbers) (out add : List ℕ) (p : ℕ) (s : Side) : Type 0 where
-    pub offered : s.offered.width ≡ length items
-    pub need : s.need.width ≡ length items
-    pub roots : s.roots.width ≡ length items
-    pub withdrawn : s.withdrawn.width ≡ length items
-    pub added : s.added.width ≡ length items
+    pub wide : IsWide (length items) s
     pub known : s.roots.members ≡ root_numbers covers items s.need.members
     pub kept : (k : ℕ) → Has k s.need.members → (Has k out → ⊥) → wanted s.offered.members rows p k ≡ true
     pub fresh : (k : ℕ) → wanted s.offered.members rows p k ≡ true → (Has k add → ⊥) → Has k s.need.members

@@ -2,9 +2,8 @@
 ghost use Rattle.std.specs.Prelude.{◌≡◌, ◌⊎◌, ℕ, ◌<◌, ◌≤◌, true, length, replicate, set, slice_get, Some, IfOk};
 ghost use Rattle.base.specs.Sets.{Has};
 ghost use Rattle.base_bits.specs.Rows.{is_in};
-ghost use Rattle.base_order.specs.Order.{root_numbers};
 ghost use Rattle.server_stock.specs.Held.{row_at, with, without, wanted, wanted_numbers};
-ghost use Rattle.server_stock.specs.Sides.{AreSides, IsDue, turned, empty_side};
+ghost use Rattle.server_stock.specs.Sides.{AreSides, IsDue, IsWide, turned, empty_side};
 
 use crate::holders::Holders;
 use base::{Cover, NoMemory};
@@ -79,14 +78,7 @@ pub(crate) fn turn<T: Cover>(
     requires place { place < length held.now.rows }
     requires out { (i : ℕ) → Has i out.now → i < held.now.width }
     requires add { (i : ℕ) → Has i add.now → i < held.now.width }
-    requires offered_width { side.old.offered.width ≡ length order.now }
-    requires need_width { side.old.need.width ≡ length order.now }
-    requires roots_width { side.old.roots.width ≡ length order.now }
-    requires withdrawn_width { side.old.withdrawn.width ≡ length order.now }
-    requires added_width { side.old.added.width ≡ length order.now }
-    requires known { side.old.roots.members ≡ root_numbers T.covering order.now side.old.need.members }
-    requires kept { (k : ℕ) → Has k side.old.need.members → (Has k out.now → ⊥) → wanted side.old.offered.members held.now.rows place k ≡ true }
-    requires fresh { (k : ℕ) → wanted side.old.offered.members held.now.rows place k ≡ true → (Has k add.now → ⊥) → Has k side.old.need.members }
+    requires due { IsDue T.covering order.now held.now.rows out.now add.now place side.old }
     ensures { side.new ≡ turned T.covering order.now side.old.offered held.now.rows place side.old }
 {
     side.need.lemma_sorted();
@@ -178,11 +170,7 @@ pub(crate) fn offer<T: Cover>(
     requires width { held.now.width ≡ length order.now }
     requires place { place < length held.now.rows }
     requires offered { offered.now.width ≡ length order.now }
-    requires offered_width { side.old.offered.width ≡ length order.now }
-    requires need_width { side.old.need.width ≡ length order.now }
-    requires roots_width { side.old.roots.width ≡ length order.now }
-    requires withdrawn_width { side.old.withdrawn.width ≡ length order.now }
-    requires added_width { side.old.added.width ≡ length order.now }
+    requires side { IsWide (length order.now) side.old }
     ensures { side.new ≡ turned T.covering order.now offered.now held.now.rows place side.old }
 {
     side.offered.copy_from(offered);

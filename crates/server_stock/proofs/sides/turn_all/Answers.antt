@@ -8,61 +8,13 @@ use Rattle.base_order.proofs.Over.{get-set-same, get-set-other}
 use Rattle.server_stock.proofs.Turns.{get-read, get-within}
 use Rattle.server_stock.proofs.sides.turn_all.Goals as goal
 
-pub turn-requires-clause-offered_width : goal.turn-requires-clause-offered_width
-turn-requires-clause-offered_width g c =
+pub turn-requires-clause-due : goal.turn-requires-clause-due
+turn-requires-clause-due g c =
     let v = c.loop-p.invariant in
     let p = c.loop-p.p in
     let n = v.length in
-    (c.requires.due p (get_or c.loop-p.sides p c.index-sides-p.result) (sym (v.later p (omega arith)) ∙ get-read c.loop-p.sides p c.index-sides-p.result (omega (arith, n)))).offered
-
-pub turn-requires-clause-need_width : goal.turn-requires-clause-need_width
-turn-requires-clause-need_width g c =
-    let v = c.loop-p.invariant in
-    let p = c.loop-p.p in
-    let n = v.length in
-    (c.requires.due p (get_or c.loop-p.sides p c.index-sides-p.result) (sym (v.later p (omega arith)) ∙ get-read c.loop-p.sides p c.index-sides-p.result (omega (arith, n)))).need
-
-pub turn-requires-clause-roots_width : goal.turn-requires-clause-roots_width
-turn-requires-clause-roots_width g c =
-    let v = c.loop-p.invariant in
-    let p = c.loop-p.p in
-    let n = v.length in
-    (c.requires.due p (get_or c.loop-p.sides p c.index-sides-p.result) (sym (v.later p (omega arith)) ∙ get-read c.loop-p.sides p c.index-sides-p.result (omega (arith, n)))).roots
-
-pub turn-requires-clause-withdrawn_width : goal.turn-requires-clause-withdrawn_width
-turn-requires-clause-withdrawn_width g c =
-    let v = c.loop-p.invariant in
-    let p = c.loop-p.p in
-    let n = v.length in
-    (c.requires.due p (get_or c.loop-p.sides p c.index-sides-p.result) (sym (v.later p (omega arith)) ∙ get-read c.loop-p.sides p c.index-sides-p.result (omega (arith, n)))).withdrawn
-
-pub turn-requires-clause-added_width : goal.turn-requires-clause-added_width
-turn-requires-clause-added_width g c =
-    let v = c.loop-p.invariant in
-    let p = c.loop-p.p in
-    let n = v.length in
-    (c.requires.due p (get_or c.loop-p.sides p c.index-sides-p.result) (sym (v.later p (omega arith)) ∙ get-read c.loop-p.sides p c.index-sides-p.result (omega (arith, n)))).added
-
-pub turn-requires-clause-known : goal.turn-requires-clause-known
-turn-requires-clause-known g c =
-    let v = c.loop-p.invariant in
-    let p = c.loop-p.p in
-    let n = v.length in
-    (c.requires.due p (get_or c.loop-p.sides p c.index-sides-p.result) (sym (v.later p (omega arith)) ∙ get-read c.loop-p.sides p c.index-sides-p.result (omega (arith, n)))).known
-
-pub turn-requires-clause-kept : goal.turn-requires-clause-kept
-turn-requires-clause-kept g c =
-    let v = c.loop-p.invariant in
-    let p = c.loop-p.p in
-    let n = v.length in
-    (c.requires.due p (get_or c.loop-p.sides p c.index-sides-p.result) (sym (v.later p (omega arith)) ∙ get-read c.loop-p.sides p c.index-sides-p.result (omega (arith, n)))).kept
-
-pub turn-requires-clause-fresh : goal.turn-requires-clause-fresh
-turn-requires-clause-fresh g c =
-    let v = c.loop-p.invariant in
-    let p = c.loop-p.p in
-    let n = v.length in
-    (c.requires.due p (get_or c.loop-p.sides p c.index-sides-p.result) (sym (v.later p (omega arith)) ∙ get-read c.loop-p.sides p c.index-sides-p.result (omega (arith, n)))).fresh
+    let s = get_or c.loop-p.sides p c.index-sides-p.result in
+    c.requires.due p s (sym (v.later p (omega arith)) ∙ get-read c.loop-p.sides p c.index-sides-p.result (omega (arith, n)))
 
 pub loop-p-preserved : goal.loop-p-preserved
 loop-p-preserved g c =

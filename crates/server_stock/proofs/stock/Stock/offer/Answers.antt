@@ -1,7 +1,6 @@
 use Rattle.std.proofs.Common.{◌≡◌, ◌<◌, ℕ, List, length, map, set, slice_get, Some, ap, sym, subst, ◌∙◌, arith}
 use Rattle.std.proofs.lemmas.List.{length-map, map-set}
 use Rattle.std.proofs.lemmas.Option.{same_Some}
-use Rattle.base_bits.specs.Rows.{Numbers}
 use Rattle.base_order.specs.Order.{picked}
 use Rattle.base_order.proofs.Over.{get-set-same}
 use Rattle.server_stock.specs.Sides.{Announced, announced_of, offered_at, turned}
@@ -11,45 +10,13 @@ use Rattle.server_stock.proofs.Shown.{turned-shown}
 use Rattle.server_stock.proofs.stock.Stock.offer.Goals as goal
 use Rattle.base.proofs.Lists.{get-map}
 
-pub offer-requires-clause-offered_width : goal.offer-requires-clause-offered_width
-offer-requires-clause-offered_width g c =
+pub offer-requires-clause-side : goal.offer-requires-clause-side
+offer-requires-clause-side g c =
     let t = c.self.inside in
     let k = ap (λ (z : Stocked g.row.T.Denot). length z.announced) c.self.view_is in
     let r = c.requires in
     let there : c.args.place < length t.sides.items = omega (arith, r.place, k, length-map t.sides.items announced_of) in
-    (side-read g.T.Cover.covering t.order.now t.held t.sides.items c.args.place c.index_mut.result.now c.self.invariant.links there c.index_mut.ensures.value).offered
-
-pub offer-requires-clause-need_width : goal.offer-requires-clause-need_width
-offer-requires-clause-need_width g c =
-    let t = c.self.inside in
-    let k = ap (λ (z : Stocked g.row.T.Denot). length z.announced) c.self.view_is in
-    let r = c.requires in
-    let there : c.args.place < length t.sides.items = omega (arith, r.place, k, length-map t.sides.items announced_of) in
-    ap (λ (z : Numbers). z.width) (side-read g.T.Cover.covering t.order.now t.held t.sides.items c.args.place c.index_mut.result.now c.self.invariant.links there c.index_mut.ensures.value).need
-
-pub offer-requires-clause-roots_width : goal.offer-requires-clause-roots_width
-offer-requires-clause-roots_width g c =
-    let t = c.self.inside in
-    let k = ap (λ (z : Stocked g.row.T.Denot). length z.announced) c.self.view_is in
-    let r = c.requires in
-    let there : c.args.place < length t.sides.items = omega (arith, r.place, k, length-map t.sides.items announced_of) in
-    ap (λ (z : Numbers). z.width) (side-read g.T.Cover.covering t.order.now t.held t.sides.items c.args.place c.index_mut.result.now c.self.invariant.links there c.index_mut.ensures.value).roots
-
-pub offer-requires-clause-withdrawn_width : goal.offer-requires-clause-withdrawn_width
-offer-requires-clause-withdrawn_width g c =
-    let t = c.self.inside in
-    let k = ap (λ (z : Stocked g.row.T.Denot). length z.announced) c.self.view_is in
-    let r = c.requires in
-    let there : c.args.place < length t.sides.items = omega (arith, r.place, k, length-map t.sides.items announced_of) in
-    (side-read g.T.Cover.covering t.order.now t.held t.sides.items c.args.place c.index_mut.result.now c.self.invariant.links there c.index_mut.ensures.value).withdrawn
-
-pub offer-requires-clause-added_width : goal.offer-requires-clause-added_width
-offer-requires-clause-added_width g c =
-    let t = c.self.inside in
-    let k = ap (λ (z : Stocked g.row.T.Denot). length z.announced) c.self.view_is in
-    let r = c.requires in
-    let there : c.args.place < length t.sides.items = omega (arith, r.place, k, length-map t.sides.items announced_of) in
-    (side-read g.T.Cover.covering t.order.now t.held t.sides.items c.args.place c.index_mut.result.now c.self.invariant.links there c.index_mut.ensures.value).added
+    (side-read g.T.Cover.covering t.order.now t.held t.sides.items c.args.place c.index_mut.result.now c.self.invariant.links there c.index_mut.ensures.value).wide
 
 pub invariant_of-self : goal.invariant_of-self
 invariant_of-self g c =

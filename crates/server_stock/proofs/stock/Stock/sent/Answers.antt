@@ -1,7 +1,6 @@
 use Rattle.std.proofs.Common.{◌≡◌, ◌<◌, ℕ, List, length, slice_get, Some, ap, sym, subst, ◌∙◌, arith}
 use Rattle.std.proofs.lemmas.List.{length-map}
 use Rattle.std.proofs.lemmas.Option.{same_Some}
-use Rattle.base_bits.specs.Rows.{Numbers}
 use Rattle.base_order.specs.Order.{picked}
 use Rattle.server_stock.specs.Sides.{announced_of, offered_at}
 use Rattle.server_stock.specs.Stock.{Stocked, sent, pairs_of}
@@ -28,6 +27,6 @@ returns g c =
     → picked z.items s.roots.members ≡ sent cov ord offered link z.holdings) c.self.view_is
     (λ link offered e f.
     let own : offered ≡ offered_at items s = same_Some offered (offered_at items s) (sym f ∙ get-map (offered_at items) t.sides.items p s get) in
-    ap (λ (z : Numbers). picked items z.members) side.roots
+    ap (picked items) side.roots
     ∙ (sent-shown g.met.T.Cover.laws items c.lemma_sorted.ensures.rising is v.rising t.held.rows p link e s.offered.members v.long
     ∙ ap (λ o. sent cov ord o link (pairs_of items is t.held.rows)) (sym own)))

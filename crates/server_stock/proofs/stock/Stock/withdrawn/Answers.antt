@@ -10,5 +10,5 @@ returns-clause-width g c =
     let t = c.self.inside in
     let k = ap (λ (z : Stocked g.row.T.Denot). length z.announced) c.self.view_is in
     let there : c.args.place < length t.sides.items = omega (arith, c.requires, k, length-map t.sides.items announced_of) in
-    (side-read g.T.Cover.covering t.order.now t.held t.sides.items c.args.place c.index.result.now c.self.invariant.links there c.index.ensures).withdrawn
+    (side-read g.T.Cover.covering t.order.now t.held t.sides.items c.args.place c.index.result.now c.self.invariant.links there c.index.ensures).wide.withdrawn
     ∙ ap (λ (z : Stocked g.row.T.Denot). length z.items) c.self.view_is
