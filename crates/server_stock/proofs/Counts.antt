@@ -12,7 +12,6 @@ use Rattle.base_bits.proofs.Passing.{nat_laws, push-old, push-new}
 use Rattle.base_order.proofs.Numbers.{has-more}
 use Rattle.base_order.proofs.SettledRoots.{has-in}
 use Rattle.server_stock.specs.Held.{holders_of, elsewhere, needs, IsCounted, row_at, without, with}
-use Rattle.std.specs.Cmp.{both_ways}
 use Rattle.base.proofs.Numbers.{zero-add}
 
 count-small : (b : Bool) → count b ≤ 1

@@ -15,9 +15,10 @@ use Rattle.base_order.specs.Order.{covers_at, picked}
 use Rattle.base_order.proofs.SettledRoots.{in-has, has-in}
 use Rattle.base_order.proofs.Picked.{rising-at, filter-picked, roots-picked}
 use Rattle.server_stock.specs.Held.{row_at, with, without, needs, needed as needed_numbers, elsewhere, wanted, wanted_numbers}
-use Rattle.server_stock.specs.Sides.{sent_numbers, announced_from}
+use Rattle.server_stock.specs.declared.sides.Side.{Side}
+use Rattle.server_stock.specs.Sides.{announced_of, offered_at, turned, sent_numbers, announced_from, IsSide}
 use Rattle.server_stock.specs.Stock.{Holding, held_from, held_elsewhere, needed, sent, pairs_of, IsAnnounced}
-use Rattle.server_stock.proofs.Turns.{get-some, get-within}
+use Rattle.server_stock.proofs.Turns.{get-some, get-within, announced-turned}
 use Rattle.std.specs.Cmp.{both_ways}
 
 -- lists
@@ -304,6 +305,14 @@ module _ {T : Type 0} {covers before : T → T → Bool} (laws : CoverLaws cover
             added = minus-picked (sent_numbers covers items then new p) (sent_numbers covers items offered old p) (sent-within new p i e then)
                 ∙ ap₂ (minus before) (sent-shown new p i e then m) (sent-shown old p i e offered l);
           }
+
+      -- what a link announces as it turns represents what changed
+      pub turned-shown : (old new : List Numbers) (then : Numbers) (p i : ℕ) (s : Side) → slice_get is p ≡ Some i → length is ≡ length old → length is ≡ length new → IsSide covers items old p s
+          → IsAnnounced before items (sent covers before (offered_at items s) i (pairs_of items is old)) (sent covers before (picked items then.members) i (pairs_of items is new))
+          (announced_of (turned covers items then new p s))
+      turned-shown old new then p i s e l m side =
+          subst (IsAnnounced before items (sent covers before (offered_at items s) i (pairs_of items is old)) (sent covers before (picked items then.members) i (pairs_of items is new)))
+          (sym (announced-turned covers items old p s then new side)) (announced-shown old new s.offered.members then.members p i e l m)
 
       module _ (rows : List Numbers) (p i : ℕ) (e : slice_get is p ≡ Some i) (there : p < length rows) (out add : List ℕ) where
         now : List Numbers

@@ -10,15 +10,14 @@ use Rattle.base.proofs.Sets.{minus-iff, has-union}
 use Rattle.base_bits.specs.Words.{passing}
 use Rattle.base_bits.specs.Rows.{Numbers, is_in}
 use Rattle.base_bits.proofs.Passing.{nat_laws, passing-is, has-passing, passing-has}
-use Rattle.base_order.specs.Order.{root_numbers, IsChange}
+use Rattle.base_order.specs.Order.{root_numbers, picked, IsChange}
 use Rattle.base_order.proofs.SettledRoots.{in-has, has-in, out-has, put-own, put-other, take-own, take-other}
 use Rattle.base_order.proofs.Over.{get-set-same, get-set-other}
 use Rattle.server_stock.specs.Held.{Held, needs, elsewhere, row_at, without, with, wanted, wanted_numbers}
 use Rattle.server_stock.specs.declared.sides.Side.{Side}
-use Rattle.server_stock.specs.Sides.{announced_of, offered_at, turned, announced_from, sent_numbers, empty_side, IsSide, IsDue, IsTable}
+use Rattle.server_stock.specs.Sides.{announced_of, offered_at, turned, announced_from, sent_numbers, empty_side, IsSide, IsDue, AreSides}
 use Rattle.server_stock.proofs.Counts.{set-twice, set-none}
 use Rattle.std.specs.Cmp.{both_ways}
-use Rattle.base.proofs.Lists.{get-map}
 
 or-mono : (a b c d : Bool) → (a ≡ true → b ≡ true) → (c ≡ true → d ≡ true) → (a || c) ≡ true → (b || d) ≡ true
 or-mono true b c d f g e = rw (f refl) refl
@@ -165,15 +164,16 @@ get-read (x ∷ xs) zero d l = refl
 get-read (x ∷ xs) (suc p) d l = get-read xs p d (omega arith)
 
 -- what is offered at links each of which offers what it did
-pub same-offered : (new old : List Side) → length new ≡ length old
-    → ((q : ℕ) (s : Side) → slice_get old q ≡ Some s → (t : Side) × (slice_get new q ≡ Some t) × (offered_at t ≡ offered_at s)) → map offered_at new ≡ map offered_at old
-same-offered [] [] l f = refl
-same-offered (t ∷ ts) [] l f = absurd (omega (arith, l))
-same-offered [] (s ∷ ss) l f = absurd (omega (arith, l))
-same-offered (t ∷ ts) (s ∷ ss) l f =
+pub same-offered : {T : Type 0} (items : List T) (new old : List Side) → length new ≡ length old
+    → ((q : ℕ) (s : Side) → slice_get old q ≡ Some s → (t : Side) × (slice_get new q ≡ Some t) × (t.offered ≡ s.offered)) → map (offered_at items) new ≡ map (offered_at items) old
+same-offered items [] [] l f = refl
+same-offered items (t ∷ ts) [] l f = absurd (omega (arith, l))
+same-offered items [] (s ∷ ss) l f = absurd (omega (arith, l))
+same-offered {T} items (t ∷ ts) (s ∷ ss) l f =
     let w = f zero s refl in
     let e : t ≡ w.0 = same_Some t w.0 w.1 in
-    ap₂ (λ (x : List ℕ) (xs : List (List ℕ)). x ∷ xs) (ap offered_at e ∙ w.2) (same-offered ts ss (omega (arith, l)) (λ q x h. f (suc q) x h))
+    ap₂ (λ (x : List T) (xs : List (List T)). x ∷ xs) (ap (offered_at items) e ∙ ap (λ (o : Numbers). picked items o.members) w.2)
+    (same-offered items ts ss (omega (arith, l)) (λ q x h. f (suc q) x h))
 
 -- what is wanted is held elsewhere, and offered
 wanted-parts : (offered : List ℕ) (rows : List Numbers) (q k : ℕ) → wanted offered rows q k ≡ true → (needs rows q k ≡ true) × (is_in k offered ≡ true)
@@ -191,45 +191,36 @@ module _ {T : Type 0} (covers : T → T → Bool) (items : List T) (rows : List 
   pub due : (q : ℕ) (s : Side) → IsSide covers items rows q s → ((k : ℕ) → needs rows q k ≡ true → k < length items) → IsDue covers items (set rows p (with (without (row_at rows p) out) add)) out add q s
   due q s is below =
       record {
-        offered = is.offered;
-        need = ap (λ (z : Numbers). z.width) is.need;
-        roots = ap (λ (z : Numbers). z.width) is.roots;
-        withdrawn = is.withdrawn;
-        added = is.added;
-        known = ap (λ (z : Numbers). z.members) is.roots ∙ ap (root_numbers covers items) (sym members);
+        wide = is.wide;
+        known = is.roots ∙ ap (root_numbers covers items) (sym is.need);
         kept = λ k h n.
-            let w = wanted-parts s.offered.members rows q k (has-passing (wanted s.offered.members rows q) (length items) k (subst (Has k) members h)).1 in
+            let w = wanted-parts s.offered.members rows q k (has-passing (wanted s.offered.members rows q) (length items) k (subst (Has k) is.need h)).1 in
             wanted-both s.offered.members now q k (needs-kept rows p out add there q k w.0 n) w.1;
         fresh = λ k e n.
             let v = wanted-parts s.offered.members now q k e in
             let w = needs-fresh rows p out add there q k v.0 n in
-            subst (Has k) (sym members) (passing-has (wanted s.offered.members rows q) (length items) k (below k w) (wanted-both s.offered.members rows q k w v.1));
+            subst (Has k) (sym is.need) (passing-has (wanted s.offered.members rows q) (length items) k (below k w) (wanted-both s.offered.members rows q k w v.1));
       }
     where
       now : List Numbers
       now = set rows p (with (without (row_at rows p) out) add)
-
-      members : s.need.members ≡ wanted_numbers (length items) s.offered.members rows q
-      members = ap (λ (z : Numbers). z.members) is.need
 
 module _ {T : Type 0} (covers : T → T → Bool) (items : List T) (rows : List Numbers) where
   -- what is announced of a turn
   pub announced-turned : (q : ℕ) (s : Side) (offered : Numbers) (then : List Numbers) → IsSide covers items rows q s
       → announced_of (turned covers items offered then q s) ≡ announced_from (sent_numbers covers items s.offered.members rows q) (sent_numbers covers items offered.members then q)
   announced-turned q s offered then is =
-      ap (λ z. announced_from z (sent_numbers covers items offered.members then q)) (ap (λ (z : Numbers). z.members) is.roots)
+      ap (λ z. announced_from z (sent_numbers covers items offered.members then q)) is.roots
 
   pub side-turned : (q : ℕ) (s : Side) (offered : Numbers) (then : List Numbers) → offered.width ≡ length items → IsSide covers items then q (turned covers items offered then q s)
-  side-turned q s offered then w = record { offered = w; need = refl; roots = refl; withdrawn = refl; added = refl }
+  side-turned q s offered then w = record { wide = record { offered = w; need = refl; roots = refl; withdrawn = refl; added = refl }; need = refl; roots = refl }
 
   pub side-empty : (q : ℕ) → ((k : ℕ) → needs rows q k ≡ false) → IsSide covers items rows q (empty_side (length items))
   side-empty q none =
       record {
-        offered = refl;
-        need = ap (λ z. record { width = length items; members = z }) (sym e);
-        roots = ap (λ z. record { width = length items; members = z }) (sym (ap (root_numbers covers items) e));
-        withdrawn = refl;
-        added = refl;
+        wide = record { offered = refl; need = refl; roots = refl; withdrawn = refl; added = refl };
+        need = sym e;
+        roots = sym (ap (root_numbers covers items) e);
       }
     where
       all : List ℕ
@@ -241,30 +232,39 @@ module _ {T : Type 0} (covers : T → T → Bool) (items : List T) (rows : List 
       e : wanted_numbers (length items) (passing (λ k. true) (length items)) rows q ≡ []
       e = passing-is (wanted (passing (λ k. true) (length items)) rows q) (length items) [] tt (λ k t. absurd (grind (arith, never k, t))) (λ k h. absurd h)
 
--- the rows of a link, once something else is offered there
-module _ {T : Type 0} (covers : T → T → Bool) (items : List T) (held : Held) (sides : List Side) (p : ℕ) (s : Side) (table : IsTable covers items held sides) (there : p < length sides) (is : s ≡ get_or sides p s) where
-  pub side-read : IsSide covers items held.rows p s
-  side-read = table.each p s (slice_get_read sides (length sides) p s refl there is)
+-- the rows of links, once other rows are held
+module _ {T : Type 0} (covers : T → T → Bool) (items : List T) (old new : List Side) (held then : Held) (are : AreSides covers items held old) (width : then.width ≡ held.width)
+    (same : length then.rows ≡ length held.rows) (long : length new ≡ length old)
+    (each : (p : ℕ) (s : Side) → slice_get old p ≡ Some s → slice_get new p ≡ Some (turned covers items s.offered then.rows p s)) where
+  pub sides-turned : AreSides covers items then new
+  sides-turned =
+      record {
+        width = width ∙ are.width;
+        few = let f = are.few in omega (arith, f, same, long);
+        each = λ q x e.
+            let l = get-within new q x e in
+            let s = get-some old q (omega (arith, l, long)) in
+            subst (IsSide covers items then.rows q) (same_Some (turned covers items s.0.offered then.rows q s.0) x (sym (each q s.0 s.1) ∙ e))
+            (side-turned covers items then.rows q s.0 s.0.offered then.rows (are.each q s.0 s.1).wide.offered);
+      }
 
-  pub offer-table : (offered : Numbers) (new : Side) → offered.width ≡ length items → new ≡ turned covers items offered held.rows p s → IsTable covers items held (set sides p new)
-  offer-table offered new w e = record {
-    width = table.width;
-    few = let l = length-set sides p new in let f = table.few in omega (arith, l, f);
+-- the rows of a link, once something else is offered there
+module _ {T : Type 0} (covers : T → T → Bool) (items : List T) (held : Held) (sides : List Side) (p : ℕ) (s : Side) (are : AreSides covers items held sides) (there : p < length sides) (is : s ≡ get_or sides p s) where
+  pub side-get : slice_get sides p ≡ Some s
+  side-get = slice_get_read sides (length sides) p s refl there is
+
+  pub side-read : IsSide covers items held.rows p s
+  side-read = are.each p s side-get
+
+  pub sides-offered : (offered : Numbers) (new : Side) → offered.width ≡ length items → new ≡ turned covers items offered held.rows p s → AreSides covers items held (set sides p new)
+  sides-offered offered new w e = record {
+    width = are.width;
+    few = let l = length-set sides p new in let f = are.few in omega (arith, l, f);
     each = λ q x f. each q x f (cases_eq q p);
   }
     where
       each : (q : ℕ) (x : Side) → slice_get (set sides p new) q ≡ Some x → ((q ≡ p) ⊎ (q ≡ p → ⊥)) → IsSide covers items held.rows q x
       each q x f (inl a) =
           let b : new ≡ x = same_Some new x (sym (get-set-same sides p new there) ∙ subst (λ z. slice_get (set sides p new) z ≡ Some x) a f) in
-          subst (λ z. IsSide covers items held.rows z x) (sym a) (subst (IsSide covers items held.rows p) (sym e ∙ b)
-          (record { offered = w; need = refl; roots = refl; withdrawn = refl; added = refl }))
-      each q x f (inr d) = table.each q x (sym (get-set-other sides p q new d) ∙ f)
-
-  pub offer-announced : (offered : Numbers) (new : Side) (before : List ℕ) → new ≡ turned covers items offered held.rows p s → slice_get (map offered_at sides) p ≡ Some before
-      → slice_get (map announced_of (set sides p new)) p ≡ Some (announced_from (sent_numbers covers items before held.rows p) (sent_numbers covers items offered.members held.rows p))
-  offer-announced offered new before e f =
-      let own = side-read in
-      let old : before ≡ s.offered.members = same_Some before s.offered.members (sym f ∙ get-map offered_at sides p s (slice_get_read sides (length sides) p s refl there is)) in
-      get-map announced_of (set sides p new) p new (get-set-same sides p new there)
-      ∙ ap Some (ap announced_of e ∙ ap (λ z. announced_from z (sent_numbers covers items offered.members held.rows p))
-      (ap (λ (z : Numbers). z.members) own.roots ∙ ap (λ o. sent_numbers covers items o held.rows p) (sym old)))
+          subst (λ z. IsSide covers items held.rows z x) (sym a) (subst (IsSide covers items held.rows p) (sym e ∙ b) (side-turned covers items held.rows p s offered held.rows w))
+      each q x f (inr d) = are.each q x (sym (get-set-other sides p q new d) ∙ f)

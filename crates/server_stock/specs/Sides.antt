@@ -3,8 +3,8 @@
 use Rattle.std.specs.Prelude.{◌≡◌, ℕ, ◌≤◌, Bool, nat_lt, true, List, [], length, slice_get, Some, refl}
 use Rattle.std.specs.Coded.{Coded, code_by, coded×, coded_ℕ, coded_list}
 use Rattle.base.specs.Sets.{Has, minus}
-use Rattle.base_bits.specs.Rows.{Numbers, numbers_code}
-use Rattle.base_order.specs.Order.{root_numbers}
+use Rattle.base_bits.specs.Rows.{Numbers}
+use Rattle.base_order.specs.Order.{root_numbers, picked}
 use Rattle.base_order.specs.Columns.{full_row}
 use Rattle.server_stock.specs.Held.{Held, wanted, wanted_numbers}
 use Rattle.server_stock.specs.declared.sides.Side.{Side}
@@ -21,27 +21,21 @@ announced_code = code_by (List ℕ × List ℕ) (coded× (coded_list coded_ℕ) 
 abbrev pub announced_of : Side → Announced
 announced_of s = record { withdrawn = s.withdrawn.members; added = s.added.members }
 
--- the numbers offered at a link
-abbrev pub offered_at : Side → List ℕ
-offered_at s = s.offered.members
-
--- the items, for each place what is held from it, and for the links, which are the first places, what is offered there and what the last
--- change announced
-pub record Tabled (T : Type 0) : Type 0 where
-  pub items : List T
-  pub rows : List Numbers
-  pub offered : List (List ℕ)
-  pub announced : List Announced
-
-abbrev pub tabled_code : {T : Type 0} → Coded T → Coded (Tabled T)
-tabled_code {T} code = code_by ((List T × List Numbers) × (List (List ℕ) × List Announced))
-    (coded× (coded× (coded_list code) (coded_list numbers_code)) (coded× (coded_list (coded_list coded_ℕ)) (coded_list announced_code)))
-    (λ s. ((s.items, s.rows), (s.offered, s.announced)))
-    (λ p. record { items = p.0.0; rows = p.0.1; offered = p.1.0; announced = p.1.1 }) (λ _. refl)
+-- the items offered at a link
+abbrev pub offered_at : {T : Type 0} → List T → Side → List T
+offered_at items s = picked items s.offered.members
 
 -- what changes from some numbers to others
 abbrev pub announced_from : List ℕ → List ℕ → Announced
 announced_from old new = record { withdrawn = minus nat_lt old new; added = minus nat_lt new old }
+
+-- each row of a link has the width
+pub record IsWide (width : ℕ) (s : Side) : Type 0 where
+  pub offered : s.offered.width ≡ width
+  pub need : s.need.width ≡ width
+  pub roots : s.roots.width ≡ width
+  pub withdrawn : s.withdrawn.width ≡ width
+  pub added : s.added.width ≡ width
 
 module _ {T : Type 0} (covers : T → T → Bool) (items : List T) where
   -- the numbers sent on the link at a place: the roots of those that are held from other places and offered there
@@ -61,26 +55,20 @@ module _ {T : Type 0} (covers : T → T → Bool) (items : List T) where
 
   -- a link's rows are those that it needs and sends
   pub record IsSide (rows : List Numbers) (p : ℕ) (s : Side) : Type 0 where
-    pub offered : s.offered.width ≡ length items
-    pub need : s.need ≡ record { width = length items; members = wanted_numbers (length items) s.offered.members rows p }
-    pub roots : s.roots ≡ record { width = length items; members = sent_numbers s.offered.members rows p }
-    pub withdrawn : s.withdrawn.width ≡ length items
-    pub added : s.added.width ≡ length items
+    pub wide : IsWide (length items) s
+    pub need : s.need.members ≡ wanted_numbers (length items) s.offered.members rows p
+    pub roots : s.roots.members ≡ sent_numbers s.offered.members rows p
 
   -- a link's rows are to be brought up to these rows: its roots are those of its need, only numbers of `out` have left this since, and only
   -- numbers of `add` have joined it
   pub record IsDue (rows : List Numbers) (out add : List ℕ) (p : ℕ) (s : Side) : Type 0 where
-    pub offered : s.offered.width ≡ length items
-    pub need : s.need.width ≡ length items
-    pub roots : s.roots.width ≡ length items
-    pub withdrawn : s.withdrawn.width ≡ length items
-    pub added : s.added.width ≡ length items
+    pub wide : IsWide (length items) s
     pub known : s.roots.members ≡ root_numbers covers items s.need.members
     pub kept : (k : ℕ) → Has k s.need.members → (Has k out → ⊥) → wanted s.offered.members rows p k ≡ true
     pub fresh : (k : ℕ) → wanted s.offered.members rows p k ≡ true → (Has k add → ⊥) → Has k s.need.members
 
-  -- each link has its rows, and is one of the places
-  pub record IsTable (held : Held) (sides : List Side) : Type 0 where
+  -- each link has its rows, and is one of the places; what is held has a number for each item
+  pub record AreSides (held : Held) (sides : List Side) : Type 0 where
     pub width : held.width ≡ length items
     pub few : length sides ≤ length held.rows
     pub each : (p : ℕ) (s : Side) → slice_get sides p ≡ Some s → IsSide held.rows p s

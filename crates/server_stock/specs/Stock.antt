@@ -4,7 +4,9 @@ use Rattle.std.specs.Coded.{Coded, code_by, coded×, coded_ℕ, coded_list}
 use Rattle.base.specs.Sets.{IsRising, member, set_of, roots, minus}
 use Rattle.base_bits.specs.Rows.{Numbers}
 use Rattle.base_order.specs.Order.{picked}
-use Rattle.server_stock.specs.Sides.{Announced, announced_code}
+use Rattle.server_stock.specs.Held.{Held}
+use Rattle.server_stock.specs.Sides.{Announced, announced_code, AreSides}
+use Rattle.server_stock.specs.declared.sides.Side.{Side}
 
 -- an item that is held from an interface
 pub record Holding (T : Type 0) : Type 0 where
@@ -57,10 +59,11 @@ pairs_of items [] rows = []
 pairs_of items (i ∷ is) [] = []
 pairs_of items (i ∷ is) (r ∷ rs) = map (λ x. record { interface = i; item = x }) (picked items r.members) ++ pairs_of items is rs
 
--- the interfaces rise, and each has its row
-pub record IsStock (interfaces : List ℕ) (rows : List Numbers) : Type 0 where
+-- the interfaces rise, each has its row, and the first of them are links with their rows
+pub record IsStock {T : Type 0} (covers : T → T → Bool) (items : List T) (interfaces : List ℕ) (held : Held) (sides : List Side) : Type 0 where
   pub rising : IsRising nat_lt interfaces
-  pub long : length interfaces ≡ length rows
+  pub long : length interfaces ≡ length held.rows
+  pub links : AreSides covers items held sides
 
 -- what was announced on a link is what has left the items sent on it, and what has joined them
 pub record IsAnnounced {T : Type 0} (before : T → T → Bool) (items old new : List T) (announced : Announced) : Type 0 where

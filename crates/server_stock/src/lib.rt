@@ -9,6 +9,5 @@
 mod holders;
 mod sides;
 mod stock;
-mod table;
 
 pub use stock::Stock;

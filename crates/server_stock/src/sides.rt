@@ -1,10 +1,9 @@
 //! What a stock keeps for each link: what is offered there, needed there, and sent.
-ghost use Rattle.std.specs.Prelude.{◌≡◌, ◌⊎◌, ℕ, ◌<◌, true, length, IfOk};
+ghost use Rattle.std.specs.Prelude.{◌≡◌, ◌⊎◌, ℕ, ◌<◌, ◌≤◌, true, length, replicate, set, slice_get, Some, IfOk};
 ghost use Rattle.base.specs.Sets.{Has};
 ghost use Rattle.base_bits.specs.Rows.{is_in};
-ghost use Rattle.base_order.specs.Order.{root_numbers};
-ghost use Rattle.server_stock.specs.Held.{wanted, wanted_numbers};
-ghost use Rattle.server_stock.specs.Sides.{turned, empty_side};
+ghost use Rattle.server_stock.specs.Held.{row_at, with, without, wanted, wanted_numbers};
+ghost use Rattle.server_stock.specs.Sides.{AreSides, IsDue, IsWide, turned, empty_side};
 
 use crate::holders::Holders;
 use base::{Cover, NoMemory};
@@ -34,6 +33,17 @@ pub(crate) fn fresh_side(alloc: Global, width: u32) -> Result<Side, NoMemory>
         withdrawn: Row::new(alloc, width)?,
         added: Row::new(alloc, width)?,
     })
+}
+
+/// The rows of so many links that need nothing.
+pub(crate) fn fresh_sides(alloc: Global, width: u32, links: u32) -> Result<Vec<Side>, NoMemory>
+    ensures { IfOk result (λ sides. sides.items ≡ replicate links (empty_side width)) }
+{
+    let mut sides = Vec::new(alloc);
+    for _ in 0..links {
+        sides.push(fresh_side(alloc, width)?)?;
+    }
+    Ok(sides)
 }
 
 /// Has each of these numbers in the need exactly where another place holds it and it is offered.
@@ -68,14 +78,7 @@ pub(crate) fn turn<T: Cover>(
     requires place { place < length held.now.rows }
     requires out { (i : ℕ) → Has i out.now → i < held.now.width }
     requires add { (i : ℕ) → Has i add.now → i < held.now.width }
-    requires offered_width { side.old.offered.width ≡ length order.now }
-    requires need_width { side.old.need.width ≡ length order.now }
-    requires roots_width { side.old.roots.width ≡ length order.now }
-    requires withdrawn_width { side.old.withdrawn.width ≡ length order.now }
-    requires added_width { side.old.added.width ≡ length order.now }
-    requires known { side.old.roots.members ≡ root_numbers T.covering order.now side.old.need.members }
-    requires kept { (k : ℕ) → Has k side.old.need.members → (Has k out.now → ⊥) → wanted side.old.offered.members held.now.rows place k ≡ true }
-    requires fresh { (k : ℕ) → wanted side.old.offered.members held.now.rows place k ≡ true → (Has k add.now → ⊥) → Has k side.old.need.members }
+    requires due { IsDue T.covering order.now held.now.rows out.now add.now place side.old }
     ensures { side.new ≡ turned T.covering order.now side.old.offered held.now.rows place side.old }
 {
     side.need.lemma_sorted();
@@ -90,6 +93,54 @@ pub(crate) fn turn<T: Cover>(
         &mut side.withdrawn,
         &mut side.added,
     );
+}
+
+/// Brings the rows of each link up to what is held now.
+fn turn_all<T: Cover>(
+    order: &Order<T>,
+    held: &Holders,
+    out: &[u32],
+    add: &[u32],
+    sides: &mut [Side],
+)
+    requires width { held.now.width ≡ length order.now }
+    requires few { length sides.old ≤ length held.now.rows }
+    requires out { (i : ℕ) → Has i out.now → i < held.now.width }
+    requires add { (i : ℕ) → Has i add.now → i < held.now.width }
+    requires due { (p : ℕ) (s : Side) → slice_get sides.old p ≡ Some s
+        → IsDue T.covering order.now held.now.rows out.now add.now p s }
+    ensures length { length sides.new ≡ length sides.old }
+    ensures each { (p : ℕ) (s : Side) → slice_get sides.old p ≡ Some s
+        → slice_get sides.new p ≡ Some (turned T.covering order.now s.offered held.now.rows p s) }
+{
+    for p in 0..sides.len() {
+        turn(order, held, p, out, add, &mut sides[p]);
+    }
+}
+
+/// A place holds some numbers no more, and some others too. Brings the rows of each link up to this.
+pub(crate) fn change<T: Cover>(
+    order: &Order<T>,
+    held: &mut Holders,
+    place: usize,
+    out: &[u32],
+    add: &[u32],
+    sides: &mut [Side],
+)
+    requires place { place < length held.old.rows }
+    requires out { (i : ℕ) → Has i out.now → i < length order.now }
+    requires add { (i : ℕ) → Has i add.now → i < length order.now }
+    requires sides { AreSides T.covering order.now held.old sides.old }
+    ensures rows { held.new.rows ≡ set held.old.rows place (with (without (row_at held.old.rows place) out.now) add.now) }
+    ensures sides { AreSides T.covering order.now held.new sides.new }
+    ensures links { length sides.new ≡ length sides.old }
+    ensures each { (p : ℕ) (s : Side) → slice_get sides.old p ≡ Some s
+        → slice_get sides.new p ≡ Some (turned T.covering order.now s.offered held.new.rows p s) }
+{
+    held.lemma_bounded();
+    held.take_all(place, out);
+    held.put_all(place, add);
+    turn_all(order, held, out, add, sides);
 }
 
 /// Makes a row that of the numbers of another one that other places hold.
@@ -119,11 +170,7 @@ pub(crate) fn offer<T: Cover>(
     requires width { held.now.width ≡ length order.now }
     requires place { place < length held.now.rows }
     requires offered { offered.now.width ≡ length order.now }
-    requires offered_width { side.old.offered.width ≡ length order.now }
-    requires need_width { side.old.need.width ≡ length order.now }
-    requires roots_width { side.old.roots.width ≡ length order.now }
-    requires withdrawn_width { side.old.withdrawn.width ≡ length order.now }
-    requires added_width { side.old.added.width ≡ length order.now }
+    requires side { IsWide (length order.now) side.old }
     ensures { side.new ≡ turned T.covering order.now offered.now held.now.rows place side.old }
 {
     side.offered.copy_from(offered);

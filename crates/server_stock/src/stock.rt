@@ -5,7 +5,8 @@ ghost use Rattle.base_order.specs.Order.{picked};
 ghost use Rattle.server_stock.specs.Sides.{Announced};
 ghost use Rattle.server_stock.specs.Stock.{Holding, held_from, sent, IsAnnounced};
 
-use crate::table::Table;
+use crate::holders::Holders;
+use crate::sides::{Side, change, fresh_sides, offer};
 use base::{Cover, NoMemory};
 use base_bits::Row;
 use base_order::Order;
@@ -20,12 +21,14 @@ use std::marker::Model;
 #[derive(Drop)]
 pub struct Stock<'a, T: Cover> {
     interfaces: Vec<u32>,
-    table: Table<'a, T>,
+    order: &'a Order<T>,
+    held: Holders,
+    sides: Vec<Side>,
 }
 
 impl<'a, T: Cover> Model for Stock<'a, T> {
     ghost use Rattle.std.specs.Prelude.{map};
-    ghost use Rattle.base_order.specs.Order.{picked};
+    ghost use Rattle.server_stock.specs.Sides.{offered_at, announced_of};
     ghost use Rattle.server_stock.specs.Stock.{Stocked, stocked_code, pairs_of, IsStock};
 
     ghost Value = { Stocked T };
@@ -33,14 +36,14 @@ impl<'a, T: Cover> Model for Stock<'a, T> {
     ghost coded = { stocked_code T.code };
 
     ghost view = { λ s. record {
-      items = s.table.items;
+      items = s.order.now;
       interfaces = s.interfaces.items;
-      holdings = pairs_of s.table.items s.interfaces.items s.table.rows;
-      offered = map (picked s.table.items) s.table.offered;
-      announced = s.table.announced;
+      holdings = pairs_of s.order.now s.interfaces.items s.held.rows;
+      offered = map (offered_at s.order.now) s.sides.items;
+      announced = map announced_of s.sides.items;
     } };
 
-    ghost invariant = { λ s. IsStock s.interfaces.items s.table.rows };
+    ghost invariant = { λ s. IsStock T.covering s.order.now s.interfaces.items s.held s.sides.items };
 }
 
 /// The place of an interface.
@@ -88,8 +91,15 @@ impl<'a, T: Cover> Stock<'a, T> {
         ensures offered { IfOk result (λ stock. stock.offered ≡ replicate links order.now) }
     {
         order.lemma_sorted();
-        let table = Table::new(alloc, order, interfaces.len() as u32, links)?;
-        Ok(Stock { interfaces, table })
+        let width = order.count();
+        let held = Holders::new(alloc, width, interfaces.len() as u32)?;
+        let sides = fresh_sides(alloc, width, links)?;
+        Ok(Stock {
+            interfaces,
+            order,
+            held,
+            sides,
+        })
     }
 
     /// The interfaces, rising, of which the links are the first.
@@ -110,8 +120,7 @@ impl<'a, T: Cover> Stock<'a, T> {
         ensures held { (h : Holding T) → Has h self.now.holdings → Has h.item self.now.items }
         ensures held_from { (h : Holding T) → Has h self.now.holdings → Has h.interface self.now.interfaces }
     {
-        self.table.lemma_sorted();
-        self.table.lemma_lengths();
+        self.order.lemma_sorted();
     }
 
     /// The place of an interface among the links, if it is one.
@@ -119,7 +128,7 @@ impl<'a, T: Cover> Stock<'a, T> {
         ensures some { IfSome result (λ p. (p < length self.now.announced) × (slice_get self.now.interfaces p ≡ Some interface)) }
         ensures none { IfNone result ((p : ℕ) → p < length self.now.announced → slice_get self.now.interfaces p ≢ Some interface) }
     {
-        link_place(&self.interfaces, self.table.links(), interface)
+        link_place(&self.interfaces, self.sides.len(), interface)
     }
 
     /// An interface holds the items with some numbers no more, and those with some others too. For
@@ -139,9 +148,9 @@ impl<'a, T: Cover> Stock<'a, T> {
             → (t : Announced) × (slice_get self.new.announced p ≡ Some t) × IsAnnounced T.order self.old.items
             (sent T.covering T.order offered link self.old.holdings) (sent T.covering T.order offered link self.new.holdings) t }
     {
-        self.table.lemma_sorted();
+        self.order.lemma_sorted();
         if let Some(p) = place(&self.interfaces, interface) {
-            self.table.change(p, out, add);
+            change(self.order, &mut self.held, p, out, add, &mut self.sides);
         }
     }
 
@@ -160,8 +169,14 @@ impl<'a, T: Cover> Stock<'a, T> {
             (sent T.covering T.order before link self.old.holdings)
             (sent T.covering T.order (picked self.old.items offered.now.members) link self.old.holdings) t }
     {
-        self.table.lemma_sorted();
-        self.table.offer(place, offered);
+        self.order.lemma_sorted();
+        offer(
+            self.order,
+            &self.held,
+            place,
+            offered,
+            &mut self.sides[place],
+        );
     }
 
     /// Whether the item with a number is held from an interface.
@@ -169,11 +184,11 @@ impl<'a, T: Cover> Stock<'a, T> {
         requires { i < length self.now.items }
         ensures { (x : _) → slice_get self.now.items i ≡ Some x → (result ≡ true) ↔ Has x (held_from T.order interface self.now.holdings) }
     {
-        self.table.lemma_sorted();
+        self.order.lemma_sorted();
         match place(&self.interfaces, interface) {
             Some(p) => {
-                self.table.lemma_row_sorted(p);
-                self.table.row(p).has(i)
+                self.held.lemma_sorted(p);
+                self.held.row(p).has(i)
             }
             None => false,
         }
@@ -185,11 +200,11 @@ impl<'a, T: Cover> Stock<'a, T> {
         ensures width { IfSome result (λ row. row.now.width ≡ length self.now.items) }
         ensures none { IfNone result (Has interface self.now.interfaces → ⊥) }
     {
-        self.table.lemma_sorted();
+        self.order.lemma_sorted();
         match place(&self.interfaces, interface) {
             Some(p) => {
-                self.table.lemma_row_sorted(p);
-                Some(self.table.row(p))
+                self.held.lemma_sorted(p);
+                Some(self.held.row(p))
             }
             None => None,
         }
@@ -201,8 +216,8 @@ impl<'a, T: Cover> Stock<'a, T> {
         ensures { (link : ℕ) (offered : List T) → slice_get self.now.interfaces place ≡ Some link → slice_get self.now.offered place ≡ Some offered
             → picked self.now.items result.now.members ≡ sent T.covering T.order offered link self.now.holdings }
     {
-        self.table.lemma_sorted();
-        self.table.sent(place)
+        self.order.lemma_sorted();
+        &self.sides[place].roots
     }
 
     /// The numbers that the last change withdrew on the link at a place.
@@ -211,7 +226,7 @@ impl<'a, T: Cover> Stock<'a, T> {
         ensures members { (t : Announced) → slice_get self.now.announced place ≡ Some t → result.now.members ≡ t.withdrawn }
         ensures width { result.now.width ≡ length self.now.items }
     {
-        self.table.withdrawn(place)
+        &self.sides[place].withdrawn
     }
 
     /// The numbers that the last change added on the link at a place.
@@ -220,6 +235,6 @@ impl<'a, T: Cover> Stock<'a, T> {
         ensures members { (t : Announced) → slice_get self.now.announced place ≡ Some t → result.now.members ≡ t.added }
         ensures width { result.now.width ≡ length self.now.items }
     {
-        self.table.added(place)
+        &self.sides[place].added
     }
 }

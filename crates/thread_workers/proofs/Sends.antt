@@ -50,7 +50,6 @@ use Rattle.net_tables.specs.contracts.found.Found as Found
 use Rattle.net_tables.specs.contracts.tables.Tables as Tables
 use Rattle.server_stock.specs.contracts.holders.Holders as Holders
 use Rattle.server_stock.specs.contracts.sides.Side as Side
-use Rattle.server_stock.specs.contracts.table.Table as Table
 use Rattle.server_stock.specs.contracts.stock.Stock as Stock
 use Rattle.server_control.specs.contracts.control.Control as Control
 use Rattle.server_session.specs.contracts.own.Own as Own
@@ -296,11 +295,8 @@ holders_send = let a = row_send in search (sendable, crosses) depth 20
 pub side_send : IsSend Side.the_row
 side_send = let a = row_send in search (sendable, crosses) depth 20
 
-pub table_send : (κ : NamedLft) (T : RattleType) (g : _) → IsSync T → IsSend (Table.the_field κ T g).row
-table_send κ T g a = let b = holders_send in let c = side_send in search (sendable, crosses, order_sync) depth 20
-
 pub stock_send : (κ : NamedLft) (T : RattleType) (g : _) → IsSync T → IsSend (Stock.the_field κ T g).row
-stock_send κ T g a = search (sendable, crosses, table_send) depth 20
+stock_send κ T g a = let b = holders_send in let c = side_send in search (sendable, crosses, order_sync) depth 20
 
 pub control_send : (κ : NamedLft) → IsSend (Control.the_field κ).row
 control_send κ = let a = sub_sync in let b = ad_sync in let c = row_send in let d = row_sync in search (sendable, crosses, stock_send) depth 20

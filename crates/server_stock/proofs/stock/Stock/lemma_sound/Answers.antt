@@ -8,17 +8,17 @@ use Rattle.base.proofs.Sets.{get-has}
 
 pub returns-clause-held : goal.returns-clause-held
 returns-clause-held g c =
-    let t = c.self.inside.table in
+    let t = c.self.inside in
     subst (λ (z : Stocked g.row.T.Denot). (h : Holding g.row.T.Denot) → Has h z.holdings → Has h.item z.items) c.self.view_is
     (λ h m.
-    let a = pairs-at t.items c.self.inside.interfaces.items t.rows h m in
-    let k = picked-has t.items (row_at t.rows a.0).members h.item a.2 in
-    get-has t.items k.0 h.item k.2)
+    let a = pairs-at t.order.now t.interfaces.items t.held.rows h m in
+    let k = picked-has t.order.now (row_at t.held.rows a.0).members h.item a.2 in
+    get-has t.order.now k.0 h.item k.2)
 
 pub returns-clause-held_from : goal.returns-clause-held_from
 returns-clause-held_from g c =
-    let t = c.self.inside.table in
+    let t = c.self.inside in
     subst (λ (z : Stocked g.row.T.Denot). (h : Holding g.row.T.Denot) → Has h z.holdings → Has h.interface z.interfaces) c.self.view_is
     (λ h m.
-    let a = pairs-at t.items c.self.inside.interfaces.items t.rows h m in
-    get-has c.self.inside.interfaces.items a.0 h.interface a.1)
+    let a = pairs-at t.order.now t.interfaces.items t.held.rows h m in
+    get-has t.interfaces.items a.0 h.interface a.1)

@@ -1,7 +1,7 @@
 use Rattle.std.proofs.Common.{◌≡◌, ℕ, ◌<◌, ◌≤◌, length, slice_get, Some}
 use Rattle.server_stock.specs.declared.sides.Side.{Side}
 use Rattle.server_stock.specs.Sides.{turned}
-use Rattle.server_stock.proofs.table.turn_all.Given as goal
+use Rattle.server_stock.proofs.sides.turn_all.Given as goal
 
 abbrev pub invariant-loop-p : goal.invariant-loop-p
 invariant-loop-p g l =
