@@ -23,6 +23,8 @@ fn laws_of_journals() {
 fn laws_of_deliveries() {
     law_phases::never_twice::<Real>();
     law_phases::delivered_in_order::<Real>();
+    law_phases::delivered_by_phase::<Real>();
+    law_phases::causal_order::<Real>();
     law_phases::put_in_order::<Real>();
     law_phases::routes_publication::<Real>();
     law_phases::routed_in_order::<Real>();
@@ -30,6 +32,10 @@ fn laws_of_deliveries() {
     law_phases::delivered_allowed::<Real>();
     law_phases::delivered_stays::<Real>();
     law_phases::settled_delivery::<Real>();
+    law_phases::settled_by::<Real>();
+    law_phases::owed_due::<Real>();
+    law_phases::due_settled::<Real>();
+    law_phases::due_once::<Real>();
     law_phases::owed_settled::<Real>();
     law_phases::owed_once::<Real>();
     law_phases::stable_inputs::<Real>();
@@ -43,10 +49,16 @@ fn laws_of_servers() {
     law_phases::installed_is_held::<Real>();
     law_phases::not_behind::<Real>();
     law_phases::quiet_flows::<Real>();
+    law_phases::holds_roots::<Real>();
     law_phases::same_tree_again::<Real>();
     law_phases::in_force::<Real>();
     law_phases::pruning::<Real>();
     law_phases::sent_where_wanted::<Real>();
+    law_phases::economy::<Real>();
+    law_phases::flooding::owed_once::<Real>();
+    law_phases::flooding::owes_due::<Real>();
+    law_phases::flooding::delivered_allowed::<Real>();
+    law_phases::flooding::never_twice::<Real>();
     law_phases::drained_when_through::<Real>();
     law_phases::walk_drains::<Real>();
 }

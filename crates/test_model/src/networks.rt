@@ -18,6 +18,9 @@ fn laws_of_networks() {
     law_routing::begins_at_rest::<Real>();
     law_routing::quiet_rests::<Real>();
     law_routing::not_behind::<Real>();
+    law_routing::owed_due::<Real>();
+    law_routing::due_settled::<Real>();
+    law_routing::due_once::<Real>();
     law_routing::owed_settled::<Real>();
     law_routing::owed_once::<Real>();
     law_routing::owed_in_phase::<Real>();
@@ -33,6 +36,8 @@ fn laws_of_networks() {
     law_routing::one_way::<Real>();
     law_routing::lawful::<Real>();
     law_routing::rest_flows::<Real>();
+    law_routing::rest_holds_roots::<Real>();
+    law_routing::no_idle_change::<Real>();
     law_routing::flow_agrees::<Real>();
     law_routing::tree_changes::<Real>();
 }
