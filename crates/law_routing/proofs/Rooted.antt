@@ -140,7 +140,7 @@ module _ (th : Theory) (laws : TheoryLaws th) (net : Net th) (good : NetLaws th 
     inside f h =
         let g = gather-has laws.filters (w.state u).subs t f (interfaces th net u) h in
         elim (has-append g.0 (net.links u) (map (λ z. 64 + z) (net.clients u)) g.1) [
-            inl on ↦ wider g.0 f g.2 ((roots-iff th.covers th.before (all-beyond u g.0) f).0 (subst (λ (z : List th.Filter). Has f z) (further-held g.0 on g.2) g.3)).0
+          | inl on ↦ wider g.0 f g.2 ((roots-iff th.covers th.before (all-beyond u g.0) f).0 (subst (λ (z : List th.Filter). Has f z) (further-held g.0 on g.2) g.3)).0
           | inr at ↦ client g.0 g.3 (has-map (λ z. 64 + z) (net.clients u) g.0 at)
         ]
       where
@@ -157,7 +157,7 @@ module _ (th : Theory) (laws : TheoryLaws th) (net : Net th) (good : NetLaws th 
       where
         go : IsListedBeyond t u f → Has f (gathered t u) ⊎ ((v : ℕ) × Has v (net.links u) × (v ≡ t → ⊥) × Has f (all-beyond u v))
         go l = elim (parted t u l.server near l.among l.beyond) [
-            inl here ↦ inl (of-client l.client f (subst (λ z. Has l.client (net.clients z)) here l.lives) l.listed)
+          | inl here ↦ inl (of-client l.client f (subst (λ z. Has l.client (net.clients z)) here l.lives) l.listed)
           | inr on ↦ inr (on.0, on.1, on.2, beyond-listed u on.0 f (record { server = l.server; among = l.among; beyond = on.3; client = l.client; lives = l.lives; listed = l.listed }))
         ]
 
@@ -170,13 +170,13 @@ module _ (th : Theory) (laws : TheoryLaws th) (net : Net th) (good : NetLaws th 
 
         each : IsTop (all-beyond t u) f
         each g m cov = elim (found g m) [
-            inl has ↦ r.1 g has cov
+          | inl has ↦ r.1 g has cov
           | inr on ↦ (
-            let top = covered_by_root laws.filters (all-beyond u on.0) g on.3 in
-            let held = of-link on.0 top.0 on.1 on.2 top.1 in
-            let over = laws.filters.transitive top.0 g f top.2 cov in
-            yields-too top.0 g f top.2 cov (r.1 top.0 held over) (((roots-iff th.covers th.before (all-beyond u on.0) top.0).0 top.1).1 g on.3)
-          )
+              let top = covered_by_root laws.filters (all-beyond u on.0) g on.3 in
+              let held = of-link on.0 top.0 on.1 on.2 top.1 in
+              let over = laws.filters.transitive top.0 g f top.2 cov in
+              yields-too top.0 g f top.2 cov (r.1 top.0 held over) (((roots-iff th.covers th.before (all-beyond u on.0) top.0).0 top.1).1 g on.3)
+              )
         ]
 
     from : (f : th.Filter) → Has f (roots th.covers th.before (all-beyond t u)) → Has f (roots th.covers th.before (gathered t u))
@@ -188,7 +188,7 @@ module _ (th : Theory) (laws : TheoryLaws th) (net : Net th) (good : NetLaws th 
 
         here : Has f (gathered t u)
         here = elim (found f r.0) [
-            inl has ↦ has
+          | inl has ↦ has
           | inr on ↦ of-link on.0 f on.1 on.2 ((roots-iff th.covers th.before (all-beyond u on.0) f).1 (on.3, λ g m. r.1 g (wider on.0 g on.2 m)))
         ]
 
@@ -243,7 +243,7 @@ module _ (th : Theory) (laws : TheoryLaws th) (net : Net th) (old new : ServerSt
   pub changed-only : Has (Subs out add) (messages_to th net old new server link) → IsChanged
   changed-only h =
       elim (has-append (Subs out add) (filter_change th net sent-old sent-new) (advert_change th net (sent_adverts th net old server link) (sent_adverts th net new server link)) h) [
-          inl a ↦ in-filters (same_list th.before sent-old sent-new) refl a
+        | inl a ↦ in-filters (same_list th.before sent-old sent-new) refl a
         | inr b ↦ absurd (in-adverts (same_list th.before_advert (sent_adverts th net old server link) (sent_adverts th net new server link))
             (minus th.before_advert (sent_adverts th net old server link) (sent_adverts th net new server link))
             (minus th.before_advert (sent_adverts th net new server link) (sent_adverts th net old server link)) b)

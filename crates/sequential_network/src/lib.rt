@@ -34,9 +34,9 @@ mod ruled;
 mod scheduled;
 mod server;
 mod servers;
+mod stamped_message;
 mod telling;
 mod texts;
-mod stamped_message;
 mod walking;
 
 pub use forwarding_server::{ForwardingServer, unexhausted, unpublished};
