@@ -1,5 +1,5 @@
 -- How the rows of a link turn as what is held changes.
-use Rattle.std.proofs.Common.{◌≡◌, ◌≢◌, ◌⊎◌, inl, inr, ℕ, zero, suc, ◌<◌, nat_lt, Bool, true, false, cond, ◌||◌, ◌&&◌, List, [], ◌∷◌, length, map, get_or, set, slice_get, Some, refl, sym, ap, ap₂, subst, ◌∙◌, arith}
+use Rattle.std.proofs.Common.{◌≡◌, ◌≢◌, ◌⊎◌, inl, inr, ℕ, zero, suc, ◌<◌, nat_lt, Bool, true, false, cond, ◌||◌, ◌&&◌, List, [], ◌∷◌, length, map, get_or, set, take, slice_get, Some, refl, sym, ap, ap₂, subst, ◌∙◌, arith}
 use Rattle.std.specs.List.{list_any}
 use Rattle.std.proofs.lemmas.List.{get_or-set_same}
 use Rattle.std.proofs.lemmas.List.{length-set}
@@ -158,10 +158,12 @@ module _ {A : Type 0} where
   get-within (y ∷ ys) zero x e = omega arith
   get-within (y ∷ ys) (suc p) x e = let l = get-within ys p x e in omega (arith, l)
 
-pub get-read : {A : Type 0} (xs : List A) (p : ℕ) (d : A) → p < length xs → slice_get xs p ≡ Some (get_or xs p d)
-get-read [] p d l = absurd (omega arith)
-get-read (x ∷ xs) zero d l = refl
-get-read (x ∷ xs) (suc p) d l = get-read xs p d (omega arith)
+-- what stands below n is among the first n of a list
+pub get-take : {A : Type 0} (n : ℕ) (xs : List A) (p : ℕ) (x : A) → p < n → slice_get xs p ≡ Some x → Has x (take n xs)
+get-take zero xs p x l e = absurd (omega (arith, l))
+get-take (suc n) [] p x l e = absurd cc
+get-take (suc n) (y ∷ ys) zero x l e = inl (sym (same_Some y x e))
+get-take (suc n) (y ∷ ys) (suc p) x l e = inr (get-take n ys p x (omega (arith, l)) e)
 
 -- what is offered at links each of which offers what it did
 pub same-offered : {T : Type 0} (items : List T) (new old : List Side) → length new ≡ length old

@@ -59,20 +59,6 @@ fn place(interfaces: &[u32], interface: u32) -> Option<usize>
     None
 }
 
-/// The place of an interface among so many first ones.
-fn link_place(interfaces: &[u32], links: usize, interface: u32) -> Option<usize>
-    requires { links ≤ length interfaces.now }
-    ensures some { IfSome result (λ p. (p < links) × (slice_get interfaces.now p ≡ Some interface)) }
-    ensures none { IfNone result ((p : ℕ) → p < links → slice_get interfaces.now p ≢ Some interface) }
-{
-    for p in 0..links {
-        if interfaces[p] == interface {
-            return Some(p);
-        }
-    }
-    None
-}
-
 impl<'a, T: Cover> Stock<'a, T> {
     /// Nothing is held from these interfaces, of which so many are links. All memory is taken here.
     pub fn new(
@@ -128,7 +114,7 @@ impl<'a, T: Cover> Stock<'a, T> {
         ensures some { IfSome result (λ p. (p < length self.now.announced) × (slice_get self.now.interfaces p ≡ Some interface)) }
         ensures none { IfNone result ((p : ℕ) → p < length self.now.announced → slice_get self.now.interfaces p ≢ Some interface) }
     {
-        link_place(&self.interfaces, self.sides.len(), interface)
+        place(&self.interfaces[..self.sides.len()], interface)
     }
 
     /// An interface holds the items with some numbers no more, and those with some others too. For

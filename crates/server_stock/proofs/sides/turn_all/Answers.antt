@@ -5,7 +5,8 @@ use Rattle.std.proofs.lemmas.Option.{same_Some}
 use Rattle.server_stock.specs.declared.sides.Side.{Side}
 use Rattle.server_stock.specs.Sides.{turned}
 use Rattle.base_order.proofs.Over.{get-set-same, get-set-other}
-use Rattle.server_stock.proofs.Turns.{get-read, get-within}
+use Rattle.std.proofs.lemmas.Option.{slice_get-get_or}
+use Rattle.server_stock.proofs.Turns.{get-within}
 use Rattle.server_stock.proofs.sides.turn_all.Goals as goal
 
 pub turn-requires-clause-due : goal.turn-requires-clause-due
@@ -14,7 +15,7 @@ turn-requires-clause-due g c =
     let p = c.loop-p.p in
     let n = v.length in
     let s = get_or c.loop-p.sides p c.index-sides-p.result in
-    c.requires.due p s (sym (v.later p (omega arith)) ∙ get-read c.loop-p.sides p c.index-sides-p.result (omega (arith, n)))
+    c.requires.due p s (sym (v.later p (omega arith)) ∙ slice_get-get_or c.loop-p.sides p c.index-sides-p.result (omega (arith, n)))
 
 pub loop-p-preserved : goal.loop-p-preserved
 loop-p-preserved g c =
@@ -31,7 +32,7 @@ loop-p-preserved g c =
       done = λ q s h e. elim (cases_eq q p) [
         | inl w ↦
             let there : slice_get c.args.sides.now p ≡ Some s = subst (λ z. slice_get c.args.sides.now z ≡ Some s) w e in
-            let x : get_or xs p c.index-sides-p.result ≡ s = same_Some _ s (sym (get-read xs p c.index-sides-p.result l) ∙ (v.later p (omega arith) ∙ there)) in
+            let x : get_or xs p c.index-sides-p.result ≡ s = same_Some _ s (sym (slice_get-get_or xs p c.index-sides-p.result l) ∙ (v.later p (omega arith) ∙ there)) in
             subst (λ z. slice_get (set xs p new) z ≡ Some (turned cov c.args.order.now s.offered c.args.held.now.rows z s)) (sym w)
             (get-set-same xs p new l ∙ ap Some (c.turn.ensures ∙ ap (λ (z : Side). turned cov c.args.order.now z.offered c.args.held.now.rows p z) x))
         | inr d ↦ get-set-other xs p q new d ∙ v.done q s (omega (arith, h, d)) e
