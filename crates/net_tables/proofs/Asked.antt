@@ -10,7 +10,7 @@ use Rattle.filter_values.specs.Value.{same_kind}
 use Rattle.std.specs.Str.{bytes_eq}
 use Rattle.filter_constraints.proofs.BytesLemmas.{bytes_eq-tells, has_prefix-tells, has_suffix-tells, has_part-tells}
 use Rattle.filter_types.specs.Cover.{filter_covers, covers_some}
-use Rattle.filter_types.proofs.Lists.{Has as HasOne, all-has}
+use Rattle.filter_types.proofs.Lists.{all-has}
 use Rattle.base.specs.Sets.{Has}
 use Rattle.base.specs.Signature.{place_from, marks_from}
 use Rattle.base.proofs.Signatures.{names-among, place_from-append}
@@ -158,17 +158,6 @@ none-void (c ∷ cs) e d m = go (is_void c) (list_any is_void cs) refl refl e m 
     go false false p q r (inl s) ih = subst (λ z. is_void z ≡ false) (sym s) p
     go false false p q r (inr h) ih = ih q h
 
--- the two words for a member are one
-as-one : (c : ConstraintParts) (cs : List ConstraintParts) → Has c cs → HasOne c cs
-as-one c [] h = h
-as-one c (d ∷ ds) (inl q) = inl q
-as-one c (d ∷ ds) (inr h) = inr (as-one c ds h)
-
-from-one : (c : ConstraintParts) (cs : List ConstraintParts) → HasOne c cs → Has c cs
-from-one c [] h = h
-from-one c (d ∷ ds) (inl q) = inl q
-from-one c (d ∷ ds) (inr h) = inr (from-one c ds h)
-
 -- by their words, a filter may cover what it covers
 pub may-cover : (f g : List ConstraintParts) → filter_covers f g ≡ true → MayCover (text_word f) (text_word g)
 unfolding filter_covers
@@ -182,8 +171,8 @@ may-cover f g e = go (list_any is_void f) (list_any is_void g) refl refl
         kept : (s : List ℕ) → Has s (all_text_signs f) → (t : List ℕ) × Has t (all_text_signs g) × (s ≡ t)
         kept s m =
             let c = one-of s f m in
-            let d = any-some (λ d. constraint_covers c.0 d) g (all-has (λ c. covers_some c g) c.0 f e (as-one c.0 f c.1)) in
-            let there = from-one d.0 g d.1 in
+            let d = any-some (λ d. constraint_covers c.0 d) g (all-has (λ c. covers_some c g) c.0 f e c.1) in
+            let there = d.1 in
             (s, of-one s g d.0 there (signs-kept c.0 d.0 d.2 (none-void g q d.0 there) s c.2), refl)
 
 at : (f : List ConstraintParts → ℕ) (xs : List (List ConstraintParts)) (i : ℕ) → i < length xs
