@@ -1,6 +1,6 @@
 -- What the code answers to a question is its answer, or its fault.
-use Rattle.std.proofs.Common.{◌≡◌, ◌↔◌, ℕ, zero, suc, ◌+◌, List, map, slice_get, take, Option, Some, None, Result, Ok, Err, refl, sym, ap, subst, ◌∙◌, arith}
-use Rattle.std.specs.Prelude.{MatchResult, IfOk, IsErrOf}
+use Rattle.std.proofs.Common.{◌≡◌, ℕ, suc, List, map, slice_get, take, Option, Some, None, Result, Ok, Err, refl, sym, ap, subst, ◌∙◌}
+use Rattle.std.specs.Prelude.{MatchResult, IfOk}
 use Rattle.std.proofs.lemmas.Option.{same_Some}
 use Rattle.base.proofs.Lists.{map-get}
 use Rattle.filter_types.specs.Notice.{Attribute}
@@ -8,7 +8,7 @@ use Rattle.filter_text.specs.declared.command.Command.{Command as WireCommand}
 use Rattle.filter_text.specs.declared.command.Command.TheVariants as commands
 use Rattle.filter_text.specs.declared.id.Id.{Id}
 use Rattle.law_routing.specs.Clients.{ordinal}
-use Rattle.law_routing.specs.Net.{Command, PhasedCommand, Publish}
+use Rattle.law_routing.specs.Net.{PhasedCommand, Publish}
 use Rattle.net_model.specs.Real.{real}
 use Rattle.net_model.specs.Meaning.{command_of, phased_command}
 use Rattle.net_model.specs.Parts.{NetParts}

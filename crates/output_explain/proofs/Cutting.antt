@@ -1,5 +1,5 @@
 -- A script cut at a phase: the first stay that the code finds is the first one of the phase's moments.
-use Rattle.std.proofs.Common.{◌≡◌, ℕ, zero, suc, ◌+◌, ◌-◌, ◌≤◌, Bool, true, false, cond, nat_lt, List, [], ◌∷◌, take, drop, length, refl, sym, ap, subst, ◌∙◌, arith}
+use Rattle.std.proofs.Common.{◌≡◌, ℕ, zero, suc, ◌+◌, ◌-◌, ◌≤◌, Bool, true, false, cond, nat_lt, [], ◌∷◌, take, drop, length, refl, sym, ap, subst, ◌∙◌, arith}
 use Rattle.filter_text.specs.declared.command.Command.{Command}
 use Rattle.output_flood.specs.Held.{Script, below, before, within}
 use Rattle.output_flood.proofs.Below.{below_rises}

@@ -1,12 +1,11 @@
 -- A verdict is what flooding tells: a row of what is owed where the verdict is that, and one of what is allowed alone where it is so.
-use Rattle.std.proofs.Common.{◌≡◌, ◌↔◌, ℕ, suc, Bool, true, false, List, slice_get, Some, refl, sym, ap, subst, ◌∙◌}
+use Rattle.std.proofs.Common.{◌≡◌, ◌↔◌, Bool, true, false, List, refl, sym, ap, subst, ◌∙◌}
 use Rattle.base.specs.Sets.{Has}
-use Rattle.filter_types.specs.Notice.{Attribute}
 use Rattle.law_routing.specs.Owed.{IsOwed, IsAllowed}
 use Rattle.net_model.specs.Real.{real}
 use Rattle.net_model.specs.Parts.{NetParts}
 use Rattle.output_flood.specs.declared.owed.OwedRow.{OwedRow}
-use Rattle.output_flood.specs.Flooding.{net_in, row_of, IsOwedRow, HasRow, AreRows, IsFlooding}
+use Rattle.output_flood.specs.Flooding.{net_in, row_of, HasRow, AreRows}
 use Rattle.output_explain.specs.declared.answer.Explanation.{Explanation}
 use Rattle.output_explain.specs.declared.verdict.Verdict.{Verdict}
 use Rattle.output_explain.specs.declared.verdict.Verdict.TheVariants as verdicts

@@ -1,5 +1,5 @@
 -- The verdict by the facts says what the promise's definitions say.
-use Rattle.std.proofs.Common.{◌≡◌, ◌↔◌, ◌⊎◌, inl, inr, ℕ, suc, ◌≤◌, ◌<◌, Bool, true, false, cond, not, ◌&&◌, ◌||◌, List, [], ◌∷◌, map, take, length, slice_get, Option, Some, None, refl, sym, ap, subst, ◌∙◌, arith}
+use Rattle.std.proofs.Common.{◌≡◌, ◌↔◌, ℕ, suc, ◌≤◌, Bool, true, false, cond, not, ◌&&◌, ◌||◌, List, [], ◌∷◌, Option, Some, None, refl, sym, ap, subst, ◌∙◌, arith}
 use Rattle.std.specs.List.{list_any, list_all}
 use Rattle.std.proofs.lemmas.Bool.{and_parts, and_from}
 use Rattle.std.proofs.lemmas.Option.{same_Some}
@@ -11,10 +11,10 @@ use Rattle.filter_types.specs.Notice.{Attribute, AreValues, attribute_at}
 use Rattle.filter_text.specs.declared.id.Id.{Id}
 use Rattle.law_routing.specs.Net.{PhasedCommand, NeverFalls, Publish}
 use Rattle.law_routing.specs.Clients.{is_publish, some_pass, commands_below}
-use Rattle.law_routing.specs.Owed.{IsMomentOfPhase, IsPublication, IsAdvertisedThroughout, IsOwed, IsAllowed}
+use Rattle.law_routing.specs.Owed.{IsMomentOfPhase, IsAdvertisedThroughout, IsOwed, IsAllowed}
 use Rattle.law_routing.proofs.Listing.{pass-by, by-pass, some_pass-any}
 use Rattle.law_routing.proofs.Scripts.{through-count, upto-count, below-rises, one-index}
-use Rattle.net_model.specs.Real.{real, real_matches, real_allows}
+use Rattle.net_model.specs.Real.{real}
 use Rattle.net_model.specs.Parts.{NetParts}
 use Rattle.net_model.specs.Nets.{script_of, with_adverts}
 use Rattle.net_model.proofs.Meaning.{matches_plain, allows_plain}
@@ -27,10 +27,10 @@ use Rattle.output_explain.specs.declared.verdict.Verdict.TheVariants as verdicts
 use Rattle.output_explain.specs.declared.verdict.Missing.TheVariants as missings
 use Rattle.output_explain.specs.declared.verdict.Reason.TheVariants as reasons
 use Rattle.output_explain.specs.Asked.{IsPublish}
-use Rattle.output_explain.specs.Facts.{value_in, value_at, is_satisfied, first_miss, first_denied}
+use Rattle.output_explain.specs.Facts.{value_in, is_satisfied, first_miss, first_denied}
 use Rattle.output_explain.specs.Stays.{moment_or, HoldsSince, HoldsUntil, IsFirstStay, is_none, is_throughout}
-use Rattle.output_explain.specs.Telling.{filters_then, adverts_then, IsFilterFact, IsAdvertFact, AreFilterFacts, AreAdvertFacts, fact_filters, fact_adverts}
-use Rattle.output_explain.specs.Verdicts.{IsAccepted, IsMatchedThroughout, IsAdvertised, Says, is_nothing, is_match, is_match_throughout, is_leave, is_leave_throughout, at_best, verdict_of, verdict_by, is_given}
+use Rattle.output_explain.specs.Telling.{filters_then, adverts_then, AreFilterFacts, AreAdvertFacts}
+use Rattle.output_explain.specs.Verdicts.{IsAccepted, IsMatchedThroughout, IsAdvertised, Says, is_nothing, is_match, is_match_throughout, is_leave, is_leave_throughout, verdict_of, verdict_by, is_given}
 
 -- tests of lists
 by_any : {T : Type 0} (test : T → Bool) (xs : List T) → list_any test xs ≡ true → (x : T) × Has x xs × (test x ≡ true)

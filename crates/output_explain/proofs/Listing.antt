@@ -1,5 +1,5 @@
 -- A client's filters and advertisements through its script, by what each command does to one of them.
-use Rattle.std.proofs.Common.{◌≡◌, ◌↔◌, ◌⊎◌, inl, inr, ℕ, zero, suc, ◌+◌, ◌≤◌, Bool, true, false, cond, List, [], ◌∷◌, map, take, refl, sym, subst, ap, ◌∙◌, arith}
+use Rattle.std.proofs.Common.{◌≡◌, ◌↔◌, inl, inr, ℕ, suc, ◌+◌, Bool, true, false, cond, List, [], ◌∷◌, map, take, refl, subst, arith}
 use Rattle.std.specs.Ordering.{eq_by_cmp}
 use Rattle.base.specs.Sets.{Has}
 use Rattle.filter_constraints.specs.Constraint.{ConstraintParts}

@@ -1,5 +1,5 @@
 -- A verdict is that of the promise: owed and allowed by the scripts.
-use Rattle.std.proofs.Common.{◌≡◌, ◌↔◌, ℕ, zero, suc, ◌<◌, ◌==◌, true, List, [], ◌∷◌, length, slice_get, Option, Some, None, refl, sym, ap, subst, ◌∙◌, arith, eq-eqb}
+use Rattle.std.proofs.Common.{◌≡◌, ◌↔◌, ℕ, zero, suc, ◌<◌, ◌==◌, true, List, [], ◌∷◌, length, slice_get, Some, refl, sym, ap, subst, ◌∙◌, arith, eq-eqb}
 use Rattle.std.specs.List.{range_with_len}
 use Rattle.std.proofs.lemmas.Option.{same_Some}
 use Rattle.base.specs.Sets.{Has}
@@ -10,7 +10,6 @@ use Rattle.filter_text.specs.declared.id.Id.{Id}
 use Rattle.law_routing.specs.Net.{Command, Subscribe, Unsubscribe, Advertise, Unadvertise, Publish, PhasedCommand}
 use Rattle.law_routing.specs.Clients.{is_publish}
 use Rattle.law_routing.specs.Owed.{IsPublication, IsOwed, IsAllowed}
-use Rattle.law_routing.specs.Server.{Publication}
 use Rattle.law_routing.proofs.Scripts.{one-index}
 use Rattle.law_phases.specs.Owing.{IsOwedByScripts, IsAllowedByScripts}
 use Rattle.net_model.specs.Real.{real}
@@ -19,7 +18,7 @@ use Rattle.net_model.specs.Nets.{client_at, clients_of, home_of, phased_net, scr
 use Rattle.output_flood.specs.Flooding.{net_in}
 use Rattle.output_explain.specs.declared.answer.Explanation.{Explanation}
 use Rattle.output_explain.specs.declared.verdict.Verdict.TheVariants as verdicts
-use Rattle.output_explain.specs.Asked.{IsNamed, IsPublish}
+use Rattle.output_explain.specs.Asked.{IsPublish}
 use Rattle.output_explain.specs.Explained.{IsExplanation, IsAnswer, publication_of}
 use Rattle.output_explain.specs.Verdicts.{IsAccepted, is_given}
 

@@ -1,12 +1,12 @@
 -- Being there through a script: the first time that the code finds is the first time.
-use Rattle.std.proofs.Common.{◌≡◌, ◌↔◌, ℕ, zero, suc, ◌+◌, ◌-◌, ◌≤◌, ◌<◌, Bool, true, false, cond, List, [], ◌∷◌, ◌⊎◌, inl, inr, take, drop, length, Option, Some, None, refl, sym, ap, subst, ◌∙◌, arith}
+use Rattle.std.proofs.Common.{◌≡◌, ◌↔◌, ℕ, zero, suc, ◌+◌, ◌-◌, ◌≤◌, ◌<◌, Bool, true, false, cond, [], ◌∷◌, inl, inr, take, drop, length, Option, Some, None, refl, sym, ap, subst, ◌∙◌, arith}
 use Rattle.std.proofs.lemmas.Bool.{cases_lt}
 use Rattle.filter_text.specs.declared.command.Command.{Command}
 use Rattle.output_flood.specs.Held.{Script}
 use Rattle.output_explain.specs.declared.stay.Effect.{Effect}
 use Rattle.output_explain.specs.declared.stay.Effect.TheVariants as effects
 use Rattle.output_explain.specs.declared.stay.Stay.{Stay}
-use Rattle.output_explain.specs.Stays.{moment_or, HoldsSince, HoldsUntil, IsFirstStay, is_none, is_throughout, there_after, is_there, same_effect, moment_of, stay_since, stay_of}
+use Rattle.output_explain.specs.Stays.{HoldsUntil, IsFirstStay, there_after, is_there, same_effect, moment_of, stay_since, stay_of}
 
 -- what an effect makes of being there
 abbrev pub After : Effect → Type 0 → Type 0 → Type 0

@@ -1,6 +1,5 @@
 -- The facts that the code gathers tell what stands in the lists of clients at the moments of a phase.
-use Rattle.std.proofs.Common.{◌≡◌, ◌↔◌, ◌⊎◌, inl, inr, ℕ, zero, suc, ◌+◌, ◌≤◌, Bool, true, false, List, [], ◌∷◌, ◌++◌, map, take, length, Option, Some, None, refl, sym, ap, subst, ◌∙◌, arith}
-use Rattle.std.specs.List.{flat_map}
+use Rattle.std.proofs.Common.{◌≡◌, ◌↔◌, ◌⊎◌, inl, inr, ℕ, zero, suc, ◌+◌, ◌≤◌, true, false, List, [], ◌∷◌, map, take, length, Option, Some, None, refl, sym, ap, subst, ◌∙◌, arith}
 use Rattle.base.specs.Sets.{Has, IsRising}
 use Rattle.base.proofs.Sets.{has-append-left, has-append-right}
 use Rattle.filter_constraints.specs.Constraint.{ConstraintParts}

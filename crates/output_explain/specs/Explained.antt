@@ -1,5 +1,5 @@
 -- WHAT AN EXPLANATION TELLS: each fact by the definitions of the promise.
-use Rattle.std.specs.Prelude.{◌≡◌, ◌↔◌, ℕ, Bool, true, false, List, [], take}
+use Rattle.std.specs.Prelude.{◌≡◌, ◌↔◌, ℕ, true, false, List, [], take}
 use Rattle.base_tree.specs.Tree.{IsPath, links_of}
 use Rattle.filter_types.specs.Notice.{AreValues}
 use Rattle.filter_text.specs.declared.id.Id.{Id}

@@ -1,5 +1,5 @@
 -- When a filter or an advertisement is in force within a phase, and how the code finds it out.
-use Rattle.std.specs.Prelude.{◌≡◌, ℕ, suc, ◌-◌, ◌≤◌, ◌<◌, ◌&&◌, Bool, true, false, cond, List, [], ◌∷◌, drop, length, Option, Some, None}
+use Rattle.std.specs.Prelude.{ℕ, suc, ◌-◌, ◌≤◌, ◌<◌, ◌&&◌, Bool, true, false, cond, List, [], ◌∷◌, drop, length, Option, Some, None}
 use Rattle.std.specs.Ordering.{eq_by_cmp}
 use Rattle.filter_constraints.specs.Constraint.{ConstraintParts}
 use Rattle.filter_constraints.specs.Order.{list_cmp}

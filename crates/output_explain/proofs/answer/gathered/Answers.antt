@@ -1,4 +1,4 @@
-use Rattle.std.proofs.Common.{◌≡◌, sym, subst}
+use Rattle.std.proofs.Common.{sym, subst}
 use Rattle.net_model.specs.Parts.{ClientParts}
 use Rattle.net_model.specs.Nets.{first_tree}
 use Rattle.net_model.specs.Sound.{IsAmong}
