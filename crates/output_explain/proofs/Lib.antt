@@ -1,0 +1,15 @@
+pub mod Staying
+pub mod Finding
+pub mod Serving
+pub mod Listing
+pub mod Gathering
+pub mod Cutting
+pub mod Telling
+pub mod Judging
+pub mod Knowing
+pub mod Explained
+pub mod Naming
+pub mod Promised
+pub mod Flooded
+pub mod Running
+pub mod Answered

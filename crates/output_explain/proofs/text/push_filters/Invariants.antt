@@ -1,0 +1,7 @@
+use Rattle.std.proofs.Common.{◌≡◌, ◌++◌, take}
+use Rattle.std.specs.List.{flat_map}
+use Rattle.output_explain.specs.Text.{filter_lines}
+use Rattle.output_explain.proofs.text.push_filters.Given as goal
+
+abbrev pub invariant-loop-fact : goal.invariant-loop-fact
+invariant-loop-fact l = l.out.items ≡ l.initial.out.items ++ flat_map filter_lines (take l.fact-index l.facts)
