@@ -1,7 +1,6 @@
 -- Lemmas on bytes that are read or written piece by piece.
 use Rattle.std.proofs.Common.{◌≡◌, ◌≤◌, Option, arith, ℕ, ◌+◌, ◌-◌, List, ◌++◌, length, take, drop, sym, ap, subst, ◌∙◌, append_assoc, take-append-drop}
 use Rattle.std.proofs.lemmas.List.{take_rest, append_cancel_left}
-use Rattle.std.proofs.Math.Seq.{take-add}
 use Rattle.std.proofs.KnownBytes.{Consumes-trans, Consumes-kept}
 use Rattle.std.specs.Io.KnownBytes.{Consumes, Keeps}
 use Rattle.base_devices.specs.Whole.{Gave}

@@ -20,7 +20,7 @@ mod standard;
 mod whole;
 
 pub use gate::{Gate, NoGate, Place, Spot, WorkerRole};
-pub use noted::Noted;
+pub use noted::{Answers, Asked, Count, Noted};
 pub use pending::Pending;
 pub use sink::Sink;
 pub use source::{Failed, Source};
