@@ -3,7 +3,9 @@ use Rattle.std.proofs.Common.{◌≡◌, inl, inr, ◌<◌, ℕ, true, false, Li
 use Rattle.std.proofs.KnownBytes.{Appends-nil, Appends-trans}
 use Rattle.base_devices.proofs.Pieces.{joined}
 use Rattle.base_devices.specs.Cause.{Rose}
-use Rattle.base_devices.specs.Sinks.{SinkParts, Took, TookFront}
+use Rattle.std.specs.Io.KnownBytes.{Appends}
+use Rattle.base_devices.specs.Sinks.{SinkParts, Took, Grew}
+use Rattle.base_devices.specs.Whole.{TookPart}
 use Rattle.base_devices.specs.Pending.{PendingParts, Outlet, Went, outlet, drained}
 
 splits : (w x y front next middle rest : List ℕ) → w ++ x ≡ front ++ middle → middle ++ y ≡ next ++ rest → w ++ (x ++ y) ≡ (front ++ next) ++ rest
@@ -79,8 +81,23 @@ went-nothing a = record {
 }
 
 -- where it has failed, a front was
-pub cut-short : (old new : SinkParts) (x : List ℕ) → Went (outlet old (drained false)) (outlet new (drained true)) x → TookFront old new x × Rose old.faults new.faults
+pub cut-short : (old new : SinkParts) (x : List ℕ) → Went (outlet old (drained false)) (outlet new (drained true)) x → TookPart old.taken new.taken x × Rose old.faults new.faults
 cut-short old new x w = elim (w.sound refl) [
   | inl u ↦ (let e = u.sound in absurd cc)
-  | inr u ↦ (record { front = u.front; rest = u.rest; split = u.split; some = u.some; took = u.took }, u.rose)
+  | inr u ↦ ((u.front, u.rest, u.split, u.some, u.took.taken), u.rose)
 ]
+
+-- whatever went, the sink holds it behind what it held
+pub went-grew : (old new : SinkParts) (waiting : PendingParts) (x : List ℕ) → Went (outlet old (drained false)) (outlet new waiting) x → Grew old new
+went-grew old new waiting x w = elim (w.sound refl) [
+  | inl u ↦ (u.front, u.took)
+  | inr u ↦ (u.front, u.took)
+]
+
+-- nothing went
+pub grew-none : (a : SinkParts) → Grew a a
+grew-none a = ([], took-none a)
+
+-- where nothing was taken before, what was taken is behind what it held
+pub grew-by : (old new : SinkParts) → old.taken ≡ [] → Grew old new → Appends old.contents new.contents new.taken
+grew-by old new e g = subst (Appends old.contents new.contents) (sym (g.1.taken ∙ ap (λ l. l ++ g.0) e)) g.1.held

@@ -19,3 +19,7 @@ with_empty empties n piece = if nat_eq n 0 && nat_lt 0 (length piece) then empti
 abbrev pub noted : {E : Type 0} → AnswersParts → Result ℕ E → List ℕ → AnswersParts
 noted old (Ok n) piece = record { bytes = old.bytes ++ take n piece; errors = old.errors; empties = with_empty old.empties n piece }
 noted old (Err e) piece = record { bytes = old.bytes; errors = old.errors + 1; empties = old.empties }
+
+-- how often a writer failed: it answered an error, or took nothing of a piece that isn't empty
+abbrev pub write_faults : AnswersParts → ℕ
+write_faults answers = answers.errors + answers.empties

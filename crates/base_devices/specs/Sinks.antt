@@ -20,3 +20,7 @@ pub record TookFront (old new : SinkParts) (bytes : List ℕ) : Type 0 where
   pub split : bytes ≡ front ++ rest
   pub some : 0 < length rest
   pub took : Took old new front
+
+-- IT HOLDS what it held before, and then exactly what it took
+abbrev pub Grew : SinkParts → SinkParts → Type 0
+Grew old new = (bytes : List ℕ) × Took old new bytes

@@ -1,4 +1,4 @@
-//! Standard input and output as a source and a sink.
+//! Makes standard input and output a source and a sink.
 use crate::{Asked, Failed, Sink, Source};
 use std::io::{Read, Write};
 
@@ -72,12 +72,12 @@ impl<W: Write> StdSink<W> {
 }
 
 impl<W: Write> Sink for StdSink<W> {
-    ghost use Rattle.std.specs.Prelude.{◌+◌};
+    ghost use Rattle.base_devices.specs.Asked.{write_faults};
 
     ghost state = { λ s. record {
       taken = s.output.answers.bytes;
       contents = W.contents s.output.device;
-      faults = s.output.answers.errors + s.output.answers.empties;
+      faults = write_faults s.output.answers;
     } };
 
     fn write(&mut self, from: &[u8]) -> Result<usize, Failed> {
