@@ -66,6 +66,10 @@ went-then a b c x y p q = record {
       (t.0 ∙ r.0, t.1);
 }
 
+-- a text in two parts, of which nothing waits at the end
+pub went-finished : (a b c d : Outlet) (front rest : List ℕ) → Went a b front → Went b c rest → Went c d [] → Went a d (front ++ rest)
+went-finished a b c d front rest p q r = subst (Went a d) (append-nil (front ++ rest)) (went-then a c d (front ++ rest) [] (went-then a b c front rest p q) r)
+
 -- bytes that wait
 pub went-kept : (sink : SinkParts) (p : PendingParts) (x : List ℕ) → Went (outlet sink p) (outlet sink (record p { bytes = p.bytes ++ x })) x
 went-kept sink p x = record {
