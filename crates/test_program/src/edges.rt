@@ -81,7 +81,7 @@ const ROWS: [Row; 8] = [
             stop: Some((7, Stop::Nothing)),
         },
         writer: WHOLE,
-        fault: "siena: line 5: words: the line isn't made of the words that belong there\n",
+        fault: "siena: line 5: words: the words behind the first are not those of such a line\n",
         text: "",
     },
     Row {
