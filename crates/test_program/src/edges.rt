@@ -33,9 +33,7 @@ const BYTES: Manner = Manner {
 };
 
 const UNREAD: &str = "siena: the input could not be read\n";
-
 const UNWRITTEN: &str = "siena: the output could not be written\n";
-
 const TEXT: &str = "client c1\ndeliver c2 1 x int 7\nclient c2\n";
 
 const ROWS: [Row; 8] = [
@@ -83,7 +81,7 @@ const ROWS: [Row; 8] = [
             stop: Some((7, Stop::Nothing)),
         },
         writer: WHOLE,
-        fault: "siena: line 5: words: the line isn't made of the words that belong there\n",
+        fault: "siena: line 5: words: the words behind the first are not those of such a line\n",
         text: "",
     },
     Row {
