@@ -4,6 +4,10 @@
 //!
 //! An explanation tells the way of a publication, what each filter of the client and each advertisement of the publisher
 //! says of it, and since when and until when these are in force in its phase. Its verdict is that of the promise.
+//!
+//! A fact has the first constraint that isn't satisfied, or the first attribute that isn't allowed, and the first time
+//! in the phase; of what is added again after a withdrawal it has the first time alone. Each filter that the net names
+//! is followed through the client's script, so the time grows with their product.
 #![tactic(auto)]
 
 mod answer;
