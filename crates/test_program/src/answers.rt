@@ -71,11 +71,7 @@ impl Read for Reader<'_> {
         if let Some(stop) = self.calls.next() {
             return stop.answer();
         }
-        let count = self
-            .rest
-            .len()
-            .min(self.calls.manner.piece)
-            .min(into.len());
+        let count = self.rest.len().min(self.calls.manner.piece).min(into.len());
         into[..count].copy_from_slice(&self.rest[..count]);
         self.rest = &self.rest[count..];
         Ok(count)

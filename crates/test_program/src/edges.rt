@@ -33,7 +33,9 @@ const BYTES: Manner = Manner {
 };
 
 const UNREAD: &str = "siena: the input could not be read\n";
+
 const UNWRITTEN: &str = "siena: the output could not be written\n";
+
 const TEXT: &str = "client c1\ndeliver c2 1 x int 7\nclient c2\n";
 
 const ROWS: [Row; 8] = [
