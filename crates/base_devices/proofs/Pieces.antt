@@ -1,8 +1,7 @@
 -- Lemmas on bytes that are read or written piece by piece.
-use Rattle.std.proofs.Common.{◌≡◌, ◌≤◌, Option, arith, ℕ, ◌+◌, ◌-◌, List, ◌++◌, length, take, drop, sym, ap, subst, ◌∙◌, append_assoc, take-append-drop}
+use Rattle.std.proofs.Common.{◌≡◌, ◌≤◌, Option, arith, ℕ, ◌+◌, ◌-◌, List, [], ◌++◌, length, take, drop, sym, ap, subst, ◌∙◌, append_assoc, append-nil, take-append-drop}
 use Rattle.std.proofs.lemmas.List.{take_rest, append_cancel_left}
-use Rattle.std.proofs.Math.Seq.{take-add}
-use Rattle.std.proofs.KnownBytes.{Consumes-trans, Consumes-kept}
+use Rattle.std.proofs.KnownBytes.{Consumes-nil, Consumes-trans, Consumes-kept}
 use Rattle.std.specs.Io.KnownBytes.{Consumes, Keeps}
 use Rattle.base_devices.specs.Whole.{Gave}
 
@@ -18,6 +17,10 @@ joined a b c x y p q = q ∙ ap (λ l. l ++ y) p ∙ append_assoc a x y
 -- what was given is no other than these bytes
 pub told_by : (a b : List ℕ) (old new : Option (List ℕ)) (items : List ℕ) → b ≡ a ++ items → Consumes old new items → (given : List ℕ) → b ≡ a ++ given → Consumes old new given
 told_by a b old new items p told given q = subst (λ l. Consumes old new l) (append_cancel_left a items given (sym p ∙ q)) told
+
+-- where nothing was read, nothing was given
+pub told_unread : (a : List ℕ) (left : Option (List ℕ)) (given : List ℕ) → a ≡ a ++ given → Consumes left left given
+told_unread a left given p = told_by a a left left [] (sym (append-nil a)) (Consumes-nil left) given p
 
 -- nor are the bytes before and a piece
 pub told_then : (a b c : List ℕ) (old mid new : Option (List ℕ)) (items piece : List ℕ) → b ≡ a ++ items → Consumes old mid items → c ≡ b ++ piece → Consumes mid new piece

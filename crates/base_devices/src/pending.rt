@@ -1,7 +1,7 @@
 //! Collects bytes on their way to a sink, so that it gets them in great pieces.
 ghost use Rattle.std.specs.Prelude.{◌≡◌, ◌≤◌, ◌+◌, [], true, false, ◌++◌, length, IfOk, OnOk, OnErr};
 ghost use Rattle.base_devices.specs.Cause.{Rose};
-ghost use Rattle.base_devices.specs.Whole.{TookPart};
+ghost use Rattle.base_devices.specs.Sinks.{Took, TookFront};
 ghost use Rattle.base_devices.specs.Pending.{outlet, drained, Went};
 
 use crate::{Failed, Sink, write_all};
@@ -34,9 +34,9 @@ impl Model for Pending {
 // Writes bytes to a sink that has not failed; whether it has failed now.
 fn fails<K: Sink>(sink: &mut K, failed: bool, bytes: &[u8]) -> bool
     ensures sound { failed ≡ false → result ≡ false
-        → (K.taken sink.new ≡ K.taken sink.old ++ bytes.now) × (K.faults sink.new ≡ K.faults sink.old) }
+        → Took (K.state sink.old) (K.state sink.new) bytes.now × ((K.state sink.new).faults ≡ (K.state sink.old).faults) }
     ensures short { failed ≡ false → result ≡ true
-        → TookPart (K.taken sink.old) (K.taken sink.new) bytes.now × Rose (K.faults sink.old) (K.faults sink.new) }
+        → TookFront (K.state sink.old) (K.state sink.new) bytes.now × Rose (K.state sink.old).faults (K.state sink.new).faults }
     ensures stuck { failed ≡ true → (result ≡ true) × (sink.new ≡ sink.old) }
 {
     if failed {
@@ -62,7 +62,7 @@ impl Pending {
 
     // Writes what waits.
     fn flush<K: Sink>(&mut self, sink: &mut K)
-        ensures went { Went (outlet (K.taken sink.old) (K.faults sink.old) self.old) (outlet (K.taken sink.new) (K.faults sink.new) self.new) [] }
+        ensures went { Went (outlet (K.state sink.old) self.old) (outlet (K.state sink.new) self.new) [] }
         ensures empty { self.new.bytes ≡ [] }
     {
         self.failed = fails(sink, self.failed, &self.bytes);
@@ -72,7 +72,7 @@ impl Pending {
     // Writes bytes where nothing waits.
     fn send<K: Sink>(&mut self, sink: &mut K, bytes: &[u8])
         requires { self.old.bytes ≡ [] }
-        ensures { Went (outlet (K.taken sink.old) (K.faults sink.old) self.old) (outlet (K.taken sink.new) (K.faults sink.new) self.new) bytes.now }
+        ensures { Went (outlet (K.state sink.old) self.old) (outlet (K.state sink.new) self.new) bytes.now }
     {
         self.failed = fails(sink, self.failed, bytes);
     }
@@ -90,7 +90,7 @@ impl Pending {
 
     /// Puts bytes behind what waits.
     pub fn put<K: Sink>(&mut self, sink: &mut K, bytes: &[u8])
-        ensures { Went (outlet (K.taken sink.old) (K.faults sink.old) self.old) (outlet (K.taken sink.new) (K.faults sink.new) self.new) bytes.now }
+        ensures { Went (outlet (K.state sink.old) self.old) (outlet (K.state sink.new) self.new) bytes.now }
     {
         if bytes.len() > ROOM - self.bytes.len() {
             self.flush(sink);
@@ -104,10 +104,10 @@ impl Pending {
 
     /// Writes what waits; whether the sink took all since `new`.
     pub fn finish<K: Sink>(mut self, sink: &mut K) -> Result<(), Failed>
-        ensures ok { OnOk result (Went (outlet (K.taken sink.old) (K.faults sink.old) self)
-            (outlet (K.taken sink.new) (K.faults sink.new) (drained false)) []) }
-        ensures err { OnErr result (Went (outlet (K.taken sink.old) (K.faults sink.old) self)
-            (outlet (K.taken sink.new) (K.faults sink.new) (drained true)) []) }
+        ensures ok { OnOk result (Went (outlet (K.state sink.old) self)
+            (outlet (K.state sink.new) (drained false)) []) }
+        ensures err { OnErr result (Went (outlet (K.state sink.old) self)
+            (outlet (K.state sink.new) (drained true)) []) }
     {
         self.flush(sink);
         if self.failed { Err(Failed) } else { Ok(()) }

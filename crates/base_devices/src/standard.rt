@@ -1,114 +1,89 @@
-//! Makes standard input and output a source and a sink: the trusted edge.
-use crate::{Failed, Noted, Sink, Source};
+//! Makes standard input and output a source and a sink.
+use crate::{Asked, Failed, Sink, Source};
 use std::io::{Read, Write};
 
-/// A source over a reader, as over standard input. It notes without memory what the reader's reads gave, and counts each
-/// error of the reader.
+/// A source over a reader, as over standard input. Its faults are the errors that the reader answered.
 #[derive(Drop)]
 pub struct StdSource<R: Read> {
-    input: R,
-    given: Noted,
+    input: Asked<R>,
     ended: bool,
-    faults: u64,
 }
 
 impl<R: Read> StdSource<R> {
-    ghost use Rattle.std.specs.Prelude.{◌≡◌, [], false};
+    ghost use Rattle.std.specs.Prelude.{◌≡◌, false};
+    ghost use Rattle.base_devices.specs.Asked.{blank};
 
-    /// A source over this reader, which has given nothing yet, and has had no fault.
+    /// A source over this reader, which was not asked yet.
     pub fn make(input: R) -> StdSource<R>
-        ensures given { result.given.bytes ≡ [] }
+        ensures device { result.input.device ≡ input }
+        ensures answers { result.input.answers ≡ blank }
         ensures ended { result.ended ≡ false }
-        ensures left { R.remaining result.input ≡ R.remaining input }
-        ensures faults { result.faults ≡ 0 }
     {
         StdSource {
-            input,
-            given: Noted::none(),
+            input: Asked::make(input),
             ended: false,
-            faults: 0,
         }
     }
 }
 
 impl<R: Read> Source for StdSource<R> {
-    ghost given = { λ s. s.given.bytes };
+    ghost given = { λ s. s.input.answers.bytes };
 
     ghost ended = { λ s. s.ended };
 
-    ghost left = { λ s. R.remaining s.input };
+    ghost left = { λ s. R.remaining s.input.device };
 
-    ghost faults = { λ s. s.faults };
+    ghost faults = { λ s. s.input.answers.errors };
 
     fn read(&mut self, into: &mut [u8]) -> Result<usize, Failed> {
         match self.input.read(into) {
             Ok(count) => {
-                self.given.note(&into[..count]);
                 self.ended = count == 0 && !into.is_empty();
                 Ok(count)
             }
             Err(_) => {
                 self.ended = false;
-                self.faults = self.faults.saturating_add(1);
                 Err(Failed)
             }
         }
     }
 }
 
-/// A sink over a writer, as over standard output. It notes without memory what the writer's writes took, and counts each
-/// error, and each time that nothing is taken.
+/// A sink over a writer, as over standard output. Its faults are the errors that the writer answered, and the times when it
+/// took nothing of a piece.
 #[derive(Drop)]
 pub struct StdSink<W: Write> {
-    output: W,
-    taken: Noted,
-    faults: u64,
+    output: Asked<W>,
 }
 
 impl<W: Write> StdSink<W> {
-    ghost use Rattle.std.specs.Prelude.{◌≡◌, []};
+    ghost use Rattle.std.specs.Prelude.{◌≡◌};
+    ghost use Rattle.base_devices.specs.Asked.{blank};
 
-    /// A sink over this writer, which has taken nothing yet, and has had no fault.
+    /// A sink over this writer, which was not asked yet.
     pub fn make(output: W) -> StdSink<W>
-        ensures taken { result.taken.bytes ≡ [] }
-        ensures written { W.contents result.output ≡ W.contents output }
-        ensures faults { result.faults ≡ 0 }
+        ensures device { result.output.device ≡ output }
+        ensures answers { result.output.answers ≡ blank }
     {
         StdSink {
-            output,
-            taken: Noted::none(),
-            faults: 0,
+            output: Asked::make(output),
         }
     }
 }
 
 impl<W: Write> Sink for StdSink<W> {
-    ghost use Rattle.std.specs.Prelude.{length, ◌<◌, IfOk};
-    ghost use Rattle.std.specs.Io.{WritesAtMost};
-    ghost use Rattle.std.specs.Io.KnownBytes.{WriteAppends};
-    ghost use Rattle.base_devices.specs.Cause.{HasCause};
-    ghost use Rattle.base_devices.specs.Told.{Adds};
+    ghost use Rattle.base_devices.specs.Asked.{write_faults};
 
-    ghost taken = { λ s. s.taken.bytes };
+    ghost state = { λ s. record {
+      taken = s.output.answers.bytes;
+      contents = W.contents s.output.device;
+      faults = write_faults s.output.answers;
+    } };
 
-    ghost faults = { λ s. s.faults };
-
-    fn write(&mut self, from: &[u8]) -> Result<usize, Failed>
-        ensures bound { WritesAtMost result from.now }
-        ensures some { IfOk result (λ n. 0 < length from.now → 0 < n) }
-        ensures taken { Adds self.old.taken.bytes self.new.taken.bytes result from.now }
-        ensures written { WriteAppends (W.contents self.old.output) (W.contents self.new.output) result from.now }
-        ensures cause { HasCause self.old.faults self.new.faults result }
-    {
+    fn write(&mut self, from: &[u8]) -> Result<usize, Failed> {
         match self.output.write(from) {
-            Ok(count) if count > 0 || from.is_empty() => {
-                self.taken.note(&from[..count]);
-                Ok(count)
-            }
-            _ => {
-                self.faults = self.faults.saturating_add(1);
-                Err(Failed)
-            }
+            Ok(count) if count > 0 || from.is_empty() => Ok(count),
+            _ => Err(Failed),
         }
     }
 }

@@ -2,7 +2,8 @@
 ghost use Rattle.std.specs.Prelude.{◌≡◌, ◌≤◌, ◌+◌, ℕ, List, ◌++◌, true, length, vec_len, ◌↔◌, IfOk, IsOk, IsErrOf, OnOk, OnErr};
 ghost use Rattle.std.specs.Io.KnownBytes.{Consumes, IsAtEnd};
 ghost use Rattle.base_devices.specs.Cause.{Rose, HasCause};
-ghost use Rattle.base_devices.specs.Whole.{Gave, TookPart};
+ghost use Rattle.base_devices.specs.Sinks.{Took, TookFront};
+ghost use Rattle.base_devices.specs.Whole.{Gave};
 
 use crate::{Failed, Sink, Source};
 use std::alloc::{AllocError, Global};
@@ -72,9 +73,9 @@ pub fn read_all<S: Source>(alloc: Global, source: &mut S, limit: usize) -> Resul
 
 /// Writes all the bytes.
 pub fn write_all<K: Sink>(sink: &mut K, bytes: &[u8]) -> Result<(), Failed>
-    ensures ok { OnOk result (K.taken sink.new ≡ K.taken sink.old ++ bytes.now) }
-    ensures err { OnErr result (TookPart (K.taken sink.old) (K.taken sink.new) bytes.now) }
-    ensures cause { HasCause (K.faults sink.old) (K.faults sink.new) result }
+    ensures ok { OnOk result (Took (K.state sink.old) (K.state sink.new) bytes.now) }
+    ensures err { OnErr result (TookFront (K.state sink.old) (K.state sink.new) bytes.now) }
+    ensures cause { HasCause (K.state sink.old).faults (K.state sink.new).faults result }
 {
     let mut rest = bytes;
     while !rest.is_empty() {

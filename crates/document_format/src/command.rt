@@ -12,7 +12,7 @@ use filter_text::Command;
 
 // A first word with its space, and constraints.
 fn put_control<K: Sink>(out: &mut Pending, sink: &mut K, verb: &[u8], constraints: &[Constraint])
-    ensures { Went (outlet (K.taken sink.old) (K.faults sink.old) out.old) (outlet (K.taken sink.new) (K.faults sink.new) out.new)
+    ensures { Went (outlet (K.state sink.old) out.old) (outlet (K.state sink.new) out.new)
         (verb.now ++ constraints_text constraints.now) }
 {
     out.put(sink, verb);
@@ -21,7 +21,7 @@ fn put_control<K: Sink>(out: &mut Pending, sink: &mut K, verb: &[u8], constraint
 
 // A command.
 fn put_text<K: Sink>(out: &mut Pending, sink: &mut K, command: &Command)
-    ensures { Went (outlet (K.taken sink.old) (K.faults sink.old) out.old) (outlet (K.taken sink.new) (K.faults sink.new) out.new)
+    ensures { Went (outlet (K.state sink.old) out.old) (outlet (K.state sink.new) out.new)
         (command_text command.now) }
 {
     match command {
@@ -46,7 +46,7 @@ fn put_text<K: Sink>(out: &mut Pending, sink: &mut K, command: &Command)
 
 /// The line of a command.
 pub(crate) fn put_command<K: Sink>(out: &mut Pending, sink: &mut K, command: &Command)
-    ensures { Went (outlet (K.taken sink.old) (K.faults sink.old) out.old) (outlet (K.taken sink.new) (K.faults sink.new) out.new)
+    ensures { Went (outlet (K.state sink.old) out.old) (outlet (K.state sink.new) out.new)
         (ended (command_text command.now)) }
 {
     put_text(out, sink, command);

@@ -34,7 +34,7 @@ fn servers_of(trees: &[(u32, Tree)]) -> u32
 
 // The first three lines.
 fn put_first<K: Sink>(out: &mut Pending, sink: &mut K, net: &Net)
-    ensures { Went (outlet (K.taken sink.old) (K.faults sink.old) out.old) (outlet (K.taken sink.new) (K.faults sink.new) out.new)
+    ensures { Went (outlet (K.state sink.old) out.old) (outlet (K.state sink.new) out.new)
         (flat_map ended (first_lines net.now)) }
 {
     put_numbered(out, sink, b"siena ", net.version);
@@ -44,7 +44,7 @@ fn put_first<K: Sink>(out: &mut Pending, sink: &mut K, net: &Net)
 
 // The scripts of clients.
 fn put_scripts<K: Sink>(out: &mut Pending, sink: &mut K, clients: &[Client])
-    ensures { Went (outlet (K.taken sink.old) (K.faults sink.old) out.old) (outlet (K.taken sink.new) (K.faults sink.new) out.new)
+    ensures { Went (outlet (K.state sink.old) out.old) (outlet (K.state sink.new) out.new)
         (flat_map (λ client. flat_map ended (script_lines client)) clients.now) }
 {
     for client in clients {
@@ -67,7 +67,7 @@ fn name_of(clients: &[Client], number: u32) -> &[u8]
 
 // A turn.
 fn put_turn<K: Sink>(out: &mut Pending, sink: &mut K, clients: &[Client], turn: Turn)
-    ensures { Went (outlet (K.taken sink.old) (K.faults sink.old) out.old) (outlet (K.taken sink.new) (K.faults sink.new) out.new)
+    ensures { Went (outlet (K.state sink.old) out.old) (outlet (K.state sink.new) out.new)
         (ended (turn_line clients.now turn)) }
 {
     match turn {
@@ -79,7 +79,7 @@ fn put_turn<K: Sink>(out: &mut Pending, sink: &mut K, clients: &[Client], turn: 
 
 // Turns.
 fn put_turns<K: Sink>(out: &mut Pending, sink: &mut K, clients: &[Client], schedule: &[(u32, Turn)])
-    ensures { Went (outlet (K.taken sink.old) (K.faults sink.old) out.old) (outlet (K.taken sink.new) (K.faults sink.new) out.new)
+    ensures { Went (outlet (K.state sink.old) out.old) (outlet (K.state sink.new) out.new)
         (flat_map (λ turn. ended (turn_line clients.now turn.1)) schedule.now) }
 {
     for turn in schedule {
@@ -94,7 +94,7 @@ fn put_schedule<K: Sink>(
     clients: &[Client],
     schedule: &[(u32, Turn)],
 )
-    ensures { Went (outlet (K.taken sink.old) (K.faults sink.old) out.old) (outlet (K.taken sink.new) (K.faults sink.new) out.new)
+    ensures { Went (outlet (K.state sink.old) out.old) (outlet (K.state sink.new) out.new)
         (flat_map ended (schedule_lines clients.now schedule.now)) }
 {
     if schedule.is_empty() {
@@ -106,7 +106,7 @@ fn put_schedule<K: Sink>(
 
 /// Puts the canonical text of a net behind what waits, line by line. It takes no memory.
 pub fn put_document<K: Sink>(out: &mut Pending, sink: &mut K, net: &Net)
-    ensures { Went (outlet (K.taken sink.old) (K.faults sink.old) out.old) (outlet (K.taken sink.new) (K.faults sink.new) out.new)
+    ensures { Went (outlet (K.state sink.old) out.old) (outlet (K.state sink.new) out.new)
         (document_text net.now) }
 {
     put_first(out, sink, net);

@@ -9,7 +9,7 @@ use itoa::Buffer;
 
 /// A number in decimal.
 pub(crate) fn put_number<K: Sink>(out: &mut Pending, sink: &mut K, number: u64)
-    ensures { Went (outlet (K.taken sink.old) (K.faults sink.old) out.old) (outlet (K.taken sink.new) (K.faults sink.new) out.new) (decimal number) }
+    ensures { Went (outlet (K.state sink.old) out.old) (outlet (K.state sink.new) out.new) (decimal number) }
 {
     let mut buffer = Buffer::new();
     out.put(sink, buffer.format(number).as_bytes())
@@ -17,7 +17,7 @@ pub(crate) fn put_number<K: Sink>(out: &mut Pending, sink: &mut K, number: u64)
 
 /// A line: words with the space behind them, and a word.
 pub(crate) fn put_line<K: Sink>(out: &mut Pending, sink: &mut K, words: &[u8], word: &[u8])
-    ensures { Went (outlet (K.taken sink.old) (K.faults sink.old) out.old) (outlet (K.taken sink.new) (K.faults sink.new) out.new)
+    ensures { Went (outlet (K.state sink.old) out.old) (outlet (K.state sink.new) out.new)
         (ended (words.now ++ word.now)) }
 {
     out.put(sink, words);
@@ -27,7 +27,7 @@ pub(crate) fn put_line<K: Sink>(out: &mut Pending, sink: &mut K, words: &[u8], w
 
 /// A line: words with the space behind them, and a number.
 pub(crate) fn put_numbered<K: Sink>(out: &mut Pending, sink: &mut K, words: &[u8], number: u32)
-    ensures { Went (outlet (K.taken sink.old) (K.faults sink.old) out.old) (outlet (K.taken sink.new) (K.faults sink.new) out.new)
+    ensures { Went (outlet (K.state sink.old) out.old) (outlet (K.state sink.new) out.new)
         (ended (words.now ++ decimal number)) }
 {
     out.put(sink, words);
@@ -43,7 +43,7 @@ pub(crate) fn put_named<K: Sink>(
     word: &[u8],
     number: u32,
 )
-    ensures { Went (outlet (K.taken sink.old) (K.faults sink.old) out.old) (outlet (K.taken sink.new) (K.faults sink.new) out.new)
+    ensures { Went (outlet (K.state sink.old) out.old) (outlet (K.state sink.new) out.new)
         (ended (words.now ++ word.now ++ 32 ∷ decimal number)) }
 {
     out.put(sink, words);
@@ -55,7 +55,7 @@ pub(crate) fn put_named<K: Sink>(
 
 /// A line: words with the space behind them, and two numbers.
 pub(crate) fn put_pair<K: Sink>(out: &mut Pending, sink: &mut K, words: &[u8], a: u32, b: u32)
-    ensures { Went (outlet (K.taken sink.old) (K.faults sink.old) out.old) (outlet (K.taken sink.new) (K.faults sink.new) out.new)
+    ensures { Went (outlet (K.state sink.old) out.old) (outlet (K.state sink.new) out.new)
         (ended (words.now ++ decimal a ++ 32 ∷ decimal b)) }
 {
     out.put(sink, words);

@@ -12,7 +12,7 @@ use net_model::Client;
 
 // The edge to a neighbour, where it is greater.
 fn put_edge<K: Sink>(out: &mut Pending, sink: &mut K, a: u32, b: u32)
-    ensures { Went (outlet (K.taken sink.old) (K.faults sink.old) out.old) (outlet (K.taken sink.new) (K.faults sink.new) out.new)
+    ensures { Went (outlet (K.state sink.old) out.old) (outlet (K.state sink.new) out.new)
         (edge_text a b) }
 {
     if a < b {
@@ -22,7 +22,7 @@ fn put_edge<K: Sink>(out: &mut Pending, sink: &mut K, a: u32, b: u32)
 
 // The edges of a server to its greater neighbours.
 fn put_edges<K: Sink>(out: &mut Pending, sink: &mut K, a: u32, neighbours: &[u32])
-    ensures { Went (outlet (K.taken sink.old) (K.faults sink.old) out.old) (outlet (K.taken sink.new) (K.faults sink.new) out.new)
+    ensures { Went (outlet (K.state sink.old) out.old) (outlet (K.state sink.new) out.new)
         (flat_map (edge_text a) neighbours.now) }
 {
     for b in neighbours {
@@ -32,7 +32,7 @@ fn put_edges<K: Sink>(out: &mut Pending, sink: &mut K, a: u32, neighbours: &[u32
 
 // A tree by its edges.
 fn put_tree<K: Sink>(out: &mut Pending, sink: &mut K, tree: &Tree)
-    ensures { Went (outlet (K.taken sink.old) (K.faults sink.old) out.old) (outlet (K.taken sink.new) (K.faults sink.new) out.new)
+    ensures { Went (outlet (K.state sink.old) out.old) (outlet (K.state sink.new) out.new)
         (flat_map (server_text tree.now) (servers_of tree.now)) }
 {
     for a in 1..tree.servers() + 1 {
@@ -42,7 +42,7 @@ fn put_tree<K: Sink>(out: &mut Pending, sink: &mut K, tree: &Tree)
 
 // A later tree, with its first phase.
 fn put_phase<K: Sink>(out: &mut Pending, sink: &mut K, phase: u32, tree: &Tree)
-    ensures { Went (outlet (K.taken sink.old) (K.faults sink.old) out.old) (outlet (K.taken sink.new) (K.faults sink.new) out.new)
+    ensures { Went (outlet (K.state sink.old) out.old) (outlet (K.state sink.new) out.new)
         (flat_map ended (phase_lines (phase, tree.now))) }
 {
     put_numbered(out, sink, b"phase ", phase);
@@ -51,7 +51,7 @@ fn put_phase<K: Sink>(out: &mut Pending, sink: &mut K, phase: u32, tree: &Tree)
 
 // Later trees.
 fn put_phases<K: Sink>(out: &mut Pending, sink: &mut K, trees: &[(u32, Tree)])
-    ensures { Went (outlet (K.taken sink.old) (K.faults sink.old) out.old) (outlet (K.taken sink.new) (K.faults sink.new) out.new)
+    ensures { Went (outlet (K.state sink.old) out.old) (outlet (K.state sink.new) out.new)
         (flat_map (λ tree. flat_map ended (phase_lines tree)) trees.now) }
 {
     for tree in trees {
@@ -61,7 +61,7 @@ fn put_phases<K: Sink>(out: &mut Pending, sink: &mut K, trees: &[(u32, Tree)])
 
 /// The trees, in the order of their phases.
 pub(crate) fn put_trees<K: Sink>(out: &mut Pending, sink: &mut K, trees: &[(u32, Tree)])
-    ensures { Went (outlet (K.taken sink.old) (K.faults sink.old) out.old) (outlet (K.taken sink.new) (K.faults sink.new) out.new)
+    ensures { Went (outlet (K.state sink.old) out.old) (outlet (K.state sink.new) out.new)
         (flat_map ended (trees_lines trees.now)) }
 {
     match trees {
@@ -75,7 +75,7 @@ pub(crate) fn put_trees<K: Sink>(out: &mut Pending, sink: &mut K, trees: &[(u32,
 
 /// The clients.
 pub(crate) fn put_clients<K: Sink>(out: &mut Pending, sink: &mut K, clients: &[Client])
-    ensures { Went (outlet (K.taken sink.old) (K.faults sink.old) out.old) (outlet (K.taken sink.new) (K.faults sink.new) out.new)
+    ensures { Went (outlet (K.state sink.old) out.old) (outlet (K.state sink.new) out.new)
         (flat_map (λ client. ended (client_line client)) clients.now) }
 {
     for client in clients {

@@ -11,7 +11,7 @@ use net_model::{Client, Command};
 
 // So many lines `barrier`.
 fn put_barriers<K: Sink>(out: &mut Pending, sink: &mut K, count: u32)
-    ensures { Went (outlet (K.taken sink.old) (K.faults sink.old) out.old) (outlet (K.taken sink.new) (K.faults sink.new) out.new)
+    ensures { Went (outlet (K.state sink.old) out.old) (outlet (K.state sink.new) out.new)
         (flat_map ended (barrier_lines count)) }
 {
     for _ in 0..count {
@@ -21,7 +21,7 @@ fn put_barriers<K: Sink>(out: &mut Pending, sink: &mut K, count: u32)
 
 // Commands with the barriers before and behind them.
 fn put_steps<K: Sink>(out: &mut Pending, sink: &mut K, script: &[(u32, Command)], barriers: u32)
-    ensures { Went (outlet (K.taken sink.old) (K.faults sink.old) out.old) (outlet (K.taken sink.new) (K.faults sink.new) out.new)
+    ensures { Went (outlet (K.state sink.old) out.old) (outlet (K.state sink.new) out.new)
         (flat_map ended (step_lines 0 script.now barriers)) }
 {
     let mut phase = 0u32;
@@ -42,7 +42,7 @@ fn is_idle(client: &Client) -> bool
 
 /// The script of a client, where it has commands or barriers.
 pub(crate) fn put_script<K: Sink>(out: &mut Pending, sink: &mut K, client: &Client)
-    ensures { Went (outlet (K.taken sink.old) (K.faults sink.old) out.old) (outlet (K.taken sink.new) (K.faults sink.new) out.new)
+    ensures { Went (outlet (K.state sink.old) out.old) (outlet (K.state sink.new) out.new)
         (flat_map ended (script_lines client.now)) }
 {
     if is_idle(client) {

@@ -17,7 +17,7 @@ use itoa::Buffer;
 
 // An int in decimal.
 fn put_int<K: Sink>(out: &mut Pending, sink: &mut K, number: i64)
-    ensures { Went (outlet (K.taken sink.old) (K.faults sink.old) out.old) (outlet (K.taken sink.new) (K.faults sink.new) out.new) (signed_decimal number) }
+    ensures { Went (outlet (K.state sink.old) out.old) (outlet (K.state sink.new) out.new) (signed_decimal number) }
 {
     let mut buffer = Buffer::new();
     out.put(sink, buffer.format(number).as_bytes())
@@ -25,7 +25,7 @@ fn put_int<K: Sink>(out: &mut Pending, sink: &mut K, number: i64)
 
 // A byte of a str value.
 fn put_escaped<K: Sink>(out: &mut Pending, sink: &mut K, b: u8)
-    ensures { Went (outlet (K.taken sink.old) (K.faults sink.old) out.old) (outlet (K.taken sink.new) (K.faults sink.new) out.new) (escape b) }
+    ensures { Went (outlet (K.state sink.old) out.old) (outlet (K.state sink.new) out.new) (escape b) }
 {
     match b {
         b'"' => out.put(sink, b"\\\""),
@@ -38,7 +38,7 @@ fn put_escaped<K: Sink>(out: &mut Pending, sink: &mut K, b: u8)
 
 // The bytes of a str value.
 fn put_bytes<K: Sink>(out: &mut Pending, sink: &mut K, bytes: &[u8])
-    ensures { Went (outlet (K.taken sink.old) (K.faults sink.old) out.old) (outlet (K.taken sink.new) (K.faults sink.new) out.new)
+    ensures { Went (outlet (K.state sink.old) out.old) (outlet (K.state sink.new) out.new)
         (flat_map escape bytes.now) }
 {
     for b in bytes {
@@ -48,7 +48,7 @@ fn put_bytes<K: Sink>(out: &mut Pending, sink: &mut K, bytes: &[u8])
 
 // A str value.
 fn put_text<K: Sink>(out: &mut Pending, sink: &mut K, text: &Text)
-    ensures { Went (outlet (K.taken sink.old) (K.faults sink.old) out.old) (outlet (K.taken sink.new) (K.faults sink.new) out.new) (string_text text.now) }
+    ensures { Went (outlet (K.state sink.old) out.old) (outlet (K.state sink.new) out.new) (string_text text.now) }
 {
     out.put(sink, b"\"");
     put_bytes(out, sink, text.bytes());
@@ -57,7 +57,7 @@ fn put_text<K: Sink>(out: &mut Pending, sink: &mut K, text: &Text)
 
 // A value.
 fn put_value<K: Sink>(out: &mut Pending, sink: &mut K, value: &Value)
-    ensures { Went (outlet (K.taken sink.old) (K.faults sink.old) out.old) (outlet (K.taken sink.new) (K.faults sink.new) out.new) (value_text value.now) }
+    ensures { Went (outlet (K.state sink.old) out.old) (outlet (K.state sink.new) out.new) (value_text value.now) }
 {
     match value {
         Value::Bool(true) => out.put(sink, b"true"),
@@ -70,7 +70,7 @@ fn put_value<K: Sink>(out: &mut Pending, sink: &mut K, value: &Value)
 
 // An operator, and behind a space its operand if it has one.
 fn put_test<K: Sink>(out: &mut Pending, sink: &mut K, op: Op, operand: Option<&Value>)
-    ensures { Went (outlet (K.taken sink.old) (K.faults sink.old) out.old) (outlet (K.taken sink.new) (K.faults sink.new) out.new)
+    ensures { Went (outlet (K.state sink.old) out.old) (outlet (K.state sink.new) out.new)
         (test_text op (option_copied operand.entry)) }
 {
     out.put(sink, op_word(op));
@@ -93,7 +93,7 @@ pub(crate) trait Part {
 
     /// Puts its text.
     fn put<K: Sink>(&self, out: &mut Pending, sink: &mut K)
-        ensures { Went (outlet (K.taken sink.old) (K.faults sink.old) out.old) (outlet (K.taken sink.new) (K.faults sink.new) out.new) (text self.now) };
+        ensures { Went (outlet (K.state sink.old) out.old) (outlet (K.state sink.new) out.new) (text self.now) };
 }
 
 impl Part for Constraint {
@@ -123,7 +123,7 @@ impl Part for (Name, Value) {
 
 // Parts, each behind `; `.
 fn put_later<P: Part, K: Sink>(out: &mut Pending, sink: &mut K, parts: &[P])
-    ensures { Went (outlet (K.taken sink.old) (K.faults sink.old) out.old) (outlet (K.taken sink.new) (K.faults sink.new) out.new)
+    ensures { Went (outlet (K.state sink.old) out.old) (outlet (K.state sink.new) out.new)
         (later P.text parts.now) }
 {
     for part in parts {
@@ -134,7 +134,7 @@ fn put_later<P: Part, K: Sink>(out: &mut Pending, sink: &mut K, parts: &[P])
 
 /// The constraints of a filter or an advertisement, or the attributes of a notice.
 pub(crate) fn put_parts<P: Part, K: Sink>(out: &mut Pending, sink: &mut K, parts: &[P])
-    ensures { Went (outlet (K.taken sink.old) (K.faults sink.old) out.old) (outlet (K.taken sink.new) (K.faults sink.new) out.new)
+    ensures { Went (outlet (K.state sink.old) out.old) (outlet (K.state sink.new) out.new)
         (joined P.text parts.now) }
 {
     match parts {

@@ -44,7 +44,7 @@ fn put_patterns<K: Sink>(
     patterns: Vec<Searched>,
 )
     requires { All (ArePublished published.now.notices.items) received.now }
-    ensures { Went (outlet (K.taken sink.old) (K.faults sink.old) out.old) (outlet (K.taken sink.new) (K.faults sink.new) out.new)
+    ensures { Went (outlet (K.state sink.old) out.old) (outlet (K.state sink.new) out.new)
         (patterns_text published.now.names.items published.now.notices.items received.now patterns.items) }
 {
     for pattern in patterns {
@@ -92,7 +92,7 @@ impl Found {
     /// occurrences in what the client received `found` with publisher and ordinal of each of its notices. There is one pass
     /// over the client's deliveries for each pattern. It takes no memory.
     pub fn put<K: Sink>(self, out: &mut Pending, sink: &mut K)
-        ensures { Went (outlet (K.taken sink.old) (K.faults sink.old) out.old) (outlet (K.taken sink.new) (K.faults sink.new) out.new) self }
+        ensures { Went (outlet (K.state sink.old) out.old) (outlet (K.state sink.new) out.new) self }
     {
         let Found {
             published,

@@ -18,7 +18,7 @@ use itoa::Buffer;
 
 // A number in decimal.
 fn put_number<K: Sink>(out: &mut Pending, sink: &mut K, number: u64)
-    ensures { Went (outlet (K.taken sink.old) (K.faults sink.old) out.old) (outlet (K.taken sink.new) (K.faults sink.new) out.new) (decimal number) }
+    ensures { Went (outlet (K.state sink.old) out.old) (outlet (K.state sink.new) out.new) (decimal number) }
 {
     let mut buffer = Buffer::new();
     out.put(sink, buffer.format(number).as_bytes())
@@ -26,7 +26,7 @@ fn put_number<K: Sink>(out: &mut Pending, sink: &mut K, number: u64)
 
 // A publication.
 fn put_id<K: Sink>(out: &mut Pending, sink: &mut K, names: &[Name], id: Id)
-    ensures { Went (outlet (K.taken sink.old) (K.faults sink.old) out.old) (outlet (K.taken sink.new) (K.faults sink.new) out.new) (id_text names.now id) }
+    ensures { Went (outlet (K.state sink.old) out.old) (outlet (K.state sink.new) out.new) (id_text names.now id) }
 {
     out.put(sink, b" ");
     out.put(sink, name_at(names, id.publisher));
@@ -43,7 +43,7 @@ struct Heard<'a> {
 
 // The publication of the delivery at a place.
 fn put_place<K: Sink>(out: &mut Pending, sink: &mut K, heard: Heard<'_>, place: u64)
-    ensures { Went (outlet (K.taken sink.old) (K.faults sink.old) out.old) (outlet (K.taken sink.new) (K.faults sink.new) out.new)
+    ensures { Went (outlet (K.state sink.old) out.old) (outlet (K.state sink.new) out.new)
         (place_text heard.entry.names.now heard.entry.deliveries.now place) }
 {
     let Some(at) = place.checked_sub(1) else {
@@ -57,7 +57,7 @@ fn put_place<K: Sink>(out: &mut Pending, sink: &mut K, heard: Heard<'_>, place: 
 
 // The line of a pattern.
 fn put_head<K: Sink>(out: &mut Pending, sink: &mut K, names: &[Name], client: u32, label: &Name)
-    ensures { Went (outlet (K.taken sink.old) (K.faults sink.old) out.old) (outlet (K.taken sink.new) (K.faults sink.new) out.new)
+    ensures { Went (outlet (K.state sink.old) out.old) (outlet (K.state sink.new) out.new)
         (pattern_line names.now client label.now) }
 {
     out.put(sink, b"pattern ");
@@ -69,7 +69,7 @@ fn put_head<K: Sink>(out: &mut Pending, sink: &mut K, names: &[Name], client: u3
 
 // The line of an occurrence.
 fn put_occurrence<K: Sink>(out: &mut Pending, sink: &mut K, heard: Heard<'_>, places: &[u64])
-    ensures { Went (outlet (K.taken sink.old) (K.faults sink.old) out.old) (outlet (K.taken sink.new) (K.faults sink.new) out.new)
+    ensures { Went (outlet (K.state sink.old) out.old) (outlet (K.state sink.new) out.new)
         (found_line heard.entry.names.now heard.entry.deliveries.now places.now) }
 {
     out.put(sink, b"found");
@@ -92,7 +92,7 @@ fn put_next<K: Sink>(
     ensures steps { detector.new.steps ≡ detector.old.steps }
     ensures fed { detector.new.fed ≡ detector.old.fed ++ notice.now ∷ [] }
     ensures went { (line : List ℕ)
-        × Went (outlet (K.taken sink.old) (K.faults sink.old) out.old) (outlet (K.taken sink.new) (K.faults sink.new) out.new) line
+        × Went (outlet (K.state sink.old) out.old) (outlet (K.state sink.new) out.new) line
         × (flat_map (found_line heard.entry.names.now heard.entry.deliveries.now) (all_occurrences detector.old.steps (detector.old.fed ++ notice.now ∷ []))
         ≡ flat_map (found_line heard.entry.names.now heard.entry.deliveries.now) (all_occurrences detector.old.steps detector.old.fed) ++ line) }
 {
@@ -112,7 +112,7 @@ fn put_occurrences<K: Sink>(
     requires some { 0 < length detector.steps }
     requires nothing { detector.fed ≡ [] }
     requires published { ArePublished notices.now heard.deliveries.now }
-    ensures { Went (outlet (K.taken sink.old) (K.faults sink.old) out.old) (outlet (K.taken sink.new) (K.faults sink.new) out.new)
+    ensures { Went (outlet (K.state sink.old) out.old) (outlet (K.state sink.new) out.new)
         (flat_map (found_line heard.entry.names.now heard.entry.deliveries.now)
         (all_occurrences detector.steps (notices_of notices.now heard.entry.deliveries.now))) }
 {
@@ -137,7 +137,7 @@ pub fn put_pattern<K: Sink>(
     pattern: Searched,
 )
     requires { ArePublished notices.now deliveries.now }
-    ensures { Went (outlet (K.taken sink.old) (K.faults sink.old) out.old) (outlet (K.taken sink.new) (K.faults sink.new) out.new)
+    ensures { Went (outlet (K.state sink.old) out.old) (outlet (K.state sink.new) out.new)
         (pattern_text names.now notices.now deliveries.now pattern) }
 {
     let Searched {

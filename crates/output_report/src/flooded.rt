@@ -51,7 +51,7 @@ struct Published<'a> {
 // The line of a row.
 #[tactic(auto, unfolding(crate::specs::Flood::row_line))]
 fn put_row<K: Sink>(out: &mut Pending, sink: &mut K, published: Published<'_>, row: &OwedRow)
-    ensures { Went (outlet (K.taken sink.old) (K.faults sink.old) out.old) (outlet (K.taken sink.new) (K.faults sink.new) out.new)
+    ensures { Went (outlet (K.state sink.old) out.old) (outlet (K.state sink.new) out.new)
         (row_line published.entry.clients.now published.entry.texts.now row.now) }
 {
     put_publication(
@@ -73,7 +73,7 @@ fn put_section<K: Sink>(
     refused: &[u32],
     rows: &[OwedRow],
 )
-    ensures { Went (outlet (K.taken sink.old) (K.faults sink.old) out.old) (outlet (K.taken sink.new) (K.faults sink.new) out.new)
+    ensures { Went (outlet (K.state sink.old) out.old) (outlet (K.state sink.new) out.new)
         (flood_section published.entry.clients.now published.entry.texts.now client.now refused.now rows.now) }
 {
     put_client(out, sink, &client.name);
@@ -93,7 +93,7 @@ fn put_sections<K: Sink>(
 )
     requires refused { length refused.now ≡ length published.clients.now }
     requires rows { length rows.now ≡ length published.clients.now }
-    ensures { Went (outlet (K.taken sink.old) (K.faults sink.old) out.old) (outlet (K.taken sink.new) (K.faults sink.new) out.new)
+    ensures { Went (outlet (K.state sink.old) out.old) (outlet (K.state sink.new) out.new)
         (flood_sections published.entry.clients.now published.entry.texts.now published.entry.clients.now refused.now rows.now) }
 {
     for (i, client) in published.clients.iter().enumerate() {
@@ -126,7 +126,7 @@ impl Flooded {
     /// each publication that is owed to it and `may` for each that is allowed and not owed, by publisher and ordinal. It
     /// takes no memory.
     pub fn put<K: Sink>(&self, out: &mut Pending, sink: &mut K)
-        ensures { Went (outlet (K.taken sink.old) (K.faults sink.old) out.old) (outlet (K.taken sink.new) (K.faults sink.new) out.new) self.now }
+        ensures { Went (outlet (K.state sink.old) out.old) (outlet (K.state sink.new) out.new) self.now }
     {
         let published = Published {
             clients: &self.net.clients,

@@ -15,7 +15,7 @@ use net_model::{Client, Net};
 
 // A number in decimal.
 fn put_number<K: Sink>(out: &mut Pending, sink: &mut K, number: u64)
-    ensures { Went (outlet (K.taken sink.old) (K.faults sink.old) out.old) (outlet (K.taken sink.new) (K.faults sink.new) out.new) (decimal number) }
+    ensures { Went (outlet (K.state sink.old) out.old) (outlet (K.state sink.new) out.new) (decimal number) }
 {
     let mut buffer = Buffer::new();
     out.put(sink, buffer.format(number).as_bytes())
@@ -23,7 +23,7 @@ fn put_number<K: Sink>(out: &mut Pending, sink: &mut K, number: u64)
 
 /// The line before what a client receives.
 pub(crate) fn put_client<K: Sink>(out: &mut Pending, sink: &mut K, name: &Name)
-    ensures { Went (outlet (K.taken sink.old) (K.faults sink.old) out.old) (outlet (K.taken sink.new) (K.faults sink.new) out.new) (client_line name.now) }
+    ensures { Went (outlet (K.state sink.old) out.old) (outlet (K.state sink.new) out.new) (client_line name.now) }
 {
     out.put(sink, b"client ");
     out.put(sink, name.bytes());
@@ -32,7 +32,7 @@ pub(crate) fn put_client<K: Sink>(out: &mut Pending, sink: &mut K, name: &Name)
 
 // The line of a refused publish.
 fn put_refusal<K: Sink>(out: &mut Pending, sink: &mut K, ordinal: u32)
-    ensures { Went (outlet (K.taken sink.old) (K.faults sink.old) out.old) (outlet (K.taken sink.new) (K.faults sink.new) out.new) (refused_line ordinal) }
+    ensures { Went (outlet (K.state sink.old) out.old) (outlet (K.state sink.new) out.new) (refused_line ordinal) }
 {
     out.put(sink, b"refused ");
     put_number(out, sink, u64::from(ordinal));
@@ -41,7 +41,7 @@ fn put_refusal<K: Sink>(out: &mut Pending, sink: &mut K, ordinal: u32)
 
 /// A line for each refused publish.
 pub(crate) fn put_refused<K: Sink>(out: &mut Pending, sink: &mut K, ordinals: &[u32])
-    ensures { Went (outlet (K.taken sink.old) (K.faults sink.old) out.old) (outlet (K.taken sink.new) (K.faults sink.new) out.new)
+    ensures { Went (outlet (K.state sink.old) out.old) (outlet (K.state sink.new) out.new)
         (flat_map refused_line ordinals.now) }
 {
     for ordinal in ordinals {
@@ -58,7 +58,7 @@ pub(crate) fn put_publication<K: Sink>(
     id: Id,
     text: &[u8],
 )
-    ensures { Went (outlet (K.taken sink.old) (K.faults sink.old) out.old) (outlet (K.taken sink.new) (K.faults sink.new) out.new)
+    ensures { Went (outlet (K.state sink.old) out.old) (outlet (K.state sink.new) out.new)
         (publication_line word.now clients.now id text.now) }
 {
     out.put(sink, word);
@@ -73,7 +73,7 @@ pub(crate) fn put_publication<K: Sink>(
 // The line of a delivery.
 #[tactic(auto, unfolding(crate::specs::Deliveries::delivery_line))]
 fn put_delivery<K: Sink>(out: &mut Pending, sink: &mut K, clients: &[Client], delivery: &Delivery)
-    ensures { Went (outlet (K.taken sink.old) (K.faults sink.old) out.old) (outlet (K.taken sink.new) (K.faults sink.new) out.new)
+    ensures { Went (outlet (K.state sink.old) out.old) (outlet (K.state sink.new) out.new)
         (delivery_line clients.now delivery.now) }
 {
     put_publication(
@@ -88,7 +88,7 @@ fn put_delivery<K: Sink>(out: &mut Pending, sink: &mut K, clients: &[Client], de
 
 // The lines of deliveries, in their order.
 fn put_received<K: Sink>(out: &mut Pending, sink: &mut K, clients: &[Client], received: &[Delivery])
-    ensures { Went (outlet (K.taken sink.old) (K.faults sink.old) out.old) (outlet (K.taken sink.new) (K.faults sink.new) out.new)
+    ensures { Went (outlet (K.state sink.old) out.old) (outlet (K.state sink.new) out.new)
         (flat_map (delivery_line clients.now) received.now) }
 {
     for delivery in received {
@@ -105,7 +105,7 @@ fn put_section<K: Sink>(
     refused: &[u32],
     received: &[Delivery],
 )
-    ensures { Went (outlet (K.taken sink.old) (K.faults sink.old) out.old) (outlet (K.taken sink.new) (K.faults sink.new) out.new)
+    ensures { Went (outlet (K.state sink.old) out.old) (outlet (K.state sink.new) out.new)
         (delivery_section clients.now false client.now refused.now received.now) }
 {
     put_client(out, sink, &client.name);
@@ -124,7 +124,7 @@ pub fn put_deliveries<K: Sink>(
 )
     requires refused { length refused.now ≡ length net.now.clients }
     requires received { length received.now ≡ length net.now.clients }
-    ensures { Went (outlet (K.taken sink.old) (K.faults sink.old) out.old) (outlet (K.taken sink.new) (K.faults sink.new) out.new)
+    ensures { Went (outlet (K.state sink.old) out.old) (outlet (K.state sink.new) out.new)
         (deliveries_text net.now refused.now received.now false) }
 {
     for (i, client) in net.clients.iter().enumerate() {

@@ -11,7 +11,7 @@ use base_devices::{Pending, Sink};
 
 // The line of a direction.
 fn put_line<K: Sink>(out: &mut Pending, sink: &mut K, direction: Direction)
-    ensures { Went (outlet (K.taken sink.old) (K.faults sink.old) out.old) (outlet (K.taken sink.new) (K.faults sink.new) out.new)
+    ensures { Went (outlet (K.state sink.old) out.old) (outlet (K.state sink.new) out.new)
         (direction_line direction) }
 {
     put_labelled(out, sink, b"link ", direction.from);
@@ -39,7 +39,7 @@ fn width(direction: &Direction) -> u64
 // The arrow of a direction.
 fn put_arrow<K: Sink>(out: &mut Pending, sink: &mut K, direction: Direction)
     requires { direction.notices < 2 ^ 32 }
-    ensures { Went (outlet (K.taken sink.old) (K.faults sink.old) out.old) (outlet (K.taken sink.new) (K.faults sink.new) out.new)
+    ensures { Went (outlet (K.state sink.old) out.old) (outlet (K.state sink.new) out.new)
         (direction_arrow direction) }
 {
     put_labelled(out, sink, b"  ", direction.from);
@@ -54,7 +54,7 @@ fn put_arrow<K: Sink>(out: &mut Pending, sink: &mut K, direction: Direction)
 // A direction, as an arrow or as a line.
 fn put_direction<K: Sink>(out: &mut Pending, sink: &mut K, graph: bool, direction: Direction)
     requires { direction.notices < 2 ^ 32 }
-    ensures { Went (outlet (K.taken sink.old) (K.faults sink.old) out.old) (outlet (K.taken sink.new) (K.faults sink.new) out.new)
+    ensures { Went (outlet (K.state sink.old) out.old) (outlet (K.state sink.new) out.new)
         (direction_printed graph direction) }
 {
     if graph {
@@ -72,7 +72,7 @@ fn put_link<K: Sink>(
     loads: &LoadCounts,
     link: (u32, u32),
 )
-    ensures { Went (outlet (K.taken sink.old) (K.faults sink.old) out.old) (outlet (K.taken sink.new) (K.faults sink.new) out.new)
+    ensures { Went (outlet (K.state sink.old) out.old) (outlet (K.state sink.new) out.new)
         (link_printed graph (loads_by loads.now) link) }
 {
     put_direction(out, sink, graph, loads.direction(link.0, link.1));
@@ -87,7 +87,7 @@ pub(crate) fn put_links<K: Sink>(
     loads: &LoadCounts,
     links: &[(u32, u32)],
 )
-    ensures { Went (outlet (K.taken sink.old) (K.faults sink.old) out.old) (outlet (K.taken sink.new) (K.faults sink.new) out.new)
+    ensures { Went (outlet (K.state sink.old) out.old) (outlet (K.state sink.new) out.new)
         (flat_map (link_printed graph (loads_by loads.now)) links.now) }
 {
     for link in links {

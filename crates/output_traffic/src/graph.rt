@@ -14,7 +14,7 @@ use net_model::Client;
 
 // The node of a server.
 fn put_server<K: Sink>(out: &mut Pending, sink: &mut K, server: u32)
-    ensures { Went (outlet (K.taken sink.old) (K.faults sink.old) out.old) (outlet (K.taken sink.new) (K.faults sink.new) out.new)
+    ensures { Went (outlet (K.state sink.old) out.old) (outlet (K.state sink.new) out.new)
         (server_node server) }
 {
     put_labelled(out, sink, b"  ", u64::from(server));
@@ -24,7 +24,7 @@ fn put_server<K: Sink>(out: &mut Pending, sink: &mut K, server: u32)
 // The nodes of servers, which are numbered from 1.
 fn put_servers<K: Sink>(out: &mut Pending, sink: &mut K, count: u32)
     requires { count ≤ 64 }
-    ensures { Went (outlet (K.taken sink.old) (K.faults sink.old) out.old) (outlet (K.taken sink.new) (K.faults sink.new) out.new)
+    ensures { Went (outlet (K.state sink.old) out.old) (outlet (K.state sink.new) out.new)
         (flat_map server_node (servers_to count)) }
 {
     for server in 1..count + 1 {
@@ -34,7 +34,7 @@ fn put_servers<K: Sink>(out: &mut Pending, sink: &mut K, count: u32)
 
 // The node of a client, tied to that of its server.
 fn put_client<K: Sink>(out: &mut Pending, sink: &mut K, number: u64, client: &Client)
-    ensures { Went (outlet (K.taken sink.old) (K.faults sink.old) out.old) (outlet (K.taken sink.new) (K.faults sink.new) out.new)
+    ensures { Went (outlet (K.state sink.old) out.old) (outlet (K.state sink.new) out.new)
         (client_node number client.now) }
 {
     put_labelled(out, sink, b"  c", number);
@@ -48,7 +48,7 @@ fn put_client<K: Sink>(out: &mut Pending, sink: &mut K, number: u64, client: &Cl
 
 // The nodes of clients, which are numbered from 1.
 fn put_clients<K: Sink>(out: &mut Pending, sink: &mut K, clients: &[Client])
-    ensures { Went (outlet (K.taken sink.old) (K.faults sink.old) out.old) (outlet (K.taken sink.new) (K.faults sink.new) out.new)
+    ensures { Went (outlet (K.state sink.old) out.old) (outlet (K.state sink.new) out.new)
         (client_nodes 1 clients.now) }
 {
     for (i, client) in clients.iter().enumerate() {
@@ -66,7 +66,7 @@ pub(crate) fn put_graph<K: Sink>(
     links: &[(u32, u32)],
 )
     requires { servers ≤ 64 }
-    ensures { Went (outlet (K.taken sink.old) (K.faults sink.old) out.old) (outlet (K.taken sink.new) (K.faults sink.new) out.new)
+    ensures { Went (outlet (K.state sink.old) out.old) (outlet (K.state sink.new) out.new)
         (codes "digraph traffic {\n" ++ flat_map server_node (servers_to servers) ++ client_nodes 1 clients.now
         ++ flat_map (link_printed true (loads_by loads.now)) links.now ++ codes "}\n") }
 {

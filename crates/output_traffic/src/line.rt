@@ -9,7 +9,7 @@ use itoa::Buffer;
 
 /// A label with a number behind it.
 pub(crate) fn put_labelled<K: Sink>(out: &mut Pending, sink: &mut K, label: &[u8], number: u64)
-    ensures { Went (outlet (K.taken sink.old) (K.faults sink.old) out.old) (outlet (K.taken sink.new) (K.faults sink.new) out.new)
+    ensures { Went (outlet (K.state sink.old) out.old) (outlet (K.state sink.new) out.new)
         (labelled label.now number) }
 {
     out.put(sink, label);
@@ -25,7 +25,7 @@ pub(crate) fn put_counts<K: Sink>(
     flood: u64,
     messages: u64,
 )
-    ensures { Went (outlet (K.taken sink.old) (K.faults sink.old) out.old) (outlet (K.taken sink.new) (K.faults sink.new) out.new)
+    ensures { Went (outlet (K.state sink.old) out.old) (outlet (K.state sink.new) out.new)
         (counts_end notices flood messages) }
 {
     put_labelled(out, sink, b" notices ", notices);

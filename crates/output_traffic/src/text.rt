@@ -13,7 +13,7 @@ use base_devices::{Pending, Sink};
 
 // The line of the sums.
 fn put_totals<K: Sink>(out: &mut Pending, sink: &mut K, totals: &Totals)
-    ensures { Went (outlet (K.taken sink.old) (K.faults sink.old) out.old) (outlet (K.taken sink.new) (K.faults sink.new) out.new)
+    ensures { Went (outlet (K.state sink.old) out.old) (outlet (K.state sink.new) out.new)
         (total_line totals.now.notices totals.now.flood totals.now.messages) }
 {
     out.put(sink, b"traffic");
@@ -28,7 +28,7 @@ pub(crate) fn put_text<K: Sink>(
     links: &[(u32, u32)],
     totals: &Totals,
 )
-    ensures { Went (outlet (K.taken sink.old) (K.faults sink.old) out.old) (outlet (K.taken sink.new) (K.faults sink.new) out.new)
+    ensures { Went (outlet (K.state sink.old) out.old) (outlet (K.state sink.new) out.new)
         (flat_map (link_printed false (loads_by loads.now)) links.now ++ total_line totals.now.notices totals.now.flood totals.now.messages) }
 {
     put_links(out, sink, false, loads, links);

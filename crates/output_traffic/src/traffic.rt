@@ -108,7 +108,7 @@ impl Traffic {
 
     /// Puts the text, or the graph, behind what waits. It takes no memory.
     pub fn put<K: Sink>(&self, out: &mut Pending, sink: &mut K)
-        ensures { Went (outlet (K.taken sink.old) (K.faults sink.old) out.old) (outlet (K.taken sink.new) (K.faults sink.new) out.new) self.now }
+        ensures { Went (outlet (K.state sink.old) out.old) (outlet (K.state sink.new) out.new) self.now }
     {
         if self.graph {
             put_graph(

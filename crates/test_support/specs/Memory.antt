@@ -1,5 +1,6 @@
 -- What contracts see of the source and the sink in memory.
-use Rattle.std.specs.Prelude.{ℕ, Bool, List, take, drop}
+use Rattle.std.specs.Prelude.{ℕ, Bool, List, Some, take, drop}
+use Rattle.base_devices.specs.Sinks.{SinkParts}
 use Rattle.test_support.specs.declared.memory.MemorySource.{MemorySource}
 use Rattle.test_support.specs.declared.memory.MemorySink.{MemorySink}
 
@@ -54,3 +55,7 @@ sink_fails s = s.failing.fails.items
 -- how many calls failed
 abbrev pub sink_faults : MemorySink → ℕ
 sink_faults s = s.failing.faults
+
+-- what it took, which is what it holds
+abbrev pub sink_state : MemorySink → SinkParts
+sink_state s = record { taken = sink_bytes s; contents = Some (sink_bytes s); faults = sink_faults s }

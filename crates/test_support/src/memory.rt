@@ -175,20 +175,20 @@ impl MemorySink {
 }
 
 impl Sink for MemorySink {
-    ghost use Rattle.std.specs.Prelude.{IsErr};
+    ghost use Rattle.std.specs.Prelude.{Some, IsErr};
     ghost use Rattle.std.specs.Io.{WritesAtMost};
+    ghost use Rattle.std.specs.Io.KnownBytes.{WriteAppends};
     ghost use Rattle.base_devices.specs.Cause.{HasCause};
     ghost use Rattle.base_devices.specs.Told.{Adds};
-    ghost use Rattle.test_support.specs.Memory.{sink_bytes, sink_room, sink_piece, sink_calls, sink_fails, sink_faults};
+    ghost use Rattle.test_support.specs.Memory.{sink_state, sink_bytes, sink_room, sink_piece, sink_calls, sink_fails, sink_faults};
 
-    ghost taken = { sink_bytes };
-
-    ghost faults = { sink_faults };
+    ghost state = { sink_state };
 
     fn write(&mut self, from: &[u8]) -> Result<usize, Failed>
         ensures bound { WritesAtMost result from.now }
         ensures some { IfOk result (λ n. 0 < length from.now → 0 < n) }
         ensures taken { Adds (sink_bytes self.old) (sink_bytes self.new) result from.now }
+        ensures contents { WriteAppends (Some (sink_bytes self.old)) (Some (sink_bytes self.new)) result from.now }
         ensures cause { HasCause (sink_faults self.old) (sink_faults self.new) result }
         ensures count { IfOk result (λ n. n ≡ min (min (length from.now) (sink_piece self.old)) (sink_room self.old)) }
         ensures room { IfOk result (λ n. sink_room self.new ≡ sink_room self.old - n) }

@@ -6,8 +6,8 @@ use Rattle.document_format.proofs.document.put_document.Goals as goal
 
 pub returns : goal.returns
 returns g c =
-    let old = outlet (g.K.Sink.taken c.args.sink.now) (g.K.Sink.faults c.args.sink.now) c.args.out.now in
-    let new = outlet (g.K.Sink.taken c.put_schedule.new.sink) (g.K.Sink.faults c.put_schedule.new.sink) c.put_schedule.new.out in
+    let old = outlet (g.K.Sink.state c.args.sink.now) c.args.out.now in
+    let new = outlet (g.K.Sink.state c.put_schedule.new.sink) c.put_schedule.new.out in
     let trees = rw (c.deref.ensures.value ∙ ap (λ n. n.trees) c.net.view_is) at c.put_trees.ensures in
     let clients = rw (c.deref-2.ensures.value ∙ ap (λ n. n.clients) c.net.view_is) at c.put_clients.ensures in
     let scripts = rw (c.deref-3.ensures.value ∙ ap (λ n. n.clients) c.net.view_is) at c.put_scripts.ensures in

@@ -7,9 +7,9 @@ use Rattle.document_format.proofs.document.put_first.Goals as goal
 
 pub returns : goal.returns
 returns g c =
-    let old = outlet (g.K.Sink.taken c.args.sink.now) (g.K.Sink.faults c.args.sink.now) c.args.out.now in
-    let mid = outlet (g.K.Sink.taken c.put_line.new.sink) (g.K.Sink.faults c.put_line.new.sink) c.put_line.new.out in
-    let new = outlet (g.K.Sink.taken c.put_numbered-2.new.sink) (g.K.Sink.faults c.put_numbered-2.new.sink) c.put_numbered-2.new.out in
+    let old = outlet (g.K.Sink.state c.args.sink.now) c.args.out.now in
+    let mid = outlet (g.K.Sink.state c.put_line.new.sink) c.put_line.new.out in
+    let new = outlet (g.K.Sink.state c.put_numbered-2.new.sink) c.put_numbered-2.new.out in
     let last = rw (c.servers_of.ensures, c.deref.ensures.value) at c.put_numbered-2.ensures in
     subst (λ z. Went old new (flat_map ended (first_lines z))) c.net.view_is
     (went-then _ _ _ _ _ c.put_numbered.ensures (went-then _ _ _ _ _ (rw c.semantics_word.ensures at c.put_line.ensures) (subst (Went mid new) (sym (append-nil _)) last)))

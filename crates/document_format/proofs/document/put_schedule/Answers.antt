@@ -6,7 +6,7 @@ use Rattle.document_format.proofs.document.put_schedule.Goals as goal
 
 pub returns : goal.returns
 returns g c =
-    let new = outlet (g.K.Sink.taken c.put_turns.new.sink) (g.K.Sink.faults c.put_turns.new.sink) c.put_turns.new.out in
-    subst (Went (outlet (g.K.Sink.taken c.args.sink.now) (g.K.Sink.faults c.args.sink.now) c.args.out.now) new)
+    let new = outlet (g.K.Sink.state c.put_turns.new.sink) c.put_turns.new.out in
+    subst (Went (outlet (g.K.Sink.state c.args.sink.now) c.args.out.now) new)
     (schedule_text c.args.clients.now c.args.schedule.now c.is_empty.result c.if-is_empty.false c.is_empty.ensures)
     (went-then _ _ _ _ _ c.put.ensures c.put_turns.ensures)

@@ -8,7 +8,7 @@ use Rattle.base.proofs.Lists.{flat_map-take-next}
 
 pub loop-client-preserved : goal.loop-client-preserved
 loop-client-preserved g c =
-    subst (Went (outlet (g.K.Sink.taken c.args.sink.now) (g.K.Sink.faults c.args.sink.now) c.args.out.now)
-    (outlet (g.K.Sink.taken c.put_script.new.sink) (g.K.Sink.faults c.put_script.new.sink) c.put_script.new.out))
+    subst (Went (outlet (g.K.Sink.state c.args.sink.now) c.args.out.now)
+    (outlet (g.K.Sink.state c.put_script.new.sink) c.put_script.new.out))
     (sym (flat_map-take-next (λ client. flat_map ended (script_lines client)) c.args.clients.now c.loop-client.client-index c.client-item.result c.loop-client-test.true))
     (went-then _ _ _ _ _ c.loop-client.invariant (rw c.client-item.is at c.put_script.ensures))

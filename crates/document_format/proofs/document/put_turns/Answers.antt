@@ -8,7 +8,7 @@ use Rattle.base.proofs.Lists.{flat_map-take-next}
 
 pub loop-turn-preserved : goal.loop-turn-preserved
 loop-turn-preserved g c =
-    subst (Went (outlet (g.K.Sink.taken c.args.sink.now) (g.K.Sink.faults c.args.sink.now) c.args.out.now)
-    (outlet (g.K.Sink.taken c.put_turn.new.sink) (g.K.Sink.faults c.put_turn.new.sink) c.put_turn.new.out))
+    subst (Went (outlet (g.K.Sink.state c.args.sink.now) c.args.out.now)
+    (outlet (g.K.Sink.state c.put_turn.new.sink) c.put_turn.new.out))
     (sym (flat_map-take-next (λ turn. ended (turn_line c.args.clients.now turn.1)) c.args.schedule.now c.loop-turn.turn-index (0, turns.Command 0) c.loop-turn-test.true))
     (went-then _ _ _ _ _ c.loop-turn.invariant c.put_turn.ensures)

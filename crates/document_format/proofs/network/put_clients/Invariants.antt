@@ -6,5 +6,5 @@ use Rattle.document_format.proofs.network.put_clients.Given as goal
 
 -- the pieces so far went
 abbrev pub invariant-loop-client : goal.invariant-loop-client
-invariant-loop-client g l = Went (outlet (g.K.Sink.taken l.initial.sink) (g.K.Sink.faults l.initial.sink) l.initial.out)
-    (outlet (g.K.Sink.taken l.sink) (g.K.Sink.faults l.sink) l.out) (flat_map (λ client. ended (client_line client)) (take l.client-index l.clients))
+invariant-loop-client g l = Went (outlet (g.K.Sink.state l.initial.sink) l.initial.out)
+    (outlet (g.K.Sink.state l.sink) l.out) (flat_map (λ client. ended (client_line client)) (take l.client-index l.clients))

@@ -7,7 +7,7 @@ use Rattle.base.proofs.Lists.{flat_map-take-next}
 
 pub loop-b-preserved : goal.loop-b-preserved
 loop-b-preserved g c =
-    subst (Went (outlet (g.K.Sink.taken c.args.sink.now) (g.K.Sink.faults c.args.sink.now) c.args.out.now)
-    (outlet (g.K.Sink.taken c.put_edge.new.sink) (g.K.Sink.faults c.put_edge.new.sink) c.put_edge.new.out))
+    subst (Went (outlet (g.K.Sink.state c.args.sink.now) c.args.out.now)
+    (outlet (g.K.Sink.state c.put_edge.new.sink) c.put_edge.new.out))
     (sym (flat_map-take-next (edge_text c.args.a) c.args.neighbours.now c.loop-b.b-index 0 c.loop-b-test.true))
     (went-then _ _ _ _ _ c.loop-b.invariant c.put_edge.ensures)

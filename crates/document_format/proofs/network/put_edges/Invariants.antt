@@ -6,5 +6,5 @@ use Rattle.document_format.proofs.network.put_edges.Given as goal
 
 -- the pieces so far went
 abbrev pub invariant-loop-b : goal.invariant-loop-b
-invariant-loop-b g l = Went (outlet (g.K.Sink.taken l.initial.sink) (g.K.Sink.faults l.initial.sink) l.initial.out)
-    (outlet (g.K.Sink.taken l.sink) (g.K.Sink.faults l.sink) l.out) (flat_map (edge_text l.a) (take l.b-index l.neighbours))
+invariant-loop-b g l = Went (outlet (g.K.Sink.state l.initial.sink) l.initial.out)
+    (outlet (g.K.Sink.state l.sink) l.out) (flat_map (edge_text l.a) (take l.b-index l.neighbours))

@@ -8,7 +8,7 @@ use Rattle.base.proofs.Lists.{flat_map-take-next}
 
 pub loop-tree-preserved : goal.loop-tree-preserved
 loop-tree-preserved g c =
-    subst (Went (outlet (g.K.Sink.taken c.args.sink.now) (g.K.Sink.faults c.args.sink.now) c.args.out.now)
-    (outlet (g.K.Sink.taken c.put_phase.new.sink) (g.K.Sink.faults c.put_phase.new.sink) c.put_phase.new.out))
+    subst (Went (outlet (g.K.Sink.state c.args.sink.now) c.args.out.now)
+    (outlet (g.K.Sink.state c.put_phase.new.sink) c.put_phase.new.out))
     (sym (flat_map-take-next (λ tree. flat_map ended (phase_lines tree)) c.args.trees.now c.loop-tree.tree-index c.tree-item.result c.loop-tree-test.true))
     (went-then _ _ _ _ _ c.loop-tree.invariant (rw c.tree-item.is at c.put_phase.ensures))

@@ -6,5 +6,5 @@ use Rattle.document_format.proofs.network.put_phases.Given as goal
 
 -- the pieces so far went
 abbrev pub invariant-loop-tree : goal.invariant-loop-tree
-invariant-loop-tree g l = Went (outlet (g.K.Sink.taken l.initial.sink) (g.K.Sink.faults l.initial.sink) l.initial.out)
-    (outlet (g.K.Sink.taken l.sink) (g.K.Sink.faults l.sink) l.out) (flat_map (λ tree. flat_map ended (phase_lines tree)) (take l.tree-index l.trees))
+invariant-loop-tree g l = Went (outlet (g.K.Sink.state l.initial.sink) l.initial.out)
+    (outlet (g.K.Sink.state l.sink) l.out) (flat_map (λ tree. flat_map ended (phase_lines tree)) (take l.tree-index l.trees))

@@ -8,5 +8,5 @@ use Rattle.document_format.proofs.network.put_tree.Given as goal
 -- what went, and then the servers that are left
 abbrev pub invariant-loop-a : goal.invariant-loop-a
 invariant-loop-a g l = (done : List ℕ)
-    × Went (outlet (g.K.Sink.taken l.initial.sink) (g.K.Sink.faults l.initial.sink) l.initial.out) (outlet (g.K.Sink.taken l.sink) (g.K.Sink.faults l.sink) l.out) done
+    × Went (outlet (g.K.Sink.state l.initial.sink) l.initial.out) (outlet (g.K.Sink.state l.sink) l.out) done
     × (done ++ flat_map (server_text l.tree) (range_with_len l.a (l.tree.count + 1 - l.a)) ≡ flat_map (server_text l.tree) (servers_of l.tree))

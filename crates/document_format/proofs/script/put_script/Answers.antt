@@ -9,14 +9,14 @@ use Rattle.document_format.proofs.script.put_script.Goals as goal
 
 pub returns-then-is_idle : goal.returns-then-is_idle
 returns-then-is_idle g c =
-    let old = outlet (g.K.Sink.taken c.args.sink.now) (g.K.Sink.faults c.args.sink.now) c.args.out.now in
+    let old = outlet (g.K.Sink.state c.args.sink.now) c.args.out.now in
     subst (Went old old) (idle_text c.args.client.now (sym c.is_idle.ensures ∙ c.if-is_idle.true)) (went-nothing old)
 
 pub returns : goal.returns
 returns g c =
-    let old = outlet (g.K.Sink.taken c.args.sink.now) (g.K.Sink.faults c.args.sink.now) c.args.out.now in
-    let mid = outlet (g.K.Sink.taken c.put_line.new.sink) (g.K.Sink.faults c.put_line.new.sink) c.put_line.new.out in
-    let new = outlet (g.K.Sink.taken c.put_steps.new.sink) (g.K.Sink.faults c.put_steps.new.sink) c.put_steps.new.out in
+    let old = outlet (g.K.Sink.state c.args.sink.now) c.args.out.now in
+    let mid = outlet (g.K.Sink.state c.put_line.new.sink) c.put_line.new.out in
+    let new = outlet (g.K.Sink.state c.put_steps.new.sink) c.put_steps.new.out in
     let first = subst (λ z. Went old mid (ended (codes "script " ++ z.name))) c.client.view_is (rw c.bytes.ensures.bytes at c.put_line.ensures) in
     let steps = subst (λ z. Went mid new (flat_map ended (step_lines 0 z.script z.barriers))) c.client.view_is (rw c.deref.ensures.value at c.put_steps.ensures) in
     subst (Went old new) (script_text c.args.client.now (sym c.is_idle.ensures ∙ c.if-is_idle.false)) (went-then _ _ _ _ _ first steps)

@@ -23,8 +23,8 @@ loop-at-preserved g c =
 pub returns : goal.returns
 returns g c =
     let (done, went, rest) = c.loop-at.invariant in
-    let new = outlet (g.K.Sink.taken c.put_barriers-2.new.sink) (g.K.Sink.faults c.put_barriers-2.new.sink) c.put_barriers-2.new.out in
+    let new = outlet (g.K.Sink.state c.put_barriers-2.new.sink) c.put_barriers-2.new.out in
     let last = step_last c.loop-at.phase c.args.script.now c.loop-at.at-index c.args.barriers c.loop-at-test.false in
-    subst (Went (outlet (g.K.Sink.taken c.args.sink.now) (g.K.Sink.faults c.args.sink.now) c.args.out.now) new)
+    subst (Went (outlet (g.K.Sink.state c.args.sink.now) c.args.out.now) new)
     (ap (λ l. done ++ l) (sym last) ∙ rest)
     (went-then _ _ _ done _ went (rw c.saturating_sub-2.ensures at c.put_barriers-2.ensures))

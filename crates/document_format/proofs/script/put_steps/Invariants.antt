@@ -7,5 +7,5 @@ use Rattle.document_format.proofs.script.put_steps.Given as goal
 -- what went, and then the commands and barriers that are left
 abbrev pub invariant-loop-at : goal.invariant-loop-at
 invariant-loop-at g l = (done : List ℕ)
-    × Went (outlet (g.K.Sink.taken l.initial.sink) (g.K.Sink.faults l.initial.sink) l.initial.out) (outlet (g.K.Sink.taken l.sink) (g.K.Sink.faults l.sink) l.out) done
+    × Went (outlet (g.K.Sink.state l.initial.sink) l.initial.out) (outlet (g.K.Sink.state l.sink) l.out) done
     × (done ++ flat_map ended (step_lines l.phase (drop l.at-index l.script) l.barriers) ≡ flat_map ended (step_lines 0 l.script l.barriers))

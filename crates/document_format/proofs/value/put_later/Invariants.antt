@@ -6,5 +6,5 @@ use Rattle.document_format.proofs.value.put_later.Given as goal
 
 -- the pieces so far went
 abbrev pub invariant-loop-part : goal.invariant-loop-part
-invariant-loop-part g l = Went (outlet (g.K.Sink.taken l.initial.sink) (g.K.Sink.faults l.initial.sink) l.initial.out)
-    (outlet (g.K.Sink.taken l.sink) (g.K.Sink.faults l.sink) l.out) (flat_map (λ x. codes "; " ++ g.P.Part.text x) (take l.part-index l.parts))
+invariant-loop-part g l = Went (outlet (g.K.Sink.state l.initial.sink) l.initial.out)
+    (outlet (g.K.Sink.state l.sink) l.out) (flat_map (λ x. codes "; " ++ g.P.Part.text x) (take l.part-index l.parts))

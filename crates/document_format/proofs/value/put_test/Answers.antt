@@ -8,12 +8,12 @@ use Rattle.document_format.proofs.value.put_test.Goals as goal
 
 pub returns-in-Some : goal.returns-in-Some
 returns-in-Some g c =
-    let new = outlet (g.K.Sink.taken c.put_value.new.sink) (g.K.Sink.faults c.put_value.new.sink) c.put_value.new.out in
-    subst (λ u. Went (outlet (g.K.Sink.taken c.args.sink.now) (g.K.Sink.faults c.args.sink.now) c.args.out.now) new (test_text c.args.op (option_copied u))) (sym c.in-Some.is)
+    let new = outlet (g.K.Sink.state c.put_value.new.sink) c.put_value.new.out in
+    subst (λ u. Went (outlet (g.K.Sink.state c.args.sink.now) c.args.out.now) new (test_text c.args.op (option_copied u))) (sym c.in-Some.is)
     (went-then _ _ _ _ _ (rw c.op_word.ensures at c.put.ensures) (went-then _ _ _ (codes " ") _ c.put-in-Some.ensures c.put_value.ensures))
 
 pub returns-in-None : goal.returns-in-None
 returns-in-None g c =
-    let new = outlet (g.K.Sink.taken c.put.new.sink) (g.K.Sink.faults c.put.new.sink) c.put.new.self in
-    subst (λ u. Went (outlet (g.K.Sink.taken c.args.sink.now) (g.K.Sink.faults c.args.sink.now) c.args.out.now) new (test_text c.args.op (option_copied u))) (sym c.in-None.is)
+    let new = outlet (g.K.Sink.state c.put.new.sink) c.put.new.self in
+    subst (λ u. Went (outlet (g.K.Sink.state c.args.sink.now) c.args.out.now) new (test_text c.args.op (option_copied u))) (sym c.in-None.is)
     (rw c.op_word.ensures at c.put.ensures)

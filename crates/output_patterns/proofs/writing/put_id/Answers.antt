@@ -11,10 +11,10 @@ unfolding id_text
 returns g c =
     let name = by_number c.args.names.now c.args.id.publisher in
     let number = decimal c.args.id.ordinal in
-    let second : Went (outlet (g.K.Sink.taken c.put.new.sink) (g.K.Sink.faults c.put.new.sink) c.put.new.self)
-    (outlet (g.K.Sink.taken c.put-2.new.sink) (g.K.Sink.faults c.put-2.new.sink) c.put-2.new.self) name = rw c.name_at.ensures at c.put-2.ensures in
-    let last : Went (outlet (g.K.Sink.taken c.put-3.new.sink) (g.K.Sink.faults c.put-3.new.sink) c.put-3.new.self)
-    (outlet (g.K.Sink.taken c.put_number.new.sink) (g.K.Sink.faults c.put_number.new.sink) c.put_number.new.out) number = rw c.from.ensures at c.put_number.ensures in
+    let second : Went (outlet (g.K.Sink.state c.put.new.sink) c.put.new.self)
+    (outlet (g.K.Sink.state c.put-2.new.sink) c.put-2.new.self) name = rw c.name_at.ensures at c.put-2.ensures in
+    let last : Went (outlet (g.K.Sink.state c.put-3.new.sink) c.put-3.new.self)
+    (outlet (g.K.Sink.state c.put_number.new.sink) c.put_number.new.out) number = rw c.from.ensures at c.put_number.ensures in
     let named = went-then _ _ _ (codes " ") name c.put.ensures second in
     let apart = went-then _ _ _ (codes " " ++ name) (codes " ") named c.put-3.ensures in
     went-then _ _ _ (codes " " ++ name ++ codes " ") number apart last

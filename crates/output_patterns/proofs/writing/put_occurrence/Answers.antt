@@ -10,8 +10,8 @@ use Rattle.base.proofs.Lists.{flat_map-take-next}
 
 pub loop-place-preserved : goal.loop-place-preserved
 loop-place-preserved g c =
-    subst (Went (outlet (g.K.Sink.taken c.put.new.sink) (g.K.Sink.faults c.put.new.sink) c.put.new.self)
-    (outlet (g.K.Sink.taken c.put_place.new.sink) (g.K.Sink.faults c.put_place.new.sink) c.put_place.new.out))
+    subst (Went (outlet (g.K.Sink.state c.put.new.sink) c.put.new.self)
+    (outlet (g.K.Sink.state c.put_place.new.sink) c.put_place.new.out))
     (sym (flat_map-take-next (place_text c.args.heard.names.now c.args.heard.deliveries.now) c.args.places.now c.loop-place.place-index _ c.loop-place-test.true))
     (went-then _ _ _ _ _ c.loop-place.invariant c.put_place.ensures)
 

@@ -6,5 +6,5 @@ use Rattle.output_patterns.proofs.writing.put_occurrence.Given as goal
 
 -- those so far went
 abbrev pub invariant-loop-place : goal.invariant-loop-place
-invariant-loop-place g l = Went (outlet (g.K.Sink.taken l.initial.sink) (g.K.Sink.faults l.initial.sink) l.initial.out)
-    (outlet (g.K.Sink.taken l.sink) (g.K.Sink.faults l.sink) l.out) (flat_map (place_text l.heard.names.now l.heard.deliveries.now) (take l.place-index l.places))
+invariant-loop-place g l = Went (outlet (g.K.Sink.state l.initial.sink) l.initial.out)
+    (outlet (g.K.Sink.state l.sink) l.out) (flat_map (place_text l.heard.names.now l.heard.deliveries.now) (take l.place-index l.places))

@@ -9,7 +9,7 @@ use Rattle.output_patterns.proofs.writing.put_occurrences.Goals as goal
 
 pub loop-delivery-init : goal.loop-delivery-init
 loop-delivery-init g c =
-    let o = outlet (g.K.Sink.taken c.args.sink.now) (g.K.Sink.faults c.args.sink.now) c.args.out.now in
+    let o = outlet (g.K.Sink.state c.args.sink.now) c.args.out.now in
     (refl, c.requires.nothing, subst (Went o o) (sym (none-in-nothing (found_line c.args.heard.names.now c.args.heard.deliveries.now) c.args.detector.steps)) (went-nothing o))
 
 pub loop-delivery-preserved : goal.loop-delivery-preserved
@@ -23,8 +23,8 @@ loop-delivery-preserved g c =
     let heard = ap (λ z. z ++ c.notice_at.result.now ∷ []) fed ∙ ap (λ n. notices_of notices (take i c.args.heard.deliveries.now) ++ n ∷ []) said ∙ sym next in (
       c.put_next.ensures.steps ∙ steps,
       c.put_next.ensures.fed ∙ heard,
-      subst (Went (outlet (g.K.Sink.taken c.args.sink.now) (g.K.Sink.faults c.args.sink.now) c.args.out.now)
-          (outlet (g.K.Sink.taken c.put_next.new.sink) (g.K.Sink.faults c.put_next.new.sink) c.put_next.new.out))
+      subst (Went (outlet (g.K.Sink.state c.args.sink.now) c.args.out.now)
+          (outlet (g.K.Sink.state c.put_next.new.sink) c.put_next.new.out))
           (moved (found_line c.args.heard.names.now c.args.heard.deliveries.now) c.loop-delivery.detector.steps c.args.detector.steps c.loop-delivery.detector.fed _ _ c.notice_at.result.now line steps fed heard text)
           (went-then _ _ _ _ _ went more),
     )

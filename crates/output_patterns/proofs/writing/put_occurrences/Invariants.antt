@@ -11,6 +11,6 @@ abbrev pub invariant-loop-delivery : goal.invariant-loop-delivery
 invariant-loop-delivery g l =
     (l.detector.steps ≡ l.initial.detector.steps)
     × (l.detector.fed ≡ notices_of l.notices (take l.delivery-index l.heard.deliveries.now))
-    × Went (outlet (g.K.Sink.taken l.initial.sink) (g.K.Sink.faults l.initial.sink) l.initial.out)
-    (outlet (g.K.Sink.taken l.sink) (g.K.Sink.faults l.sink) l.out)
+    × Went (outlet (g.K.Sink.state l.initial.sink) l.initial.out)
+    (outlet (g.K.Sink.state l.sink) l.out)
     (flat_map (found_line l.heard.names.now l.heard.deliveries.now) (all_occurrences l.initial.detector.steps (notices_of l.notices (take l.delivery-index l.heard.deliveries.now))))

@@ -6,5 +6,5 @@ use Rattle.output_patterns.proofs.writing.put_place.Goals as goal
 
 pub returns-in-None : goal.returns-in-None
 returns-in-None g c =
-    let o = outlet (g.K.Sink.taken c.args.sink.now) (g.K.Sink.faults c.args.sink.now) c.args.out.now in
+    let o = outlet (g.K.Sink.state c.args.sink.now) c.args.out.now in
     subst (Went o o) (sym (no-place c.args.heard.names.now c.args.heard.deliveries.now c.args.place c.in-Some.at c.in-Some.ensures.0 c.in-Some.ensures.1 (sym c.in-None.ensures.lookup.0))) (went-nothing o)

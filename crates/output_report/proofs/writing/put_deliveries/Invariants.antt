@@ -6,6 +6,6 @@ use Rattle.output_report.proofs.writing.put_deliveries.Given as goal
 -- what went, and then the text of the clients that are left
 abbrev pub invariant-loop-i : goal.invariant-loop-i
 invariant-loop-i g l = (done : List ℕ)
-    × Went (outlet (g.K.Sink.taken l.initial.sink) (g.K.Sink.faults l.initial.sink) l.initial.out) (outlet (g.K.Sink.taken l.sink) (g.K.Sink.faults l.sink) l.out) done
+    × Went (outlet (g.K.Sink.state l.initial.sink) l.initial.out) (outlet (g.K.Sink.state l.sink) l.out) done
     × (done ++ delivery_sections l.net.clients false (drop l.i l.net.clients) (drop l.i l.refused) (drop l.i l.received)
     ≡ delivery_sections l.net.clients false l.net.clients l.refused l.received)

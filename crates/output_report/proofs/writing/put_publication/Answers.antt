@@ -12,10 +12,10 @@ returns g c =
     let name = client_name c.args.clients.now c.args.id.publisher in
     let number = decimal c.args.id.ordinal in
     let text = c.args.text.now in
-    let second : Went (outlet (g.K.Sink.taken c.put.new.sink) (g.K.Sink.faults c.put.new.sink) c.put.new.self)
-    (outlet (g.K.Sink.taken c.put-2.new.sink) (g.K.Sink.faults c.put-2.new.sink) c.put-2.new.self) name = rw c.name_of.ensures at c.put-2.ensures in
-    let fourth : Went (outlet (g.K.Sink.taken c.put-3.new.sink) (g.K.Sink.faults c.put-3.new.sink) c.put-3.new.self)
-    (outlet (g.K.Sink.taken c.put_number.new.sink) (g.K.Sink.faults c.put_number.new.sink) c.put_number.new.out) number = rw c.from.ensures at c.put_number.ensures in
+    let second : Went (outlet (g.K.Sink.state c.put.new.sink) c.put.new.self)
+    (outlet (g.K.Sink.state c.put-2.new.sink) c.put-2.new.self) name = rw c.name_of.ensures at c.put-2.ensures in
+    let fourth : Went (outlet (g.K.Sink.state c.put-3.new.sink) c.put-3.new.self)
+    (outlet (g.K.Sink.state c.put_number.new.sink) c.put_number.new.out) number = rw c.from.ensures at c.put_number.ensures in
     let named = went-then _ _ _ word name c.put.ensures second in
     let apart = went-then _ _ _ (word ++ name) (codes " ") named c.put-3.ensures in
     let numbered = went-then _ _ _ (word ++ name ++ codes " ") number apart fourth in

@@ -9,8 +9,8 @@ use Rattle.base.proofs.Lists.{flat_map-take-next}
 pub loop-delivery-preserved : goal.loop-delivery-preserved
 loop-delivery-preserved g c =
     let line = delivery_line c.args.clients.now in
-    subst (Went (outlet (g.K.Sink.taken c.args.sink.now) (g.K.Sink.faults c.args.sink.now) c.args.out.now)
-    (outlet (g.K.Sink.taken c.put_delivery.new.sink) (g.K.Sink.faults c.put_delivery.new.sink) c.put_delivery.new.out))
+    subst (Went (outlet (g.K.Sink.state c.args.sink.now) c.args.out.now)
+    (outlet (g.K.Sink.state c.put_delivery.new.sink) c.put_delivery.new.out))
     (ap (λ z. flat_map line (take c.loop-delivery.delivery-index c.args.received.now) ++ line z) c.delivery-item.is
     ∙ sym (flat_map-take-next line c.args.received.now c.loop-delivery.delivery-index c.delivery-item.result c.loop-delivery-test.true))
     (went-then _ _ _ _ _ c.loop-delivery.invariant c.put_delivery.ensures)

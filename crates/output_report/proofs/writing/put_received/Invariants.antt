@@ -6,5 +6,5 @@ use Rattle.output_report.proofs.writing.put_received.Given as goal
 
 -- the lines so far went
 abbrev pub invariant-loop-delivery : goal.invariant-loop-delivery
-invariant-loop-delivery g l = Went (outlet (g.K.Sink.taken l.initial.sink) (g.K.Sink.faults l.initial.sink) l.initial.out)
-    (outlet (g.K.Sink.taken l.sink) (g.K.Sink.faults l.sink) l.out) (flat_map (delivery_line l.clients) (take l.delivery-index l.received))
+invariant-loop-delivery g l = Went (outlet (g.K.Sink.state l.initial.sink) l.initial.out)
+    (outlet (g.K.Sink.state l.sink) l.out) (flat_map (delivery_line l.clients) (take l.delivery-index l.received))

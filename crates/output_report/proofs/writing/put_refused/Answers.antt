@@ -7,7 +7,7 @@ use Rattle.base.proofs.Lists.{flat_map-take-next}
 
 pub loop-ordinal-preserved : goal.loop-ordinal-preserved
 loop-ordinal-preserved g c =
-    subst (Went (outlet (g.K.Sink.taken c.args.sink.now) (g.K.Sink.faults c.args.sink.now) c.args.out.now)
-    (outlet (g.K.Sink.taken c.put_refusal.new.sink) (g.K.Sink.faults c.put_refusal.new.sink) c.put_refusal.new.out))
+    subst (Went (outlet (g.K.Sink.state c.args.sink.now) c.args.out.now)
+    (outlet (g.K.Sink.state c.put_refusal.new.sink) c.put_refusal.new.out))
     (sym (flat_map-take-next refused_line c.args.ordinals.now c.loop-ordinal.ordinal-index 0 c.loop-ordinal-test.true))
     (went-then _ _ _ _ _ c.loop-ordinal.invariant c.put_refusal.ensures)

@@ -6,5 +6,5 @@ use Rattle.output_report.proofs.writing.put_refused.Given as goal
 
 -- the lines so far went
 abbrev pub invariant-loop-ordinal : goal.invariant-loop-ordinal
-invariant-loop-ordinal g l = Went (outlet (g.K.Sink.taken l.initial.sink) (g.K.Sink.faults l.initial.sink) l.initial.out)
-    (outlet (g.K.Sink.taken l.sink) (g.K.Sink.faults l.sink) l.out) (flat_map refused_line (take l.ordinal-index l.ordinals))
+invariant-loop-ordinal g l = Went (outlet (g.K.Sink.state l.initial.sink) l.initial.out)
+    (outlet (g.K.Sink.state l.sink) l.out) (flat_map refused_line (take l.ordinal-index l.ordinals))

@@ -8,7 +8,7 @@ use Rattle.output_report.proofs.writing.put_section.Goals as goal
 pub returns : goal.returns
 unfolding delivery_section
 returns g c =
-    let old = outlet (g.K.Sink.taken c.args.sink.now) (g.K.Sink.faults c.args.sink.now) c.args.out.now in
-    let new = outlet (g.K.Sink.taken c.put_client.new.sink) (g.K.Sink.faults c.put_client.new.sink) c.put_client.new.out in
+    let old = outlet (g.K.Sink.state c.args.sink.now) c.args.out.now in
+    let new = outlet (g.K.Sink.state c.put_client.new.sink) c.put_client.new.out in
     let first : Went old new (client_line c.args.client.now.name) = subst (λ z. Went old new (client_line z.name)) c.client.view_is c.put_client.ensures in
     went-then _ _ _ _ _ (went-then _ _ _ _ _ first c.put_refused.ensures) c.put_received.ensures

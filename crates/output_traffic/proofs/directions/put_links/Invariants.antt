@@ -7,5 +7,5 @@ use Rattle.output_traffic.proofs.directions.put_links.Given as goal
 
 -- what is put of the links so far
 abbrev pub invariant-loop-link : goal.invariant-loop-link
-invariant-loop-link g l = Went (outlet (g.K.Sink.taken l.initial.sink) (g.K.Sink.faults l.initial.sink) l.initial.out)
-    (outlet (g.K.Sink.taken l.sink) (g.K.Sink.faults l.sink) l.out) (flat_map (link_printed l.graph (loads_by l.loads)) (take l.link-index l.links))
+invariant-loop-link g l = Went (outlet (g.K.Sink.state l.initial.sink) l.initial.out)
+    (outlet (g.K.Sink.state l.sink) l.out) (flat_map (link_printed l.graph (loads_by l.loads)) (take l.link-index l.links))

@@ -8,5 +8,5 @@ use Rattle.output_traffic.proofs.graph.put_servers.Given as goal
 -- what went, and then the servers that are left
 abbrev pub invariant-loop-server : goal.invariant-loop-server
 invariant-loop-server g l = (done : List ℕ)
-    × Went (outlet (g.K.Sink.taken l.initial.sink) (g.K.Sink.faults l.initial.sink) l.initial.out) (outlet (g.K.Sink.taken l.sink) (g.K.Sink.faults l.sink) l.out) done
+    × Went (outlet (g.K.Sink.state l.initial.sink) l.initial.out) (outlet (g.K.Sink.state l.sink) l.out) done
     × (done ++ flat_map server_node (range_with_len l.server (l.count + 1 - l.server)) ≡ flat_map server_node (servers_to l.count))
