@@ -62,5 +62,5 @@ page_text Version = version_text
 -- the line that names the words, for whoever gives others
 unfoldable pub usage_text : List ℕ
 usage_text =
-    codes "siena: usage: walk, run or replay [--sorted] [--trace]; flood; traffic [--dot]; patterns; audit; check; format; "
+    codes "siena: usage: walk, run, replay or hier [--sorted] [--trace]; flood; traffic [--dot]; patterns; audit; check; format; "
     ++ codes "gen --seed N [--summary]; help; version\n"

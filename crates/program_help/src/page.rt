@@ -62,7 +62,7 @@ rattle-kit-13f logic dac8208d650f15bf
 ";
 
 const USAGE: &[u8] =
-    b"siena: usage: walk, run or replay [--sorted] [--trace]; flood; traffic [--dot]; patterns; audit; check; format; \
+    b"siena: usage: walk, run, replay or hier [--sorted] [--trace]; flood; traffic [--dot]; patterns; audit; check; format; \
     gen --seed N [--summary]; help; version\n";
 
 // What each word does.

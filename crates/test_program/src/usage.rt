@@ -3,7 +3,7 @@ use crate::row::Row;
 
 /// The line that names the words.
 pub const USAGE_LINE: &str =
-    "siena: usage: walk, run or replay [--sorted] [--trace]; flood; traffic [--dot]; patterns; audit; check; format; \
+    "siena: usage: walk, run, replay or hier [--sorted] [--trace]; flood; traffic [--dot]; patterns; audit; check; format; \
     gen --seed N [--summary]; help; version\n";
 
 /// Words over a document that is good, or over none.
