@@ -1,6 +1,6 @@
 -- What is answered to words, by what the source gave in the call and what the sink took: what is printed, with the outcome's journal, and the faults.
 use Rattle.std.specs.Prelude.{◌≡◌, ℕ, ◌<◌, ◌⊎◌, Bool, true, false, List, [], ◌++◌, length, Option, Some, None}
-use Rattle.base_devices.specs.Whole.{TookPart}
+use Rattle.base_devices.specs.Whole.{Gave, TookPart}
 use Rattle.net_model.specs.Parts.{EntryParts}
 use Rattle.document_reader.specs.declared.fault.Fault.{Fault}
 use Rattle.document_generate.specs.Document.{generated}
@@ -52,6 +52,10 @@ most_for (About page) = 4194305
 abbrev pub most_read : Option Wanted → ℕ
 most_read None = 4194305
 most_read (Some wanted) = most_for wanted
+
+-- THE INPUT WAS READ OUT: the source stands at its end, or it gave the most that is read
+abbrev pub IsReadOut : ℕ → List ℕ → List ℕ → Bool → Type 0
+IsReadOut most given now ended = (ended ≡ true) ⊎ Gave given now (λ input. length input ≡ most)
 
 -- what is wanted of the document that the source gave, at whose end it stands; or what a seed gives
 abbrev pub IsPrintedBy : Wanted → List ℕ → List ℕ → Bool → List ℕ → List EntryParts → Type 0

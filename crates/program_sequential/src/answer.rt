@@ -1,10 +1,10 @@
 //! Answers what the words ask for, over a source.
-ghost use Rattle.std.specs.Prelude.{◌≡◌, ◌≤◌, ◌<◌, ◌+◌, ◌++◌, ℕ, Bool, List, true, false, length, IfOk, OnOk, IsErrOf};
+ghost use Rattle.std.specs.Prelude.{◌≡◌, ◌≤◌, ◌<◌, ◌+◌, ◌++◌, ◌⊎◌, ℕ, Bool, List, true, false, length, IfOk, OnOk, IsErrOf};
 ghost use Rattle.std.specs.Io.KnownBytes.{Consumes, IsAtEnd};
 ghost use Rattle.base_devices.specs.Cause.{Rose};
 ghost use Rattle.base_devices.specs.Whole.{Gave};
 ghost use Rattle.program_sequential.specs.Words.{IsQuietWish};
-ghost use Rattle.program_sequential.specs.Answers.{IsPrintedBy, reads_document, most_for};
+ghost use Rattle.program_sequential.specs.Answers.{IsPrintedBy, IsReadOut, reads_document, most_for};
 ghost use Rattle.program_sequential.specs.Answering.{IsAnswer};
 
 use crate::audits::of_audit;
@@ -79,8 +79,9 @@ pub fn answer<S: Source>(
     ensures unread { reads_document wanted ≡ false → source.new ≡ source.old }
     ensures failed { IsErrOf result Unanswered.ReadFault → Rose (S.faults source.old) (S.faults source.new) }
     ensures at_most { reads_document wanted ≡ true → Gave (S.given source.old) (S.given source.new) (λ given. length given ≤ most_for wanted) }
-    ensures told { reads_document wanted ≡ true → (given : List ℕ) → S.given source.new ≡ S.given source.old ++ given
-        → Consumes (S.left source.old) (S.left source.new) given }
+    ensures told { (given : List ℕ) → S.given source.new ≡ S.given source.old ++ given → Consumes (S.left source.old) (S.left source.new) given }
+    ensures read_out { reads_document wanted ≡ true → (Rose (S.faults source.old) (S.faults source.new) → ⊥)
+        → IsReadOut (most_for wanted) (S.given source.old) (S.given source.new) (S.ended source.new) ⊎ IsErrOf result Unanswered.NoMemory }
     ensures end { reads_document wanted ≡ true → S.ended source.new ≡ true → IsAtEnd (S.left source.new) }
 {
     if !reads_document(wanted) {

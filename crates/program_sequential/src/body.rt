@@ -30,7 +30,7 @@ pub enum Body {
 impl Body {
     /// Puts the text behind what waits. It takes no memory.
     pub fn put<K: Sink>(self, out: &mut Pending, sink: &mut K)
-        ensures { Went (outlet (K.taken sink.old) (K.faults sink.old) out.old) (outlet (K.taken sink.new) (K.faults sink.new) out.new)
+        ensures { Went (outlet (K.state sink.old) out.old) (outlet (K.state sink.new) out.new)
             (body_text self) }
     {
         match self {

@@ -53,7 +53,7 @@ impl Given {
 
     /// Puts the text behind what waits. It takes no memory.
     pub fn put<K: Sink>(&self, out: &mut Pending, sink: &mut K)
-        ensures { Went (outlet (K.taken sink.old) (K.faults sink.old) out.old) (outlet (K.taken sink.new) (K.faults sink.new) out.new) self.now }
+        ensures { Went (outlet (K.state sink.old) out.old) (outlet (K.state sink.new) out.new) self.now }
     {
         put_deliveries(out, sink, &self.net, &self.refused, &self.received)
     }

@@ -1,6 +1,7 @@
 //! Makes what is printed for a document, and writes it.
 ghost use Rattle.std.specs.Prelude.{◌≡◌, ◌⊎◌, ◌++◌, ℕ, List, true, [], IfOk, IsOk, IsErrOf};
 ghost use Rattle.base_devices.specs.Cause.{Rose};
+ghost use Rattle.base_devices.specs.Sinks.{Grew};
 ghost use Rattle.base_devices.specs.Whole.{TookPart};
 ghost use Rattle.net_model.specs.Sound.{IsSound};
 ghost use Rattle.document_reader.specs.Net.{IsNetOf};
@@ -87,10 +88,11 @@ impl Printed {
     /// Writes the text, and hands on the journal. It takes no memory.
     pub fn write<K: Sink>(self, sink: &mut K) -> Result<Record, Failed>
         ensures journal { IfOk result (λ journal. journal.entries ≡ self.journal) }
-        ensures ok { OnOk result (K.taken sink.new ≡ K.taken sink.old ++ self.text) }
-        ensures sure { OnOk result (K.faults sink.new ≡ K.faults sink.old) }
-        ensures err { OnErr result (TookPart (K.taken sink.old) (K.taken sink.new) self.text) }
-        ensures rose { OnErr result (Rose (K.faults sink.old) (K.faults sink.new)) }
+        ensures ok { OnOk result ((K.state sink.new).taken ≡ (K.state sink.old).taken ++ self.text) }
+        ensures sure { OnOk result ((K.state sink.new).faults ≡ (K.state sink.old).faults) }
+        ensures err { OnErr result (TookPart (K.state sink.old).taken (K.state sink.new).taken self.text) }
+        ensures rose { OnErr result (Rose (K.state sink.old).faults (K.state sink.new).faults) }
+        ensures held { Grew (K.state sink.old) (K.state sink.new) }
     {
         let Printed {
             body,

@@ -1,8 +1,9 @@
 //! The top call on one thread over standard input and output.
 ghost use Rattle.std.specs.Prelude.{◌≡◌, ◌≢◌, ◌≤◌, ◌<◌, ◌⊎◌, [], true, false, length};
-ghost use Rattle.std.specs.Io.KnownBytes.{Consumes, IsAtEnd};
+ghost use Rattle.std.specs.Io.KnownBytes.{Appends, Consumes, IsAtEnd};
+ghost use Rattle.base_devices.specs.Asked.{blank, write_faults};
 ghost use Rattle.program_sequential.specs.Words.{wanted_by, AreNoneOfRun};
-ghost use Rattle.program_sequential.specs.Answers.{reads, most_read, CanAnswer};
+ghost use Rattle.program_sequential.specs.Answers.{reads, most_read, CanAnswer, IsReadOut};
 ghost use Rattle.program_sequential.specs.Outcomes.{IsOutcome};
 
 use crate::status::Status;
@@ -32,19 +33,23 @@ pub fn quiet_with_devices<R: Read, W: Write>(
     output: W,
 ) -> Over<R, W>
     requires { AreNoneOfRun (wanted_by words.now) }
-    ensures outcome { IsOutcome (wanted_by words.now) [] result.source.given.bytes result.source.ended
-        [] result.sink.taken.bytes result.outcome.status result.outcome.journal.entries }
-    ensures sure { result.outcome.status ≡ Status.Done → (result.source.faults ≡ 0) × (result.sink.faults ≡ 0) }
-    ensures unread { reads (wanted_by words.now) ≡ false → result.source.given.bytes ≡ [] }
-    ensures at_most { length result.source.given.bytes ≤ most_read (wanted_by words.now) }
-    ensures told { reads (wanted_by words.now) ≡ true
-        → Consumes (R.remaining input) (R.remaining result.source.input) result.source.given.bytes }
-    ensures end { reads (wanted_by words.now) ≡ true → result.source.ended ≡ true → IsAtEnd (R.remaining result.source.input) }
-    ensures unwritten { result.outcome.status ≢ Status.Done → result.outcome.status ≢ Status.WriteFault → result.sink.taken.bytes ≡ [] }
-    ensures read_fault { result.outcome.status ≡ Status.ReadFault → 0 < result.source.faults }
-    ensures write_fault { result.outcome.status ≡ Status.WriteFault → 0 < result.sink.faults }
-    ensures complete { CanAnswer (wanted_by words.now) [] result.source.given.bytes result.source.ended → result.sink.faults ≡ 0
-        → (result.outcome.status ≡ Status.Done) ⊎ (result.outcome.status ≡ Status.NoMemory) }
+    ensures outcome { IsOutcome (wanted_by words.now) [] result.source.input.answers.bytes result.source.ended
+        [] result.sink.output.answers.bytes result.outcome.status result.outcome.journal.entries }
+    ensures sure { result.outcome.status ≡ Status.Done → (result.source.input.answers.errors ≡ 0) × (write_faults result.sink.output.answers ≡ 0) }
+    ensures unread { reads (wanted_by words.now) ≡ false → (result.source.input.device ≡ input) × (result.source.input.answers ≡ blank) }
+    ensures at_most { length result.source.input.answers.bytes ≤ most_read (wanted_by words.now) }
+    ensures told { Consumes (R.remaining input) (R.remaining result.source.input.device) result.source.input.answers.bytes }
+    ensures end { result.source.ended ≡ true → IsAtEnd (R.remaining result.source.input.device) }
+    ensures read_out { reads (wanted_by words.now) ≡ true → result.source.input.answers.errors ≡ 0
+        → IsReadOut (most_read (wanted_by words.now)) [] result.source.input.answers.bytes result.source.ended
+        ⊎ (result.outcome.status ≡ Status.NoMemory) }
+    ensures held { Appends (W.contents output) (W.contents result.sink.output.device) result.sink.output.answers.bytes }
+    ensures unwritten { result.outcome.status ≢ Status.Done → result.outcome.status ≢ Status.WriteFault
+        → (result.sink.output.device ≡ output) × (result.sink.output.answers ≡ blank) }
+    ensures read_fault { result.outcome.status ≡ Status.ReadFault → 0 < result.source.input.answers.errors }
+    ensures write_fault { result.outcome.status ≡ Status.WriteFault → 0 < write_faults result.sink.output.answers }
+    ensures complete { CanAnswer (wanted_by words.now) [] result.source.input.answers.bytes result.source.ended
+        → write_faults result.sink.output.answers ≡ 0 → (result.outcome.status ≡ Status.Done) ⊎ (result.outcome.status ≡ Status.NoMemory) }
 {
     let mut source = StdSource::make(input);
     let mut sink = StdSink::make(output);

@@ -2,9 +2,10 @@
 ghost use Rattle.std.specs.Prelude.{◌≡◌, ◌≢◌, ◌≤◌, ◌⊎◌, ◌++◌, ℕ, List, true, false, length};
 ghost use Rattle.std.specs.Io.KnownBytes.{Consumes, IsAtEnd};
 ghost use Rattle.base_devices.specs.Cause.{Rose};
+ghost use Rattle.base_devices.specs.Sinks.{Grew};
 ghost use Rattle.base_devices.specs.Whole.{Gave};
 ghost use Rattle.program_sequential.specs.Words.{wanted_by, AreNoneOfRun};
-ghost use Rattle.program_sequential.specs.Answers.{reads, most_read, CanAnswer};
+ghost use Rattle.program_sequential.specs.Answers.{reads, most_read, CanAnswer, IsReadOut};
 ghost use Rattle.program_sequential.specs.Outcomes.{IsOutcome};
 
 use crate::answer::answer;
@@ -29,6 +30,7 @@ pub struct Outcome {
 impl Outcome {
     ghost use Rattle.std.specs.Prelude.{◌≡◌, ◌≢◌, ◌⊎◌, ◌++◌, ℕ, Bool, List, [], Some, IsOk, IsErrOf};
     ghost use Rattle.base_devices.specs.Cause.{Rose};
+    ghost use Rattle.base_devices.specs.Sinks.{Grew};
     ghost use Rattle.base_devices.specs.Whole.{TookPart};
     ghost use Rattle.program_sequential.specs.Answering.{IsAnswer};
     ghost use Rattle.program_sequential.specs.Outcomes.{IsOutcome};
@@ -46,11 +48,12 @@ impl Outcome {
 
     /// Writes what is printed, and gives the journal where all of it is written.
     pub fn written<K: Sink>(alloc: Global, printed: Printed, sink: &mut K) -> Outcome
-        ensures done { result.status ≡ Status.Done → K.taken sink.new ≡ K.taken sink.old ++ printed.text }
-        ensures sure { result.status ≡ Status.Done → K.faults sink.new ≡ K.faults sink.old }
+        ensures done { result.status ≡ Status.Done → (K.state sink.new).taken ≡ (K.state sink.old).taken ++ printed.text }
+        ensures sure { result.status ≡ Status.Done → (K.state sink.new).faults ≡ (K.state sink.old).faults }
         ensures journal { result.status ≡ Status.Done → result.journal.entries ≡ printed.journal }
-        ensures part { result.status ≡ Status.WriteFault → TookPart (K.taken sink.old) (K.taken sink.new) printed.text }
-        ensures write_fault { result.status ≡ Status.WriteFault → Rose (K.faults sink.old) (K.faults sink.new) }
+        ensures part { result.status ≡ Status.WriteFault → TookPart (K.state sink.old).taken (K.state sink.new).taken printed.text }
+        ensures write_fault { result.status ≡ Status.WriteFault → Rose (K.state sink.old).faults (K.state sink.new).faults }
+        ensures held { Grew (K.state sink.old) (K.state sink.new) }
         ensures empty { result.status ≢ Status.Done → result.journal.entries ≡ [] }
         ensures ends { (result.status ≡ Status.Done) ⊎ (result.status ≡ Status.WriteFault) }
     {
@@ -70,13 +73,15 @@ impl Outcome {
         sink: &mut K,
     ) -> Outcome
         ensures outcome { (wanted : Wanted) (given now : List ℕ) (ended : Bool) → IsAnswer wanted given now ended answer
-            → IsOutcome (Some wanted) given now ended (K.taken sink.old) (K.taken sink.new) result.status result.journal.entries }
+            → IsOutcome (Some wanted) given now ended (K.state sink.old).taken (K.state sink.new).taken result.status result.journal.entries }
         ensures done { result.status ≡ Status.Done → IsOk answer }
-        ensures sure { result.status ≡ Status.Done → K.faults sink.new ≡ K.faults sink.old }
+        ensures sure { result.status ≡ Status.Done → (K.state sink.new).faults ≡ (K.state sink.old).faults }
+        ensures held { Grew (K.state sink.old) (K.state sink.new) }
+        ensures no_memory { IsErrOf answer Unanswered.NoMemory → result.status ≡ Status.NoMemory }
         ensures unwritten { result.status ≢ Status.Done → result.status ≢ Status.WriteFault → sink.new ≡ sink.old }
         ensures read_fault { result.status ≡ Status.ReadFault → IsErrOf answer Unanswered.ReadFault }
-        ensures write_fault { result.status ≡ Status.WriteFault → Rose (K.faults sink.old) (K.faults sink.new) }
-        ensures complete { IsOk answer ⊎ IsErrOf answer Unanswered.NoMemory → (Rose (K.faults sink.old) (K.faults sink.new) → ⊥)
+        ensures write_fault { result.status ≡ Status.WriteFault → Rose (K.state sink.old).faults (K.state sink.new).faults }
+        ensures complete { IsOk answer ⊎ IsErrOf answer Unanswered.NoMemory → (Rose (K.state sink.old).faults (K.state sink.new).faults → ⊥)
             → (result.status ≡ Status.Done) ⊎ (result.status ≡ Status.NoMemory) }
     {
         match answer {
@@ -105,19 +110,22 @@ pub fn quiet<S: Source, K: Sink>(
 ) -> Outcome
     requires { AreNoneOfRun (wanted_by words.now) }
     ensures outcome { IsOutcome (wanted_by words.now) (S.given source.old) (S.given source.new) (S.ended source.new)
-        (K.taken sink.old) (K.taken sink.new) result.status result.journal.entries }
-    ensures sure { result.status ≡ Status.Done → (S.faults source.new ≡ S.faults source.old) × (K.faults sink.new ≡ K.faults sink.old) }
+        (K.state sink.old).taken (K.state sink.new).taken result.status result.journal.entries }
+    ensures sure { result.status ≡ Status.Done → (S.faults source.new ≡ S.faults source.old) × ((K.state sink.new).faults ≡ (K.state sink.old).faults) }
     ensures unread { reads (wanted_by words.now) ≡ false → source.new ≡ source.old }
     ensures at_most { reads (wanted_by words.now) ≡ true
         → Gave (S.given source.old) (S.given source.new) (λ given. length given ≤ most_read (wanted_by words.now)) }
-    ensures told { reads (wanted_by words.now) ≡ true → (given : List ℕ) → S.given source.new ≡ S.given source.old ++ given
-        → Consumes (S.left source.old) (S.left source.new) given }
+    ensures told { (given : List ℕ) → S.given source.new ≡ S.given source.old ++ given → Consumes (S.left source.old) (S.left source.new) given }
     ensures end { reads (wanted_by words.now) ≡ true → S.ended source.new ≡ true → IsAtEnd (S.left source.new) }
+    ensures read_out { reads (wanted_by words.now) ≡ true → (Rose (S.faults source.old) (S.faults source.new) → ⊥)
+        → IsReadOut (most_read (wanted_by words.now)) (S.given source.old) (S.given source.new) (S.ended source.new)
+        ⊎ (result.status ≡ Status.NoMemory) }
+    ensures held { Grew (K.state sink.old) (K.state sink.new) }
     ensures unwritten { result.status ≢ Status.Done → result.status ≢ Status.WriteFault → sink.new ≡ sink.old }
     ensures read_fault { result.status ≡ Status.ReadFault → Rose (S.faults source.old) (S.faults source.new) }
-    ensures write_fault { result.status ≡ Status.WriteFault → Rose (K.faults sink.old) (K.faults sink.new) }
+    ensures write_fault { result.status ≡ Status.WriteFault → Rose (K.state sink.old).faults (K.state sink.new).faults }
     ensures complete { CanAnswer (wanted_by words.now) (S.given source.old) (S.given source.new) (S.ended source.new)
-        → (Rose (K.faults sink.old) (K.faults sink.new) → ⊥)
+        → (Rose (K.state sink.old).faults (K.state sink.new).faults → ⊥)
         → (result.status ≡ Status.Done) ⊎ (result.status ≡ Status.NoMemory) }
 {
     match read_words(words) {

@@ -2,9 +2,10 @@
 ghost use Rattle.std.specs.Prelude.{◌≡◌, ◌≢◌, ◌≤◌, ◌⊎◌, ◌++◌, ℕ, List, true, false, None, Some, length, OnOk, IsErrOf};
 ghost use Rattle.std.specs.Io.KnownBytes.{Consumes, IsAtEnd};
 ghost use Rattle.base_devices.specs.Cause.{Rose};
+ghost use Rattle.base_devices.specs.Sinks.{Grew};
 ghost use Rattle.base_devices.specs.Whole.{Gave};
 ghost use Rattle.program_sequential.specs.Words.{wanted_by, AreNoneOfRun};
-ghost use Rattle.program_sequential.specs.Answers.{reads, most_read, CanAnswer};
+ghost use Rattle.program_sequential.specs.Answers.{reads, most_read, CanAnswer, IsReadOut};
 ghost use Rattle.program_sequential.specs.Answering.{IsAnswer};
 ghost use Rattle.program_sequential.specs.Outcomes.{IsOutcome};
 ghost use Rattle.program_threaded.specs.Wishes.{with_threads};
@@ -42,8 +43,9 @@ fn run<R: Threads + Wait + Sync, S: Source, G: Gate + Sync>(
     ensures sure { OnOk result (S.faults source.new ≡ S.faults source.old) }
     ensures failed { IsErrOf result Unanswered.ReadFault → Rose (S.faults source.old) (S.faults source.new) }
     ensures at_most { Gave (S.given source.old) (S.given source.new) (λ given. length given ≤ 4194305) }
-    ensures told { (given : List ℕ) → S.given source.new ≡ S.given source.old ++ given
-        → Consumes (S.left source.old) (S.left source.new) given }
+    ensures told { (given : List ℕ) → S.given source.new ≡ S.given source.old ++ given → Consumes (S.left source.old) (S.left source.new) given }
+    ensures read_out { (Rose (S.faults source.old) (S.faults source.new) → ⊥)
+        → IsReadOut 4194305 (S.given source.old) (S.given source.new) (S.ended source.new) ⊎ IsErrOf result Unanswered.NoMemory }
     ensures end { S.ended source.new ≡ true → IsAtEnd (S.left source.new) }
 {
     match document(alloc, source) {
@@ -67,19 +69,22 @@ pub fn siena<R: Threads + Wait + Sync, S: Source, K: Sink, G: Gate + Sync>(
     gate: &G,
 ) -> Outcome
     ensures outcome { IsOutcome (wanted_by words.now) (S.given source.old) (S.given source.new) (S.ended source.new)
-        (K.taken sink.old) (K.taken sink.new) result.status result.journal.entries }
-    ensures sure { result.status ≡ Status.Done → (S.faults source.new ≡ S.faults source.old) × (K.faults sink.new ≡ K.faults sink.old) }
+        (K.state sink.old).taken (K.state sink.new).taken result.status result.journal.entries }
+    ensures sure { result.status ≡ Status.Done → (S.faults source.new ≡ S.faults source.old) × ((K.state sink.new).faults ≡ (K.state sink.old).faults) }
     ensures unread { reads (wanted_by words.now) ≡ false → source.new ≡ source.old }
     ensures at_most { reads (wanted_by words.now) ≡ true
         → Gave (S.given source.old) (S.given source.new) (λ given. length given ≤ most_read (wanted_by words.now)) }
-    ensures told { reads (wanted_by words.now) ≡ true → (given : List ℕ) → S.given source.new ≡ S.given source.old ++ given
-        → Consumes (S.left source.old) (S.left source.new) given }
+    ensures told { (given : List ℕ) → S.given source.new ≡ S.given source.old ++ given → Consumes (S.left source.old) (S.left source.new) given }
     ensures end { reads (wanted_by words.now) ≡ true → S.ended source.new ≡ true → IsAtEnd (S.left source.new) }
+    ensures read_out { reads (wanted_by words.now) ≡ true → (Rose (S.faults source.old) (S.faults source.new) → ⊥)
+        → IsReadOut (most_read (wanted_by words.now)) (S.given source.old) (S.given source.new) (S.ended source.new)
+        ⊎ (result.status ≡ Status.NoMemory) }
+    ensures held { Grew (K.state sink.old) (K.state sink.new) }
     ensures unwritten { result.status ≢ Status.Done → result.status ≢ Status.WriteFault → sink.new ≡ sink.old }
     ensures read_fault { result.status ≡ Status.ReadFault → Rose (S.faults source.old) (S.faults source.new) }
-    ensures write_fault { result.status ≡ Status.WriteFault → Rose (K.faults sink.old) (K.faults sink.new) }
+    ensures write_fault { result.status ≡ Status.WriteFault → Rose (K.state sink.old).faults (K.state sink.new).faults }
     ensures complete { CanAnswer (wanted_by words.now) (S.given source.old) (S.given source.new) (S.ended source.new)
-        → (Rose (K.faults sink.old) (K.faults sink.new) → ⊥)
+        → (Rose (K.state sink.old).faults (K.state sink.new).faults → ⊥)
         → (result.status ≡ Status.Done) ⊎ (result.status ≡ Status.NoMemory) }
 {
     match threads_by(words) {

@@ -1,4 +1,5 @@
 use Rattle.std.proofs.Common.{◌≡◌, true, false, Err, sym, ap, subst}
+use Rattle.base_devices.proofs.Pieces.{told_unread}
 use Rattle.program_sequential.specs.Answering.{IsAnswer}
 use Rattle.program_sequential.specs.Answers.{reads_document}
 use Rattle.program_sequential.proofs.Answering.{unread-wanted}
@@ -8,6 +9,9 @@ pub returns-then-not-reads_document-clause-answers : goal.returns-then-not-reads
 returns-then-not-reads_document-clause-answers g c =
     let no : reads_document c.args.wanted ≡ false = (let t = c.if-not-reads_document.true in let e = c.reads_document.ensures in cc) in
     c.of_bytes.ensures.unread no _ _
+
+pub returns-then-not-reads_document-clause-told : goal.returns-then-not-reads_document-clause-told
+returns-then-not-reads_document-clause-told g c = λ given p. told_unread (g.S.Source.given c.args.source.now) (g.S.Source.left c.args.source.now) given p
 
 pub returns-in-Err-clause-answers : goal.returns-in-Err-clause-answers
 returns-in-Err-clause-answers g c =

@@ -6,6 +6,6 @@ use Rattle.program_threaded.proofs.top.siena.Goals as goal
 
 pub returns-in-Some-clause-outcome : goal.returns-in-Some-clause-outcome
 returns-in-Some-clause-outcome g c =
-    subst (λ (w : Option Wanted). IsOutcome w (g.S.Source.given c.args.source.now) (g.S.Source.given c.run.new.source) (g.S.Source.ended c.run.new.source) (g.K.Sink.taken c.args.sink.now) (g.K.Sink.taken c.of_answer.new.sink) c.of_answer.result.status c.of_answer.result.journal.entries)
+    subst (λ (w : Option Wanted). IsOutcome w (g.S.Source.given c.args.source.now) (g.S.Source.given c.run.new.source) (g.S.Source.ended c.run.new.source) (g.K.Sink.state c.args.sink.now).taken (g.K.Sink.state c.of_answer.new.sink).taken c.of_answer.result.status c.of_answer.result.journal.entries)
     (sym (c.threads_by.ensures.some c.in-Some.shown c.in-Some.is))
     (c.of_answer.ensures.outcome (with_threads c.in-Some.shown) _ _ _ c.run.ensures.answers)
