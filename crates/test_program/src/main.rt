@@ -24,9 +24,11 @@
 //! `flood`.
 #![tactic(auto)]
 
+mod answers;
 mod audits;
 mod claims;
 mod devices;
+mod edges;
 mod examples;
 mod faults;
 mod formats;
@@ -80,6 +82,7 @@ fn print_others(rt: &impl Print, alloc: Global) -> Result<(), Failure> {
     claims::print_made(rt, alloc)?;
     pages::print_pages(rt, alloc)?;
     devices::print_devices(rt, alloc)?;
+    edges::print_edges(rt, alloc)?;
     large::print_large(rt, alloc)?;
     generated::print_generated(rt, alloc)
 }
