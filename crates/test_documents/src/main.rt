@@ -3,7 +3,7 @@
 //! Users: nobody; it is a program of its own.
 //!
 //! Of documents that are refused it prints the line and the fault, and of those that are read the nets and patterns;
-//! also what catalogues of nets know, and where patterns occur in what is published. Among the documents are every
+//! also what catalogues of nets know, why clients get publications, and where patterns occur in what is published. Among the documents are every
 //! prefix of a realistic one and of an input with patterns, and documents at the limits and one beyond. The program is
 //! proved for bounds and termination alone.
 //!
@@ -12,6 +12,7 @@
 #![tactic(auto)]
 
 mod catalogued;
+mod explained;
 mod large;
 mod many;
 mod measure;
@@ -58,7 +59,8 @@ fn print_documents(rt: &impl Print, alloc: Global) -> Result<(), Failure> {
     prefixes::print_prefixes(rt, alloc)?;
     large::print_large(rt, alloc)?;
     catalogued::print_catalogues(rt, alloc)?;
-    many::print_many(rt, alloc)
+    many::print_many(rt, alloc)?;
+    explained::print_explanations(rt, alloc)
 }
 
 /// Prints what reading gives of documents with patterns, and where these occur.
