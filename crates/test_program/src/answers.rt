@@ -1,4 +1,6 @@
 //! A reader and a writer that answer as devices may: in small pieces, with an error, or with nothing.
+ghost use Rattle.std.specs.Prelude.{◌≡◌, IfOk};
+
 use std::alloc::Global;
 use std::io;
 use std::io::{ErrorKind, Read, Write};
@@ -13,8 +15,12 @@ pub enum Stop {
 }
 
 impl Stop {
+    ghost use Rattle.std.specs.Prelude.{◌≡◌, IfOk};
+
     /// The answer.
-    fn answer(self) -> io::Result<usize> {
+    fn answer(self) -> io::Result<usize>
+        ensures { IfOk result (λ n. n ≡ 0) }
+    {
         match self {
             Stop::Nothing => Ok(0),
             Stop::Error(kind) => Err(io::Error::from(kind)),
@@ -51,14 +57,14 @@ impl Calls {
 
 /// Gives bytes in its manner.
 #[derive(Drop)]
-pub struct Reader<'a> {
-    rest: &'a [u8],
+pub struct Reader {
+    rest: &'static [u8],
     calls: Calls,
 }
 
-impl<'a> Reader<'a> {
+impl Reader {
     /// A reader of these bytes.
-    pub fn make(bytes: &'a [u8], manner: Manner) -> Reader<'a> {
+    pub fn make(bytes: &'static [u8], manner: Manner) -> Reader {
         Reader {
             rest: bytes,
             calls: Calls { manner, count: 0 },
@@ -66,7 +72,7 @@ impl<'a> Reader<'a> {
     }
 }
 
-impl Read for Reader<'_> {
+impl Read for Reader {
     fn read(&mut self, into: &mut [u8]) -> io::Result<usize> {
         if let Some(stop) = self.calls.next() {
             return stop.answer();

@@ -1,7 +1,9 @@
 //! Rows of devices that give and take in pieces, fail in mid-stream, or move nothing.
+ghost use Rattle.program_sequential.specs.Words.{wanted_by, AreNoneOfRun};
+
 use crate::answers::{Manner, Reader, Stop, Writer};
 use crate::tried::{Tried, print_verdict, words};
-use program_sequential::{fault_text, is_quiet, quiet_with_devices};
+use program_sequential::{Word, fault_text, is_quiet, quiet_with_devices};
 use std::alloc::Global;
 use std::io::ErrorKind;
 use test_support::Failure;
@@ -115,6 +117,21 @@ const ROWS: [Row; 8] = [
     },
 ];
 
+/// The line on the fault of a walk over this reader and this writer.
+fn fault(
+    alloc: Global,
+    words: &[Word],
+    reader: &mut Reader,
+    writer: &mut Writer,
+) -> Result<Vec<u8>, Failure>
+    requires { AreNoneOfRun (wanted_by words.now) }
+{
+    let over = quiet_with_devices(alloc, words, reader, writer);
+    let status = over.outcome.status;
+    drop(over);
+    Ok(fault_text(alloc, &status)?)
+}
+
 /// The walk of the document over a reader and a writer.
 fn walked(alloc: Global, row: &Row) -> Result<Tried, Failure> {
     let words = words(alloc, "walk")?;
@@ -123,12 +140,9 @@ fn walked(alloc: Global, row: &Row) -> Result<Tried, Failure> {
     }
     let mut reader = Reader::make(DOCUMENT, row.reader);
     let mut writer = Writer::make(alloc, row.writer);
-    let over = quiet_with_devices(alloc, &words, &mut reader, &mut writer);
-    let fault = fault_text(alloc, &over.outcome.status)?;
-    Ok(Tried {
-        fault,
-        text: writer.into_bytes(),
-    })
+    let fault = fault(alloc, &words, &mut reader, &mut writer)?;
+    let text = writer.into_bytes();
+    Ok(Tried { fault, text })
 }
 
 /// Prints of each row whether it came as wanted.
