@@ -6,7 +6,7 @@ use Rattle.base_tree.specs.Hops.{AreHops, side}
 use Rattle.law_routing.specs.Net.{NetLaws, NeverFalls, PhasedCommand, Subscribe, Unsubscribe, Advertise, Unadvertise, Publish}
 use Rattle.law_routing.proofs.Witness.{line-laws, home-in}
 use Rattle.law_examples.specs.Ranges.{Below, Equal, Above, AtLeast, Any, ranges}
-use Rattle.law_examples.specs.SmallNets.{in_phase, pair_links, line_clients, line_of, wide_and_narrow, withdrawn_wide, equal_ranges, advertised_small, subscribed_again, withdrawn_pair, advertiser, advertised_late, advertised_until, both_publish}
+use Rattle.law_examples.specs.SmallNets.{in_phase, pair_links, line_clients, line_of, wide_and_narrow, withdrawn_wide, equal_ranges, advertised_small, subscribed_again, withdrawn_pair, advertiser, advertised_late, advertised_until, both_publish, far_then_near}
 use Rattle.base.proofs.Numbers.{each-of-three}
 use Rattle.base.proofs.Sets.{each-in-one, each-in-two, distinct-one}
 use Rattle.law_hierarchy.proofs.Nets.{edges}
@@ -152,3 +152,6 @@ advertised_until-lawful = advertiser-lawful (in_phase 0 (Advertise Any) ∷ in_p
 
 pub both_publish-lawful : NetLaws ranges both_publish
 both_publish-lawful = line-lawful (in_phase 0 (Subscribe Any) ∷ in_phase 1 (Publish 1) ∷ []) [] (in_phase 0 (Subscribe Any) ∷ in_phase 1 (Publish 3) ∷ []) (omega arith, tt) tt (omega arith, tt)
+
+pub far_then_near-lawful : NetLaws ranges far_then_near
+far_then_near-lawful = line-lawful (in_phase 0 (Subscribe Any) ∷ []) (in_phase 2 (Publish 1) ∷ []) (in_phase 1 (Publish 3) ∷ []) tt tt tt

@@ -154,6 +154,14 @@ advertised_until = advertiser (in_phase 0 (Advertise Any) ∷ in_phase 1 (Publis
 abbrev pub both_publish : Net ranges
 both_publish = line_of (in_phase 0 (Subscribe Any) ∷ in_phase 1 (Publish 1) ∷ []) [] (in_phase 0 (Subscribe Any) ∷ in_phase 1 (Publish 3) ∷ [])
 
+-- client 1 subscribes to all; client 3, two links away, publishes in the next phase, and client 2, at the server of client 1, in the one behind that
+abbrev pub far_then_near : Net ranges
+far_then_near = line_of (in_phase 0 (Subscribe Any) ∷ []) (in_phase 2 (Publish 1) ∷ []) (in_phase 1 (Publish 3) ∷ [])
+
+-- in the phase of the far publication the near one is tried first
+abbrev pub near_tried_first : List (ℕ × Act Task)
+near_tried_first = (1, Did (NextCommand 2)) ∷ (3, Did (NextCommand 3)) ∷ (1, Did (NextCommand 2)) ∷ []
+
 -- client 1 publishes once it has been given what client 3 published
 abbrev pub answers : List (ℕ × Act Task)
 answers = (3, Did (NextCommand 3)) ∷ (2, Received 3) ∷ (1, Received 2) ∷ (1, Did (NextCommand 1)) ∷ []

@@ -9,7 +9,7 @@ ghost use Rattle.law_routing.specs.Server.{Subs, Advs, Noticed};
 ghost use Rattle.law_routing.specs.Step.{NextCommand, TableUpdate};
 ghost use Rattle.law_examples.specs.Ranges.{Any, ranges};
 ghost use Rattle.law_examples.specs.Trace.{line, walk, replay, trace, given};
-ghost use Rattle.law_examples.specs.SmallNets.{ranges_publication, advertised_late, advertised_until, both_publish, answers};
+ghost use Rattle.law_examples.specs.SmallNets.{ranges_publication, advertised_late, advertised_until, both_publish, answers, far_then_near, near_tried_first};
 ghost use Rattle.law_phases.specs.Flooding.{IsFloodOwed};
 ghost use Rattle.law_examples.specs.Flooding.{flooded_net, IsFlooding};
 ghost use Rattle.law_examples.specs.Phased.{answered, answered_journal, IsAnswered};
@@ -46,6 +46,15 @@ pub fn no_one_order()
     ensures lawful { NetLaws ranges both_publish }
     ensures one { given ranges both_publish (walk ranges both_publish 2) 1 ≡ ranges_publication 1 1 1 ∷ ranges_publication 3 1 3 ∷ [] }
     ensures three { given ranges both_publish (walk ranges both_publish 2) 3 ≡ ranges_publication 3 1 3 ∷ ranges_publication 1 1 1 ∷ [] }
+{}
+
+/// A barrier holds at each client: a publication behind it is given behind one before it, though that comes from further away, and though the later one is
+/// tried first.
+pub fn barrier_keeps_order()
+    ensures lawful { NetLaws ranges far_then_near }
+    ensures walked { given ranges far_then_near (walk ranges far_then_near 3) 1 ≡ ranges_publication 3 1 3 ∷ ranges_publication 2 1 1 ∷ [] }
+    ensures tried { given ranges far_then_near (replay ranges far_then_near ([] ∷ near_tried_first ∷ [] ∷ [])) 1
+        ≡ ranges_publication 3 1 3 ∷ ranges_publication 2 1 1 ∷ [] }
 {}
 
 /// An answer is given behind what it answers, to its own publisher's correspondent too.
