@@ -12,9 +12,9 @@ use Rattle.law_routing.specs.Routing.{NetEntry}
 use Rattle.law_phases.specs.Trees.{JournalEntry, PhasedNet, net_at, entries_on}
 use Rattle.law_phases.specs.Moments.{opening_moment, moment_of}
 use Rattle.law_phases.specs.Runs.{IsRunTo, PhasedRun}
-use Rattle.law_phases.specs.AtMoments.{DrainsBy, AllBelow, states_on}
+use Rattle.law_phases.specs.AtMoments.{DrainsBy, AllBelow, states, states_on}
 use Rattle.law_phases.specs.Routes.{IsRoutedOn}
-use Rattle.law_phases.specs.Settled.{IsSettledHere, IsSettledTo}
+use Rattle.law_phases.specs.Settled.{IsSettledHere, IsSettledTo, IsSettledOn, IsAllReceivedBy}
 use Rattle.law_phases.specs.Owing.{IsOwedByScripts}
 use Rattle.law_phases.proofs.Moments.{run-ends}
 use Rattle.law_phases.proofs.Walks.{walk-drains}
@@ -140,6 +140,26 @@ settled-pair = record {
     taken : (k : ℕ) (x : Stamped (Message ranges)) → slice_get (run.end.put 2 1) k ≡ Some x → x.message ≡ Noticed 2 1 9 → k < run.end.taken 2 1
     taken zero x at is = omega arith
     taken (suc k) x at is = absurd cc
+
+-- it is received after seven of the ten entries, while the withdrawal is on its way
+pub on-way-pair : IsSettledOn ranges run published 1
+on-way-pair = record {
+  here = inl refl;
+  moment = 5;
+  published = record { entry = entry 4 2 (Did (NextCommand 2)) (1 ∷ []); at = refl; server = refl; routes = refl };
+  path = 1 ∷ [];
+  way = (inl refl, one-two, tt);
+  lives = inl refl;
+  settled = (sets-out, arrives);
+}
+
+pub received-pair : IsAllReceivedBy ranges run 7 published 1 on-way-pair
+unfolding on-way-pair
+received-pair = record { within = omega arith; published = omega arith; taken = λ t. (received, tt) }
+  where
+    received : (k : ℕ) (x : Stamped (Message ranges)) → slice_get ((states ranges run 7).put 2 1) k ≡ Some x → x.message ≡ Noticed 2 1 9 → k < (states ranges run 7).taken 2 1
+    received zero x at is = omega arith
+    received (suc k) x at is = absurd cc
 
 pub pair-not-owed : IsOwedByScripts ranges net published 1 → ⊥
 pair-not-owed o = let owed = subst (λ p. IsOwed ranges (net_at ranges net p) 2 p 9 1) (sym (of-phase o.published.index o.published.command o.published.at ∙ o.published.phase)) o.owed in

@@ -8,7 +8,7 @@ use Rattle.law_routing.specs.Example.{line_clients, line_home}
 use Rattle.law_phases.specs.Trees.{JournalEntry, entry_on, entry_off, PhasedNet, net_at, machine_at, at_phase}
 use Rattle.law_phases.specs.Moments.{Moment, opening_moment, found_by, acted, moment_of}
 use Rattle.law_phases.specs.Runs.{PhasedRun}
-use Rattle.law_phases.specs.Settled.{IsSettledTo}
+use Rattle.law_phases.specs.Settled.{IsSettledTo, IsSettledOn, IsAllReceivedBy}
 use Rattle.law_phases.specs.Sequence.{IsMadeKnowing}
 use Rattle.law_phases.specs.Walk.{walk_of}
 use Rattle.law_phases.specs.Example.{line_tree, star_tree}
@@ -104,6 +104,14 @@ pub record IsSettledIn (net : PhasedNet ranges) (journal : List JournalEntry) (p
   pub of_net : run.net ≡ net
   pub of_journal : run.journal ≡ journal
   pub settled : IsSettledTo ranges run publication client
+
+-- and in a run with this journal its messages on that way are all received after so many entries
+pub record IsSettledBy (net : PhasedNet ranges) (journal : List JournalEntry) (publication : Publication ranges) (client n : ℕ) : Type 0 where
+  pub run : PhasedRun ranges
+  pub of_net : run.net ≡ net
+  pub of_journal : run.journal ≡ journal
+  pub on_way : IsSettledOn ranges run publication client
+  pub received : IsAllReceivedBy ranges run n publication client on_way
 
 -- the run in which client 1 answers client 3
 abbrev pub answered : PhasedNet ranges

@@ -26,7 +26,7 @@ ghost use Rattle.law_phases.specs.Runs.{IsRunTo};
 ghost use Rattle.law_phases.specs.AtMoments.{DrainsBy};
 ghost use Rattle.law_phases.specs.Owing.{IsOwedByScripts};
 ghost use Rattle.law_examples.specs.Phased.{on_one_tree, phased_trace, phased_walk, phased_given, phased_held, line_becomes_star, subscriber_publishes};
-ghost use Rattle.law_examples.specs.Phased.{withdrawn_on_tree, withdrawn_walk, IsSettledIn};
+ghost use Rattle.law_examples.specs.Phased.{withdrawn_on_tree, withdrawn_walk, IsSettledIn, IsSettledBy};
 ghost use Rattle.law_examples.specs.SmallNets.{ranges_publication, wide_travels, wide_and_narrow, withdrawn_wide, all_know, both_set_out, notice_arrives};
 ghost use Rattle.law_examples.specs.SmallNets.{withdrawal_known, equal_ranges, advertised_small, subscribed_again};
 
@@ -146,7 +146,8 @@ pub fn withdrawn_and_owed()
 {}
 
 /// Client 1 withdraws its range in the phase of the notice, so it is not owed it. But the withdrawal is still on its way when the notice sets out, and no
-/// table update has installed it before the notice comes: the notice is settled wherever it passes, and is delivered once.
+/// table update has installed it before the notice comes: the notice is settled wherever it passes, and is delivered once: after seven of
+/// the ten entries, while the withdrawal is still on its way.
 pub fn settled_and_not_owed()
     ensures lawful { PhasedNetLaws ranges withdrawn_on_tree }
     ensures drains { DrainsBy ranges withdrawn_on_tree withdrawn_walk }
@@ -162,6 +163,7 @@ pub fn settled_and_not_owed()
         line ranges 5 2 (Received 1) [] ∷
         line ranges 6 2 (Did TableUpdate) [] ∷ [] }
     ensures settled { IsSettledIn withdrawn_on_tree withdrawn_walk (ranges_publication 2 1 9) 1 }
+    ensures early { IsSettledBy withdrawn_on_tree withdrawn_walk (ranges_publication 2 1 9) 1 7 }
     ensures not_owed { IsOwedByScripts ranges withdrawn_on_tree (ranges_publication 2 1 9) 1 → ⊥ }
     ensures given { phased_given ranges withdrawn_on_tree withdrawn_walk 1 ≡ ranges_publication 2 1 9 ∷ [] }
 {}
