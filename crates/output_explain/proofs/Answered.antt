@@ -1,5 +1,7 @@
 -- What the code answers to a question is its answer, or its fault.
 use Rattle.std.proofs.Common.{◌≡◌, ℕ, suc, List, map, slice_get, take, Option, Some, None, Result, Ok, Err, refl, sym, ap, subst, ◌∙◌}
+use Rattle.base.proofs.Numbers.{zero-add}
+use Rattle.output_flood.proofs.Publishing.{publish_back}
 use Rattle.std.specs.Prelude.{MatchResult, IfOk}
 use Rattle.std.proofs.lemmas.Option.{same_Some}
 use Rattle.base.proofs.Lists.{map-get}
@@ -20,18 +22,10 @@ use Rattle.output_explain.specs.declared.find.Found.{Found}
 use Rattle.output_explain.specs.Asked.{IsNamed, IsNobody, IsSomebody, IsPublish, HasNoPublish, IsFaultOf, commands_of, fault_found, fault_by, fault_of, found_from, number_of}
 use Rattle.output_explain.specs.Explained.{IsAnswer, IsExplained}
 use Rattle.output_explain.proofs.Finding.{unfound}
-use Rattle.output_explain.proofs.Explained.{none_before, publish_found}
+use Rattle.output_explain.proofs.Explained.{publish_found}
 use Rattle.output_explain.proofs.Naming.{named_is, nobody_is, same_number}
 use Rattle.output_explain.proofs.Promised.{notice_in}
 use Rattle.output_explain.proofs.Telling.{script_is}
-
--- a command that the runs see as a publish is one
-is_publish_of : (c : WireCommand) (n : List Attribute) → command_of c ≡ Publish n → c ≡ commands.Publish n
-is_publish_of (commands.Subscribe f) n e = absurd cc
-is_publish_of (commands.Unsubscribe f) n e = absurd cc
-is_publish_of (commands.Advertise a) n e = absurd cc
-is_publish_of (commands.Unadvertise a) n e = absurd cc
-is_publish_of (commands.Publish m) n e = ap commands.Publish (ap notice_in e)
 
 abbrev id_of : ℕ → ℕ → Id
 id_of publisher number = record { publisher = publisher; ordinal = number }
@@ -49,8 +43,8 @@ none_published net publisher number e index phase n p = go (map-get phased_comma
     go (x, at, same) =
         unfound number 0 0 (commands_of net publisher) e index phase n
         (at ∙ ap (λ k. Some (step k x.1)) (ap (λ (z : PhasedCommand real). z.phase) same)
-        ∙ ap (λ c. Some (step phase c)) (is_publish_of x.1 n (ap (λ (z : PhasedCommand real). z.command) same)))
-        (none_before (ordinal real (take (suc index) (map phased_command (commands_of net publisher))))
+        ∙ ap (λ c. Some (step phase c)) (publish_back x.1 n (ap (λ (z : PhasedCommand real). z.command) same)))
+        (zero-add (ordinal real (take (suc index) (map phased_command (commands_of net publisher))))
         ∙ ap (λ s. ordinal real (take (suc index) s)) (sym (script_is net publisher)) ∙ p.ordinal)
 
 module _ (net : NetParts) (sound : IsSound net) (client publisher : List ℕ) (number : ℕ) where

@@ -1,5 +1,6 @@
 -- What the code gathers of a publish that it found is its explanation.
 use Rattle.std.proofs.Common.{◌≡◌, ℕ, zero, suc, ◌+◌, ◌≤◌, ◌<◌, true, List, [], ◌∷◌, map, take, length, slice_get, Some, Result, Ok, Err, sym, ap, subst, ◌∙◌, arith}
+use Rattle.base.proofs.Numbers.{zero-add}
 use Rattle.output_flood.specs.Held.{Script}
 use Rattle.std.specs.Prelude.{IfOk}
 use Rattle.base.proofs.Lists.{get-map}
@@ -30,9 +31,6 @@ get_low [] i x e = absurd cc
 get_low (y ∷ xs) zero x e = omega arith
 get_low (y ∷ xs) (suc i) x e = omega (arith, get_low xs i x e)
 
-pub none_before : (n : ℕ) → 0 + n ≡ n
-none_before n = omega arith
-
 -- the publish that was found
 pub publish_found : (net : NetParts) (id : Id) (found : Found) → found_from id.ordinal 0 0 (commands_of net id.publisher) ≡ Some found
     → IsPublish net id found.index found.phase found.notice
@@ -44,14 +42,14 @@ publish_found net id found e = record {
   ordinal =
       ap (λ s. ordinal real (take (suc found.index) s)) (script_is net id.publisher)
       ∙ ap (λ i. ordinal real (take (suc i) (map phased_command (commands_of net id.publisher)))) place
-      ∙ sym (none_before (ordinal real (take (suc is.place) (map phased_command (commands_of net id.publisher))))) ∙ is.ordinal;
+      ∙ sym (zero-add (ordinal real (take (suc is.place) (map phased_command (commands_of net id.publisher))))) ∙ is.ordinal;
 }
   where
     is : IsFound id.ordinal 0 0 (commands_of net id.publisher) found
     is = found_is id.ordinal 0 0 (commands_of net id.publisher) found e
 
     place : found.index ≡ is.place
-    place = is.at_index ∙ none_before is.place
+    place = is.at_index ∙ zero-add is.place
 
 pub found_low : (number : ℕ) (script : Script) (found : Found) → found_from number 0 0 script ≡ Some found → found.index ≤ length script
 found_low number script found e =

@@ -1,10 +1,12 @@
 -- The verdict by the facts says what the promise's definitions say.
 use Rattle.std.proofs.Common.{◌≡◌, ◌↔◌, ℕ, suc, ◌≤◌, Bool, true, false, cond, not, ◌&&◌, ◌||◌, List, [], ◌∷◌, Option, Some, None, refl, sym, ap, subst, ◌∙◌, arith}
+use Rattle.output_flood.proofs.Passing.{may_pass}
+use Rattle.filter_types.proofs.Lists.{has-any}
 use Rattle.std.specs.List.{list_any, list_all}
 use Rattle.std.proofs.lemmas.Bool.{and_parts, and_from}
 use Rattle.std.proofs.lemmas.Option.{same_Some}
 use Rattle.base.specs.Sets.{Has}
-use Rattle.base.proofs.Sets.{has-map}
+use Rattle.base.proofs.Sets.{has-map, any-some}
 use Rattle.filter_constraints.specs.Constraint.{ConstraintParts, satisfies}
 use Rattle.filter_types.specs.Cover.{attribute_satisfies, some_allows, matches, allows}
 use Rattle.filter_types.specs.Notice.{Attribute, AreValues, attribute_at}
@@ -31,13 +33,6 @@ use Rattle.output_explain.specs.Facts.{value_in, is_satisfied, first_miss, first
 use Rattle.output_explain.specs.Stays.{moment_or, HoldsSince, HoldsUntil, IsFirstStay, is_none, is_throughout}
 use Rattle.output_explain.specs.Telling.{filters_then, adverts_then, AreFilterFacts, AreAdvertFacts}
 use Rattle.output_explain.specs.Verdicts.{IsAccepted, IsMatchedThroughout, IsAdvertised, Says, is_nothing, is_match, is_match_throughout, is_leave, is_leave_throughout, verdict_of, verdict_by, is_given}
-
--- tests of lists
-by_any : {T : Type 0} (test : T → Bool) (xs : List T) → list_any test xs ≡ true → (x : T) × Has x xs × (test x ≡ true)
-by_any test xs e = by-pass test xs (some_pass-any test xs ∙ e)
-
-any_by : {T : Type 0} (test : T → Bool) (x : T) (xs : List T) → Has x xs → test x ≡ true → list_any test xs ≡ true
-any_by test x xs h e = sym (some_pass-any test xs) ∙ pass-by test x xs h e
 
 -- a filter without a constraint that isn't satisfied is one that matches
 no_miss : (n : List Attribute) (f : List ConstraintParts) → is_nothing (first_miss n f) ≡ matches n f
@@ -123,7 +118,7 @@ module _ (net : NetParts) (c k : ℕ) (n : List Attribute) (values : AreValues n
 
     pub allowed_to : list_any is_match facts ≡ true → IsAllowed real (net_in net k) k n c
     allowed_to e =
-        let r = by_any is_match facts e in
+        let r = any-some is_match facts e in
         let stay = (tell.each r.0 r.1).stay in
         let b = begins (λ count. Has r.0.filter (filters_then net c count)) from upto r.0.stay.since some_moment stay.since in record {
           index = moment_or r.0.stay.since from;
@@ -136,11 +131,11 @@ module _ (net : NetParts) (c k : ℕ) (n : List Attribute) (values : AreValues n
     pub allowed_from : IsAllowed real (net_in net k) k n c → list_any is_match facts ≡ true
     allowed_from a =
         let r = has-map (λ (fact : FilterFact). fact.filter) facts a.filter (tell.whole a.filter a.index a.moment a.listed) in
-        any_by is_match r.0 facts r.1 (matching_back r.0 r.1 (ap (real.matches n) (sym r.2) ∙ a.matches))
+        has-any is_match r.0 facts r.1 (matching_back r.0 r.1 (ap (real.matches n) (sym r.2) ∙ a.matches))
 
     pub steady_to : list_any is_match_throughout facts ≡ true → IsMatchedThroughout net c k n
     steady_to e =
-        let r = by_any is_match_throughout facts e in
+        let r = any-some is_match_throughout facts e in
         let both = and_parts (is_nothing r.0.miss) (is_throughout r.0.stay) r.2 in record {
           filter = r.0.filter;
           always = λ count moment.
@@ -152,7 +147,7 @@ module _ (net : NetParts) (c k : ℕ) (n : List Attribute) (values : AreValues n
     steady_from s = go (has-map (λ (fact : FilterFact). fact.filter) facts s.filter (tell.whole s.filter from first_moment (s.always from first_moment)))
       where
         go : ((fact : FilterFact) × Has fact facts × (s.filter ≡ fact.filter)) → list_any is_match_throughout facts ≡ true
-        go r = any_by is_match_throughout r.0 facts r.1
+        go r = has-any is_match_throughout r.0 facts r.1
             (and_from (is_nothing r.0.miss) (is_throughout r.0.stay) (matching_back r.0 r.1 (ap (real.matches n) (sym r.2) ∙ s.matches))
             (lasting (λ count. Has r.0.filter (filters_then net c count)) from upto r.0.stay some_moment
             (λ count l u. subst (λ f. Has f (filters_then net c count)) r.2 (s.always count (record { from = l; upto = u })))
@@ -167,7 +162,7 @@ module _ (net : NetParts) (c k : ℕ) (n : List Attribute) (values : AreValues n
 
     pub advertised_to : list_any is_leave_throughout facts ≡ true → IsAdvertisedThroughout real (net_in net k) c k n
     advertised_to e =
-        let r = by_any is_leave_throughout facts e in
+        let r = any-some is_leave_throughout facts e in
         let both = and_parts (is_nothing r.0.denied) (is_throughout r.0.stay) r.2 in record {
           advert = r.0.advert;
           always = λ count moment.
@@ -179,7 +174,7 @@ module _ (net : NetParts) (c k : ℕ) (n : List Attribute) (values : AreValues n
     advertised_from s = go (has-map (λ (fact : AdvertFact). fact.advert) facts s.advert (tell.whole s.advert from first_moment (s.always from first_moment)))
       where
         go : ((fact : AdvertFact) × Has fact facts × (s.advert ≡ fact.advert)) → list_any is_leave_throughout facts ≡ true
-        go r = any_by is_leave_throughout r.0 facts r.1
+        go r = has-any is_leave_throughout r.0 facts r.1
             (and_from (is_nothing r.0.denied) (is_throughout r.0.stay) (leaving_back r.0 r.1 (ap (λ a. real.allows a n) (sym r.2) ∙ s.allows))
             (lasting (λ count. Has r.0.advert (adverts_then net c count)) from upto r.0.stay some_moment
             (λ count l u. subst (λ a. Has a (adverts_then net c count)) r.2 (s.always count (record { from = l; upto = u })))
@@ -187,7 +182,7 @@ module _ (net : NetParts) (c k : ℕ) (n : List Attribute) (values : AreValues n
 
     pub accepted_to : list_any is_leave facts ≡ true → some_pass (λ a. real.allows a n) (adverts_then net c index) ≡ true
     accepted_to e =
-        let r = by_any is_leave facts e in
+        let r = any-some is_leave facts e in
         let both = and_parts (is_nothing r.0.denied) r.0.here r.2 in
         pass-by (λ a. real.allows a n) r.0.advert (adverts_then net c index) ((tell.each r.0 r.1).here.0 both.1) (leaving r.0 r.1 both.0)
 
@@ -196,7 +191,7 @@ module _ (net : NetParts) (c k : ℕ) (n : List Attribute) (values : AreValues n
       where
         there : (a : List ConstraintParts) → Has a (adverts_then net c index) → real.allows a n ≡ true
             → ((fact : AdvertFact) × Has fact facts × (a ≡ fact.advert)) → list_any is_leave facts ≡ true
-        there a h e r = any_by is_leave r.0 facts r.1
+        there a h e r = has-any is_leave r.0 facts r.1
             (and_from (is_nothing r.0.denied) r.0.here (leaving_back r.0 r.1 (ap (λ a. real.allows a n) (sym r.2) ∙ e))
             ((tell.each r.0 r.1).here.1 (subst (λ a. Has a (adverts_then net c index)) r.2 h)))
 
@@ -207,10 +202,6 @@ module _ (net : NetParts) (c k : ℕ) (n : List Attribute) (values : AreValues n
 asked_to : (on b : Bool) → not on || b ≡ true → on ≡ true → b ≡ true
 asked_to true b e p = e
 asked_to false b e p = absurd cc
-
-asked_from : (on b : Bool) → (on ≡ true → b ≡ true) → not on || b ≡ true
-asked_from true b f = f refl
-asked_from false b f = refl
 
 -- a publish stands at a moment of its phase
 pub publish_moment : (net : NetParts) (id : Id) (index k : ℕ) (n : List Attribute) → NeverFalls real (script_of net id.publisher) → IsPublish net id index k n
@@ -230,14 +221,14 @@ module _ (net : NetParts) (id : Id) (index k : ℕ) (n : List Attribute) (values
     at = p.at;
     publishes = refl;
     ordinal = p.ordinal;
-    allowed = asked_from (with_adverts net.semantics) (some_pass (λ a. real.allows a n) (adverts_then net id.publisher index)) (λ on.
+    allowed = may_pass (with_adverts net.semantics) (some_pass (λ a. real.allows a n) (adverts_then net id.publisher index)) (λ on.
         accepted_to net id.publisher k n values index facts (tell on) (asked_to (with_adverts net.semantics) (list_any is_leave facts) e on));
     phase = refl;
   }
 
   accepts_from : NeverFalls real (script_of net id.publisher) → (with_adverts net.semantics ≡ true → AreAdvertFacts net id.publisher k index n facts)
       → IsAccepted net id k n → not (with_adverts net.semantics) || list_any is_leave facts ≡ true
-  accepts_from falls tell a = asked_from (with_adverts net.semantics) (list_any is_leave facts) (λ on.
+  accepts_from falls tell a = may_pass (with_adverts net.semantics) (list_any is_leave facts) (λ on.
       accepted_from net id.publisher k n values index facts (tell on) (publish_moment net id index k n falls p)
       (subst (λ i. some_pass (λ a. real.allows a n) (adverts_then net id.publisher i) ≡ true) same
       (asked_to (with_adverts net.semantics) (some_pass (λ b. real.allows b n) (adverts_then net id.publisher a.index)) a.allowed on)))
@@ -256,7 +247,7 @@ module _ (net : NetParts) (id : Id) (index k : ℕ) (n : List Attribute) (values
 
   advertises_from : (with_adverts net.semantics ≡ true → AreAdvertFacts net id.publisher k index n facts)
       → IsAdvertised net id.publisher k n → not (with_adverts net.semantics) || list_any is_leave_throughout facts ≡ true
-  advertises_from tell a = asked_from (with_adverts net.semantics) (list_any is_leave_throughout facts) (λ on.
+  advertises_from tell a = may_pass (with_adverts net.semantics) (list_any is_leave_throughout facts) (λ on.
       advertised_from net id.publisher k n values index facts (tell on) (a on))
 
 -- the verdict by four tests

@@ -2,7 +2,7 @@
 use Rattle.std.proofs.Common.{◌≡◌, ℕ, zero, suc, ◌≤◌, inl, inr, List, [], ◌∷◌, take, length, slice_get, Option, Some, None, refl, subst}
 use Rattle.std.specs.List.{flat_map}
 use Rattle.base.specs.Sets.{Has, set_of}
-use Rattle.base.proofs.Sets.{get-has, has-append-left, has-append-right, has-set_of, rising-set_of}
+use Rattle.base.proofs.Sets.{get-has, has-append-left, has-append-right, has-set_of, rising-set_of, flat_map-has}
 use Rattle.filter_constraints.specs.Constraint.{ConstraintParts}
 use Rattle.filter_covering.specs.Laws.{sub_laws, ad_laws}
 use Rattle.filter_types.specs.Before.{list_before}
@@ -17,11 +17,6 @@ use Rattle.output_explain.specs.Facts.{filter_facts, advert_facts}
 use Rattle.output_explain.specs.Telling.{AreFilterFacts, AreAdvertFacts}
 use Rattle.output_explain.proofs.Telling.{filters_tell, adverts_tell}
 
-has_flat : {X Y : Type 0} (f : X → List Y) (xs : List X) (x : X) (y : Y) → Has x xs → Has y (f x) → Has y (flat_map f xs)
-has_flat f [] x y h k = absurd h
-has_flat f (z ∷ xs) x y (inl e) k = has-append-left y (f z) (flat_map f xs) (subst (λ w. Has y (f w)) e k)
-has_flat f (z ∷ xs) x y (inr h) k = has-append-right y (f z) (flat_map f xs) (has_flat f xs x y h k)
-
 of_client : (clients : List ClientParts) (c : ℕ) (g : Script → Lists) (f : List ConstraintParts) → Has f (g (commands_in (client_at clients c)))
     → (g [] ≡ []) → Has f (flat_map (λ (client : ClientParts). g client.script) clients)
 of_client clients zero g f h none = absurd (subst (Has f) none h)
@@ -29,7 +24,7 @@ of_client clients (suc place) g f h none = go (slice_get clients place) refl h
   where
     go : (o : Option ClientParts) → slice_get clients place ≡ o → Has f (g (commands_in o)) → Has f (flat_map (λ (client : ClientParts). g client.script) clients)
     go None e h = absurd (subst (Has f) none h)
-    go (Some client) e h = has_flat (λ (client : ClientParts). g client.script) clients client f (get-has clients place client e) h
+    go (Some client) e h = flat_map-has (λ (client : ClientParts). g client.script) clients client f (get-has clients place client e) h
 
 pub filters_told : (net : NetParts) (c k : ℕ) (n : List Attribute)
     → AreFilterFacts net c k n (filter_facts n (before k (commands_of net c)) (within k (commands_of net c)) (known_filters net.clients))

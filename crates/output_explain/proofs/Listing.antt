@@ -73,9 +73,6 @@ pub none_taken : {A : Type 0} (xs : List A) → take 0 xs ≡ []
 none_taken [] = refl
 none_taken (x ∷ xs) = refl
 
-plus_zero : (count : ℕ) → count + 0 ≡ count
-plus_zero count = omega arith
-
 plus_one : (count : ℕ) → count + 1 ≡ suc count
 plus_one count = omega arith
 
@@ -93,7 +90,7 @@ pub filter_follows : (f : List ConstraintParts) (script : Script) (ys : Lists) (
 filter_follows f [] ys count Holds e = tt
 filter_follows f (step ∷ steps) ys count Holds e = (
   alike (filter_effect f step.1) (Holds count) (Holds (suc count)) (Has f ys) (Has f (filters_step real ys (command_of step.1)))
-      (subst (λ z. Holds z ↔ Has f ys) (plus_zero count) (e 0))
+      (let none : count + 0 ≡ count = omega arith in subst (λ z. Holds z ↔ Has f ys) none (e 0))
       (subst (λ z. Holds z ↔ Has f (filters_step real ys (command_of step.1))) (plus_one count)
       (subst (λ z. Holds (count + 1) ↔ Has f (filters_after real (filters_step real ys (command_of step.1)) z)) (none_taken (map phased_command steps)) (e 1)))
       (filter_step f step.1 ys),
@@ -106,7 +103,7 @@ pub advert_follows : (a : List ConstraintParts) (script : Script) (ys : Lists) (
 advert_follows a [] ys count Holds e = tt
 advert_follows a (step ∷ steps) ys count Holds e = (
   alike (advert_effect a step.1) (Holds count) (Holds (suc count)) (Has a ys) (Has a (adverts_step real ys (command_of step.1)))
-      (subst (λ z. Holds z ↔ Has a ys) (plus_zero count) (e 0))
+      (let none : count + 0 ≡ count = omega arith in subst (λ z. Holds z ↔ Has a ys) none (e 0))
       (subst (λ z. Holds z ↔ Has a (adverts_step real ys (command_of step.1))) (plus_one count)
       (subst (λ z. Holds (count + 1) ↔ Has a (adverts_after real (adverts_step real ys (command_of step.1)) z)) (none_taken (map phased_command steps)) (e 1)))
       (advert_step a step.1 ys),

@@ -1,5 +1,6 @@
 -- The facts that the code gathers tell what stands in the lists of clients at the moments of a phase.
 use Rattle.std.proofs.Common.{◌≡◌, ◌↔◌, ◌⊎◌, inl, inr, ℕ, zero, suc, ◌+◌, ◌≤◌, true, false, List, [], ◌∷◌, map, take, length, Option, Some, None, refl, sym, ap, subst, ◌∙◌, arith}
+use Rattle.base.proofs.Numbers.{zero-add}
 use Rattle.base.specs.Sets.{Has, IsRising}
 use Rattle.base.proofs.Sets.{has-append-left, has-append-right}
 use Rattle.filter_constraints.specs.Constraint.{ConstraintParts}
@@ -49,9 +50,6 @@ high net c k = low net c (suc k) ∙ ap (λ z. below z (commands_of net c)) (nex
     next : (k : ℕ) → suc k ≡ k + 1
     next k = omega arith
 
-none_before : (n : ℕ) → 0 + n ≡ n
-none_before n = omega arith
-
 -- what an answer says of the moments of a phase
 abbrev StayOf : NetParts → ℕ → ℕ → (ℕ → Type 0) → Option Stay → Type 0
 StayOf net c k Holds answer = IsStayAnswer Holds (commands_below real k (script_of net c)) (commands_below real (suc k) (script_of net c)) answer
@@ -74,7 +72,7 @@ filter_going : (net : NetParts) (c : ℕ) (f : List ConstraintParts) → Follows
 filter_going net c f = filter_follows f (commands_of net c) [] 0 (HasFilter net c f) (λ n. (subst (Has f) (same n), subst (Has f) (sym (same n))))
   where
     same : (n : ℕ) → filters_then net c (0 + n) ≡ filters_after real [] (take n (map phased_command (commands_of net c)))
-    same n = ap (λ z. filters_after real [] (take z (script_of net c))) (none_before n) ∙ ap (λ s. filters_after real [] (take n s)) (script_is net c)
+    same n = ap (λ z. filters_after real [] (take z (script_of net c))) (zero-add n) ∙ ap (λ s. filters_after real [] (take n s)) (script_is net c)
 
 filter_stay : (net : NetParts) (c k : ℕ) (f : List ConstraintParts)
     → StayOf net c k (HasFilter net c f) (stay_of (filter_effect f) (before k (commands_of net c)) (within k (commands_of net c)))
@@ -145,7 +143,7 @@ advert_going : (net : NetParts) (c : ℕ) (a : List ConstraintParts) → Follows
 advert_going net c a = advert_follows a (commands_of net c) [] 0 (HasAdvert net c a) (λ n. (subst (Has a) (same n), subst (Has a) (sym (same n))))
   where
     same : (n : ℕ) → adverts_then net c (0 + n) ≡ adverts_after real [] (take n (map phased_command (commands_of net c)))
-    same n = ap (λ z. adverts_after real [] (take z (script_of net c))) (none_before n) ∙ ap (λ s. adverts_after real [] (take n s)) (script_is net c)
+    same n = ap (λ z. adverts_after real [] (take z (script_of net c))) (zero-add n) ∙ ap (λ s. adverts_after real [] (take n s)) (script_is net c)
 
 advert_stay : (net : NetParts) (c k : ℕ) (a : List ConstraintParts)
     → StayOf net c k (HasAdvert net c a) (stay_of (advert_effect a) (before k (commands_of net c)) (within k (commands_of net c)))
@@ -157,7 +155,7 @@ advert_here : (net : NetParts) (c index : ℕ) (a : List ConstraintParts) → in
     → (is_there (advert_effect a) false (take index (commands_of net c)) ≡ true) ↔ HasAdvert net c a index
 advert_here net c index a l =
     subst (λ z. (is_there (advert_effect a) false (take index (commands_of net c)) ≡ true) ↔ HasAdvert net c a z)
-    (none_before (length (take index (commands_of net c))) ∙ length_taken index (commands_of net c) l)
+    (zero-add (length (take index (commands_of net c))) ∙ length_taken index (commands_of net c) l)
     (there_is (advert_effect a) (HasAdvert net c a) 0 (take index (commands_of net c))
     (follows_take (advert_effect a) (HasAdvert net c a) 0 index (commands_of net c) (advert_going net c a)) false
     ((λ t. absurd cc), (λ h. absurd (advert_none net c a h))))
