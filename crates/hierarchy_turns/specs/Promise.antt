@@ -57,7 +57,8 @@ DeliversStably run = (client : ℕ) → IsStable real run client → (publicatio
 
 -- and so is all that flooding owes, whatever is advertised
 abbrev pub DeliversFloodOwedOnce : HierarchyRun real → Type 0
-DeliversFloodOwedOnce run = (publication : Publication real) (client : ℕ) → IsFloodOwedTo real run publication client → IsDeliveredOnce real run publication client
+DeliversFloodOwedOnce run =
+    (publication : Publication real) (client : ℕ) → IsFloodOwedTo real run publication client → IsDeliveredOnce real run publication client
 
 -- BARRIER ORDER: in each client's inbox, after any n entries, the phases of the publications never fall
 abbrev pub DeliversByPhase : HierarchyRun real → Type 0

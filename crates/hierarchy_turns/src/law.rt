@@ -36,7 +36,8 @@ pub fn low()
 
 /// A whole run of a hierarchy puts each accepted publication once on each link to a master on the way to the top and on no other
 /// such link, carries down only what is wanted there, gives its clients what flooding owes them, once, and nothing that it does not
-/// allow, in the order of each publisher, by phase and in causal order; no link carries a publication twice; deliveries go by the filters in force, and its length is bounded.
+/// allow, in the order of each publisher, by phase and in causal order; no link carries a publication twice; deliveries go by the
+/// filters in force, and its length is bounded.
 pub fn promise()
     ensures { (net : NetParts) (journal : List EntryParts) → IsWholeRun net journal → HierarchyPromise net journal }
 {

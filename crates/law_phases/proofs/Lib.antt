@@ -20,6 +20,8 @@ pub mod Merged
 pub mod Again
 pub mod Counted
 pub mod Star
+pub mod FloodSteps
+pub mod FloodPasses
 pub mod Floods
 pub mod Sums
 pub mod Speaking
