@@ -6,8 +6,10 @@ use Rattle.net_model.specs.Real.{real}
 use Rattle.law_hierarchy.specs.Masters.{top, master, IsLower, IsBelow, HierarchyLaws}
 use Rattle.law_hierarchy.specs.HierarchyRun.{HierarchyRun, Routed, IsSentTo, IsWanted, IsDelivered, IsInForce, IsPublished, IsOwedTo, IsAllowedTo}
 use Rattle.law_hierarchy.specs.HierarchyRun.{IsDeliveredOnce, IsInOrder, IsBounded, IsStable, inbox_of, states, times_put}
-use Rattle.law_hierarchy.specs.HierarchyRun.{IsFloodOwedTo, IsByPhase, HappensBefore, AreGivenInOrder}
+use Rattle.law_hierarchy.specs.HierarchyRun.{IsFloodOwedTo, IsByPhase, HappensBefore, AreGivenInOrder, IsSettledOn, IsAllReceivedBy, IsDeliveredOnceBy}
+use Rattle.law_hierarchy.specs.Economy.{CarriesNoMore}
 use Rattle.net_model.specs.Parts.{NetParts, EntryParts}
+use Rattle.net_model.specs.Nets.{clients_in}
 use Rattle.net_model.specs.Sound.{IsSound}
 use Rattle.hierarchy_turns.specs.Network.{net_of, IsLegal, IsDrainedBy, run_of}
 
@@ -71,6 +73,11 @@ DeliversCausally run = (one : Publication real) (between : List (Publication rea
     → Has one (((states real run n).state server).inbox client) → Has other (((states real run n).state server).inbox client)
     → AreGivenInOrder real run n server client one other
 
+-- and after any n entries, by which its messages on its way are received, a publication that is settled on that way stood in the client's inbox once
+abbrev pub DeliversSettledBy : HierarchyRun real → Type 0
+DeliversSettledBy run = (publication : Publication real) (client : ℕ) (on_way : IsSettledOn real run publication client) (n : ℕ)
+    → IsAllReceivedBy real run n publication client on_way → IsDeliveredOnceBy real run n publication client
+
 -- no publication was put twice on a link, by any moment
 abbrev pub CarriesOnce : HierarchyRun real → Type 0
 CarriesOnce run = (n from to publisher ordinal : ℕ) → times_put real run n from to publisher ordinal ≤ 1
@@ -91,7 +98,9 @@ pub record HierarchyPromise (net : NetParts) (journal : List EntryParts) : Type 
   pub in_order : (publisher : ℕ) → IsInOrder real (run_of net laws journal legal) publisher (length journal)
   pub by_phase : DeliversByPhase (run_of net laws journal legal)
   pub causal : DeliversCausally (run_of net laws journal legal)
+  pub settled_by : DeliversSettledBy (run_of net laws journal legal)
   pub carries_once : CarriesOnce (run_of net laws journal legal)
+  pub never_more : CarriesNoMore real (run_of net laws journal legal) (clients_in net)
   pub bounded : IsBounded real (run_of net laws journal legal)
 
 -- a journal is a whole run of a hierarchy: legal, of a sound net, and all is drained at its end

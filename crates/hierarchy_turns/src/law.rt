@@ -36,8 +36,8 @@ pub fn low()
 
 /// A whole run of a hierarchy puts each accepted publication once on each link to a master on the way to the top and on no other
 /// such link, carries down only what is wanted there, gives its clients what flooding owes them, once, and nothing that it does not
-/// allow, in the order of each publisher, by phase and in causal order; no link carries a publication twice; deliveries go by the
-/// filters in force, and its length is bounded.
+/// allow, in the order of each publisher, by phase and in causal order, and what is settled on its way by each moment; no link carries
+/// a publication twice, or more than flooding puts on it; deliveries go by the filters in force, and its length is bounded.
 pub fn promise()
     ensures { (net : NetParts) (journal : List EntryParts) → IsWholeRun net journal → HierarchyPromise net journal }
 {
@@ -49,7 +49,9 @@ pub fn promise()
     law_hierarchy::flood_owed_once::<Real>();
     law_hierarchy::delivered_by_phase::<Real>();
     law_hierarchy::causal_order::<Real>();
+    law_hierarchy::settled_by::<Real>();
     law_hierarchy::never_twice::<Real>();
+    law_hierarchy::economy::<Real>();
     law_hierarchy::delivered_allowed::<Real>();
     law_hierarchy::stable_inputs::<Real>();
     law_hierarchy::in_order::<Real>();

@@ -116,6 +116,17 @@ none = record { net = line_becomes_star; laws = star-lawful; journal = []; end =
 pub star-drains : DrainsBy ranges line_becomes_star (phased_walk ranges line_becomes_star 2)
 star-drains = let x = walk-drains ranges ranges-laws none 2 low (omega arith) in record { end = record { state = x.0; phase = x.1 }; run = x.2; drained = x.3 }
 
+-- its walk as a run
+abbrev pub star-run : PhasedRun ranges
+star-run = record {
+  net = line_becomes_star;
+  laws = star-lawful;
+  journal = phased_walk ranges line_becomes_star 2;
+  end = star-drains.end.state;
+  last = star-drains.end.phase;
+  legal = star-drains.run;
+}
+
 pub publishes-lawful : PhasedNetLaws ranges subscriber_publishes
 publishes-lawful = record {
   first = star-laws.first;

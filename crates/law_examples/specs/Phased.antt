@@ -8,6 +8,8 @@ use Rattle.law_routing.specs.Example.{line_clients, line_home}
 use Rattle.law_phases.specs.Trees.{JournalEntry, entry_on, entry_off, PhasedNet, net_at, machine_at, at_phase}
 use Rattle.law_phases.specs.Moments.{Moment, opening_moment, found_by, acted, moment_of}
 use Rattle.law_phases.specs.Runs.{PhasedRun}
+use Rattle.law_phases.specs.AtMoments.{EndsDrained}
+use Rattle.law_phases.specs.Economy.{noticed, flooded}
 use Rattle.law_phases.specs.Settled.{IsSettledTo, IsSettledOn, IsAllReceivedBy}
 use Rattle.law_phases.specs.Sequence.{IsMadeKnowing}
 use Rattle.law_phases.specs.Walk.{walk_of}
@@ -112,6 +114,16 @@ pub record IsSettledBy (net : PhasedNet ranges) (journal : List JournalEntry) (p
   pub of_journal : run.journal ≡ journal
   pub on_way : IsSettledOn ranges run publication client
   pub received : IsAllReceivedBy ranges run n publication client on_way
+
+-- in a drained run of this net with this journal so many notifications go over a link, and plain flooding of the publications of clients 1 and 2 puts so
+-- many on it
+pub record Carries (net : PhasedNet ranges) (journal : List JournalEntry) (from to carried flooding : ℕ) : Type 0 where
+  pub run : PhasedRun ranges
+  pub of_net : run.net ≡ net
+  pub of_journal : run.journal ≡ journal
+  pub drained : EndsDrained ranges run
+  pub carries : noticed ranges run (length run.journal) from to ≡ carried
+  pub floods : flooded ranges run.net (1 ∷ 2 ∷ []) from to ≡ flooding
 
 -- the run in which client 1 answers client 3
 abbrev pub answered : PhasedNet ranges

@@ -12,7 +12,8 @@ ghost use Rattle.law_examples.specs.Trace.{line, walk, replay, trace, given};
 ghost use Rattle.law_examples.specs.SmallNets.{ranges_publication, advertised_late, advertised_until, both_publish, answers, far_then_near, near_tried_first};
 ghost use Rattle.law_phases.specs.Flooding.{IsFloodOwed};
 ghost use Rattle.law_examples.specs.Flooding.{flooded_net, IsFlooding};
-ghost use Rattle.law_examples.specs.Phased.{answered, answered_journal, IsAnswered};
+ghost use Rattle.law_phases.specs.Bounds.{receptions_in, commands_in};
+ghost use Rattle.law_examples.specs.Phased.{answered, answered_journal, IsAnswered, phased_walk, line_becomes_star, Carries};
 
 /// That an advertisement is in force when a publish is accepted doesn't suffice: where a client advertises and publishes in one phase, the notice sets
 /// out before any server has sent a subscription for it back, though the subscriber has its filter all the time.
@@ -71,4 +72,13 @@ pub fn answer_comes_behind()
 pub fn flooding_delivers()
     ensures runs { IsFlooding 5 2 (ranges_publication 1 1 9 ∷ []) }
     ensures owed { IsFloodOwed ranges flooded_net (ranges_publication 1 1 9) 2 }
+{}
+
+/// A link carries fewer notifications than flooding puts on it where nobody beyond wants one, and as many where each is due to a client beyond. Each
+/// command leads to at most one reception at each other server: three of at most four.
+pub fn carries_no_more()
+    ensures wanted { Carries line_becomes_star (phased_walk ranges line_becomes_star 2) 3 1 1 1 }
+    ensures unwanted { Carries line_becomes_star (phased_walk ranges line_becomes_star 2) 1 2 0 1 }
+    ensures receptions { receptions_in (phased_walk ranges line_becomes_star 2) ≡ 3 }
+    ensures commands { commands_in (phased_walk ranges line_becomes_star 2) ≡ 2 }
 {}

@@ -16,3 +16,5 @@ pub mod Walking
 pub mod Nets
 pub mod ByPhase
 pub mod Causal
+pub mod Settled
+pub mod CarriesNoMore

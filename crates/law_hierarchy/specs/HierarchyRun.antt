@@ -11,11 +11,11 @@ use Rattle.law_routing.specs.Net.{Net, PhasedCommand}
 use Rattle.law_routing.specs.Clients.{some_pass, filters_after}
 use Rattle.law_routing.specs.Server.{Message, Publication, client_interface}
 use Rattle.law_routing.specs.Routing.{Network, NetEntry, all_commands}
-use Rattle.law_routing.specs.Rest.{filters_of, IsDrained}
-use Rattle.law_routing.specs.AsOf.{calm, back, IsRoutedAt, IsDeliveredAt, IsWantedBeyond, times_delivered}
+use Rattle.law_routing.specs.Rest.{filters_of, IsDrained, IsOnwardWay, end_of}
+use Rattle.law_routing.specs.AsOf.{calm, back, as_of, IsRoutedAt, IsReceivedAlong, IsDeliveredAt, IsWantedBeyond, times_delivered}
 use Rattle.law_routing.specs.Order.{IsStrictlyRising, ordinals_put, ordinals_delivered, ordinals_routed}
 use Rattle.law_routing.specs.Owed.{IsMomentOfPhase, IsPublication, IsOwed, IsAllowed}
-use Rattle.law_hierarchy.specs.Masters.{up, HierarchyLaws}
+use Rattle.law_hierarchy.specs.Masters.{up, is_master, HierarchyLaws}
 use Rattle.law_hierarchy.specs.Step.{hierarchy_machine, Hierarchy, HierarchyEntry, opening, measure, as_peers, entry_as_peers}
 use Rattle.law_hierarchy.specs.Walk.{walk_of}
 
@@ -169,6 +169,47 @@ module _ (theory : Theory) (run : HierarchyRun theory) where
     pub before : place < later
     pub first : slice_get (((states n).state server).inbox client) place ≡ Some one
     pub second : slice_get (((states n).state server).inbox client) later ≡ Some other
+
+  -- a server knows at m, by its last table update, of a filter of the client that matches; the way to the client goes on by this path
+  pub record IsKnownAt (notice : theory.Notice) (client server : ℕ) (path : List ℕ) (m : ℕ) : Type 0 where
+    pub filter : theory.Filter
+    pub wanted : Has filter (filters_of theory run.net (states (as_of theory run.net states server path (calm theory run.net states server m))) client)
+    pub matches : theory.matches notice filter ≡ true
+
+  -- and so whenever an entry routes the publication there
+  abbrev pub IsKnownHere : Publication theory → ℕ → ℕ → List ℕ → Type 0
+  IsKnownHere publication client server path = (m interface : ℕ)
+      → IsRoutedAt theory run.net states entries m server interface publication.publisher publication.ordinal publication.notice
+      → IsKnownAt publication.notice client server path m
+
+  -- SETTLED: each server of the way sends it up, whatever is held there, or knows of a filter of the client that matches; the last one knows of it
+  abbrev pub IsSettledAlong : Publication theory → ℕ → ℕ → List ℕ → Type 0
+  IsSettledAlong publication client server [] = IsKnownHere publication client server []
+  IsSettledAlong publication client server (next ∷ path) =
+      ((is_master theory run.net server next ≡ true) ⊎ IsKnownHere publication client server (next ∷ path))
+      × IsSettledAlong publication client next path
+
+  -- an entry publishes it, and it is settled all along the way from its publisher's home to the client
+  pub record IsSettledOn (publication : Publication theory) (client : ℕ) : Type 0 where
+    pub here : Has publication.publisher (run.net.clients (run.net.home publication.publisher))
+    pub moment : ℕ
+    pub published : IsMadeAt moment publication
+    pub path : List ℕ
+    pub way : IsOnwardWay theory run.net (run.net.home publication.publisher) (run.net.home publication.publisher) path
+    pub lives : Has client (run.net.clients (end_of theory run.net (run.net.home publication.publisher) path))
+    pub settled : IsSettledAlong publication client (run.net.home publication.publisher) path
+
+  -- after n entries it is published, and each message of it on that way is received
+  pub record IsAllReceivedBy (n : ℕ) (publication : Publication theory) (client : ℕ) (on_way : IsSettledOn publication client) : Type 0 where
+    pub within : n ≤ length run.journal
+    pub published : on_way.moment < n
+    pub received : IsReceivedAlong theory run.net states n publication.publisher publication.ordinal publication.notice
+        (run.net.home publication.publisher) on_way.path
+
+  -- after n entries the client's inbox has it, once
+  abbrev pub IsDeliveredOnceBy : ℕ → Publication theory → ℕ → Type 0
+  IsDeliveredOnceBy n publication client = Has publication (((states n).state (run.net.home client)).inbox client)
+      × (times_delivered theory run.net publication.publisher publication.ordinal (((states n).state (run.net.home client)).inbox client) ≡ 1)
 
   -- what the load of the run is measured by
   abbrev pub run_measure : Measure (hierarchy_machine theory run.net)

@@ -4,3 +4,4 @@ pub mod Content
 pub mod Walk
 pub mod HierarchyRun
 pub mod Example
+pub mod Economy

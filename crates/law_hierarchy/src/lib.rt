@@ -32,10 +32,11 @@ ghost use Rattle.law_hierarchy.specs.Masters.{top, master, is_master, union_all,
 ghost use Rattle.law_hierarchy.specs.Step.{hierarchy_machine, opening, measure};
 ghost use Rattle.law_hierarchy.specs.Content.{filter_content};
 ghost use Rattle.law_hierarchy.specs.HierarchyRun.{HierarchyRun, states, last_state, Routed, IsSentTo, IsWanted, IsDelivered, IsInForce};
-ghost use Rattle.law_hierarchy.specs.HierarchyRun.{IsFloodOwedTo, IsByPhase, HappensBefore, AreGivenInOrder};
+ghost use Rattle.law_hierarchy.specs.HierarchyRun.{IsFloodOwedTo, IsByPhase, HappensBefore, AreGivenInOrder, IsSettledOn, IsAllReceivedBy, IsDeliveredOnceBy};
 ghost use Rattle.law_hierarchy.specs.HierarchyRun.{IsDrainedRun, IsDeliveredOnce, IsPublished, IsOwedTo, IsAllowedTo, IsInOrder, IsBounded};
 ghost use Rattle.law_hierarchy.specs.HierarchyRun.{inbox_of, times_put, times_routed, EndsQuiet, EndsThrough, back_at, calm_at, up_at};
 ghost use Rattle.law_hierarchy.specs.HierarchyRun.{IsStable, AllBelow, WalkDrains};
+ghost use Rattle.law_hierarchy.specs.Economy.{AreClients, CarriesNoMore};
 ghost use Rattle.law_hierarchy.specs.Example.{pair, chain};
 
 use law_routing::Matching;
@@ -170,6 +171,18 @@ pub fn causal_order<M: Matching>()
         → HappensBefore M.theory run one between other → (n server client : ℕ) → Has client (run.net.clients server)
         → Has one (((states M.theory run n).state server).inbox client) → Has other (((states M.theory run n).state server).inbox client)
         → AreGivenInOrder M.theory run n server client one other }
+{}
+
+/// At any moment, a publication that is settled on its way to a client, and whose messages on that way are all received, stands in
+/// the client's inbox exactly once.
+pub fn settled_by<M: Matching>()
+    ensures { (run : HierarchyRun M.theory) (publication : Publication M.theory) (client : ℕ) (on_way : IsSettledOn M.theory run publication client) (n : ℕ)
+        → IsAllReceivedBy M.theory run n publication client on_way → IsDeliveredOnceBy M.theory run n publication client }
+{}
+
+/// No link, up or down, carries more notifications than plain flooding puts on it, in any run by any moment.
+pub fn economy<M: Matching>()
+    ensures { (run : HierarchyRun M.theory) (clients : List ℕ) → AreClients M.theory run.net clients → CarriesNoMore M.theory run clients }
 {}
 
 /// In a drained run what is owed is delivered exactly once.

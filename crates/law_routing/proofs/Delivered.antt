@@ -121,7 +121,7 @@ module _ (th : Theory) (laws : TheoryLaws th) (net : Net th) (good : NetLaws th 
       )
 
   -- and when its message is received it passes the neighbour
-  moves-on : (m interface q o : ℕ) (n : th.Notice) (t u last : ℕ) (p : IsRoutedAt th net h J m t interface q o n) (near : Has u (net.links t)) → (u ≡ interface → ⊥) → some_pass (th.matches n) (((h m).state t).installed u) ≡ true → m < last
+  pub moves-on : (m interface q o : ℕ) (n : th.Notice) (t u last : ℕ) (p : IsRoutedAt th net h J m t interface q o n) (near : Has u (net.links t)) → (u ≡ interface → ⊥) → some_pass (th.matches n) (((h m).state t).installed u) ≡ true → m < last
       → ((k : ℕ) (x : Stamped (Message th)) → slice_get ((h last).put t u) k ≡ Some x → x.message ≡ Noticed q o n → k < (h last).taken t u) → (m' : ℕ) × (m' < last) × IsRoutedAt th net h J m' u t q o n
   moves-on m interface q o n t u last p near ne hit l taken =
       let s = stands m interface q o n t u last p near ne hit l in

@@ -5,3 +5,4 @@ pub mod SoundNets
 pub mod Walking
 pub mod Counted
 pub mod TreesByPhase
+pub mod ClientsInNet

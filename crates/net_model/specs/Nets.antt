@@ -42,9 +42,13 @@ abbrev pub client_at : List ClientParts → ℕ → Option ClientParts
 client_at clients zero = None
 client_at clients (suc place) = slice_get clients place
 
+-- the clients of a net, by their numbers
+abbrev pub clients_in : NetParts → List ℕ
+clients_in net = range_with_len 1 (length net.clients)
+
 -- something of each client of a net, in the order of the net
 abbrev pub of_clients : {A : Type 0} → NetParts → (ℕ → A) → List A
-of_clients net f = map f (range_with_len 1 (length net.clients))
+of_clients net f = map f (clients_in net)
 
 -- the server of a client, where there is one; else server 1
 abbrev pub home_in : Option ClientParts → ℕ
@@ -79,7 +83,7 @@ home_of net client = home_in (client_at net.clients client)
 
 -- the clients of a server, rising
 abbrev pub clients_of : NetParts → ℕ → List ℕ
-clients_of net server = filter (λ client. home_of net client == server) (range_with_len 1 (length net.clients))
+clients_of net server = filter (λ client. home_of net client == server) (clients_in net)
 
 -- the commands of a client, in order
 abbrev pub script_of : NetParts → ℕ → List (PhasedCommand real)

@@ -1,11 +1,9 @@
 -- The notifications of a run's entries, told by the texts of its messages.
-use Rattle.std.proofs.Common.{◌≡◌, ℕ, zero, suc, ◌+◌, ◌<◌, ◌==◌, ◌&&◌, Bool, true, false, cond, List, [], ◌∷◌, ◌++◌, inl, inr, length, map, slice_get, Option, Some, None, refl, sym, ap, subst, ◌∙◌, arith, eq-eqb, ne_eqb}
+use Rattle.std.proofs.Common.{◌≡◌, ℕ, suc, ◌+◌, ◌==◌, ◌&&◌, Bool, true, false, cond, List, [], ◌∷◌, ◌++◌, inl, inr, length, map, slice_get, Some, refl, sym, ap, subst, ◌∙◌, arith, eq-eqb, ne_eqb}
 use Rattle.std.proofs.lemmas.List.{length-map}
 use Rattle.base.specs.Sets.{Has}
 use Rattle.base.specs.Numbers.{IsDistinct, sum_over, count}
 use Rattle.base.proofs.Numbers.{Same, Is, Not, compare}
-use Rattle.base_tree.proofs.Servers.{in-server}
-use Rattle.law_routing.specs.Net.{PhasedCommand}
 use Rattle.law_routing.specs.Server.{Message, Subs, Advs, Noticed, is_among}
 use Rattle.law_routing.proofs.Laws.{one-has}
 use Rattle.law_routing.proofs.Listing.{has-one}
@@ -17,13 +15,10 @@ use Rattle.net_model.specs.Real.{real, real_laws}
 use Rattle.filter_text.specs.declared.sent.Sent.{Sent}
 use Rattle.filter_text.specs.MessageText.{message_text}
 use Rattle.server_spec.specs.Control.{sent_to as text_to, texts, wired}
-use Rattle.net_model.specs.Parts.{ClientParts, EntryParts, NetParts}
+use Rattle.net_model.specs.Parts.{EntryParts}
 use Rattle.net_model.specs.Meaning.{entry_of, journal_of}
-use Rattle.net_model.specs.Nets.{phased_net, client_at, script_in}
-use Rattle.net_model.proofs.Places.{distinct-range}
 use Rattle.output_traffic.specs.Carried.{carried, is_notice, notices_on, put_on, sent_to}
-use Rattle.output_traffic.specs.Flood.{clients_in}
-use Rattle.output_traffic.specs.Runs.{AreClients, is_noticed, noticed, noticed_at, noticed_maybe}
+use Rattle.output_traffic.specs.Runs.{is_noticed, noticed, noticed_at, noticed_maybe}
 use Rattle.output_traffic.specs.Told.{told_from}
 use Rattle.law_phases.proofs.Carrying.{puts-one}
 use Rattle.law_phases.proofs.Speaking.{notices}
@@ -121,23 +116,3 @@ module _ (run : PhasedRun real) where
     where
       plain : (i : ℕ) → 0 + i ≡ i
       plain i = omega arith
-
--- the clients of a net
-pub are-clients : (net : NetParts) → AreClients real (phased_net net) (clients_in net)
-are-clients net = record {
-  each = λ client command h. each client command h;
-  single = distinct-range 1 (length net.clients);
-}
-  where
-    within : {X : Type 0} (xs : List X) (i : ℕ) (x : X) → slice_get xs i ≡ Some x → i < length xs
-    within [] i x e = absurd cc
-    within (y ∷ xs) zero x e = omega arith
-    within (y ∷ xs) (suc i) x e = omega (arith, within xs i x e)
-
-    one : (i : ℕ) (o : Option ClientParts) → slice_get net.clients i ≡ o → (command : PhasedCommand real) → Has command (script_in o) → Has (suc i) (clients_in net)
-    one i None e command h = absurd h
-    one i (Some client) e command h = in-server (length net.clients) (suc i) (omega arith, omega (arith, within net.clients i client e))
-
-    each : (client : ℕ) (command : PhasedCommand real) → Has command (script_in (client_at net.clients client)) → Has client (clients_in net)
-    each zero command h = absurd h
-    each (suc i) command h = one i (slice_get net.clients i) refl command h

@@ -10,7 +10,7 @@ use Rattle.filter_text.specs.declared.sent.Sent.{Sent}
 use Rattle.net_model.specs.Parts.{NetParts, EntryParts}
 use Rattle.net_model.specs.Meaning.{journal_of}
 use Rattle.net_model.specs.Lists.{refused_ordinals}
-use Rattle.net_model.specs.Nets.{home_of, of_clients, phased_net}
+use Rattle.net_model.specs.Nets.{home_of, of_clients, phased_net, clients_in}
 use Rattle.net_turns.specs.Network.{NetworkParts, IsDrainedBy, IsLegal, refused_by}
 use Rattle.net_turns.specs.Retold.{turn_of_entry}
 use Rattle.net_turns.specs.Told.{told_of, told_from, told_by}
@@ -20,7 +20,7 @@ use Rattle.output_traffic.specs.declared.carried.Carried.{Carried}
 use Rattle.output_traffic.specs.Tallied.{Carries}
 use Rattle.output_traffic.specs.Told.{IsTold, told_from as run_told_from}
 use Rattle.document_reader.specs.Net.{IsNetOf}
-use Rattle.output_traffic.specs.Flood.{clients_in, refused_of}
+use Rattle.output_traffic.specs.Flood.{refused_of}
 use Rattle.output_traffic.specs.Laws.{AsManyWhereOwed, NeverMore}
 use Rattle.program_sequential.specs.declared.body.Body.TheVariants as bodies
 use Rattle.program_sequential.specs.declared.words.Schedule.TheVariants.{Walk}

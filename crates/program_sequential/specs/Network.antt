@@ -14,9 +14,8 @@ use Rattle.law_phases.specs.Bounds.{KeepsBounds}
 use Rattle.net_model.specs.Real.{real}
 use Rattle.net_model.specs.Parts.{NetParts, EntryParts}
 use Rattle.net_model.specs.Meaning.{journal_of}
-use Rattle.net_model.specs.Nets.{phased_net}
+use Rattle.net_model.specs.Nets.{phased_net, clients_in}
 use Rattle.net_model.specs.Sound.{IsSound}
-use Rattle.output_traffic.specs.Flood.{clients_in}
 use Rattle.net_turns.specs.Network.{moment_by, IsLegal, IsDrainedBy, refused_by, received_by}
 use Rattle.program_sequential.specs.declared.words.Schedule.{Schedule}
 use Rattle.program_sequential.specs.declared.words.Shown.{Shown}

@@ -2,6 +2,8 @@ use Rattle.std.proofs.Common.{length, sym, subst}
 use Rattle.base.specs.Sets.{Has}
 use Rattle.law_routing.specs.Routing.{Network}
 use Rattle.net_model.specs.Real.{real}
+use Rattle.net_model.specs.Nets.{clients_in}
+use Rattle.net_model.proofs.ClientsInNet.{are-clients}
 use Rattle.hierarchy_turns.specs.Network.{net_of, run_of, entry_in}
 use Rattle.hierarchy_turns.proofs.law.promise.Goals as goal
 use Rattle.law_hierarchy.specs.HierarchyRun.{IsInOrder}
@@ -22,7 +24,9 @@ returns c = λ net journal whole.
       flood_owed_once = c.flood_owed_once.ensures run whole.drained;
       by_phase = c.delivered_by_phase.ensures run;
       causal = c.causal_order.ensures run;
+      settled_by = c.settled_by.ensures run;
       carries_once = c.never_twice.ensures.put run;
+      never_more = (let known = are-clients net in c.economy.ensures run (clients_in net) (record { each = known.each; single = known.single }));
       allowed = λ publication client lives h. c.delivered_allowed.ensures run (length run.journal) (run.net.home client) client publication lives
           (subst (λ (z : Network real (net_of net)). Has publication ((z.state (run.net.home client)).inbox client)) (sym (c.last_moment.ensures run)) h);
       stable = c.stable_inputs.ensures run whole.drained;

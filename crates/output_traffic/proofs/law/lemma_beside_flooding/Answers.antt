@@ -1,15 +1,16 @@
 use Rattle.std.proofs.Common.{ℕ, ◌+◌, ◌≤◌, sym, ap, subst, ◌∙◌, arith}
 use Rattle.law_phases.specs.Trees.{PhasedNet}
 use Rattle.net_model.specs.Real.{real, real_laws}
-use Rattle.net_model.specs.Nets.{phased_net}
+use Rattle.net_model.specs.Nets.{phased_net, clients_in}
 use Rattle.output_traffic.specs.Carried.{notices_on}
-use Rattle.output_traffic.specs.Flood.{clients_in, flood_on, flooded}
+use Rattle.output_traffic.specs.Flood.{flood_on, flooded}
 use Rattle.output_traffic.specs.Links.{links_in}
 use Rattle.output_traffic.specs.Runs.{AreClients, IsAllOwed}
 use Rattle.law_phases.proofs.Equalling.{all-due, as-flooding}
 use Rattle.law_phases.proofs.Saved.{never-more}
 use Rattle.law_phases.proofs.Sums.{sum-le}
-use Rattle.output_traffic.proofs.Telling.{all-told, are-clients}
+use Rattle.net_model.proofs.ClientsInNet.{are-clients}
+use Rattle.output_traffic.proofs.Telling.{all-told}
 use Rattle.output_traffic.proofs.law.lemma_beside_flooding.Goals as goal
 use Rattle.base.proofs.Numbers.{sum_over-same}
 

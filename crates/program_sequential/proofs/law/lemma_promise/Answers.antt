@@ -3,14 +3,13 @@ use Rattle.law_routing.specs.Order.{IsStrictlyRising}
 use Rattle.law_phases.specs.AtMoments.{net_then, inbox_of}
 use Rattle.net_model.specs.Real.{real}
 use Rattle.net_model.specs.Meaning.{delivery_of}
-use Rattle.net_model.specs.Nets.{home_of}
+use Rattle.net_model.specs.Nets.{home_of, clients_in}
 use Rattle.net_model.specs.Lists.{refused_ordinals}
 use Rattle.program_sequential.specs.Promise.{RefusesByScripts, id_of}
 use Rattle.program_sequential.specs.Network.{lists_by, run_of}
 use Rattle.program_sequential.proofs.Inboxes.{times-delivered, ordinals-delivered, client-lives, published-notice}
 use Rattle.program_sequential.proofs.Flooded.{flooding-in, flood-printed}
-use Rattle.output_traffic.specs.Flood.{clients_in}
-use Rattle.output_traffic.proofs.Telling.{are-clients}
+use Rattle.net_model.proofs.ClientsInNet.{are-clients}
 use Rattle.program_sequential.proofs.Settled.{settled-to}
 use Rattle.program_sequential.proofs.Phased.{by-phase-ids}
 use Rattle.program_sequential.proofs.law.lemma_promise.Goals as goal
