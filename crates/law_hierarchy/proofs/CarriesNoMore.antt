@@ -18,7 +18,7 @@ use Rattle.law_routing.proofs.Started.{authentic-run}
 use Rattle.law_hierarchy.specs.Masters.{top}
 use Rattle.law_hierarchy.specs.HierarchyRun.{HierarchyRun, states}
 use Rattle.law_hierarchy.specs.Economy.{AreClients, CarriesNoMore, flooded_by}
-use Rattle.law_hierarchy.proofs.Wide.{wide}
+use Rattle.law_hierarchy.proofs.Wide.{wide, wide-laws}
 use Rattle.law_hierarchy.proofs.Listener.{peers}
 use Rattle.law_hierarchy.proofs.Shadow.{sent-on}
 use Rattle.law_hierarchy.proofs.Networks.{stamped-on}
@@ -31,15 +31,15 @@ noticed-in th xs = sum_over (λ x. count (is_noticed th x.message)) xs
 
 module _ (th : Theory) (net : Net th) (clients : List ℕ) (single : IsDistinct clients) where
   -- the notifications of a link are those of all publishers
-  pub by-publishers : (xs : List (Stamped (Message th))) → ((x : Stamped (Message th)) (q o : ℕ) (n : th.Notice) → Has x xs → x.message ≡ Noticed q o n → Has q clients)
+  by-publishers : (xs : List (Stamped (Message th))) → ((x : Stamped (Message th)) (q o : ℕ) (n : th.Notice) → Has x xs → x.message ≡ Noticed q o n → Has q clients)
       → noticed-in th xs ≡ sum_over (λ q. length (ordinals_put th net q xs)) clients
   by-publishers [] known = sym (sum-zero clients)
   by-publishers (x ∷ xs) known = go x.message refl (by-publishers xs (λ y q o n i e. known y q o n (inr i) e))
     where
       go : (m : Message th) → x.message ≡ m → noticed-in th xs ≡ sum_over (λ q. length (ordinals_put th net q xs)) clients
           → count (is_noticed th m) + noticed-in th xs ≡ sum_over (λ q. length (add_ordinal th net q m (ordinals_put th net q xs))) clients
-      go (Subs out add) e ih = ih
-      go (Advs out add) e ih = ih
+      go (Subs out add) e ih = omega (arith, ih)
+      go (Advs out add) e ih = omega (arith, ih)
       go (Noticed p o n) e ih = omega (
         arith,
         ih,
@@ -49,17 +49,17 @@ module _ (th : Theory) (net : Net th) (clients : List ℕ) (single : IsDistinct 
       )
         where
           longer : (b : Bool) (os : List ℕ) → length (cond b (o ∷ os) os) ≡ length (cond b (o ∷ []) []) + length os
-          longer true os = refl
-          longer false os = refl
+          longer true os = omega arith
+          longer false os = omega arith
 
   -- what stands among a publisher's ordinals is a notification of it
-  pub record Stands (q o : ℕ) (xs : List (Stamped (Message th))) : Type 0 where
-    pub message : Stamped (Message th)
-    pub notice : th.Notice
-    pub among : Has message xs
-    pub is : message.message ≡ Noticed q o notice
+  record Stands (q o : ℕ) (xs : List (Stamped (Message th))) : Type 0 where
+    message : Stamped (Message th)
+    notice : th.Notice
+    among : Has message xs
+    is : message.message ≡ Noticed q o notice
 
-  pub stands : (q o : ℕ) (xs : List (Stamped (Message th))) → Has o (ordinals_put th net q xs) → Stands q o xs
+  stands : (q o : ℕ) (xs : List (Stamped (Message th))) → Has o (ordinals_put th net q xs) → Stands q o xs
   stands q o [] has = absurd has
   stands q o (x ∷ xs) has = go x.message refl has (stands q o xs)
     where

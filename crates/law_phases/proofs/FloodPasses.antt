@@ -27,7 +27,6 @@ use Rattle.std.proofs.lemmas.Bool.{cases_lt, and_parts, both_ways}
 use Rattle.base.proofs.Lists.{get-append}
 use Rattle.law_phases.proofs.FloodSteps.{Step, Still, done-rises, done-steps, put-grows, put-rises, step-of, taken-rises, taken-steps, tree-laws}
 
-
 module _ (th : Theory) (laws : TheoryLaws th) (run : FloodRun th) where
   abbrev net : PhasedNet th
   net = run.net
@@ -83,14 +82,14 @@ module _ (th : Theory) (laws : TheoryLaws th) (run : FloodRun th) where
           none e = cc
 
   -- what stands on a link at a place was put there by an entry that passes it on
-  record Put (m u t j k : ℕ) (p : Publication th) : Type 0 where
-    moment : ℕ
-    before : moment < m
-    interface : ℕ
-    passes : Passes moment u interface k p
-    place : length ((h moment).put u t) ≡ j
-    longer : j < length ((h (suc moment)).put u t)
-    other : t ≡ interface → ⊥
+  pub record Put (m u t j k : ℕ) (p : Publication th) : Type 0 where
+    pub moment : ℕ
+    pub before : moment < m
+    pub interface : ℕ
+    pub passes : Passes moment u interface k p
+    pub place : length ((h moment).put u t) ≡ j
+    pub longer : j < length ((h (suc moment)).put u t)
+    pub other : t ≡ interface → ⊥
 
   was-put : (m u t j k : ℕ) (p : Publication th) (y : Stamped (FloodMessage th)) → slice_get ((h m).put u t) j ≡ Some y → y.message ≡ record { phase = k; publication = p } → Put m u t j k p
   was-put zero u t j k p y e f = absurd (none e)
@@ -142,22 +141,22 @@ module _ (th : Theory) (laws : TheoryLaws th) (run : FloodRun th) where
                   }
 
   -- what passes a server was installed by its client, or came from a neighbour on the tree of its phase
-  record AtHome (m t i k : ℕ) (p : Publication th) : Type 0 where
-    home : t ≡ run.net.home p.publisher
-    from : i ≡ t
-    published : IsPublishedIn th run.net k p
-    index : published.index ≡ ((h m).state t).done p.publisher
-    counts : ((h (suc m)).state t).done p.publisher ≡ suc (((h m).state t).done p.publisher)
-    current : k ≡ ph (suc m)
+  pub record AtHome (m t i k : ℕ) (p : Publication th) : Type 0 where
+    pub home : t ≡ run.net.home p.publisher
+    pub from : i ≡ t
+    pub published : IsPublishedIn th run.net k p
+    pub index : published.index ≡ ((h m).state t).done p.publisher
+    pub counts : ((h (suc m)).state t).done p.publisher ≡ suc (((h m).state t).done p.publisher)
+    pub current : k ≡ ph (suc m)
 
-  record Came (m t i k : ℕ) (p : Publication th) : Type 0 where
-    near : Has i ((tree_at th run.net k).links t)
-    put : Put m i t ((h m).taken i t) k p
-    taken : (h (suc m)).taken i t ≡ suc ((h m).taken i t)
-    message : Stamped (FloodMessage th)
-    next : slice_get ((h m).put i t) ((h m).taken i t) ≡ Some message
-    is : message.message ≡ record { phase = k; publication = p }
-    still : ph (suc m) ≡ ph m
+  pub record Came (m t i k : ℕ) (p : Publication th) : Type 0 where
+    pub near : Has i ((tree_at th run.net k).links t)
+    pub put : Put m i t ((h m).taken i t) k p
+    pub taken : (h (suc m)).taken i t ≡ suc ((h m).taken i t)
+    pub message : Stamped (FloodMessage th)
+    pub next : slice_get ((h m).put i t) ((h m).taken i t) ≡ Some message
+    pub is : message.message ≡ record { phase = k; publication = p }
+    pub still : ph (suc m) ≡ ph m
 
   same-floods : (a b : ℕ) (p : Publication th) (c d : ℕ) (q : Publication th) → flooding a b p ≡ flooding c d q → (a ≡ c) × (b ≡ d) × (p ≡ q)
   same-floods a b p c d q e = (one e, two e, three e)
@@ -259,11 +258,11 @@ module _ (th : Theory) (laws : TheoryLaws th) (run : FloodRun th) where
                   }
 
   -- where it came from a neighbour a way leads back to its publisher's home
-  record Way (m t i k : ℕ) (p : Publication th) : Type 0 where
-    came : Came m t i k p
-    path : List ℕ
-    way : IsOnwardWay th (net_at th run.net k) t i path
-    end : end_of th (net_at th run.net k) i path ≡ run.net.home p.publisher
+  pub record Way (m t i k : ℕ) (p : Publication th) : Type 0 where
+    pub came : Came m t i k p
+    pub path : List ℕ
+    pub way : IsOnwardWay th (net_at th run.net k) t i path
+    pub end : end_of th (net_at th run.net k) i path ≡ run.net.home p.publisher
 
   pub record Known (m t i k : ℕ) (p : Publication th) : Type 0 where
     pub published : IsPublishedIn th run.net k p

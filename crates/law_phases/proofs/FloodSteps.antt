@@ -15,7 +15,6 @@ use Rattle.law_phases.specs.Trees.{PhasedNet, net_at}
 use Rattle.law_phases.specs.Flooding.{FloodServer, FloodMessage, FloodWork, Floods, Rests, flood_work, flood_counted, flood_effect, flood_outcome, flood_machine, flood_opening, FloodRun, flood_states}
 use Rattle.law_phases.proofs.Nets.{net-laws}
 
-
 module _ (th : Theory) (laws : TheoryLaws th) (run : FloodRun th) where
   abbrev net : PhasedNet th
   net = run.net

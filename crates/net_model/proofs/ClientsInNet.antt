@@ -1,5 +1,5 @@
 -- The clients of a net, by their numbers, are those that have commands, each once.
-use Rattle.std.proofs.Common.{◌≡◌, ℕ, zero, suc, List, length, slice_get, Option, Some, None, refl, arith}
+use Rattle.std.proofs.Common.{◌≡◌, ℕ, zero, suc, length, slice_get, Option, Some, None, refl, arith}
 use Rattle.std.proofs.lemmas.Option.{slice_get_within}
 use Rattle.base.specs.Sets.{Has}
 use Rattle.base_tree.proofs.Servers.{in-server}
