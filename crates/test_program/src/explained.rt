@@ -1,4 +1,5 @@
 //! Rows of explanations: each of their lines, each verdict and each reason, and what isn't there.
+use crate::examples;
 use crate::row::Row;
 use crate::usage::USAGE_LINE;
 
@@ -22,7 +23,7 @@ const ADVERTISED: &str =
     advertise x int any\npublish x int 9\n";
 
 /// Explanations.
-pub const EXPLAINED: [Row; 27] = [
+pub const EXPLAINED: [Row; 30] = [
     Row {
         name: "A filter that matches throughout the phase",
         words: "explain brigade attic 2",
@@ -187,6 +188,36 @@ pub const EXPLAINED: [Row; 27] = [
             in force at the publish\nin force throughout the phase\nadvertisement x int any\nallows it\n\
             not in force at the publish\nin force since command 4\n\
             never: no filter that matches is in force in the phase\nwalk does not deliver it\n",
+    },
+    Row {
+        name: "An alarm that is not loud enough",
+        words: "explain brigade attic 1",
+        document: examples::EXAMPLES[0].text,
+        fault: "",
+        text: "publication attic 1 floor int 4; kind str \"smoke\"; level int 2\nclient brigade\nphase 1\npath 2 1\n\
+            filter kind str = \"smoke\"; level int >= 3\nunsatisfied level int >= 3 by level int 2\n\
+            in force throughout the phase\nnever: no filter that matches is in force in the phase\n\
+            walk does not deliver it\n",
+    },
+    Row {
+        name: "A price that is not advertised",
+        words: "explain trader feed 3",
+        document: examples::EXAMPLES[1].text,
+        fault: "",
+        text: "publication feed 3 price int 0; symbol str \"ACME\"\nclient trader\nphase 1\npath 4 2 3\n\
+            filter price int < 5000; symbol str = \"ACME\"\nmatches\nin force throughout the phase\n\
+            advertisement price int > 0; symbol str any\ndoes not allow price int 0\nin force at the publish\n\
+            in force throughout the phase\nnever: refused, as no advertisement in force at the publish allows it\n\
+            walk does not deliver it\n",
+    },
+    Row {
+        name: "A machine whose watch begins in the same phase",
+        words: "explain duty web 1",
+        document: examples::EXAMPLES[2].text,
+        fault: "",
+        text: "publication web 1 host str \"web-1\"; load int 97\nclient duty\nphase 0\npath 3 2 1\n\
+            filter host str prefix \"web\"; load int > 90\nmatches\nin force since command 1\n\
+            may: no filter that matches is in force throughout the phase\nwalk does not deliver it\n",
     },
     Row {
         name: "A document at fault, not explained",
