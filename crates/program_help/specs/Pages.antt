@@ -31,6 +31,9 @@ help_text =
     ++ codes "patterns\n"
     ++ codes "    where the patterns behind a line `patterns` occur in what the clients receive\n"
     ++ codes "        siena patterns < examples/alarm.patterns\n"
+    ++ codes "explain CLIENT PUBLISHER NUMBER\n"
+    ++ codes "    why the client gets that publication, may get it or never gets it: one fact a line, and whether the walk delivers it\n"
+    ++ codes "        siena explain brigade attic 2 < examples/alarm.siena\n"
     ++ codes "audit\n"
     ++ codes "    whether the output behind a document and a line `output` is that of a whole run, with its trace\n"
     ++ codes "        (cat D; echo output; siena run --trace < D) | siena audit\n"
@@ -48,7 +51,7 @@ help_text =
     ++ codes "        siena help\n"
     ++ codes "\n"
     ++ codes "Status: 0 all is read and written; 2 other words; 3 the document is refused; 4 reading failed; 5 writing failed; 6 out of\n"
-    ++ codes "memory; 8 patterns are refused; 9 an output is refuted. Standard error tells the line and why.\n"
+    ++ codes "memory; 8 patterns are refused; 9 an output is refuted; 10 what is to be explained isn't there. Standard error tells why.\n"
 
 -- the version of the program, and the line of the toolchain that proves it
 unfoldable pub version_text : List ℕ
@@ -62,5 +65,5 @@ page_text Version = version_text
 -- the line that names the words, for whoever gives others
 unfoldable pub usage_text : List ℕ
 usage_text =
-    codes "siena: usage: walk, run, replay or hier [--sorted] [--trace]; flood; traffic [--dot]; patterns; audit; check; format; "
-    ++ codes "gen --seed N [--summary]; help; version\n"
+    codes "siena: usage: walk, run, replay or hier [--sorted] [--trace]; flood; traffic [--dot]; patterns; "
+    ++ codes "explain CLIENT PUBLISHER NUMBER; audit; check; format; gen --seed N [--summary]; help; version\n"

@@ -37,6 +37,9 @@ traffic [--dot]
 patterns
     where the patterns behind a line `patterns` occur in what the clients receive
         siena patterns < examples/alarm.patterns
+explain CLIENT PUBLISHER NUMBER
+    why the client gets that publication, may get it or never gets it: one fact a line, and whether the walk delivers it
+        siena explain brigade attic 2 < examples/alarm.siena
 audit
     whether the output behind a document and a line `output` is that of a whole run, with its trace
         (cat D; echo output; siena run --trace < D) | siena audit
@@ -54,7 +57,7 @@ help, version
         siena help
 
 Status: 0 all is read and written; 2 other words; 3 the document is refused; 4 reading failed; 5 writing failed; 6 out of
-memory; 8 patterns are refused; 9 an output is refuted. Standard error tells the line and why.
+memory; 8 patterns are refused; 9 an output is refuted; 10 what is to be explained isn't there. Standard error tells why.
 ";
 
 const VERSION: &[u8] = b"siena 1.0
@@ -62,8 +65,8 @@ rattle-kit-13f logic dac8208d650f15bf
 ";
 
 const USAGE: &[u8] =
-    b"siena: usage: walk, run, replay or hier [--sorted] [--trace]; flood; traffic [--dot]; patterns; audit; check; format; \
-    gen --seed N [--summary]; help; version\n";
+    b"siena: usage: walk, run, replay or hier [--sorted] [--trace]; flood; traffic [--dot]; patterns; \
+    explain CLIENT PUBLISHER NUMBER; audit; check; format; gen --seed N [--summary]; help; version\n";
 
 // What each word does.
 #[tactic(auto, unfolding(crate::specs::Pages::help_text))]

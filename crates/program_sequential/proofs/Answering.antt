@@ -11,7 +11,9 @@ use Rattle.program_sequential.specs.declared.unanswered.Unanswered.{Unanswered}
 use Rattle.program_sequential.specs.declared.unanswered.Unanswered.TheVariants as whys
 use Rattle.program_sequential.specs.declared.words.Query.{Query}
 use Rattle.program_sequential.specs.declared.words.Wanted.{Wanted}
-use Rattle.program_sequential.specs.declared.words.Wanted.TheVariants.{About, Audit, Document, Generate, Patterns}
+use Rattle.program_sequential.specs.declared.words.Wanted.TheVariants.{About, Audit, Document, Explain, Generate, Patterns}
+use Rattle.output_explain.specs.Asked.{Question}
+use Rattle.program_sequential.specs.Explaining.{ExplainsSource}
 use Rattle.program_sequential.specs.Faults.{IsAtFault, MustBeRefused, CanBeDone}
 use Rattle.program_sequential.specs.Answers.{IsPrintedOf, most_for, reads_document}
 use Rattle.program_sequential.specs.Answering.{IsAnswer, Says, of_unread, widened}
@@ -19,6 +21,7 @@ use Rattle.program_sequential.specs.Auditing.{AuditsInput, AuditsSource}
 use Rattle.program_sequential.specs.Searching.{SearchesInput, SearchesSource}
 use Rattle.program_sequential.specs.Showing.{PrintedParts}
 use Rattle.program_sequential.proofs.Confirmed.{audit-done, audit-refused, audit-wrong, unread-audit}
+use Rattle.program_sequential.proofs.Explained.{explain-done, explain-refused, explain-unknown, unread-explained}
 use Rattle.program_sequential.proofs.Searched.{search-bad, search-done, search-refused, unread-answer}
 use Rattle.program_sequential.proofs.Sources.{same-given, long-fault, unread-refused, unread-done}
 
@@ -55,6 +58,7 @@ document-answer query a b input ended r is e printed bad refused done = record {
   ];
   refused_pattern = λ line kind t. absurd t;
   wrong = λ line kind t. absurd t;
+  unknown = λ kind t. absurd t;
   done = λ t. elim (done (subst (λ x. CanBeDone query x) (same-given a b t.0 input t.1.0 is) t.2)) [
     | inl e ↦ inl (is-ok-wide r e)
     | inr e ↦ inr (ap widened e)
@@ -78,6 +82,7 @@ unread-document query a b ended e long within never = record {
   ];
   refused_pattern = λ line kind t. absurd t;
   wrong = λ line kind t. absurd t;
+  unknown = λ kind t. absurd t;
   done = λ t. elim t.1.1 [
     | inl x ↦ absurd (never x)
     | inr big ↦ absurd (unread-done query t.0 big t.2)
@@ -91,6 +96,7 @@ pattern-says a b ended (Ok p) h = h
 pattern-says a b ended (Err (whys.BadInput line kind)) h = h
 pattern-says a b ended (Err (whys.BadPattern line kind)) h = h
 pattern-says a b ended (Err (whys.Refuted line kind)) h = absurd h
+pattern-says a b ended (Err (whys.Unknown kind)) h = absurd h
 pattern-says a b ended (Err whys.ReadFault) h = tt
 pattern-says a b ended (Err whys.NoMemory) h = tt
 
@@ -100,6 +106,7 @@ pattern-answer a b ended r h = record {
   refused = λ line kind t. search-refused a b ended r line kind h t;
   refused_pattern = λ line kind t. search-bad a b ended r line kind h t;
   wrong = λ line kind t. absurd t;
+  unknown = λ kind t. absurd t;
   done = λ t. search-done a b ended r h t;
 }
 
@@ -110,6 +117,7 @@ audit-says a b ended (Ok p) h = h
 audit-says a b ended (Err (whys.BadInput line kind)) h = h
 audit-says a b ended (Err (whys.BadPattern line kind)) h = absurd h
 audit-says a b ended (Err (whys.Refuted line kind)) h = h
+audit-says a b ended (Err (whys.Unknown kind)) h = absurd h
 audit-says a b ended (Err whys.ReadFault) h = tt
 audit-says a b ended (Err whys.NoMemory) h = tt
 
@@ -119,7 +127,29 @@ claim-answer a b ended r h = record {
   refused = λ line kind t. audit-refused a b ended r line kind h t;
   refused_pattern = λ line kind t. absurd t;
   wrong = λ line kind t. audit-wrong a b ended r line kind h t;
+  unknown = λ kind t. absurd t;
   done = λ t. audit-done a b ended r h t;
+}
+
+-- Answers to questions.
+
+question-says : (q : Question) (a b : List ℕ) (ended : Bool) (r : Result PrintedParts Unanswered) → ExplainsSource q a b ended r → Says (Explain q) a b ended r
+question-says q a b ended (Ok p) h = h
+question-says q a b ended (Err (whys.BadInput line kind)) h = h
+question-says q a b ended (Err (whys.BadPattern line kind)) h = absurd h
+question-says q a b ended (Err (whys.Refuted line kind)) h = absurd h
+question-says q a b ended (Err (whys.Unknown kind)) h = h
+question-says q a b ended (Err whys.ReadFault) h = tt
+question-says q a b ended (Err whys.NoMemory) h = tt
+
+pub question-answer : (q : Question) (a b : List ℕ) (ended : Bool) (r : Result PrintedParts Unanswered) → ExplainsSource q a b ended r → IsAnswer (Explain q) a b ended r
+question-answer q a b ended r h = record {
+  says = question-says q a b ended r h;
+  refused = λ line kind t. explain-refused q a b ended r line kind h t;
+  refused_pattern = λ line kind t. absurd t;
+  wrong = λ line kind t. absurd t;
+  unknown = λ kind t. explain-unknown q a b ended r kind h t;
+  done = λ t. explain-done q a b ended r h t;
 }
 
 -- What could not be read, and what was.
@@ -136,6 +166,10 @@ unread-wanted Patterns a b ended limit e is most long within never =
     let s : limit ≡ 4194304 = omega (arith, most) in
     pattern-answer a b ended _ (unread-answer a b ended e (subst (λ (k : ℕ). e ≡ reads.TooLong → Gave a b (λ given. length given ≡ k + 1)) s long)
     (subst (λ (k : ℕ). e ≡ reads.Failed → Gave a b (λ given. length given ≤ k)) s within) never)
+unread-wanted (Explain q) a b ended limit e is most long within never =
+    let s : limit ≡ 4194304 = omega (arith, most) in
+    question-answer q a b ended _ (unread-explained q a b ended e (subst (λ (k : ℕ). e ≡ reads.TooLong → Gave a b (λ given. length given ≡ k + 1)) s long)
+    (subst (λ (k : ℕ). e ≡ reads.Failed → Gave a b (λ given. length given ≤ k)) s within) never)
 unread-wanted Audit a b ended limit e is most long within never =
     let s : limit ≡ 268435456 = omega (arith, most) in
     claim-answer a b ended _ (unread-audit a b ended e (subst (λ (k : ℕ). e ≡ reads.TooLong → Gave a b (λ given. length given ≡ k + 1)) s long)
@@ -148,3 +182,10 @@ searched-read input r h e = subst (SearchesInput input) e h
 
 pub audited-read : (input : List ℕ) (r : Result PrintedParts Unanswered) → AuditsInput input r → IsErrOf r whys.ReadFault → ⊥
 audited-read input r h e = subst (AuditsInput input) e h
+
+-- a source that did not fail, and gave no more than it may, was not read to its end for lack of memory alone
+pub only-long : {T : Type 0} (e : ReadAll) (F : Type 0) → (e ≡ reads.TooLong → F) → (IsErrOf {T = T} (Err (of_unread e)) whys.ReadFault → ⊥)
+    → (IsErrOf {T = T} (Err (of_unread e)) whys.NoMemory → ⊥) → F
+only-long reads.TooLong F long read memory = long refl
+only-long reads.Failed F long read memory = absurd (read refl)
+only-long reads.NoMemory F long read memory = absurd (memory refl)

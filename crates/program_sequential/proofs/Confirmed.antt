@@ -87,6 +87,7 @@ module _ (a b : List ℕ) (ended : Bool) where
       inl (rw (w.0, w.1) refl)
   audit-refused (Err (whys.BadPattern l k)) line kind h t = absurd h
   audit-refused (Err (whys.Refuted l k)) line kind h t = absurd (refused-refuted t.0 line l kind k t.2 (subst (λ z. IsAuditRefuted z l k) (same h.0 t.0 h.1.0 t.1.0) h.2))
+  audit-refused (Err (whys.Unknown k)) line kind h t = absurd h
   audit-refused (Err whys.ReadFault) line kind h t = absurd (unread t.0 t.1 h)
   audit-refused (Err whys.NoMemory) line kind h t = inr refl
 
@@ -100,6 +101,7 @@ module _ (a b : List ℕ) (ended : Bool) where
   audit-wrong (Err (whys.Refuted l k)) line kind h t =
       let w = refuted_once t.0 l line k kind (subst (λ z. IsAuditRefuted z l k) (same h.0 t.0 h.1.0 t.1.0) h.2).1 t.2.1 in
       inl (rw (w.0, w.1) refl)
+  audit-wrong (Err (whys.Unknown k)) line kind h t = absurd h
   audit-wrong (Err whys.ReadFault) line kind h t = absurd (unread t.0 t.1 h)
   audit-wrong (Err whys.NoMemory) line kind h t = inr refl
 
@@ -108,6 +110,7 @@ module _ (a b : List ℕ) (ended : Bool) where
   audit-done (Err (whys.BadInput l k)) h t = absurd (has-refused t.0 l k t.2 (subst (λ z. IsAuditAtFault z l k) (same h.0 t.0 h.1.0 t.1.0) h.2))
   audit-done (Err (whys.BadPattern l k)) h t = absurd h
   audit-done (Err (whys.Refuted l k)) h t = absurd (can_or_refuted t.0 l k t.2.1 (subst (λ z. IsAuditRefuted z l k) (same h.0 t.0 h.1.0 t.1.0) h.2).1)
+  audit-done (Err (whys.Unknown k)) h t = absurd h
   audit-done (Err whys.ReadFault) h t = absurd (unread t.0 t.1 h)
   audit-done (Err whys.NoMemory) h t = inr refl
 
@@ -116,6 +119,7 @@ module _ (a b : List ℕ) (ended : Bool) where
   audit-answer input (Err (whys.BadInput l k)) is e h = (input, (is, inl e), h)
   audit-answer input (Err (whys.BadPattern l k)) is e h = absurd h
   audit-answer input (Err (whys.Refuted l k)) is e h = (input, (is, inl e), h)
+  audit-answer input (Err (whys.Unknown k)) is e h = absurd h
   audit-answer input (Err whys.ReadFault) is e h = absurd h
   audit-answer input (Err whys.NoMemory) is e h = tt
 

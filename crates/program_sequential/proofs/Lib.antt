@@ -13,5 +13,6 @@ pub mod Sources
 pub mod Heard
 pub mod Searched
 pub mod Confirmed
+pub mod Explained
 pub mod Carrying
 pub mod Answering

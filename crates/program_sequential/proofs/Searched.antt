@@ -108,6 +108,7 @@ module _ (a b : List ℕ) (ended : Bool) where
       inl (rw (w.0, w.1) refl)
   search-refused (Err (whys.BadPattern l k)) line kind h t = absurd (refused-bad t.0 line l kind k t.2 (subst (λ z. IsPatternAtFault z l k) (same h.0 t.0 h.1.0 t.1.0) h.2))
   search-refused (Err (whys.Refuted l k)) line kind h t = absurd h
+  search-refused (Err (whys.Unknown k)) line kind h t = absurd h
   search-refused (Err whys.ReadFault) line kind h t = absurd (unread t.0 t.1 h)
   search-refused (Err whys.NoMemory) line kind h t = inr refl
 
@@ -120,6 +121,7 @@ module _ (a b : List ℕ) (ended : Bool) where
       let w = same_bad t.0 l line k kind bad.0 bad.1 t.2.1 in
       inl (rw (w.0, w.1) refl)
   search-bad (Err (whys.Refuted l k)) line kind h t = absurd h
+  search-bad (Err (whys.Unknown k)) line kind h t = absurd h
   search-bad (Err whys.ReadFault) line kind h t = absurd (unread t.0 t.1 h)
   search-bad (Err whys.NoMemory) line kind h t = inr refl
 
@@ -128,6 +130,7 @@ module _ (a b : List ℕ) (ended : Bool) where
   search-done (Err (whys.BadInput l k)) h t = absurd (has-refused t.0 l k t.2 (subst (λ z. IsInputAtFault z l k) (same h.0 t.0 h.1.0 t.1.0) h.2))
   search-done (Err (whys.BadPattern l k)) h t = absurd (has-bad t.0 l k t.2 (subst (λ z. IsPatternAtFault z l k) (same h.0 t.0 h.1.0 t.1.0) h.2))
   search-done (Err (whys.Refuted l k)) h t = absurd h
+  search-done (Err (whys.Unknown k)) h t = absurd h
   search-done (Err whys.ReadFault) h t = absurd (unread t.0 t.1 h)
   search-done (Err whys.NoMemory) h t = inr refl
 
@@ -136,6 +139,7 @@ module _ (a b : List ℕ) (ended : Bool) where
   source-answer input (Err (whys.BadInput l k)) is e h = (input, (is, inl e), h)
   source-answer input (Err (whys.BadPattern l k)) is e h = (input, (is, inl e), h)
   source-answer input (Err (whys.Refuted l k)) is e h = absurd h
+  source-answer input (Err (whys.Unknown k)) is e h = absurd h
   source-answer input (Err whys.ReadFault) is e h = absurd h
   source-answer input (Err whys.NoMemory) is e h = tt
 

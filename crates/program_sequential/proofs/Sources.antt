@@ -21,7 +21,7 @@ use Rattle.program_sequential.specs.Faults.{HasNet, IsAtFault, MustBeRefused, Ca
 use Rattle.program_sequential.specs.Answers.{HasFaultFor}
 
 -- a document that is too long
-too-long : (input : List ℕ) → 4194304 < length input → IsBadAt input 0 TooLong
+pub too-long : (input : List ℕ) → 4194304 < length input → IsBadAt input 0 TooLong
 unfolding document_of
 too-long input h = go (nat_lt 4194304 (length input)) (grind (arith, nat_tests, h))
   where

@@ -13,12 +13,16 @@ use Rattle.output_patterns.specs.declared.fault.PatternFault.TheVariants as faul
 use Rattle.audit_verdict.specs.declared.fault.AuditKind.{AuditKind}
 use Rattle.audit_verdict.specs.declared.fault.AuditFault.{AuditFault}
 use Rattle.audit_verdict.specs.declared.fault.AuditFault.TheVariants as audits
+use Rattle.output_explain.specs.declared.fault.ExplainFault.{ExplainFault}
+use Rattle.output_explain.specs.declared.fault.ExplainFault.TheVariants as explains
+use Rattle.program_sequential.specs.declared.unknown.Unknown.{Unknown}
+use Rattle.program_sequential.specs.declared.unknown.Unknown.TheVariants as unknowns
 use Rattle.program_sequential.specs.declared.unanswered.Unanswered.{Unanswered}
 use Rattle.program_sequential.specs.declared.unanswered.Unanswered.TheVariants as whys
 use Rattle.program_sequential.specs.declared.status.Status.{Status}
 use Rattle.program_sequential.specs.declared.status.Status.TheVariants as statuses
 use Rattle.program_sequential.specs.declared.words.Wanted.{Wanted}
-use Rattle.program_sequential.specs.Answers.{IsPrintedBy, HasFaultFor, GaveRefusedFor, GaveBadPatternFor, GaveRefutedFor, GaveWrongFor, CanAnswerFor}
+use Rattle.program_sequential.specs.Answers.{IsPrintedBy, HasFaultFor, GaveRefusedFor, GaveBadPatternFor, GaveRefutedFor, GaveWrongFor, GaveUnknownFor, CanAnswerFor}
 use Rattle.program_sequential.specs.Showing.{PrintedParts}
 
 -- the status that reports it
@@ -26,6 +30,7 @@ abbrev pub status_of : Unanswered → Status
 status_of (whys.BadInput line kind) = statuses.BadInput line kind
 status_of (whys.BadPattern line kind) = statuses.BadPattern line kind
 status_of (whys.Refuted line kind) = statuses.Refuted line kind
+status_of (whys.Unknown kind) = statuses.Unknown kind
 status_of whys.ReadFault = statuses.ReadFault
 status_of whys.NoMemory = statuses.NoMemory
 
@@ -52,6 +57,13 @@ of_audit_fault (audits.Document line kind) = whys.BadInput line kind
 of_audit_fault (audits.Refuted line kind) = whys.Refuted line kind
 of_audit_fault audits.NoMemory = whys.NoMemory
 
+-- of a question without an answer
+abbrev pub of_explain_fault : ExplainFault → Unanswered
+of_explain_fault explains.NoClient = whys.Unknown unknowns.Client
+of_explain_fault explains.NoPublisher = whys.Unknown unknowns.Publisher
+of_explain_fault explains.NoPublication = whys.Unknown unknowns.Number
+of_explain_fault explains.NoMemory = whys.NoMemory
+
 -- the answer about a document, among all answers
 abbrev pub widened : {T : Type 0} → Result T InputFault → Result T Unanswered
 widened (Ok p) = Ok p
@@ -63,6 +75,7 @@ Says wanted given now ended (Ok p) = IsPrintedBy wanted given now ended p.text p
 Says wanted given now ended (Err (whys.BadInput line kind)) = HasFaultFor wanted given now ended line kind
 Says wanted given now ended (Err (whys.BadPattern line kind)) = GaveBadPatternFor wanted given now ended line kind
 Says wanted given now ended (Err (whys.Refuted line kind)) = GaveRefutedFor wanted given now ended line kind
+Says wanted given now ended (Err (whys.Unknown kind)) = GaveUnknownFor wanted given now ended kind
 Says wanted given now ended (Err whys.ReadFault) = Unit {0}
 Says wanted given now ended (Err whys.NoMemory) = Unit {0}
 
@@ -75,4 +88,5 @@ pub record IsAnswer (wanted : Wanted) (given now : List ℕ) (ended : Bool) (ans
       → IsErrOf answer (whys.BadPattern line kind) ⊎ IsErrOf answer whys.NoMemory
   pub wrong : (line : ℕ) (kind : AuditKind) → GaveWrongFor wanted given now ended line kind
       → IsErrOf answer (whys.Refuted line kind) ⊎ IsErrOf answer whys.NoMemory
+  pub unknown : (kind : Unknown) → GaveUnknownFor wanted given now ended kind → IsErrOf answer (whys.Unknown kind) ⊎ IsErrOf answer whys.NoMemory
   pub done : CanAnswerFor wanted given now ended → IsOk answer ⊎ IsErrOf answer whys.NoMemory

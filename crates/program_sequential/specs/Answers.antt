@@ -8,7 +8,7 @@ use Rattle.program_help.specs.Pages.{page_text}
 use Rattle.program_sequential.specs.declared.words.Query.{Query}
 use Rattle.program_sequential.specs.declared.words.Query.TheVariants.{Run, Hierarchy, Flood, Check, Format, Traffic}
 use Rattle.program_sequential.specs.declared.words.Wanted.{Wanted}
-use Rattle.program_sequential.specs.declared.words.Wanted.TheVariants.{About, Audit, Document, Generate, Patterns}
+use Rattle.program_sequential.specs.declared.words.Wanted.TheVariants.{About, Audit, Document, Explain, Generate, Patterns}
 use Rattle.program_sequential.specs.Printed.{IsFloodOf, IsCheckOf, IsFormatOf, IsSummaryOf}
 use Rattle.program_sequential.specs.Headline.{Headline}
 use Rattle.program_sequential.specs.Hierarchy.{IsHierarchyOf}
@@ -17,6 +17,9 @@ use Rattle.output_patterns.specs.declared.fault.PatternKind.{PatternKind}
 use Rattle.program_sequential.specs.Faults.{IsAtFault, MustBeRefused, CanBeDone}
 use Rattle.audit_verdict.specs.declared.fault.AuditKind.{AuditKind}
 use Rattle.program_sequential.specs.Audits.{CanConfirm, IsAuditOf, IsAuditAtFault, IsAuditRefuted, MustRefute}
+use Rattle.document_reader.specs.Net.{IsBadAt}
+use Rattle.program_sequential.specs.declared.unknown.Unknown.{Unknown}
+use Rattle.program_sequential.specs.Explanations.{IsExplanationOf, IsUnknown, CanExplain}
 use Rattle.program_sequential.specs.Patterns.{IsPatternsOf, IsInputAtFault, IsPatternAtFault, HasPatterns}
 
 -- the text and the journal that a document gives
@@ -46,6 +49,7 @@ abbrev pub most_for : Wanted → ℕ
 most_for (Document query) = 4194305
 most_for (Generate seed summary) = 4194305
 most_for Patterns = 4194305
+most_for (Explain question) = 4194305
 most_for Audit = 268435457
 most_for (About page) = 4194305
 
@@ -64,6 +68,8 @@ IsPrintedBy (Document query) given now ended text journal =
 IsPrintedBy (Generate seed summary) given now ended text journal = IsGenerated seed summary text journal
 IsPrintedBy Patterns given now ended text journal =
     (input : List ℕ) × (now ≡ given ++ input) × (ended ≡ true) × IsPatternsOf input text journal
+IsPrintedBy (Explain question) given now ended text journal =
+    (input : List ℕ) × (now ≡ given ++ input) × (ended ≡ true) × IsExplanationOf question input text journal
 IsPrintedBy Audit given now ended text journal =
     (input : List ℕ) × (now ≡ given ++ input) × (ended ≡ true) × IsAuditOf input text journal
 IsPrintedBy (About page) given now ended text journal = (text ≡ page_text page) × (journal ≡ [])
@@ -87,6 +93,7 @@ abbrev pub reads_document : Wanted → Bool
 reads_document (Document query) = true
 reads_document (Generate seed summary) = false
 reads_document Patterns = true
+reads_document (Explain question) = true
 reads_document Audit = true
 reads_document (About page) = false
 
@@ -99,6 +106,7 @@ abbrev pub HasFaultFor : Wanted → List ℕ → List ℕ → Bool → ℕ → F
 HasFaultFor (Document query) given now ended line kind = (input : List ℕ) × GaveDocument given now ended input × IsAtFault query input line kind
 HasFaultFor (Generate seed summary) given now ended line kind = ⊥
 HasFaultFor Patterns given now ended line kind = (input : List ℕ) × GaveDocument given now ended input × IsInputAtFault input line kind
+HasFaultFor (Explain question) given now ended line kind = (input : List ℕ) × GaveDocument given now ended input × IsBadAt input line kind
 HasFaultFor Audit given now ended line kind = (input : List ℕ) × GaveOutput given now ended input × IsAuditAtFault input line kind
 HasFaultFor (About page) given now ended line kind = ⊥
 
@@ -111,6 +119,7 @@ abbrev pub GaveRefusedFor : Wanted → List ℕ → List ℕ → Bool → ℕ �
 GaveRefusedFor (Document query) given now ended line kind = (input : List ℕ) × GaveDocument given now ended input × MustBeRefused query input line kind
 GaveRefusedFor (Generate seed summary) given now ended line kind = ⊥
 GaveRefusedFor Patterns given now ended line kind = (input : List ℕ) × GaveDocument given now ended input × IsInputAtFault input line kind
+GaveRefusedFor (Explain question) given now ended line kind = (input : List ℕ) × GaveDocument given now ended input × IsBadAt input line kind
 GaveRefusedFor Audit given now ended line kind = (input : List ℕ) × GaveOutput given now ended input × IsAuditAtFault input line kind
 GaveRefusedFor (About page) given now ended line kind = ⊥
 
@@ -123,6 +132,7 @@ abbrev pub GaveBadPatternFor : Wanted → List ℕ → List ℕ → Bool → ℕ
 GaveBadPatternFor (Document query) given now ended line kind = ⊥
 GaveBadPatternFor (Generate seed summary) given now ended line kind = ⊥
 GaveBadPatternFor Patterns given now ended line kind = (input : List ℕ) × GaveDocument given now ended input × IsPatternAtFault input line kind
+GaveBadPatternFor (Explain question) given now ended line kind = ⊥
 GaveBadPatternFor Audit given now ended line kind = ⊥
 GaveBadPatternFor (About page) given now ended line kind = ⊥
 
@@ -136,6 +146,7 @@ GaveRefutedFor Audit given now ended line kind = (input : List ℕ) × GaveOutpu
 GaveRefutedFor (Document query) given now ended line kind = ⊥
 GaveRefutedFor (Generate seed summary) given now ended line kind = ⊥
 GaveRefutedFor Patterns given now ended line kind = ⊥
+GaveRefutedFor (Explain question) given now ended line kind = ⊥
 GaveRefutedFor (About page) given now ended line kind = ⊥
 
 abbrev pub GaveRefuted : Option Wanted → List ℕ → List ℕ → Bool → ℕ → AuditKind → Type 0
@@ -148,17 +159,32 @@ GaveWrongFor Audit given now ended line kind = (input : List ℕ) × GaveOutput 
 GaveWrongFor (Document query) given now ended line kind = ⊥
 GaveWrongFor (Generate seed summary) given now ended line kind = ⊥
 GaveWrongFor Patterns given now ended line kind = ⊥
+GaveWrongFor (Explain question) given now ended line kind = ⊥
 GaveWrongFor (About page) given now ended line kind = ⊥
 
 abbrev pub GaveWrong : Option Wanted → List ℕ → List ℕ → Bool → ℕ → AuditKind → Type 0
 GaveWrong None given now ended line kind = ⊥
 GaveWrong (Some wanted) given now ended line kind = GaveWrongFor wanted given now ended line kind
 
+-- an explanation is asked for, and the document that the source gave doesn't have what the question names
+abbrev pub GaveUnknownFor : Wanted → List ℕ → List ℕ → Bool → Unknown → Type 0
+GaveUnknownFor (Explain question) given now ended kind = (input : List ℕ) × GaveDocument given now ended input × IsUnknown question input kind
+GaveUnknownFor (Document query) given now ended kind = ⊥
+GaveUnknownFor (Generate seed summary) given now ended kind = ⊥
+GaveUnknownFor Patterns given now ended kind = ⊥
+GaveUnknownFor Audit given now ended kind = ⊥
+GaveUnknownFor (About page) given now ended kind = ⊥
+
+abbrev pub GaveUnknown : Option Wanted → List ℕ → List ℕ → Bool → Unknown → Type 0
+GaveUnknown None given now ended kind = ⊥
+GaveUnknown (Some wanted) given now ended kind = GaveUnknownFor wanted given now ended kind
+
 -- words ask for something, and the source gave a document of which that can be done
 abbrev pub CanAnswerFor : Wanted → List ℕ → List ℕ → Bool → Type 0
 CanAnswerFor (Document query) given now ended = (input : List ℕ) × GaveDocument given now ended input × CanBeDone query input
 CanAnswerFor (Generate seed summary) given now ended = Unit {0}
 CanAnswerFor Patterns given now ended = (input : List ℕ) × GaveDocument given now ended input × HasPatterns input
+CanAnswerFor (Explain question) given now ended = (input : List ℕ) × GaveDocument given now ended input × CanExplain question input
 CanAnswerFor Audit given now ended = (input : List ℕ) × GaveOutput given now ended input × CanConfirm input
 CanAnswerFor (About page) given now ended = Unit {0}
 

@@ -14,6 +14,7 @@ AuditsInput input (Ok p) = IsAuditOf input p.text p.journal
 AuditsInput input (Err (whys.BadInput line kind)) = IsAuditAtFault input line kind
 AuditsInput input (Err (whys.BadPattern line kind)) = ⊥
 AuditsInput input (Err (whys.Refuted line kind)) = IsAuditRefuted input line kind
+AuditsInput input (Err (whys.Unknown kind)) = ⊥
 AuditsInput input (Err whys.ReadFault) = ⊥
 AuditsInput input (Err whys.NoMemory) = Unit {0}
 
@@ -23,5 +24,6 @@ AuditsSource given now ended (Ok p) = IsPrintedBy Audit given now ended p.text p
 AuditsSource given now ended (Err (whys.BadInput line kind)) = HasFaultFor Audit given now ended line kind
 AuditsSource given now ended (Err (whys.BadPattern line kind)) = ⊥
 AuditsSource given now ended (Err (whys.Refuted line kind)) = GaveRefutedFor Audit given now ended line kind
+AuditsSource given now ended (Err (whys.Unknown kind)) = ⊥
 AuditsSource given now ended (Err whys.ReadFault) = (ended ≡ true → ⊥) × Gave given now (λ bytes. length bytes ≤ 268435456)
 AuditsSource given now ended (Err whys.NoMemory) = Unit {0}

@@ -14,9 +14,12 @@ pub mod Ran
 pub mod HierarchyRan
 pub mod Patterns
 pub mod Audits
+pub mod Asking
+pub mod Explanations
 pub mod Answers
 pub mod Outcomes
 pub mod Showing
 pub mod Answering
 pub mod Searching
 pub mod Auditing
+pub mod Explaining

@@ -27,6 +27,7 @@ SearchesInput input (Ok p) = IsPatternsOf input p.text p.journal
 SearchesInput input (Err (whys.BadInput line kind)) = IsInputAtFault input line kind
 SearchesInput input (Err (whys.BadPattern line kind)) = IsPatternAtFault input line kind
 SearchesInput input (Err (whys.Refuted line kind)) = ⊥
+SearchesInput input (Err (whys.Unknown kind)) = ⊥
 SearchesInput input (Err whys.ReadFault) = ⊥
 SearchesInput input (Err whys.NoMemory) = Unit {0}
 
@@ -36,5 +37,6 @@ SearchesSource given now ended (Ok p) = IsPrintedBy Patterns given now ended p.t
 SearchesSource given now ended (Err (whys.BadInput line kind)) = HasFaultFor Patterns given now ended line kind
 SearchesSource given now ended (Err (whys.BadPattern line kind)) = GaveBadPatternFor Patterns given now ended line kind
 SearchesSource given now ended (Err (whys.Refuted line kind)) = ⊥
+SearchesSource given now ended (Err (whys.Unknown kind)) = ⊥
 SearchesSource given now ended (Err whys.ReadFault) = (ended ≡ true → ⊥) × Gave given now (λ bytes. length bytes ≤ 4194304)
 SearchesSource given now ended (Err whys.NoMemory) = Unit {0}

@@ -4,6 +4,10 @@ use Rattle.document_reader.specs.declared.fault.Fault.{Fault}
 use Rattle.document_reader.specs.declared.fault.Fault.TheVariants as faults
 use Rattle.output_patterns.specs.declared.fault.PatternKind.{PatternKind}
 use Rattle.output_patterns.specs.declared.fault.PatternKind.TheVariants as patterns
+use Rattle.output_explain.specs.declared.fault.ExplainFault.TheVariants as explains
+use Rattle.output_explain.specs.Asked.{fault_means}
+use Rattle.program_sequential.specs.declared.unknown.Unknown.{Unknown}
+use Rattle.program_sequential.specs.declared.unknown.Unknown.TheVariants as unknowns
 
 -- of values and operands that are beyond their limits, in a document and in a pattern
 abbrev pub value_means : List ℕ
@@ -46,3 +50,9 @@ pattern_means patterns.Count = codes "more than 1024 patterns, 8 steps of a patt
 pattern_means patterns.Syntax = codes "the step is not of the form of a subscription, as `step NAME KIND OPERATOR VALUE; ..`"
 pattern_means patterns.Value = value_means
 pattern_means patterns.Operand = operand_means
+
+-- of what a question names and isn't there
+abbrev pub unknown_means : Unknown → List ℕ
+unknown_means unknowns.Client = fault_means explains.NoClient
+unknown_means unknowns.Publisher = fault_means explains.NoPublisher
+unknown_means unknowns.Number = fault_means explains.NoPublication

@@ -8,7 +8,9 @@ use Rattle.output_patterns.specs.declared.fault.PatternKind.TheVariants as patte
 use Rattle.audit_verdict.specs.declared.fault.AuditKind.{AuditKind}
 use Rattle.audit_verdict.specs.declared.fault.AuditKind.TheVariants as audits
 use Rattle.program_help.specs.Pages.{usage_text}
-use Rattle.program_sequential.specs.Sentences.{kind_means, pattern_means}
+use Rattle.program_sequential.specs.Sentences.{kind_means, pattern_means, unknown_means}
+use Rattle.program_sequential.specs.declared.unknown.Unknown.{Unknown}
+use Rattle.program_sequential.specs.declared.unknown.Unknown.TheVariants as unknowns
 use Rattle.program_sequential.specs.declared.status.Status.{Status}
 use Rattle.program_sequential.specs.declared.status.Status.TheVariants as statuses
 
@@ -50,6 +52,11 @@ audit_text audits.BadTurn = codes "badturn"
 audit_text audits.Differs = codes "differs"
 audit_text audits.Open = codes "open"
 
+abbrev pub unknown_text : Unknown → List ℕ
+unknown_text unknowns.Client = codes "client"
+unknown_text unknowns.Publisher = codes "publisher"
+unknown_text unknowns.Number = codes "number"
+
 -- the line of a refusal: the word of its kind, and what this means
 abbrev pub refusal_text : ℕ → List ℕ → List ℕ → List ℕ
 refusal_text line word represents = codes "siena: line " ++ decimal line ++ codes ": " ++ word ++ codes ": " ++ represents ++ codes "\n"
@@ -58,6 +65,10 @@ refusal_text line word represents = codes "siena: line " ++ decimal line ++ code
 abbrev pub refuted_text : ℕ → List ℕ → List ℕ
 refuted_text line word = codes "siena: audit: line " ++ decimal line ++ codes ": " ++ word ++ codes "\n"
 
+-- the line of a question that names what isn't there: the word of its kind, and what this means
+abbrev pub unanswerable_text : List ℕ → List ℕ → List ℕ
+unanswerable_text word represents = codes "siena: explain: " ++ word ++ codes ": " ++ represents ++ codes "\n"
+
 -- what goes to standard error
 unfoldable pub status_text : Status → List ℕ
 status_text statuses.Done = []
@@ -65,6 +76,7 @@ status_text statuses.Usage = usage_text
 status_text (statuses.BadInput line kind) = refusal_text line (kind_text kind) (kind_means kind)
 status_text (statuses.BadPattern line kind) = refusal_text line (pattern_text kind) (pattern_means kind)
 status_text (statuses.Refuted line kind) = refuted_text line (audit_text kind)
+status_text (statuses.Unknown kind) = unanswerable_text (unknown_text kind) (unknown_means kind)
 status_text statuses.ReadFault = codes "siena: the input could not be read\n"
 status_text statuses.WriteFault = codes "siena: the output could not be written\n"
 status_text statuses.NoMemory = codes "siena: out of memory\n"
@@ -76,6 +88,7 @@ status_number statuses.Usage = 2
 status_number (statuses.BadInput line kind) = 3
 status_number (statuses.BadPattern line kind) = 8
 status_number (statuses.Refuted line kind) = 9
+status_number (statuses.Unknown kind) = 10
 status_number statuses.ReadFault = 4
 status_number statuses.WriteFault = 5
 status_number statuses.NoMemory = 6

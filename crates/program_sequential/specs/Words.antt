@@ -1,17 +1,19 @@
 -- What the words of the command line ask for.
 use Rattle.std.specs.Prelude.{◌≡◌, ℕ, Bool, true, false, not, ◌&&◌, ◌||◌, nat_lt, nat_le, if◌then◌else◌, Option, Some, None}
-use Rattle.std.specs.Prelude.{List, [], ◌∷◌, length, take, drop, codes}
+use Rattle.std.specs.Prelude.{◌^◌, List, [], ◌∷◌, length, take, drop, codes}
 use Rattle.std.specs.Option.{option_map, option_and_then}
 use Rattle.std.specs.Str.{bytes_eq}
 use Rattle.document_script.specs.Form.{in_64_bits, number_of_digits}
 use Rattle.program_help.specs.declared.page.Page.TheVariants.{Help, Version}
+use Rattle.output_explain.specs.Asked.{Question}
+use Rattle.program_sequential.specs.Asking.{question_of}
 use Rattle.program_sequential.specs.declared.words.Schedule.{Schedule}
 use Rattle.program_sequential.specs.declared.words.Schedule.TheVariants.{Walk, Replay, Threads}
 use Rattle.program_sequential.specs.declared.words.Shown.{Shown}
 use Rattle.program_sequential.specs.declared.words.Query.{Query}
 use Rattle.program_sequential.specs.declared.words.Query.TheVariants.{Run, Hierarchy, Flood, Check, Format, Traffic}
 use Rattle.program_sequential.specs.declared.words.Wanted.{Wanted}
-use Rattle.program_sequential.specs.declared.words.Wanted.TheVariants.{About, Audit, Document, Generate, Patterns}
+use Rattle.program_sequential.specs.declared.words.Wanted.TheVariants.{About, Audit, Document, Explain, Generate, Patterns}
 
 -- a run without an option
 abbrev pub plain : Shown
@@ -81,6 +83,26 @@ generate_by (one ∷ two ∷ three ∷ []) =
     else None
 generate_by (one ∷ two ∷ three ∷ four ∷ words) = None
 
+-- a number that fits into 32 bits
+abbrev pub in_32_bits : ℕ → Option ℕ
+in_32_bits n = if nat_lt n (2 ^ 32) then Some n else None
+
+-- the number of a publication: 1 to 10 decimal digits of a value below 2^32
+unfoldable pub ordinal_number : List ℕ → Option ℕ
+ordinal_number word = if nat_lt 0 (length word) && nat_le (length word) 10 then option_and_then in_32_bits (number_of_digits word) else None
+
+-- the question with two names and a number, where it is one
+abbrev pub question_by : List ℕ → List ℕ → List ℕ → Option Question
+question_by client publisher number = option_map (question_of client publisher) (ordinal_number number)
+
+-- by the words behind `explain`: the names of a client and of a publisher, and a number
+abbrev pub explain_by : List (List ℕ) → Option Wanted
+explain_by [] = None
+explain_by (client ∷ []) = None
+explain_by (client ∷ publisher ∷ []) = None
+explain_by (client ∷ publisher ∷ number ∷ []) = option_map (λ question. Explain question) (question_by client publisher number)
+explain_by (client ∷ publisher ∷ number ∷ word ∷ words) = None
+
 -- WHAT THE WORDS ASK FOR, where they ask for something
 abbrev pub wanted_by : List (List ℕ) → Option Wanted
 wanted_by [] = None
@@ -95,6 +117,7 @@ wanted_by (word ∷ words) =
     else if bytes_eq word (codes "traffic") then traffic_by words
     else if bytes_eq word (codes "gen") then generate_by words
     else if bytes_eq word (codes "patterns") then alone Patterns words
+    else if bytes_eq word (codes "explain") then explain_by words
     else if bytes_eq word (codes "audit") then alone Audit words
     else if bytes_eq word (codes "help") || bytes_eq word (codes "--help") then alone (About Help) words
     else if bytes_eq word (codes "version") || bytes_eq word (codes "--version") then alone (About Version) words
@@ -119,6 +142,7 @@ abbrev pub IsQuietWish : Wanted → Type 0
 IsQuietWish (Document query) = IsQuietQuery query
 IsQuietWish (Generate seed summary) = Unit {0}
 IsQuietWish Patterns = Unit {0}
+IsQuietWish (Explain question) = Unit {0}
 IsQuietWish Audit = Unit {0}
 IsQuietWish (About page) = Unit {0}
 

@@ -20,6 +20,7 @@ pub fn document<S: Source>(alloc: Global, source: &mut S) -> Result<Vec<u8>, Rea
     ensures all { IfOk result (λ bytes. S.given source.new ≡ S.given source.old ++ bytes.items) }
     ensures ended { IsOk result ↔ (S.ended source.new ≡ true) }
     ensures sure { OnOk result (S.faults source.new ≡ S.faults source.old) }
+    ensures sure_long { IsErrOf result ReadAll.TooLong → S.faults source.new ≡ S.faults source.old }
     ensures long { IsErrOf result ReadAll.TooLong → Gave (S.given source.old) (S.given source.new) (λ given. length given ≡ 4194305) }
     ensures failed { IsErrOf result ReadAll.Failed → Rose (S.faults source.old) (S.faults source.new) }
     ensures failed_within { IsErrOf result ReadAll.Failed → Gave (S.given source.old) (S.given source.new) (λ given. length given ≤ 4194304) }

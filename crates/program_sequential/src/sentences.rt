@@ -1,8 +1,10 @@
 //! What the kinds of refusals mean, in the words of their user.
 ghost use Rattle.std.specs.Prelude.{◌≡◌};
-ghost use Rattle.program_sequential.specs.Sentences.{kind_means, pattern_means};
+ghost use Rattle.program_sequential.specs.Sentences.{kind_means, pattern_means, unknown_means};
 
+use crate::unknown::Unknown;
 use document_reader::Fault;
+use output_explain::ExplainFault;
 use output_patterns::PatternKind;
 
 const VALUE: &[u8] =
@@ -73,5 +75,16 @@ pub fn pattern_means(kind: PatternKind) -> &'static [u8]
         }
         PatternKind::Value => VALUE,
         PatternKind::Operand => OPERAND,
+    }
+}
+
+/// What it means that something isn't there.
+pub fn unknown_means(kind: Unknown) -> &'static [u8]
+    ensures { result.now ≡ unknown_means kind }
+{
+    match kind {
+        Unknown::Client => ExplainFault::NoClient.means(),
+        Unknown::Publisher => ExplainFault::NoPublisher.means(),
+        Unknown::Number => ExplainFault::NoPublication.means(),
     }
 }

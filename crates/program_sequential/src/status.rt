@@ -2,8 +2,10 @@
 ghost use Rattle.std.specs.Prelude.{◌≡◌, ◌++◌, IfOk, OnOk, codes};
 ghost use Rattle.std.specs.Fmt.{decimal};
 ghost use Rattle.program_sequential.specs.Status.{audit_text, kind_text, pattern_text, refusal_text, refuted_text, status_number, status_text};
+ghost use Rattle.program_sequential.specs.Status.{unanswerable_text, unknown_text};
 
-use crate::sentences::{kind_means, pattern_means};
+use crate::sentences::{kind_means, pattern_means, unknown_means};
+use crate::unknown::Unknown;
 use audit_verdict::AuditKind;
 use base::{NoMemory, push_number};
 use document_reader::Fault;
@@ -33,6 +35,11 @@ pub enum Status {
         /// Its fault.
         kind: PatternKind,
     },
+    /// A question names what the document doesn't have.
+    Unknown {
+        /// What isn't there.
+        kind: Unknown,
+    },
     /// What is audited is no output of a whole run.
     Refuted {
         /// The first line at which that shows.
@@ -59,6 +66,7 @@ impl Status {
             Status::BadInput { line: _, kind: _ } => 3,
             Status::BadPattern { line: _, kind: _ } => 8,
             Status::Refuted { line: _, kind: _ } => 9,
+            Status::Unknown { kind: _ } => 10,
             Status::ReadFault => 4,
             Status::WriteFault => 5,
             Status::NoMemory => 6,
@@ -119,6 +127,16 @@ fn audit_text(kind: AuditKind) -> &'static [u8]
     }
 }
 
+fn unknown_text(kind: Unknown) -> &'static [u8]
+    ensures { result.now ≡ unknown_text kind }
+{
+    match kind {
+        Unknown::Client => b"client",
+        Unknown::Publisher => b"publisher",
+        Unknown::Number => b"number",
+    }
+}
+
 // The beginning of a fault's line: what stands before the line's number, the number, and the word of the kind.
 fn push_fault(out: &mut Vec<u8>, before: &[u8], line: u32, word: &[u8]) -> Result<(), NoMemory>
     ensures { OnOk result (out.new.items ≡ out.old.items ++ before.now ++ decimal line ++ codes ": " ++ word.now) }
@@ -155,6 +173,26 @@ fn push_refuted(out: &mut Vec<u8>, line: u32, word: &[u8]) -> Result<(), NoMemor
     Ok(())
 }
 
+// The beginning of the line of a question that names what isn't there.
+fn push_question(out: &mut Vec<u8>, word: &[u8]) -> Result<(), NoMemory>
+    ensures { OnOk result (out.new.items ≡ out.old.items ++ codes "siena: explain: " ++ word.now) }
+{
+    out.extend_from_slice(b"siena: explain: ")?;
+    out.extend_from_slice(word)?;
+    Ok(())
+}
+
+// The line: the word of its kind, and what this means.
+fn push_unknown(out: &mut Vec<u8>, word: &[u8], represents: &[u8]) -> Result<(), NoMemory>
+    ensures { OnOk result (out.new.items ≡ out.old.items ++ unanswerable_text word.now represents.now) }
+{
+    push_question(out, word)?;
+    out.extend_from_slice(b": ")?;
+    out.extend_from_slice(represents)?;
+    out.extend_from_slice(b"\n")?;
+    Ok(())
+}
+
 /// What goes to standard error: one line, or nothing where the run is done.
 #[tactic(auto, unfolding(crate::specs::Status::status_text))]
 pub fn fault_text(alloc: Global, status: &Status) -> Result<Vec<u8>, NoMemory>
@@ -171,6 +209,9 @@ pub fn fault_text(alloc: Global, status: &Status) -> Result<Vec<u8>, NoMemory>
             push_refusal(&mut out, *line, pattern_text(*kind), pattern_means(*kind))?
         }
         Status::Refuted { line, kind } => push_refuted(&mut out, *line, audit_text(*kind))?,
+        Status::Unknown { kind } => {
+            push_unknown(&mut out, unknown_text(*kind), unknown_means(*kind))?
+        }
         Status::ReadFault => out.extend_from_slice(b"siena: the input could not be read\n")?,
         Status::WriteFault => out.extend_from_slice(b"siena: the output could not be written\n")?,
         Status::NoMemory => out.extend_from_slice(b"siena: out of memory\n")?,

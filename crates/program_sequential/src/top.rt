@@ -18,7 +18,7 @@ use net_journal::Record;
 use std::alloc::Global;
 
 /// How a run ended, and its journal in the order of the turns: that of the run for `walk`, `hier`, `replay`, `traffic`,
-/// `patterns`, `audit` and a summary, and empty for all else and where it is not done.
+/// `patterns`, `explain`, `audit` and a summary, and empty for all else and where it is not done.
 #[derive(Drop)]
 pub struct Outcome {
     /// How it ended.
@@ -49,7 +49,7 @@ impl Outcome {
     /// Writes what is printed, and gives the journal where all of it is written.
     pub fn written<K: Sink>(alloc: Global, printed: Printed, sink: &mut K) -> Outcome
         ensures done { result.status ≡ Status.Done → (K.state sink.new).taken ≡ (K.state sink.old).taken ++ printed.text }
-        ensures sure { result.status ≡ Status.Done → (K.state sink.new).faults ≡ (K.state sink.old).faults }
+        ensures sure { result.status ≢ Status.WriteFault → (K.state sink.new).faults ≡ (K.state sink.old).faults }
         ensures journal { result.status ≡ Status.Done → result.journal.entries ≡ printed.journal }
         ensures part { result.status ≡ Status.WriteFault → TookPart (K.state sink.old).taken (K.state sink.new).taken printed.text }
         ensures write_fault { result.status ≡ Status.WriteFault → Rose (K.state sink.old).faults (K.state sink.new).faults }
@@ -75,11 +75,12 @@ impl Outcome {
         ensures outcome { (wanted : Wanted) (given now : List ℕ) (ended : Bool) → IsAnswer wanted given now ended answer
             → IsOutcome (Some wanted) given now ended (K.state sink.old).taken (K.state sink.new).taken result.status result.journal.entries }
         ensures done { result.status ≡ Status.Done → IsOk answer }
-        ensures sure { result.status ≡ Status.Done → (K.state sink.new).faults ≡ (K.state sink.old).faults }
+        ensures sure { result.status ≢ Status.WriteFault → (K.state sink.new).faults ≡ (K.state sink.old).faults }
         ensures held { Grew (K.state sink.old) (K.state sink.new) }
         ensures no_memory { IsErrOf answer Unanswered.NoMemory → result.status ≡ Status.NoMemory }
         ensures unwritten { result.status ≢ Status.Done → result.status ≢ Status.WriteFault → sink.new ≡ sink.old }
         ensures read_fault { result.status ≡ Status.ReadFault → IsErrOf answer Unanswered.ReadFault }
+        ensures unread { IsErrOf answer Unanswered.ReadFault → result.status ≡ Status.ReadFault }
         ensures write_fault { result.status ≡ Status.WriteFault → Rose (K.state sink.old).faults (K.state sink.new).faults }
         ensures complete { IsOk answer ⊎ IsErrOf answer Unanswered.NoMemory → (Rose (K.state sink.old).faults (K.state sink.new).faults → ⊥)
             → (result.status ≡ Status.Done) ⊎ (result.status ≡ Status.NoMemory) }
@@ -99,7 +100,8 @@ impl Outcome {
 /// top of a hierarchy, `flood` what flooding owes and allows it,
 /// `traffic` what each link carries in the walk beside plain flooding, `check` how much the document has, `format` its
 /// canonical text, and `gen` the document of a seed, or the summary of its walk. `patterns` prints where the patterns behind a
-/// document occur in what the clients receive in its walk. `audit` prints how much a run has whose output stands behind a
+/// document occur in what the clients receive in its walk. `explain` prints why a client gets a publication, or doesn't.
+/// `audit` prints how much a run has whose output stands behind a
 /// document, with its trace, where that is the output of a whole run. `help` and `version` print what the program says of
 /// itself.
 pub fn quiet<S: Source, K: Sink>(
@@ -111,7 +113,8 @@ pub fn quiet<S: Source, K: Sink>(
     requires { AreNoneOfRun (wanted_by words.now) }
     ensures outcome { IsOutcome (wanted_by words.now) (S.given source.old) (S.given source.new) (S.ended source.new)
         (K.state sink.old).taken (K.state sink.new).taken result.status result.journal.entries }
-    ensures sure { result.status ≡ Status.Done → (S.faults source.new ≡ S.faults source.old) × ((K.state sink.new).faults ≡ (K.state sink.old).faults) }
+    ensures sure { result.status ≢ Status.ReadFault → result.status ≢ Status.NoMemory → S.faults source.new ≡ S.faults source.old }
+    ensures sure_written { result.status ≢ Status.WriteFault → (K.state sink.new).faults ≡ (K.state sink.old).faults }
     ensures unread { reads (wanted_by words.now) ≡ false → source.new ≡ source.old }
     ensures at_most { reads (wanted_by words.now) ≡ true
         → Gave (S.given source.old) (S.given source.new) (λ given. length given ≤ most_read (wanted_by words.now)) }

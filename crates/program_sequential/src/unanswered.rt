@@ -1,12 +1,15 @@
 //! The type of the reasons why nothing is written, whatever was asked for.
 ghost use Rattle.std.specs.Prelude.{◌≡◌};
-ghost use Rattle.program_sequential.specs.Answering.{of_audit_fault, of_input_fault, of_pattern_fault, of_unread, status_of, widened};
+ghost use Rattle.program_sequential.specs.Answering.{of_audit_fault, of_explain_fault, of_input_fault, of_pattern_fault, of_unread};
+ghost use Rattle.program_sequential.specs.Answering.{status_of, widened};
 
 use crate::printed::Printed;
 use crate::status::Status;
+use crate::unknown::Unknown;
 use audit_verdict::{AuditFault, AuditKind};
 use base_devices::ReadAll;
 use document_reader::{Fault, InputFault};
+use output_explain::ExplainFault;
 use output_patterns::{PatternFault, PatternKind};
 
 /// Why nothing is written.
@@ -33,6 +36,11 @@ pub enum Unanswered {
         /// What shows there.
         kind: AuditKind,
     },
+    /// The question names what the document doesn't have.
+    Unknown {
+        /// What isn't there.
+        kind: Unknown,
+    },
     /// The input could not be read.
     ReadFault,
     /// Memory ran out.
@@ -48,6 +56,7 @@ impl Unanswered {
             Unanswered::BadInput { line, kind } => Status::BadInput { line, kind },
             Unanswered::BadPattern { line, kind } => Status::BadPattern { line, kind },
             Unanswered::Refuted { line, kind } => Status::Refuted { line, kind },
+            Unanswered::Unknown { kind } => Status::Unknown { kind },
             Unanswered::ReadFault => Status::ReadFault,
             Unanswered::NoMemory => Status::NoMemory,
         }
@@ -100,6 +109,25 @@ impl From<AuditFault> for Unanswered {
             AuditFault::Document { line, kind } => Unanswered::BadInput { line, kind },
             AuditFault::Refuted { line, kind } => Unanswered::Refuted { line, kind },
             AuditFault::NoMemory => Unanswered::NoMemory,
+        }
+    }
+}
+
+impl From<ExplainFault> for Unanswered {
+    ghost from_gives = { λ fault e. e ≡ of_explain_fault fault };
+
+    fn from(fault: ExplainFault) -> Self {
+        match fault {
+            ExplainFault::NoClient => Unanswered::Unknown {
+                kind: Unknown::Client,
+            },
+            ExplainFault::NoPublisher => Unanswered::Unknown {
+                kind: Unknown::Publisher,
+            },
+            ExplainFault::NoPublication => Unanswered::Unknown {
+                kind: Unknown::Number,
+            },
+            ExplainFault::NoMemory => Unanswered::NoMemory,
         }
     }
 }

@@ -1,9 +1,10 @@
 //! Reads what the words of the command line ask for.
 ghost use Rattle.std.specs.Prelude.{◌≡◌, ◌↔◌, IsTrue};
 ghost use Rattle.std.specs.Str.{bytes_eq};
-ghost use Rattle.program_sequential.specs.Words.{AreNoneOfRun, alone, asked, generate_by, hierarchy_by, is_summary, joined_seed, options, parted_seed};
-ghost use Rattle.program_sequential.specs.Words.{plain, run_by, traffic_by, wanted_by, with_option};
+ghost use Rattle.program_sequential.specs.Words.{AreNoneOfRun, alone, asked, explain_by, generate_by, hierarchy_by, is_summary, joined_seed, options};
+ghost use Rattle.program_sequential.specs.Words.{parted_seed, plain, run_by, traffic_by, wanted_by, with_option};
 
+use crate::question::{Question, read_question};
 use crate::seed::seed;
 use filter_text::Bytes;
 use program_help::Page;
@@ -49,8 +50,8 @@ pub enum Query {
 }
 
 /// What the words ask for.
-#[derive(Clone, Copy, Debug, PartialEq, Eq)]
-pub enum Wanted {
+#[derive(Drop)]
+pub enum Wanted<'w> {
     /// Something of the document that the source gives.
     Document(Query),
     /// The document that a seed makes, or a summary of its walk.
@@ -62,6 +63,8 @@ pub enum Wanted {
     },
     /// Where the patterns behind the document that the source gives occur in what its walk brings.
     Patterns,
+    /// Why a client gets a publication of the document that the source gives, or doesn't.
+    Explain(Question<'w>),
     /// Whether the output behind the document that the source gives is that of a whole run.
     Audit,
     /// What the program says of itself.
@@ -115,7 +118,7 @@ fn options(words: &[Word]) -> Option<Shown>
 }
 
 // A run by a schedule, with the options behind its word.
-fn run(schedule: Schedule, words: &[Word]) -> Option<Wanted>
+fn run(schedule: Schedule, words: &[Word]) -> Option<Wanted<'_>>
     ensures { result ≡ run_by schedule words.now }
 {
     match options(words) {
@@ -125,7 +128,7 @@ fn run(schedule: Schedule, words: &[Word]) -> Option<Wanted>
 }
 
 // The walk of a hierarchy, with the options behind its word.
-fn hierarchy(words: &[Word]) -> Option<Wanted>
+fn hierarchy(words: &[Word]) -> Option<Wanted<'_>>
     ensures { result ≡ hierarchy_by words.now }
 {
     match options(words) {
@@ -135,14 +138,14 @@ fn hierarchy(words: &[Word]) -> Option<Wanted>
 }
 
 // What takes no further words.
-fn alone(wanted: Wanted, words: &[Word]) -> Option<Wanted>
-    ensures { result ≡ alone wanted words.now }
+fn alone<'w>(wanted: Wanted<'w>, words: &[Word]) -> Option<Wanted<'w>>
+    ensures { result ≡ alone wanted.entry words.now }
 {
     if words.is_empty() { Some(wanted) } else { None }
 }
 
 // What each link carries, by the words behind `traffic`.
-fn traffic(words: &[Word]) -> Option<Wanted>
+fn traffic(words: &[Word]) -> Option<Wanted<'_>>
     ensures { result ≡ traffic_by words.now }
 {
     match words {
@@ -181,7 +184,7 @@ fn parted_seed(label: &Word, number: &Word) -> Option<u64>
 }
 
 // A document by its seed, where there is one.
-fn asked(summary: bool, seed: Option<u64>) -> Option<Wanted>
+fn asked(summary: bool, seed: Option<u64>) -> Option<Wanted<'static>>
     ensures { result ≡ asked summary seed }
 {
     match seed {
@@ -191,7 +194,7 @@ fn asked(summary: bool, seed: Option<u64>) -> Option<Wanted>
 }
 
 // What is to be generated, by the words behind `gen`.
-fn generate(words: &[Word]) -> Option<Wanted>
+fn generate(words: &[Word]) -> Option<Wanted<'_>>
     ensures { result ≡ generate_by words.now }
 {
     match words {
@@ -205,8 +208,21 @@ fn generate(words: &[Word]) -> Option<Wanted>
     }
 }
 
+// What is to be explained, by the words behind `explain`.
+fn explain(words: &[Word]) -> Option<Wanted<'_>>
+    ensures { result ≡ explain_by words.now }
+{
+    match words {
+        [client, publisher, number] => match read_question(client, publisher, number) {
+            Some(question) => Some(Wanted::Explain(question)),
+            None => None,
+        },
+        _ => None,
+    }
+}
+
 /// What the words ask for, where they ask for something.
-pub fn read_words(words: &[Word]) -> Option<Wanted>
+pub fn read_words(words: &[Word]) -> Option<Wanted<'_>>
     ensures { result ≡ wanted_by words.now }
 {
     let [word, rest @ ..] = words else {
@@ -232,6 +248,8 @@ pub fn read_words(words: &[Word]) -> Option<Wanted>
         generate(rest)
     } else if is_word(word, b"patterns") {
         alone(Wanted::Patterns, rest)
+    } else if is_word(word, b"explain") {
+        explain(rest)
     } else if is_word(word, b"audit") {
         alone(Wanted::Audit, rest)
     } else if is_word(word, b"help") || is_word(word, b"--help") {

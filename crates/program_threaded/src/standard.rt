@@ -26,7 +26,8 @@ pub fn with_devices<E: Threads + Wait + Sync, R: Read, W: Write, G: Gate + Sync>
 ) -> Over<R, W>
     ensures outcome { IsOutcome (wanted_by words.now) [] result.source.input.answers.bytes result.source.ended
         [] result.sink.output.answers.bytes result.outcome.status result.outcome.journal.entries }
-    ensures sure { result.outcome.status ≡ Status.Done → (result.source.input.answers.errors ≡ 0) × (write_faults result.sink.output.answers ≡ 0) }
+    ensures sure { result.outcome.status ≢ Status.ReadFault → result.outcome.status ≢ Status.NoMemory → result.source.input.answers.errors ≡ 0 }
+    ensures sure_written { result.outcome.status ≢ Status.WriteFault → write_faults result.sink.output.answers ≡ 0 }
     ensures unread { reads (wanted_by words.now) ≡ false → (result.source.input.device ≡ input) × (result.source.input.answers ≡ blank) }
     ensures at_most { length result.source.input.answers.bytes ≤ most_read (wanted_by words.now) }
     ensures told { Consumes (R.remaining input) (R.remaining result.source.input.device) result.source.input.answers.bytes }

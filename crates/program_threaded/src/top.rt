@@ -1,5 +1,5 @@
 //! The top call, for all words.
-ghost use Rattle.std.specs.Prelude.{◌≡◌, ◌≢◌, ◌≤◌, ◌⊎◌, ◌++◌, ℕ, List, true, false, None, Some, length, OnOk, IsErrOf};
+ghost use Rattle.std.specs.Prelude.{◌≡◌, ◌≢◌, ◌≤◌, ◌⊎◌, ◌++◌, ℕ, List, true, false, None, Some, length, IsErrOf};
 ghost use Rattle.std.specs.Io.KnownBytes.{Consumes, IsAtEnd};
 ghost use Rattle.base_devices.specs.Cause.{Rose};
 ghost use Rattle.base_devices.specs.Sinks.{Grew};
@@ -40,7 +40,8 @@ fn run<R: Threads + Wait + Sync, S: Source, G: Gate + Sync>(
     gate: &G,
 ) -> Result<Printed, Unanswered>
     ensures answers { IsAnswer (with_threads shown) (S.given source.old) (S.given source.new) (S.ended source.new) result }
-    ensures sure { OnOk result (S.faults source.new ≡ S.faults source.old) }
+    ensures sure { (IsErrOf result Unanswered.ReadFault → ⊥) → (IsErrOf result Unanswered.NoMemory → ⊥)
+        → S.faults source.new ≡ S.faults source.old }
     ensures failed { IsErrOf result Unanswered.ReadFault → Rose (S.faults source.old) (S.faults source.new) }
     ensures at_most { Gave (S.given source.old) (S.given source.new) (λ given. length given ≤ 4194305) }
     ensures told { (given : List ℕ) → S.given source.new ≡ S.given source.old ++ given → Consumes (S.left source.old) (S.left source.new) given }
@@ -70,7 +71,8 @@ pub fn siena<R: Threads + Wait + Sync, S: Source, K: Sink, G: Gate + Sync>(
 ) -> Outcome
     ensures outcome { IsOutcome (wanted_by words.now) (S.given source.old) (S.given source.new) (S.ended source.new)
         (K.state sink.old).taken (K.state sink.new).taken result.status result.journal.entries }
-    ensures sure { result.status ≡ Status.Done → (S.faults source.new ≡ S.faults source.old) × ((K.state sink.new).faults ≡ (K.state sink.old).faults) }
+    ensures sure { result.status ≢ Status.ReadFault → result.status ≢ Status.NoMemory → S.faults source.new ≡ S.faults source.old }
+    ensures sure_written { result.status ≢ Status.WriteFault → (K.state sink.new).faults ≡ (K.state sink.old).faults }
     ensures unread { reads (wanted_by words.now) ≡ false → source.new ≡ source.old }
     ensures at_most { reads (wanted_by words.now) ≡ true
         → Gave (S.given source.old) (S.given source.new) (λ given. length given ≤ most_read (wanted_by words.now)) }

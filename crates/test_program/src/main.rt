@@ -30,6 +30,7 @@ mod claims;
 mod devices;
 mod edges;
 mod examples;
+mod explained;
 mod faults;
 mod formats;
 mod generated;
@@ -51,7 +52,7 @@ use std::alloc::Global;
 use test_support::Failure;
 
 /// All rows.
-const TABLES: [&[Row]; 12] = [
+const TABLES: [&[Row]; 13] = [
     &runs::RUNS,
     &replays::REPLAYS,
     &steps::STEPS,
@@ -60,6 +61,7 @@ const TABLES: [&[Row]; 12] = [
     &hierarchies::HIERARCHIES,
     &faults::FAULTS,
     &patterns::PATTERNS,
+    &explained::EXPLAINED,
     &audits::AUDITS,
     &formats::FORMATS,
     &traffic::TRAFFIC,

@@ -4,7 +4,7 @@ use std::alloc::Global;
 use test_support::Failure;
 
 /// What help must name.
-const WORDS: [&str; 15] = [
+const WORDS: [&str; 16] = [
     "walk",
     "run",
     "replay",
@@ -12,6 +12,7 @@ const WORDS: [&str; 15] = [
     "flood",
     "traffic",
     "patterns",
+    "explain",
     "audit",
     "check",
     "format",

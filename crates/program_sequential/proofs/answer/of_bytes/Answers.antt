@@ -1,10 +1,11 @@
 use Rattle.std.proofs.Common.{◌≡◌, ◌++◌, true, Err, refl, sym, subst}
 use Rattle.program_sequential.specs.declared.words.Wanted.{Wanted}
-use Rattle.program_sequential.specs.declared.words.Wanted.TheVariants.{About, Document, Generate}
+use Rattle.program_sequential.specs.declared.words.Wanted.TheVariants.{About, Document, Explain, Generate}
 use Rattle.program_sequential.specs.declared.unanswered.Unanswered.TheVariants as whys
 use Rattle.program_sequential.specs.Answering.{IsAnswer}
-use Rattle.program_sequential.proofs.Answering.{audited-read, claim-answer, document-answer, never-unread, pattern-answer, searched-read}
+use Rattle.program_sequential.proofs.Answering.{audited-read, claim-answer, document-answer, never-unread, pattern-answer, question-answer, searched-read}
 use Rattle.program_sequential.proofs.Confirmed.{audit-answer}
+use Rattle.program_sequential.proofs.Explained.{explained-read, explained-source}
 use Rattle.program_sequential.proofs.Searched.{source-answer}
 use Rattle.program_sequential.proofs.answer.of_bytes.Goals as goal
 
@@ -45,3 +46,14 @@ pub returns-in-About-clause-unread : goal.returns-in-About-clause-unread
 returns-in-About-clause-unread c = λ reads given ended.
     subst (λ (w : Wanted). IsAnswer w given given ended c.unasked-in-About.result) (sym c.in-About.is)
     (c.unasked-in-About.ensures.answers (About c.in-About.page) given ended refl c.of_page.ensures)
+
+pub returns-in-Explain-clause-read : goal.returns-in-Explain-clause-read
+returns-in-Explain-clause-read c = λ reads given.
+    let now = given ++ c.args.bytes.now in
+    let q = c.in-Explain.question in
+    subst (λ (w : Wanted). IsAnswer w given now true c.of_question.result) (sym c.in-Explain.is)
+    (question-answer q given now true c.of_question.result
+    (explained-source q given now true c.args.bytes.now c.of_question.result refl refl c.of_question.ensures))
+
+pub returns-in-Explain-clause-at_hand : goal.returns-in-Explain-clause-at_hand
+returns-in-Explain-clause-at_hand c = λ e. explained-read c.in-Explain.question c.args.bytes.now c.of_question.result c.of_question.ensures e

@@ -15,3 +15,7 @@ returns-in-Some-clause-read_out g c =
     → IsReadOut (most_read w) (g.S.Source.given c.args.source.now) (g.S.Source.given c.answer.new.source) (g.S.Source.ended c.answer.new.source)
     ⊎ (c.of_answer.result.status ≡ statuses.NoMemory)) (sym c.in-Some.is ∙ c.read_words.ensures)
     (λ wanted sound. elim (c.answer.ensures.read_out wanted sound) [ inl out ↦ inl out | inr none ↦ inr (c.of_answer.ensures.no_memory none) ])
+
+pub returns-in-Some-clause-sure : goal.returns-in-Some-clause-sure
+returns-in-Some-clause-sure g c = λ read memory.
+    c.answer.ensures.sure (λ e. read (c.of_answer.ensures.unread e)) (λ e. memory (c.of_answer.ensures.no_memory e))

@@ -1,7 +1,7 @@
 use Rattle.std.proofs.Common.{◌≡◌, Err, refl, sym, ap, subst}
 use Rattle.program_sequential.specs.declared.unanswered.Unanswered.TheVariants as whys
 use Rattle.program_sequential.specs.Answering.{IsAnswer}
-use Rattle.program_sequential.proofs.Answering.{document-answer, never-unread, unread-document}
+use Rattle.program_sequential.proofs.Answering.{document-answer, never-unread, only-long, unread-document}
 use Rattle.program_threaded.specs.Wishes.{query_of, with_threads}
 use Rattle.program_threaded.proofs.top.run.Goals as goal
 
@@ -18,3 +18,8 @@ returns-in-Ok-clause-answers g c =
 
 pub returns-in-Ok-clause-failed : goal.returns-in-Ok-clause-failed
 returns-in-Ok-clause-failed g c = λ e. absurd (never-unread c.of_document.result (subst (λ z. z ≡ Err whys.ReadFault) c.widened.ensures e))
+
+pub returns-in-Err-clause-sure : goal.returns-in-Err-clause-sure
+returns-in-Err-clause-sure g c = λ read memory.
+    only-long c.in-Err.fault _ (λ e. c.in-Err.ensures.sure_long (ap Err e))
+    (λ e. read (subst (λ z. Err z ≡ Err whys.ReadFault) (sym c.from.ensures) e)) (λ e. memory (subst (λ z. Err z ≡ Err whys.NoMemory) (sym c.from.ensures) e))

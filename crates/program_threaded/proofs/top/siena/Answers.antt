@@ -19,3 +19,7 @@ returns-in-Some-clause-read_out g c =
     → IsReadOut (most_read w) (g.S.Source.given c.args.source.now) (g.S.Source.given c.run.new.source) (g.S.Source.ended c.run.new.source)
     ⊎ (c.of_answer.result.status ≡ statuses.NoMemory)) (sym (c.threads_by.ensures.some c.in-Some.shown c.in-Some.is))
     (λ wanted sound. elim (c.run.ensures.read_out sound) [ inl out ↦ inl out | inr none ↦ inr (c.of_answer.ensures.no_memory none) ])
+
+pub returns-in-Some-clause-sure : goal.returns-in-Some-clause-sure
+returns-in-Some-clause-sure g c = λ read memory.
+    c.run.ensures.sure (λ e. read (c.of_answer.ensures.unread e)) (λ e. memory (c.of_answer.ensures.no_memory e))
