@@ -1,12 +1,12 @@
 -- The items of the sorted keys: what stands at a place, and that a kept item is put in and a lost one taken out.
-use Rattle.std.proofs.Common.{◌≡◌, inl, inr, ℕ, suc, zero, ◌<◌, ◌≤◌, Bool, true, List, [], ◌∷◌, length, filter_map, slice_get, slice_set, Option, Some, None, IsSome, refl, sym, ap, subst, ◌∙◌, arith}
+use Rattle.std.proofs.Common.{◌≡◌, inl, inr, ℕ, suc, zero, ◌<◌, ◌≤◌, Bool, true, List, [], ◌∷◌, ◌++◌, length, filter_map, slice_get, slice_set, Option, Some, None, IsSome, refl, sym, ap, subst, ◌∙◌, arith}
 use Rattle.std.specs.Option.{option_map}
 use Rattle.std.specs.List.{insert, remove}
 use Rattle.std.proofs.lemmas.Bool.{cases_eq}
 use Rattle.std.proofs.lemmas.Option.{same_Some}
 use Rattle.base.specs.Laws.{CoverLaws}
-use Rattle.base.specs.Sets.{Has, IsRising, put_in, minus}
-use Rattle.base.proofs.Sets.{ext, has-put_in, rising-put_in, minus-iff, rising-minus, get-has}
+use Rattle.base.specs.Sets.{Has, IsRising, put_in, minus, set_of}
+use Rattle.base.proofs.Sets.{ext, has-put_in, rising-put_in, minus-iff, rising-minus, get-has, rising-set_of, has-set_of, has-append, has-append-left, has-append-right}
 use Rattle.base_pool.specs.declared.pool.Counted.{Counted}
 use Rattle.base_pool.specs.Pool.{slot, IsAt, item_at, items_of, IsSetOfItems, SameElsewhere, IsAbsent}
 use Rattle.base_pool.specs.Sorted.{place_of, IsIndex}
@@ -219,3 +219,19 @@ module _ {T : Type 0} (covers before : T → T → Bool) (laws : CoverLaws cover
       set-fewer covers before laws old new (items_of old sorted) (items_of new (remove sorted i)) (items-set covers before laws old sorted ix)
       (items-set covers before laws new (remove sorted i) (index-remove covers before laws old new sorted ix key i w is now others))
       key others item was now (λ k a. distinct covers before laws old sorted ix k key item a was)
+
+-- one more member of a list is put into its set
+pub set_of-push : {T : Type 0} {covers before : T → T → Bool} (laws : CoverLaws covers before) (xs : List T) (x : T) → set_of before (xs ++ x ∷ []) ≡ put_in before x (set_of before xs)
+set_of-push {T} {covers} {before} laws xs x = ext laws (set_of before (xs ++ x ∷ [])) (put_in before x (set_of before xs)) (rising-set_of laws (xs ++ x ∷ [])) (rising-put_in laws x (set_of before xs) (rising-set_of laws xs)) to from
+  where
+    to : (y : T) → Has y (set_of before (xs ++ x ∷ [])) → Has y (put_in before x (set_of before xs))
+    to y h = elim (has-append y xs (x ∷ []) ((has-set_of laws y (xs ++ x ∷ [])).0 h)) [
+      | inl m ↦ (has-put_in laws x y (set_of before xs)).1 (inr ((has-set_of laws y xs).1 m))
+      | inr m ↦ (has-put_in laws x y (set_of before xs)).1 (elim m [ inl q ↦ inl q | inr v ↦ absurd v ])
+    ]
+
+    from : (y : T) → Has y (put_in before x (set_of before xs)) → Has y (set_of before (xs ++ x ∷ []))
+    from y h = (has-set_of laws y (xs ++ x ∷ [])).1 (elim ((has-put_in laws x y (set_of before xs)).0 h) [
+      | inl q ↦ has-append-right y xs (x ∷ []) (inl q)
+      | inr m ↦ has-append-left y xs (x ∷ []) ((has-set_of laws y xs).0 m)
+    ])

@@ -127,6 +127,14 @@ impl<T: Cover> Pool<T> {
         &self.slab[key].item
     }
 
+    /// How many holders a live key has.
+    pub fn holders(&self, key: Key) -> u64
+        requires { IsLive self.now.slots key }
+        ensures { (c : _) → slot self.now.slots key ≡ Some c → result ≡ c.count }
+    {
+        self.slab[key].count
+    }
+
     /// The item with a number: its place among the live items in the canonical order.
     pub fn nth(&self, number: usize) -> &T
         requires { number < length self.now.items }
