@@ -10,8 +10,8 @@ pub loop-client-preserved : goal.loop-client-preserved
 loop-client-preserved c =
     let clients = c.args.clients.now in
     let i = c.loop-client.client-index in
-    let client = c.loop-client-item.result in
+    let client = c.client-item.result in
     let script : c.deref.result.now ≡ client.script = c.deref.ensures.value ∙ ap (λ z. z.script) c.client.view_is in
     let done = flat_map (λ z. script_adverts z.script) (take i clients) in
-    named_next (λ z. script_adverts z.script) clients i client [] c.keep_adverts.new.pool.items c.loop-client-test.true c.loop-client-item.is
+    named_next (λ z. script_adverts z.script) clients i client [] c.keep_adverts.new.pool.items c.loop-client-test.true c.client-item.is
     (subst (λ z. c.keep_adverts.new.pool.items ≡ set_of list_before (done ++ script_adverts z)) script (c.in_ok-keep_adverts.ensures done c.loop-client.invariant))

@@ -1,4 +1,4 @@
-use Rattle.std.proofs.Common.{length, slice_get, refl, sym, ap, ◌∙◌}
+use Rattle.std.proofs.Common.{slice_get, sym, ap, ◌∙◌}
 use Rattle.base_bits.proofs.Passing.{passing-step}
 use Rattle.net_tables.specs.Related.{overlaps_in}
 use Rattle.net_tables.proofs.related.overlap_row.Goals as goal
