@@ -2,6 +2,5 @@ pub mod SettledRoots
 pub mod Numbers
 pub mod Rows
 pub mod Picked
-pub mod Placing
 pub mod Over
 mod Narrowing

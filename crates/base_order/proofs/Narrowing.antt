@@ -1,5 +1,5 @@
 -- What the bits of signatures tell of what may be covered.
-use Rattle.std.proofs.Common.{◌≡◌, inl, inr, ℕ, ◌<◌, ◌≤◌, ◌+◌, ◌-◌, zero, suc, ◌==◌, nat_lt, Bool, true, false, cond, ◌||◌, bit_and, min, List, [], ◌∷◌, length, slice_get, slice_index, Some, refl, sym, ap, subst, ◌∙◌, arith}
+use Rattle.std.proofs.Common.{◌≡◌, inl, inr, ℕ, ◌<◌, ◌≤◌, ◌+◌, ◌-◌, zero, suc, ◌==◌, nat_lt, Bool, true, false, cond, ◌||◌, bit_and, min, List, length, slice_index, refl, sym, ap, subst, ◌∙◌, arith}
 use Rattle.std.specs.Int.{bit_at}
 use Rattle.std.proofs.lemmas.Nat.Bits.{bit_at_and, bit_at-zero, bit_at-lt}
 use Rattle.std.proofs.lemmas.Bool.{false_from_ne_true}

@@ -1,8 +1,7 @@
 -- Lemmas on the rows of an order, each at its place.
-use Rattle.std.proofs.Common.{◌≡◌, ℕ, ◌+◌, ◌<◌, Bool, List, [], ◌∷◌, ◌++◌, length, map, get_or, slice_get, Some, refl, sym, ap, ap₂, ◌∙◌, arith}
+use Rattle.std.proofs.Common.{◌≡◌, ℕ, ◌+◌, ◌<◌, Bool, List, [], ◌∷◌, ◌++◌, length, map, get_or, slice_get, Some, sym, ap, ap₂, ◌∙◌, arith}
 use Rattle.std.specs.List.{range_with_len}
 use Rattle.std.proofs.lemmas.List.FromFn.{length-map-range_with_len, get_or-map-range_with_len, map-range_with_len_more}
-use Rattle.std.proofs.lemmas.Option.{slice_get_read}
 use Rattle.base_bits.specs.Rows.{Numbers}
 use Rattle.base_order.specs.Order.{both, covers_at}
 
@@ -20,6 +19,3 @@ module _ {T : Type 0} (covers : T → T → Bool) (items : List T) where
   pub cover-at : (i j : ℕ) (x y : T) → slice_get items i ≡ Some x → slice_get items j ≡ Some y → covers_at covers items i j ≡ covers x y
   unfolding covers_at
   cover-at i j x y a b = ap₂ (both covers) a b
-
-  pub cover-read : (i j : ℕ) (x y : T) → i < length items → j < length items → x ≡ get_or items i x → y ≡ get_or items j y → covers x y ≡ covers_at covers items i j
-  cover-read i j x y k l a b = sym (cover-at i j x y (slice_get_read items (length items) i x refl k a) (slice_get_read items (length items) j y refl l b))

@@ -8,21 +8,22 @@ use crate::columns::{Hints, full_row};
 use crate::put::put_if;
 use base::{Cover, NoMemory};
 use base_bits::Row;
+use base_pool::Items;
 use std::alloc::Global;
 
 /// The signatures of the items.
-fn signatures<T: Cover>(alloc: Global, items: &[T]) -> Result<Vec<u64>, NoMemory>
+fn signatures<T: Cover>(alloc: Global, items: &Items<T>) -> Result<Vec<u64>, NoMemory>
     ensures { IfOk result (λ signs. HasSigns T.marked items.now signs.items) }
 {
-    let mut signs = Vec::new(alloc);
-    for item in items {
-        signs.push(item.signature())?;
+    let mut signs = Vec::with_capacity(alloc, items.len())?;
+    for i in 0..items.len() {
+        signs.push(items.at(i).signature())?;
     }
     Ok(signs)
 }
 
 /// For each item a word that decides nothing.
-pub(crate) fn no_words<T: Cover>(alloc: Global, items: &[T]) -> Result<Vec<u64>, NoMemory>
+pub(crate) fn no_words<T: Cover>(alloc: Global, items: &Items<T>) -> Result<Vec<u64>, NoMemory>
     ensures { IfOk result (λ words. Narrows T.covering items.now words.items) }
 {
     Ok(vec![in alloc; 0; items.len()]?)
@@ -30,7 +31,7 @@ pub(crate) fn no_words<T: Cover>(alloc: Global, items: &[T]) -> Result<Vec<u64>,
 
 /// Makes a row that of numbers among which are all that an item covers, by the signatures and by further words.
 fn find_candidates<T: Cover>(
-    items: &[T],
+    items: &Items<T>,
     signs: &Hints,
     words: &Hints,
     all: &Row,
@@ -54,7 +55,7 @@ fn find_candidates<T: Cover>(
 /// The numbers of those that an item covers, which are among the candidates.
 fn covered_row<T: Cover>(
     alloc: Global,
-    items: &[T],
+    items: &Items<T>,
     candidates: &Row,
     i: usize,
 ) -> Result<Row, NoMemory>
@@ -68,7 +69,9 @@ fn covered_row<T: Cover>(
     candidates.lemma_sorted();
     let mut at = 0;
     while let Some(j) = candidates.first_from(at) {
-        let covered = items[i].covers(&items[j as usize]);
+        let item = items.at(i);
+        let other = items.at(j as usize);
+        let covered = item.covers(other);
         put_if(&mut row, j, covered);
         at = j + 1;
     }
@@ -78,7 +81,7 @@ fn covered_row<T: Cover>(
 /// For each item the numbers of those that it covers.
 pub(crate) fn covered_rows<T: Cover>(
     alloc: Global,
-    items: &[T],
+    items: &Items<T>,
     words: Vec<u64>,
 ) -> Result<Vec<Row>, NoMemory>
     requires few { length items.now < 2 ^ 32 }
@@ -98,7 +101,7 @@ pub(crate) fn covered_rows<T: Cover>(
 }
 
 /// Whether an item stands over another one, by the rows of what both cover.
-fn stands_over<T: Cover>(items: &[T], covered: &[Row], i: usize, j: usize) -> bool
+fn stands_over<T: Cover>(items: &Items<T>, covered: &[Row], i: usize, j: usize) -> bool
     requires covered { covered.now ≡ covered_rows T.covering items.now (length items.now) }
     requires few { length items.now < 2 ^ 32 }
     requires one { i < length items.now }
@@ -112,7 +115,7 @@ fn stands_over<T: Cover>(items: &[T], covered: &[Row], i: usize, j: usize) -> bo
 }
 
 /// Puts a number into the row of an item where it stands over it.
-fn put_over<T: Cover>(items: &[T], covered: &[Row], i: usize, j: usize, row: &mut Row)
+fn put_over<T: Cover>(items: &Items<T>, covered: &[Row], i: usize, j: usize, row: &mut Row)
     requires covered { covered.now ≡ covered_rows T.covering items.now (length items.now) }
     requires few { length items.now < 2 ^ 32 }
     requires one { i < length items.now }
@@ -125,7 +128,7 @@ fn put_over<T: Cover>(items: &[T], covered: &[Row], i: usize, j: usize, row: &mu
 }
 
 /// Puts a number into the row of each item that it stands over: it covers each of these.
-fn raise<T: Cover>(items: &[T], covered: &[Row], i: usize, above: &mut [Row])
+fn raise<T: Cover>(items: &Items<T>, covered: &[Row], i: usize, above: &mut [Row])
     requires covered { covered.now ≡ covered_rows T.covering items.now (length items.now) }
     requires few { length items.now < 2 ^ 32 }
     requires there { i < length items.now }
@@ -155,7 +158,7 @@ fn empty_rows(alloc: Global, count: u32) -> Result<Vec<Row>, NoMemory>
 /// For each item the numbers of those that stand over it, by what each covers.
 pub(crate) fn above_rows<T: Cover>(
     alloc: Global,
-    items: &[T],
+    items: &Items<T>,
     covered: &[Row],
 ) -> Result<Vec<Row>, NoMemory>
     requires covered { covered.now ≡ covered_rows T.covering items.now (length items.now) }

@@ -1,9 +1,10 @@
 //! Layer: base.
-//! Job: distinct items in their canonical order, each with a number, and which item covers which as rows of bits.
+//! Job: which of some items in their canonical order covers which, by their numbers, as rows of bits.
 //! Users: the layers net, server, sequential, thread, output and test.
 //!
-//! So the roots of a set of items are found by their numbers alone. An `Order` is made once from a list that rises, and
-//! is only read then; many may share it. Only making it takes memory. The number of an item is its place in the list.
+//! So the roots of a set of items are found by their numbers alone. An `Order` is made once from the items of a pool, and
+//! is only read then; many may share it. Only making it takes memory. The number of an item is its place in the list of
+//! the items, of which an order holds none.
 //! `roots` finds the roots of a set of numbers afresh; `reroot` keeps known roots up to date where a few numbers were
 //! removed and added, at a cost that depends on those and on what they cover. Roots are defined in `base`, here with
 //! the covering of the items and the order of the numbers; `lemma_roots` says that these are the roots of the items.
@@ -14,11 +15,9 @@
 
 mod build;
 mod columns;
-mod line;
 mod order;
 mod put;
 
 pub use columns::full_row;
-pub use line::{find, rises};
 pub use order::Order;
 pub use put::{put_if, set_to};

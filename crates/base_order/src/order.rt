@@ -1,26 +1,28 @@
 //! The type of items in their canonical order, with the rows by which roots are found.
-ghost use Rattle.std.specs.Prelude.{◌≡◌, ◌↔◌, ℕ, ◌^◌, ◌<◌, List, [], ◌∷◌, length, nat_lt, slice_get, Some, true, false, IfOk, IfSome, IfNone};
+ghost use Rattle.std.specs.Prelude.{◌≡◌, ◌↔◌, ℕ, ◌^◌, ◌<◌, List, [], ◌∷◌, length, nat_lt, true, false, IfOk};
 ghost use Rattle.base_bits.specs.Rows.{is_in};
 ghost use Rattle.base.specs.Sets.{Has, IsRising, is_root, roots, put_in, minus};
 ghost use Rattle.base_order.specs.Order.{covers_at, root_at, root_numbers, IsChange, IsSettled, Moves, picked, covered_row, above_row};
 ghost use Rattle.base_order.specs.Columns.{Narrows};
 
 use crate::build;
-use crate::line::find;
 use crate::put::{put_if, set_to};
 use base::{Cover, NoMemory};
 use base_bits::Row;
+use base_pool::Items;
 use std::alloc::Global;
 use std::marker::Model;
+use std::snapshot::Snapshot;
 
-/// Items in their canonical order, each with what it covers and what stands over it.
+/// What each of some items in their canonical order covers, and what stands over it. Contracts see the list of the items,
+/// which lie elsewhere: an order holds none of them.
 pub struct Order<T: Cover> {
-    items: Vec<T>,
+    items: Snapshot<Items<T>>,
     covered: Vec<Row>,
     above: Vec<Row>,
 }
 
-impl<T: Cover + Drop> Drop for Order<T> {
+impl<T: Cover> Drop for Order<T> {
     fn drop(self) {
         let Self {
             items: _,
@@ -39,39 +41,34 @@ impl<T: Cover> Model for Order<T> {
 
     ghost coded = { coded_list T.code };
 
-    ghost view = { λ o. o.items.items };
+    ghost view = { λ o. o.items.value };
 
-    ghost invariant = { λ o. IsOrder T.covering T.order o.items.items o.covered.items o.above.items };
+    ghost invariant = { λ o. IsOrder T.covering T.order o.items.value o.covered.items o.above.items };
 }
 
 impl<T: Cover> Order<T> {
-    /// The order of items that rise.
-    pub fn new(alloc: Global, items: Vec<T>) -> Result<Self, NoMemory>
-    where
-        T: Drop,
-        requires rising { IsRising T.order items.items }
-        requires few { length items.items < 2 ^ 32 }
-        ensures { IfOk result (λ order. order ≡ items.items) }
+    /// The order of these items.
+    pub fn new(alloc: Global, items: &Items<T>) -> Result<Self, NoMemory>
+        requires few { length items.now < 2 ^ 32 }
+        ensures { IfOk result (λ order. order ≡ items.now) }
     {
-        let words = build::no_words(alloc, &items)?;
+        let words = build::no_words(alloc, items)?;
         Order::narrowed(alloc, items, words)
     }
 
     /// The same, with a word for each item beside its signature, which has bits that each item has that
     /// this one covers, or is 0 and decides nothing. The order is the same whatever the words; they spare
     /// comparisons of items whose signatures are alike.
-    pub fn narrowed(alloc: Global, items: Vec<T>, words: Vec<u64>) -> Result<Self, NoMemory>
-    where
-        T: Drop,
-        requires rising { IsRising T.order items.items }
-        requires few { length items.items < 2 ^ 32 }
-        requires words { Narrows T.covering items.items words.items }
-        ensures { IfOk result (λ order. order ≡ items.items) }
+    pub fn narrowed(alloc: Global, items: &Items<T>, words: Vec<u64>) -> Result<Self, NoMemory>
+        requires few { length items.now < 2 ^ 32 }
+        requires words { Narrows T.covering items.now words.items }
+        ensures { IfOk result (λ order. order ≡ items.now) }
     {
-        let covered = build::covered_rows(alloc, &items, words)?;
-        let above = build::above_rows(alloc, &items, &covered)?;
+        items.lemma_rising();
+        let covered = build::covered_rows(alloc, items, words)?;
+        let above = build::above_rows(alloc, items, &covered)?;
         Ok(Order {
-            items,
+            items: Snapshot::of(items),
             covered,
             above,
         })
@@ -81,7 +78,7 @@ impl<T: Cover> Order<T> {
     pub fn count(&self) -> u32
         ensures { result ≡ length self.now }
     {
-        self.items.len() as u32
+        self.covered.len() as u32
     }
 
     /// Does nothing; its contract says what each order keeps: its items rise.
@@ -90,22 +87,6 @@ impl<T: Cover> Order<T> {
         ensures few { length self.now < 2 ^ 32 }
     {
         let _ = &self.items;
-    }
-
-    /// The number of an item.
-    pub fn find(&self, item: &T) -> Option<u32>
-        ensures some { IfSome result (λ i. slice_get self.now i ≡ Some item.now) }
-        ensures none { IfNone result (Has item.now self.now → ⊥) }
-    {
-        find(&self.items, item)
-    }
-
-    /// The item with a number.
-    pub fn at(&self, i: u32) -> &T
-        requires { i < length self.now }
-        ensures { slice_get self.now i ≡ Some result.now }
-    {
-        &self.items[i as usize]
     }
 
     /// The numbers of those that an item covers.

@@ -1,6 +1,5 @@
 -- What is hit, where the index has the constraints of some filters.
-use Rattle.std.proofs.Common.{◌≡◌, ◌↔◌, ◌+◌, ◌≤◌, ◌<◌, ◌==◌, ◌&&◌, ◌∙◌, refl, sym, ap, subst, arith, ℕ, Bool, true, false, cond, List, [], ◌∷◌, ◌++◌, length, map, take, get_or, zero, suc}
-use Rattle.std.proofs.lemmas.List.{take_more, length-take-le}
+use Rattle.std.proofs.Common.{◌≡◌, ◌↔◌, ◌+◌, ◌≤◌, ◌<◌, ◌==◌, ◌&&◌, ◌∙◌, refl, sym, ap, subst, arith, ℕ, Bool, true, false, cond, List, [], ◌∷◌, ◌++◌, length, map, get_or, zero, suc}
 use Rattle.std.proofs.lemmas.Bool.Decides.{nat_tests}
 use Rattle.std.specs.List.{list_all}
 use Rattle.base.specs.Sets.{Has}
@@ -40,22 +39,17 @@ sized-push [] g s a b (suc k) l = absurd (omega (arith, l))
 sized-push (x ∷ goals) g s a b zero l = s 0 (omega arith)
 sized-push (x ∷ goals) g s a b (suc k) l = sized-push goals g (λ j m. s (suc j) (omega (arith, m))) a b k (omega (arith, l))
 
-pub filled-more : (filters : List (List ConstraintParts)) (i : ℕ) (f : List ConstraintParts) (old new : List Use) (goals more : List ℕ) → i < length filters → f ≡ get_or filters i f → IsListed 16 f → Same new (numbered i f ++ old) → more ≡ goals ++ length f ∷ [] → IsFilled old goals (take i filters) → IsFilled new more (take (i + 1) filters)
-filled-more filters i f old new goals more l e listed same m is = record {
+pub filled-more : (filters : List (List ConstraintParts)) (f : List ConstraintParts) (old new : List Use) (goals more : List ℕ) → IsListed 16 f → Same new (numbered (length filters) f ++ old) → more ≡ goals ++ length f ∷ [] → IsFilled old goals filters → IsFilled new more (filters ++ f ∷ [])
+filled-more filters f old new goals more listed same m is = record {
   indexed = λ p. (
-      let long : length (take i filters) ≡ i = length-take-le i filters (omega (arith, l)) in
-      let a = tally-append p (numbered i f) old in
-      let b = uses-push p 0 (take i filters) f in
-      let z : 0 + length (take i filters) ≡ i = omega (arith, long) in
+      let a = tally-append p (numbered (length filters) f) old in
+      let b = uses-push p 0 filters f in
+      let z : 0 + length filters ≡ length filters = omega arith in
       let c = ap (λ (k : ℕ). tally p (numbered k f)) z in
-      let d = ap (λ (fs : List (List ConstraintParts)). tally p (uses_from 0 fs)) pushed in
-      omega (arith, same p, a, b, c, d, is.indexed p));
-  lengths = m ∙ (ap (λ (xs : List ℕ). xs ++ length f ∷ []) is.lengths ∙ (sym (lengths-push (take i filters) f) ∙ ap (map length) (sym pushed)));
+      omega (arith, same p, a, b, c, is.indexed p));
+  lengths = m ∙ (ap (λ (xs : List ℕ). xs ++ length f ∷ []) is.lengths ∙ sym (lengths-push filters f));
   sized = subst AreSized (sym m) (sized-push goals (length f) is.sized listed.some listed.few);
 }
-  where
-    pushed : take (i + 1) filters ≡ take i filters ++ f ∷ []
-    pushed = take_more filters i f l ∙ ap (λ (x : List ConstraintParts). take i filters ++ x ∷ []) (sym e)
 
 -- the hits name a filter as often as it has constraints that the notice satisfies
 

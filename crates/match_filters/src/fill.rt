@@ -1,5 +1,6 @@
 //! Fills an index with the constraints of all filters.
-ghost use Rattle.std.specs.Prelude.{◌≡◌, ◌<◌, ◌≤◌, ◌+◌, ◌++◌, ◌^◌, take, length, IfOk, OnOk};
+ghost use Rattle.std.specs.Prelude.{◌≡◌, ◌++◌, ◌∷◌, [], List, length, OnOk};
+ghost use Rattle.filter_constraints.specs.Constraint.{ConstraintParts};
 ghost use Rattle.match_index.specs.Pairs.{Same};
 ghost use Rattle.match_filters.specs.Slots.{numbered};
 ghost use Rattle.match_filters.specs.Hits.{IsFilled};
@@ -8,7 +9,6 @@ use crate::index::Index;
 use base::NoMemory;
 use filter_constraints::Constraint;
 use filter_types::Filter;
-use std::alloc::Global;
 
 /// Puts a filter's constraints into the index.
 fn enter(index: &mut Index, constraints: &[Constraint], id: u32) -> Result<(), NoMemory>
@@ -20,30 +20,18 @@ fn enter(index: &mut Index, constraints: &[Constraint], id: u32) -> Result<(), N
     Ok(())
 }
 
-/// Puts the next filter of a list into the index.
+/// Puts the next filter of a list into the index: there are so many before it.
 pub(crate) fn put(
     index: &mut Index,
     goals: &mut Vec<u8>,
-    filters: &[Filter],
-    i: usize,
+    filter: &Filter,
+    number: u32,
 ) -> Result<(), NoMemory>
-    requires within { i < length filters.now }
-    requires few { i < 2 ^ 32 }
-    ensures { OnOk result (IsFilled index.old goals.old.items (take i filters.now) → IsFilled index.new goals.new.items (take (i + 1) filters.now)) }
+    ensures { OnOk result ((filters : List (List ConstraintParts)) → length filters ≡ number → IsFilled index.old goals.old.items filters
+        → IsFilled index.new goals.new.items (filters ++ filter.now ∷ [])) }
 {
-    let constraints = filters[i].constraints();
-    enter(index, constraints, i as u32)?;
+    let constraints = filter.constraints();
+    enter(index, constraints, number)?;
     goals.push(constraints.len() as u8)?;
     Ok(())
-}
-
-/// Filters that share their constraints with these.
-pub(crate) fn copied(alloc: Global, filters: &[Filter]) -> Result<Vec<Filter>, NoMemory>
-    ensures { IfOk result (λ copies. copies.items ≡ filters.now) }
-{
-    let mut copies = Vec::new(alloc);
-    for filter in filters {
-        copies.push(filter.copy(alloc)?)?;
-    }
-    Ok(copies)
 }

@@ -18,5 +18,5 @@ mod matcher;
 mod pairs;
 mod scratch;
 
-pub use matcher::Matcher;
+pub use matcher::{Matcher, MatcherBuilder};
 pub use scratch::Scratch;

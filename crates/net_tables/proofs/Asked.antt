@@ -1,5 +1,5 @@
 -- What a filter covers has the bytes of the texts that it asks for.
-use Rattle.std.proofs.Common.{◌≡◌, ◌⊎◌, inl, inr, ℕ, ◌%◌, ◌^◌, bit_or, ◌+◌, ◌*◌, ◌||◌, Bool, true, false, List, [], ◌∷◌, ◌++◌, map, length, ◌<◌, slice_index, slice_get, get_or, drop, zero, suc, Some, refl, sym, ap, subst, ◌∙◌, arith}
+use Rattle.std.proofs.Common.{◌≡◌, inl, inr, ℕ, ◌^◌, bit_or, ◌+◌, ◌||◌, Bool, true, false, List, [], ◌∷◌, ◌++◌, map, length, ◌<◌, slice_index, slice_get, get_or, drop, zero, suc, Some, refl, sym, ap, subst, ◌∙◌, arith}
 use Rattle.std.specs.List.{list_any}
 use Rattle.std.proofs.lemmas.List.{drop_more}
 use Rattle.filter_constraints.specs.Bytes.{has_prefix, has_suffix, has_part}

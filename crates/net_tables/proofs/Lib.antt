@@ -1,5 +1,4 @@
-pub mod Sorting
-pub mod Filters
+pub mod Kept
 pub mod Stepping
 pub mod Counting
 pub mod Asked

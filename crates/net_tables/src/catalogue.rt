@@ -9,10 +9,10 @@ use crate::publication::Publication;
 use crate::scripts::number_all;
 use base::NoMemory;
 use base_bits::Row;
+use base_pool::Items;
 use filter_covering::{Ad, Sub};
 use filter_text::Lists;
-use filter_types::{Advert, Filter};
-use match_filters::{Matcher, Scratch};
+use match_filters::{Matcher, MatcherBuilder, Scratch};
 use net_model::Net;
 use std::alloc::Global;
 use std::marker::Model;
@@ -22,8 +22,8 @@ use std::marker::Model;
 /// and all that is asked of it is a function of the net, which contracts see.
 pub struct Catalogue<'a> {
     net: &'a Net,
-    filters: Vec<Sub>,
-    adverts: Vec<Ad>,
+    filters: Items<Sub>,
+    adverts: Items<Ad>,
     publications: Vec<Publication>,
     scripts: Vec<Lists<(u32, NumberedCommand)>>,
     matcher: Matcher,
@@ -52,40 +52,22 @@ impl<'a> Model for Catalogue<'a> {
 
     ghost view = { λ c. c.net.now };
 
-    ghost invariant = { λ c. IsCatalogue c.net.now (catalogue_of c.filters.items c.adverts.items c.publications.items) c.scripts.items
-        × (c.matcher ≡ c.filters.items) };
-}
-
-// Filters as items that cover one another.
-fn subs(alloc: Global, filters: Vec<Filter>) -> Result<Vec<Sub>, NoMemory>
-    ensures { IfOk result (λ subs. subs.items ≡ filters.items) }
-{
-    let mut subs = Vec::with_capacity(alloc, filters.len())?;
-    for filter in filters {
-        subs.push(Sub(filter))?;
-    }
-    Ok(subs)
-}
-
-// Advertisements as items that cover one another.
-fn ads(alloc: Global, adverts: Vec<Advert>) -> Result<Vec<Ad>, NoMemory>
-    ensures { IfOk result (λ ads. ads.items ≡ adverts.items) }
-{
-    let mut ads = Vec::with_capacity(alloc, adverts.len())?;
-    for advert in adverts {
-        ads.push(Ad(advert))?;
-    }
-    Ok(ads)
+    ghost invariant = { λ c. IsCatalogue c.net.now (catalogue_of c.filters c.adverts c.publications.items) c.scripts.items
+        × (c.matcher ≡ c.filters) };
 }
 
 // A matcher of the filters of a sound net.
-fn matcher_of(alloc: Global, net: &Net, filters: &[Filter]) -> Result<Matcher, NoMemory>
+fn matcher_of(alloc: Global, net: &Net, filters: &Items<Sub>) -> Result<Matcher, NoMemory>
     requires sound { IsSound net.now }
     requires filters { filters.now ≡ known_filters net.now.clients }
     ensures { IfOk result (λ matcher. matcher ≡ filters.now) }
 {
     let _ = net;
-    Matcher::of(alloc, filters)
+    let mut builder = MatcherBuilder::new(alloc);
+    for i in 0..filters.len() {
+        builder.put(&filters.at(i).0)?;
+    }
+    builder.build()
 }
 
 impl<'a> Catalogue<'a> {
@@ -104,8 +86,7 @@ impl<'a> Catalogue<'a> {
     {
         let filters = named::filters(alloc, &net.clients)?;
         let matcher = matcher_of(alloc, net, &filters)?;
-        let filters = subs(alloc, filters)?;
-        let adverts = ads(alloc, named::adverts(alloc, &net.clients)?)?;
+        let adverts = named::adverts(alloc, &net.clients)?;
         let mut publications = Vec::new(alloc);
         let scripts = number_all(alloc, &filters, &adverts, &mut publications, &net.clients)?;
         Ok(Catalogue {
@@ -138,14 +119,14 @@ impl<'a> Catalogue<'a> {
     }
 
     /// The filters in the order of their numbers.
-    pub fn filters(&self) -> &[Sub]
+    pub fn filters(&self) -> &Items<Sub>
         ensures { result.now ≡ known_filters self.now.clients }
     {
         &self.filters
     }
 
     /// The advertisements in the order of their numbers.
-    pub fn adverts(&self) -> &[Ad]
+    pub fn adverts(&self) -> &Items<Ad>
         ensures { result.now ≡ known_adverts self.now.clients }
     {
         &self.adverts

@@ -3,12 +3,12 @@
 //! Users: the layers server, sequential, hierarchy, thread, output, audit, program and test.
 //!
 //! A document is read whole before its run begins, and has at most 4,096 commands on filters and advertisements. So a
-//! `Catalogue` keeps each distinct one once and numbers it by its place in the canonical order, and each publication is
-//! numbered by publisher and ordinal. A net has at most 4,096 filters, 4,096 advertisements and 100,000 publications
-//! (`lemma_sound`). `Tables` have, beside the catalogue, the rows that say which filter or advertisement covers which
-//! and which filter overlaps which advertisement, and each publication with the text of its notification and the
-//! filters that it matches. So a message needs only the publication's number. Neither changes while a run lasts, and
-//! all servers and all threads share them by reference.
+//! `Catalogue` keeps each distinct one once in a pool, of which each command that names it is a holder, and numbers it by
+//! its place in the canonical order; each publication is numbered by publisher and ordinal. A net has at most 4,096
+//! filters, 4,096 advertisements and 100,000 publications (`lemma_sound`). `Tables` have, beside the catalogue, the rows
+//! that say which filter or advertisement covers which and which filter overlaps which advertisement, and each publication
+//! with the text of its notification and the filters that it matches. So a message needs only the publication's number.
+//! Neither changes while a run lasts, and all servers and all threads share them by reference.
 //!
 //! `Tables::found` answers what was computed when the tables were made. `filter_order`, `advert_order` and `overlaps`
 //! of a catalogue make their rows when they are called. The rows of `test_documents` try one item of each kind and
@@ -16,7 +16,6 @@
 #![tactic(auto)]
 
 mod catalogue;
-mod distinct;
 mod found;
 mod named;
 mod numbered;

@@ -1,100 +1,102 @@
-//! Collects the filters and advertisements that scripts name.
+//! Keeps the filters and advertisements that scripts name, each distinct one once.
 ghost use Rattle.std.specs.Prelude.{◌≡◌, ◌++◌, IfOk, OnOk};
-ghost use Rattle.std.specs.List.{flat_map};
+ghost use Rattle.base.specs.Sets.{put_in, set_of};
+ghost use Rattle.filter_text.specs.Messages.{Lists};
+ghost use Rattle.filter_types.specs.Before.{list_before};
 ghost use Rattle.net_tables.specs.Known.{filters_in, adverts_in, script_filters, script_adverts, known_filters, known_adverts};
 
-use crate::distinct::distinct;
-use base::NoMemory;
-use filter_types::{Advert, Filter};
+use base::{Cover, NoMemory};
+use base_pool::{Items, Pool};
+use filter_covering::{Ad, Sub};
 use net_model::{Client, Command};
 use std::alloc::Global;
 
-// Puts the filter of a command at the end, where it has one.
-fn push_filter(alloc: Global, filters: &mut Vec<Filter>, command: &Command) -> Result<(), NoMemory>
-    ensures { OnOk result (filters.new.items ≡ filters.old.items ++ filters_in command.now) }
+// Keeps an item once more.
+fn keep<T: Cover + Drop>(pool: &mut Pool<T>, item: T) -> Result<(), NoMemory>
+    ensures { OnOk result (pool.new.items ≡ put_in T.order item pool.old.items) }
+{
+    match pool.keep(item) {
+        Ok(_) => Ok(()),
+        Err(_) => Err(NoMemory),
+    }
+}
+
+// Keeps the filter of a command, where it has one.
+#[tactic(auto, using(crate::proofs::Kept::put_named, crate::proofs::Kept::none_named))]
+fn keep_filter(alloc: Global, pool: &mut Pool<Sub>, command: &Command) -> Result<(), NoMemory>
+    ensures { OnOk result ((named : Lists) → pool.old.items ≡ set_of list_before named
+        → pool.new.items ≡ set_of list_before (named ++ filters_in command.now)) }
 {
     match command {
-        Command::Subscribe(filter) => filters.push(filter.copy(alloc)?)?,
-        Command::Unsubscribe(filter) => filters.push(filter.copy(alloc)?)?,
-        _ => {}
+        Command::Subscribe(filter) => keep(pool, Sub(filter.copy(alloc)?)),
+        Command::Unsubscribe(filter) => keep(pool, Sub(filter.copy(alloc)?)),
+        _ => Ok(()),
     }
-    Ok(())
 }
 
-// Puts the filters of a script at the end.
-fn push_filters(
+// Keeps the filters of a script.
+fn keep_filters(
     alloc: Global,
-    filters: &mut Vec<Filter>,
+    pool: &mut Pool<Sub>,
     script: &[(u32, Command)],
 ) -> Result<(), NoMemory>
-    ensures { OnOk result (filters.new.items ≡ filters.old.items ++ script_filters script.now) }
+    ensures { OnOk result ((named : Lists) → pool.old.items ≡ set_of list_before named
+        → pool.new.items ≡ set_of list_before (named ++ script_filters script.now)) }
 {
     for (_, command) in script {
-        push_filter(alloc, filters, command)?;
+        keep_filter(alloc, pool, command)?;
     }
     Ok(())
 }
 
-// The filters of all scripts as they stand there.
-fn named_filters(alloc: Global, clients: &[Client]) -> Result<Vec<Filter>, NoMemory>
-    ensures { IfOk result (λ filters. filters.items ≡ flat_map (λ client. script_filters client.script) clients.now) }
-{
-    let mut filters = Vec::new(alloc);
-    for client in clients {
-        push_filters(alloc, &mut filters, &client.script)?;
-    }
-    Ok(filters)
-}
-
-/// The filters of all scripts, each once, in canonical order.
+/// A pool of the filters of all scripts, with a holder for each command that names one.
 #[tactic(auto, unfolding(crate::specs::Known::known_filters))]
-pub(crate) fn filters(alloc: Global, clients: &[Client]) -> Result<Vec<Filter>, NoMemory>
-    ensures { IfOk result (λ filters. filters.items ≡ known_filters clients.now) }
+pub(crate) fn filters(alloc: Global, clients: &[Client]) -> Result<Items<Sub>, NoMemory>
+    ensures { IfOk result (λ items. items ≡ known_filters clients.now) }
 {
-    Ok(distinct(named_filters(alloc, clients)?))
+    let mut pool = Pool::new(alloc);
+    for client in clients {
+        keep_filters(alloc, &mut pool, &client.script)?;
+    }
+    Ok(Items::of(pool))
 }
 
-// Puts the advertisement of a command at the end, where it has one.
-fn push_advert(alloc: Global, adverts: &mut Vec<Advert>, command: &Command) -> Result<(), NoMemory>
-    ensures { OnOk result (adverts.new.items ≡ adverts.old.items ++ adverts_in command.now) }
+// Keeps the advertisement of a command, where it has one.
+#[tactic(auto, using(crate::proofs::Kept::put_named, crate::proofs::Kept::none_named))]
+fn keep_advert(alloc: Global, pool: &mut Pool<Ad>, command: &Command) -> Result<(), NoMemory>
+    ensures { OnOk result ((named : Lists) → pool.old.items ≡ set_of list_before named
+        → pool.new.items ≡ set_of list_before (named ++ adverts_in command.now)) }
 {
     match command {
-        Command::Advertise(advert) => adverts.push(advert.copy(alloc)?)?,
-        Command::Unadvertise(advert) => adverts.push(advert.copy(alloc)?)?,
-        _ => {}
+        Command::Advertise(advert) => keep(pool, Ad(advert.copy(alloc)?)),
+        Command::Unadvertise(advert) => keep(pool, Ad(advert.copy(alloc)?)),
+        _ => Ok(()),
     }
-    Ok(())
 }
 
-// Puts the advertisements of a script at the end.
-fn push_adverts(
+// Keeps the advertisements of a script.
+fn keep_adverts(
     alloc: Global,
-    adverts: &mut Vec<Advert>,
+    pool: &mut Pool<Ad>,
     script: &[(u32, Command)],
 ) -> Result<(), NoMemory>
-    ensures { OnOk result (adverts.new.items ≡ adverts.old.items ++ script_adverts script.now) }
+    ensures { OnOk result ((named : Lists) → pool.old.items ≡ set_of list_before named
+        → pool.new.items ≡ set_of list_before (named ++ script_adverts script.now)) }
 {
     for (_, command) in script {
-        push_advert(alloc, adverts, command)?;
+        keep_advert(alloc, pool, command)?;
     }
     Ok(())
 }
 
-// The advertisements of all scripts as they stand there.
-fn named_adverts(alloc: Global, clients: &[Client]) -> Result<Vec<Advert>, NoMemory>
-    ensures { IfOk result (λ adverts. adverts.items ≡ flat_map (λ client. script_adverts client.script) clients.now) }
-{
-    let mut adverts = Vec::new(alloc);
-    for client in clients {
-        push_adverts(alloc, &mut adverts, &client.script)?;
-    }
-    Ok(adverts)
-}
-
-/// The advertisements of all scripts, each once, in canonical order.
+/// A pool of the advertisements of all scripts, with a holder for each command that names one.
 #[tactic(auto, unfolding(crate::specs::Known::known_adverts))]
-pub(crate) fn adverts(alloc: Global, clients: &[Client]) -> Result<Vec<Advert>, NoMemory>
-    ensures { IfOk result (λ adverts. adverts.items ≡ known_adverts clients.now) }
+pub(crate) fn adverts(alloc: Global, clients: &[Client]) -> Result<Items<Ad>, NoMemory>
+    ensures { IfOk result (λ items. items ≡ known_adverts clients.now) }
 {
-    Ok(distinct(named_adverts(alloc, clients)?))
+    let mut pool = Pool::new(alloc);
+    for client in clients {
+        keep_adverts(alloc, &mut pool, &client.script)?;
+    }
+    Ok(Items::of(pool))
 }

@@ -8,31 +8,10 @@ use crate::words::text_words;
 use base::NoMemory;
 use base_bits::Row;
 use base_order::{Order, put_if};
+use base_pool::Items;
 use filter_covering::{Ad, Sub};
 use filter_types::{Advert, overlaps};
 use std::alloc::Global;
-
-// Filters that share their constraints with these.
-fn copied_subs(alloc: Global, subs: &[Sub]) -> Result<Vec<Sub>, NoMemory>
-    ensures { IfOk result (λ copies. copies.items ≡ subs.now) }
-{
-    let mut copies = Vec::with_capacity(alloc, subs.len())?;
-    for sub in subs {
-        copies.push(Sub(sub.0.copy(alloc)?))?;
-    }
-    Ok(copies)
-}
-
-// Advertisements that share their constraints with these.
-fn copied_ads(alloc: Global, ads: &[Ad]) -> Result<Vec<Ad>, NoMemory>
-    ensures { IfOk result (λ copies. copies.items ≡ ads.now) }
-{
-    let mut copies = Vec::with_capacity(alloc, ads.len())?;
-    for ad in ads {
-        copies.push(Ad(ad.0.copy(alloc)?))?;
-    }
-    Ok(copies)
-}
 
 // Whether the filter overlaps the advertisement.
 fn is_met(sub: &Sub, advert: &Advert) -> bool
@@ -42,25 +21,31 @@ fn is_met(sub: &Sub, advert: &Advert) -> bool
 }
 
 // The numbers of the filters that overlap an advertisement.
-fn overlap_row(alloc: Global, filters: &[Sub], advert: &Advert) -> Result<Row, NoMemory>
+fn overlap_row(alloc: Global, filters: &Items<Sub>, advert: &Advert) -> Result<Row, NoMemory>
     requires { length filters.now < 2 ^ 32 }
     ensures { IfOk result (λ row. row ≡ overlap_row filters.now advert.now) }
 {
     let mut row = Row::new(alloc, filters.len() as u32)?;
     for i in 0..filters.len() {
-        let holds = is_met(&filters[i], advert);
+        let sub = filters.at(i);
+        let holds = is_met(sub, advert);
         put_if(&mut row, i as u32, holds);
     }
     Ok(row)
 }
 
 // The same for each advertisement.
-fn overlap_rows(alloc: Global, filters: &[Sub], adverts: &[Ad]) -> Result<Vec<Row>, NoMemory>
+fn overlap_rows(
+    alloc: Global,
+    filters: &Items<Sub>,
+    adverts: &Items<Ad>,
+) -> Result<Vec<Row>, NoMemory>
     requires { length filters.now < 2 ^ 32 }
     ensures { IfOk result (λ rows. rows.items ≡ overlap_rows filters.now adverts.now) }
 {
     let mut rows = Vec::with_capacity(alloc, adverts.len())?;
-    for ad in adverts {
+    for i in 0..adverts.len() {
+        let ad = adverts.at(i);
         rows.push(overlap_row(alloc, filters, &ad.0)?)?;
     }
     Ok(rows)
@@ -77,7 +62,7 @@ impl<'a> Catalogue<'a> {
     {
         self.lemma_sound();
         let words = text_words(alloc, self.filters())?;
-        Order::narrowed(alloc, copied_subs(alloc, self.filters())?, words)
+        Order::narrowed(alloc, self.filters(), words)
     }
 
     /// The advertisements by their numbers, with the rows that say which covers which.
@@ -85,7 +70,7 @@ impl<'a> Catalogue<'a> {
         ensures { IfOk result (λ order. order ≡ known_adverts self.now.clients) }
     {
         self.lemma_sound();
-        Order::new(alloc, copied_ads(alloc, self.adverts())?)
+        Order::new(alloc, self.adverts())
     }
 
     /// For each advertisement the row of the numbers of the filters that overlap it.

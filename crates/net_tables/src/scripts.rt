@@ -1,7 +1,7 @@
 //! Numbers the commands of all scripts.
 ghost use Rattle.std.specs.Prelude.{◌≡◌, ◌<◌, ◌≤◌, ◌+◌, ◌^◌, ◌∷◌, ◌++◌, ℕ, suc, List, [], length, slice_get, Some, IfOk, OnOk};
 ghost use Rattle.std.specs.List.{flat_map};
-ghost use Rattle.base.specs.Sets.{Has, IsRising};
+ghost use Rattle.base.specs.Sets.{Has};
 ghost use Rattle.net_tables.specs.Known.{PublicationParts, publication, publishes_after, published_by, script_publications, known_publications};
 ghost use Rattle.net_tables.specs.Known.{filters_in, adverts_in, script_filters, script_adverts};
 ghost use Rattle.net_tables.specs.Numbered.{RepresentsCommand, AreNumbered, AllNumbered};
@@ -10,7 +10,7 @@ ghost use Rattle.net_tables.specs.Numbering.{IsList, HaveNamed, catalogue_of};
 use crate::numbered::NumberedCommand;
 use crate::publication::Publication;
 use base::{Cover, NoMemory};
-use base_order::find;
+use base_pool::Items;
 use filter_covering::{Ad, Sub};
 use filter_text::Lists;
 use filter_types::{Advert, Filter, Notice};
@@ -18,20 +18,19 @@ use net_model::{Client, Command, Id};
 use std::alloc::Global;
 
 // The number of an item that is there.
-fn number_of<T: Cover>(items: &[T], item: &T) -> u32
-    requires rising { IsRising T.order items.now }
+fn number_of<T: Cover>(items: &Items<T>, item: &T) -> u32
     requires few { length items.now < 2 ^ 32 }
     requires there { Has item.now items.now }
     ensures { slice_get items.now result ≡ Some item.now }
 {
-    match find(items, item) {
-        Some(i) => i,
+    match items.number_of(item) {
+        Some(number) => number as u32,
         None => unreachable!(),
     }
 }
 
 // The number of a filter that is there.
-fn filter_number(alloc: Global, filters: &[Sub], filter: &Filter) -> Result<u32, NoMemory>
+fn filter_number(alloc: Global, filters: &Items<Sub>, filter: &Filter) -> Result<u32, NoMemory>
     requires list { IsList filters.now }
     requires there { Has filter.now filters.now }
     ensures { IfOk result (λ i. slice_get filters.now i ≡ Some filter.now) }
@@ -40,7 +39,7 @@ fn filter_number(alloc: Global, filters: &[Sub], filter: &Filter) -> Result<u32,
 }
 
 // The number of an advertisement that is there.
-fn advert_number(alloc: Global, adverts: &[Ad], advert: &Advert) -> Result<u32, NoMemory>
+fn advert_number(alloc: Global, adverts: &Items<Ad>, advert: &Advert) -> Result<u32, NoMemory>
     requires list { IsList adverts.now }
     requires there { Has advert.now adverts.now }
     ensures { IfOk result (λ i. slice_get adverts.now i ≡ Some advert.now) }
@@ -70,8 +69,8 @@ fn publish(
 // A command of a client, with so many publishes before it, by numbers. What it publishes is put at the end.
 fn number(
     alloc: Global,
-    filters: &[Sub],
-    adverts: &[Ad],
+    filters: &Items<Sub>,
+    adverts: &Items<Ad>,
     publications: &mut Vec<Publication>,
     id: Id,
     phase: u32,
@@ -115,8 +114,8 @@ fn publishes_after(count: u32, command: &Command) -> u32
 // A client's script by numbers. What it publishes is put at the end.
 fn number_script(
     alloc: Global,
-    filters: &[Sub],
-    adverts: &[Ad],
+    filters: &Items<Sub>,
+    adverts: &Items<Ad>,
     publications: &mut Vec<Publication>,
     publisher: u32,
     script: &[(u32, Command)],
@@ -146,8 +145,8 @@ fn number_script(
 /// The scripts of all clients by numbers, and what they publish.
 pub(crate) fn number_all(
     alloc: Global,
-    filters: &[Sub],
-    adverts: &[Ad],
+    filters: &Items<Sub>,
+    adverts: &Items<Ad>,
     publications: &mut Vec<Publication>,
     clients: &[Client],
 ) -> Result<Vec<Lists<(u32, NumberedCommand)>>, NoMemory>

@@ -10,6 +10,7 @@ use crate::found::{Found, find_all};
 use base::NoMemory;
 use base_bits::Row;
 use base_order::Order;
+use base_pool::Items;
 use filter_covering::{Ad, Sub};
 use filter_text::Semantics;
 use net_model::Net;
@@ -80,18 +81,32 @@ impl<'a> Tables<'a> {
         self.catalogue.net().semantics
     }
 
-    /// The filters by their numbers.
+    /// Which filter covers which, by their numbers.
     pub fn filters(&self) -> &Order<Sub>
         ensures { result.now ≡ known_filters self.now.clients }
     {
         &self.filters
     }
 
-    /// The advertisements by their numbers.
+    /// Which advertisement covers which, by their numbers.
     pub fn adverts(&self) -> &Order<Ad>
         ensures { result.now ≡ known_adverts self.now.clients }
     {
         &self.adverts
+    }
+
+    /// The filters themselves.
+    pub fn filter_items(&self) -> &Items<Sub>
+        ensures { result.now ≡ known_filters self.now.clients }
+    {
+        self.catalogue.filters()
+    }
+
+    /// The advertisements themselves.
+    pub fn advert_items(&self) -> &Items<Ad>
+        ensures { result.now ≡ known_adverts self.now.clients }
+    {
+        self.catalogue.adverts()
     }
 
     /// For each advertisement the row of the filters that overlap it.

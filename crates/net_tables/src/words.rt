@@ -5,6 +5,7 @@ ghost use Rattle.base.specs.Signature.{place_from, marks_from, marks};
 ghost use Rattle.net_tables.specs.Words.{asked, byte_signs, text_signs, all_text_signs, text_word};
 
 use base::NoMemory;
+use base_pool::Items;
 use filter_constraints::{Constraint, Normal, Op};
 use filter_covering::{Sub, some_void};
 use filter_values::Name;
@@ -91,11 +92,12 @@ fn text_word(sub: &Sub) -> u64
 }
 
 /// For each filter a word of which most filters that ask for texts don't have all bits; those that it covers do.
-pub(crate) fn text_words(alloc: Global, subs: &[Sub]) -> Result<Vec<u64>, NoMemory>
+pub(crate) fn text_words(alloc: Global, subs: &Items<Sub>) -> Result<Vec<u64>, NoMemory>
     ensures { IfOk result (λ words. words.items ≡ map text_word subs.now) }
 {
     let mut words = Vec::with_capacity(alloc, subs.len())?;
-    for sub in subs {
+    for i in 0..subs.len() {
+        let sub = subs.at(i);
         words.push(text_word(sub))?;
     }
     Ok(words)

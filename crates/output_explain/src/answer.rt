@@ -15,6 +15,7 @@ use crate::find::{Found, number_of, publish_of};
 use crate::phase::cut_at;
 use crate::verdict::{Verdict, verdict_by};
 use base::NoMemory;
+use base_pool::Items;
 use filter_covering::{Ad, Sub};
 use filter_text::{Command, Id};
 use filter_types::Notice;
@@ -64,7 +65,7 @@ fn path_of(alloc: Global, net: &Net, phase: u32, from: u32, to: u32) -> Result<V
 // The facts of a client's filters.
 fn filters_of(
     alloc: Global,
-    known: &[Sub],
+    known: &Items<Sub>,
     script: &[(u32, Command)],
     found: &Found,
 ) -> Result<Vec<FilterFact>, NoMemory>
@@ -79,7 +80,7 @@ fn filters_of(
 fn adverts_of(
     alloc: Global,
     semantics: Semantics,
-    known: &[Ad],
+    known: &Items<Ad>,
     script: &[(u32, Command)],
     found: &Found,
 ) -> Result<Vec<AdvertFact>, NoMemory>
@@ -101,8 +102,8 @@ fn adverts_of(
 // All filters and all advertisements that a net names.
 #[derive(Clone, Copy)]
 struct Known<'a> {
-    filters: &'a [Sub],
-    adverts: &'a [Ad],
+    filters: &'a Items<Sub>,
+    adverts: &'a Items<Ad>,
 }
 
 // Gathers what tells of a publish that was found.

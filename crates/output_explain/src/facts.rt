@@ -6,6 +6,7 @@ ghost use Rattle.output_explain.specs.Facts.{value_at, is_satisfied, first_miss,
 
 use crate::stay::{Stay, is_there, stay_of};
 use base::NoMemory;
+use base_pool::Items;
 use filter_constraints::Constraint;
 use filter_covering::{Ad, Sub};
 use filter_text::Command;
@@ -145,13 +146,14 @@ pub(crate) fn filter_facts(
     notice: &Notice,
     before: &[(u32, Command)],
     within: &[(u32, Command)],
-    known: &[Sub],
+    known: &Items<Sub>,
 ) -> Result<Vec<FilterFact>, NoMemory>
     requires { length before.now + length within.now < 2 ^ 64 }
     ensures { IfOk result (λ facts. facts.items ≡ filter_facts notice.now before.now within.now known.now) }
 {
     let mut facts = Vec::new(alloc);
-    for sub in known {
+    for i in 0..known.len() {
+        let sub = known.at(i);
         let stay = stay_of(sub, before, within);
         push_filter_fact(alloc, &mut facts, notice, &sub.0, stay)?;
     }
@@ -189,13 +191,14 @@ pub(crate) fn advert_facts(
     ahead: &[(u32, Command)],
     before: &[(u32, Command)],
     within: &[(u32, Command)],
-    known: &[Ad],
+    known: &Items<Ad>,
 ) -> Result<Vec<AdvertFact>, NoMemory>
     requires { length before.now + length within.now < 2 ^ 64 }
     ensures { IfOk result (λ facts. facts.items ≡ advert_facts notice.now ahead.now before.now within.now known.now) }
 {
     let mut facts = Vec::new(alloc);
-    for ad in known {
+    for i in 0..known.len() {
+        let ad = known.at(i);
         let stay = stay_of(ad, before, within);
         push_advert_fact(alloc, &mut facts, notice, ahead, ad, stay)?;
     }

@@ -9,6 +9,7 @@ ghost use Rattle.output_flood.specs.Numbers.{adding_step, numbers_added, every_n
 use crate::phase::{below, within};
 use base::{Cover, NoMemory};
 use base_bits::Row;
+use base_pool::Items;
 use filter_covering::Sub;
 use net_tables::NumberedCommand;
 use std::alloc::Global;
@@ -38,16 +39,18 @@ fn take_if(row: &mut Row, i: u32, holds: bool)
 }
 
 // Whether the filter of a number covers that of another one.
-fn covers(filters: &[Sub], i: u32, k: u32) -> bool
+fn covers(filters: &Items<Sub>, i: u32, k: u32) -> bool
     requires one { i < length filters.now }
     requires other { k < length filters.now }
     ensures { result ≡ covers_at filter_covers filters.now i k }
 {
-    filters[i as usize].covers(&filters[k as usize])
+    let one = filters.at(i as usize);
+    let other = filters.at(k as usize);
+    one.covers(other)
 }
 
 // Takes all out that a filter covers.
-fn withdraw(filters: &[Sub], row: &mut Row, by: u32)
+fn withdraw(filters: &Items<Sub>, row: &mut Row, by: u32)
     requires by { by < length filters.now }
     requires width { row.old.width ≡ length filters.now }
     ensures width { row.new.width ≡ row.old.width }
@@ -75,7 +78,7 @@ fn add(row: &mut Row, command: NumberedCommand)
 }
 
 // Takes out what a command takes away.
-fn take_away(filters: &[Sub], row: &mut Row, command: NumberedCommand)
+fn take_away(filters: &Items<Sub>, row: &mut Row, command: NumberedCommand)
     requires number { IsNumber (length filters.now) command }
     requires width { row.old.width ≡ length filters.now }
     ensures width { row.new.width ≡ row.old.width }
@@ -87,7 +90,7 @@ fn take_away(filters: &[Sub], row: &mut Row, command: NumberedCommand)
 }
 
 // One command.
-fn step(filters: &[Sub], row: &mut Row, command: NumberedCommand)
+fn step(filters: &Items<Sub>, row: &mut Row, command: NumberedCommand)
     requires number { IsNumber (length filters.now) command }
     requires width { row.old.width ≡ length filters.now }
     ensures width { row.new.width ≡ row.old.width }
@@ -98,7 +101,7 @@ fn step(filters: &[Sub], row: &mut Row, command: NumberedCommand)
 }
 
 // All commands.
-fn go_through(filters: &[Sub], row: &mut Row, steps: &[(u32, NumberedCommand)])
+fn go_through(filters: &Items<Sub>, row: &mut Row, steps: &[(u32, NumberedCommand)])
     requires numbers { AreNumbers (length filters.now) steps.now }
     requires width { row.old.width ≡ length filters.now }
     ensures width { row.new.width ≡ row.old.width }
@@ -111,7 +114,7 @@ fn go_through(filters: &[Sub], row: &mut Row, steps: &[(u32, NumberedCommand)])
 
 // The commands of a phase: what they take away is not there at every moment of it, and what they add is there at some.
 fn go_through_phase(
-    filters: &[Sub],
+    filters: &Items<Sub>,
     every: &mut Row,
     ever: &mut Row,
     steps: &[(u32, NumberedCommand)],
@@ -151,7 +154,7 @@ impl ClientFilters {
     }
 
     // Starts anew where a place of the script is behind.
-    fn step_back(&mut self, filters: &[Sub], steps: &[(u32, NumberedCommand)], to: usize)
+    fn step_back(&mut self, filters: &Items<Sub>, steps: &[(u32, NumberedCommand)], to: usize)
         requires sized { IsSized (length filters.now) self.old }
         requires at { IsAt filters.now steps.now self.old }
         ensures sized { IsSized (length filters.now) self.new }
@@ -167,7 +170,7 @@ impl ClientFilters {
     }
 
     // Goes on to a place of the script.
-    fn go_on(&mut self, filters: &[Sub], steps: &[(u32, NumberedCommand)], to: usize)
+    fn go_on(&mut self, filters: &Items<Sub>, steps: &[(u32, NumberedCommand)], to: usize)
         requires numbers { AreNumbers (length filters.now) steps.now }
         requires sized { IsSized (length filters.now) self.old }
         requires at { IsAt filters.now steps.now self.old }
@@ -182,7 +185,7 @@ impl ClientFilters {
     }
 
     /// Goes on to a phase of the script.
-    pub(crate) fn enter(&mut self, filters: &[Sub], steps: &[(u32, NumberedCommand)], phase: u32)
+    pub(crate) fn enter(&mut self, filters: &Items<Sub>, steps: &[(u32, NumberedCommand)], phase: u32)
         requires numbers { AreNumbers (length filters.now) steps.now }
         requires sized { IsSized (length filters.now) self.old }
         requires at { IsAt filters.now steps.now self.old }

@@ -10,6 +10,7 @@ ghost use Rattle.output_flood.specs.declared.filters.ClientFilters.{ClientFilter
 use crate::filters::ClientFilters;
 use base::NoMemory;
 use base_bits::Row;
+use base_pool::Items;
 use filter_covering::Sub;
 use filter_text::Lists;
 use match_filters::Scratch;
@@ -170,7 +171,7 @@ fn no_tables(alloc: Global, clients: u32, count: u32) -> Result<Tables, NoMemory
 /// Tables before any phase.
 pub(crate) fn first_tables(
     alloc: Global,
-    filters: &[Sub],
+    filters: &Items<Sub>,
     scripts: &[Lists<(u32, NumberedCommand)>],
 ) -> Result<Tables, NoMemory>
     requires few { length filters.now ≤ 4096 }
@@ -183,7 +184,7 @@ pub(crate) fn first_tables(
 // Lets a client enter a phase, and answers whether it is known that it has the same filters all through it.
 fn enter(
     tables: &mut Tables,
-    filters: &[Sub],
+    filters: &Items<Sub>,
     scripts: &[Lists<(u32, NumberedCommand)>],
     place: usize,
     phase: u32,
@@ -226,7 +227,7 @@ fn enter(
 /// Makes the tables those of a phase.
 pub(crate) fn enter_phase(
     tables: &mut Tables,
-    filters: &[Sub],
+    filters: &Items<Sub>,
     scripts: &[Lists<(u32, NumberedCommand)>],
     phase: u32,
     room: &mut Room,

@@ -10,7 +10,7 @@ ghost use Rattle.server_message.specs.Parts.{IsChange};
 ghost use Rattle.sequential_network.specs.Last.{texts_of};
 
 use base::{Cover, NoMemory};
-use base_order::Order;
+use base_pool::Items;
 use filter_covering::{Ad, Sub};
 use filter_text::{MessageText, SentText, write_advert, write_filter};
 use net_tables::Tables;
@@ -64,14 +64,14 @@ fn push_items<T: Changing>(
     alloc: Global,
     out: &mut Vec<u8>,
     sign: u8,
-    items: &Order<T>,
+    items: &Items<T>,
     numbers: &[u32],
 ) -> Result<(), NoMemory>
     requires { (i : ℕ) → Has i numbers.now → i < length items.now }
     ensures { OnOk result (out.new.items ≡ out.old.items ++ texts_of T.constraints sign (picked items.now numbers.now)) }
 {
     for number in numbers {
-        let text = items.at(*number).text(alloc)?;
+        let text = items.at(*number as usize).text(alloc)?;
         push_signed(out, sign, &text)?;
     }
     Ok(())
@@ -81,7 +81,7 @@ fn push_items<T: Changing>(
 fn change_text<T: Changing>(
     alloc: Global,
     word: &[u8],
-    items: &Order<T>,
+    items: &Items<T>,
     change: &SetChange,
 ) -> Result<SentText, NoMemory>
     requires { IsChange (length items.now) change.now }
@@ -117,7 +117,7 @@ pub(crate) fn text_of(alloc: Global, tables: &Tables<'_>, load: &Load) -> Result
 {
     match load {
         Load::Publication(number) => publication_text(alloc, tables, *number),
-        Load::Filters(change) => change_text(alloc, b"subs", tables.filters(), change),
-        Load::Adverts(change) => change_text(alloc, b"advs", tables.adverts(), change),
+        Load::Filters(change) => change_text(alloc, b"subs", tables.filter_items(), change),
+        Load::Adverts(change) => change_text(alloc, b"advs", tables.advert_items(), change),
     }
 }

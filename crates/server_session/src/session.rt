@@ -130,7 +130,7 @@ impl<'a> Session<'a> {
         let known = &self.tables.catalogue().publications()[publication as usize];
         is_accepted(
             self.tables.semantics(),
-            self.tables.adverts(),
+            self.tables.advert_items(),
             &self.own.adverts,
             &known.notice,
         )

@@ -59,9 +59,10 @@ fn print_row(rt: &impl Print, alloc: Global, word: &str, row: &Row) -> Result<()
 
 /// Prints each filter with its number, the others that it covers and those that stand over it.
 fn print_filters(rt: &impl Print, alloc: Global, catalogue: &Catalogue) -> Result<(), Failure> {
+    let filters = catalogue.filters();
     let order = catalogue.filter_order(alloc)?;
     for i in 0..order.count() {
-        let text = write_filter(alloc, &order.at(i).0)?;
+        let text = write_filter(alloc, &filters.at(i as usize).0)?;
         print!(rt; "filter {i} {}:", shown(&text))?;
         print_row(rt, alloc, "covers", order.covered_by(i))?;
         print_row(rt, alloc, "under", order.above(i))?;
@@ -72,10 +73,11 @@ fn print_filters(rt: &impl Print, alloc: Global, catalogue: &Catalogue) -> Resul
 
 /// Prints each advertisement with its number, those that it covers, and the filters that overlap it.
 fn print_adverts(rt: &impl Print, alloc: Global, catalogue: &Catalogue) -> Result<(), Failure> {
+    let adverts = catalogue.adverts();
     let order = catalogue.advert_order(alloc)?;
     let overlaps = catalogue.overlaps(alloc)?;
     for i in 0..order.count() {
-        let text = write_advert(alloc, &order.at(i).0)?;
+        let text = write_advert(alloc, &adverts.at(i as usize).0)?;
         print!(rt; "advertisement {i} {}:", shown(&text))?;
         print_row(rt, alloc, "covers", order.covered_by(i))?;
         if let Some(row) = overlaps.get(i as usize) {

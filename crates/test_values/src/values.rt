@@ -1,20 +1,23 @@
 //! Chooses by its first word who answers a row's question.
 use crate::held::Held;
+use crate::pooled::Pools;
 use crate::{compared, made, spelled, texts};
 use std::alloc::Global;
 use test_support::{Answers, RowFault, first_word};
 
-/// Answers questions of values, of what is made of them, of their texts, and of the filters that are held.
+/// Answers questions of values, of what is made of them, of their texts, of the filters that are held, and of pools.
 #[derive(Drop)]
 pub struct Values {
     held: Held,
+    pools: Pools,
 }
 
 impl Values {
-    /// No filter is held.
+    /// No filter is held, and the pools are empty.
     pub fn new(alloc: Global) -> Values {
         Values {
             held: Held::new(alloc),
+            pools: Pools::new(alloc),
         }
     }
 }
@@ -43,6 +46,8 @@ impl Answers for Values {
         let (verb, rest) = first_word(question);
         match verb {
             "new" | "add" | "remove" | "route" => self.held.answer(alloc, verb, rest),
+            "pool" => self.pools.of_filters(alloc, rest),
+            "advert_pool" => self.pools.of_adverts(alloc, rest),
             "name" => spelled::name(alloc, rest),
             "names" => spelled::names(alloc, rest),
             "text" => spelled::text(alloc, rest),

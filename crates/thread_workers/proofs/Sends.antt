@@ -46,6 +46,7 @@ use Rattle.net_tables.specs.contracts.numbered.NumberedCommand as NumberedComman
 use Rattle.net_tables.specs.contracts.publication.Publication as Publication
 use Rattle.net_tables.specs.contracts.catalogue.Catalogue as Catalogue
 use Rattle.base_order.specs.contracts.order.Order as Order
+use Rattle.base_pool.proofs.Crossing.{items_sync}
 use Rattle.net_tables.specs.contracts.found.Found as Found
 use Rattle.net_tables.specs.contracts.tables.Tables as Tables
 use Rattle.server_stock.specs.contracts.holders.Holders as Holders
@@ -273,7 +274,7 @@ journal_send = let a = entry_send in search (sendable, crosses) depth 20
 pub catalogue_sync : (κ : NamedLft) → IsSync (Catalogue.the_field κ).row
 catalogue_sync κ =
     let a = net_sync in let b = sub_sync in let c = ad_sync in let d = publication_sync in let e = numbered_sync in let f = matcher_sync in
-    search (sendable, crosses, lists_sync) depth 20
+    search (sendable, crosses, lists_sync, items_sync) depth 20
 
 pub order_sync : (T : RattleType) (g : _) → IsSync T → IsSync (Order.the_field T g).row
 order_sync T g a = let b = row_sync in search (sendable, crosses) depth 20

@@ -4,7 +4,7 @@ use Rattle.base_order.proofs.Over.{over-none, over-all}
 use Rattle.base_order.proofs.build.above_rows.Goals as goal
 
 pub loop-i-init : goal.loop-i-init
-loop-i-init g c = over-none g.T.Cover.covering c.args.items.now c.in_ok-above.above.items c.in_ok-above.ensures
+loop-i-init g c = over-none g.T.Cover.covering c.args.items.now c.in_ok-above.above.items (rw c.len.ensures at c.in_ok-above.ensures)
 
 pub returns : goal.returns
 returns g c =

@@ -1,13 +1,10 @@
-use Rattle.std.proofs.Common.{◌<◌, length, ap₂, ℕ, List, ◌∙◌, arith}
-use Rattle.base_order.proofs.Rows.{cover-read}
+use Rattle.std.proofs.Common.{◌<◌, length, ap₂, ℕ, List, sym, ◌∙◌, arith}
+use Rattle.base_order.proofs.Rows.{cover-at}
 use Rattle.base_order.proofs.Narrowing.{candidate-step, candidate-none}
 use Rattle.base_order.proofs.build.covered_row.Goals as goal
 
-pub offset_bounds-items-j : goal.offset_bounds-items-j
-offset_bounds-items-j g c = omega (arith, c.lemma_sorted.ensures.within c.in-Some.j c.in-Some.ensures.some.1, c.requires.width)
-
-pub bounds-items-j : goal.bounds-items-j
-bounds-items-j g c = omega (arith, c.lemma_sorted.ensures.within c.in-Some.j c.in-Some.ensures.some.1, c.requires.width)
+pub at-other-requires : goal.at-other-requires
+at-other-requires g c = omega (arith, c.lemma_sorted.ensures.within c.in-Some.j c.in-Some.ensures.some.1, c.requires.width)
 
 pub put_if-requires : goal.put_if-requires
 put_if-requires g c = omega (arith, c.lemma_sorted.ensures.within c.in-Some.j c.in-Some.ensures.some.1, c.requires.width, c.loop-j.invariant.width)
@@ -30,7 +27,7 @@ loop-j-preserved g c =
       width = c.put_if.ensures.width ∙ v.width;
       members = c.put_if.ensures.members ∙ candidate-step g.T.Cover.covering items c.args.i c.args.candidates.now.members r.candidates c.loop-j.at j c.covers-covered.result c.loop-j.row.members
           c.in-Some.ensures.some.0 there c.in-Some.ensures.least v.members
-          (c.covers-covered.ensures ∙ cover-read g.T.Cover.covering items c.args.i j c.index-items-i.result c.index-items-j.result r.there there c.index-items-i.is c.index-items-j.is);
+          (c.covers-covered.ensures ∙ sym (cover-at g.T.Cover.covering items c.args.i j c.at-item.result.now c.at-other.result.now c.at-item.ensures c.at-other.ensures));
     }
 
 pub returns : goal.returns

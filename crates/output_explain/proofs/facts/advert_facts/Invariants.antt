@@ -2,5 +2,5 @@ use Rattle.std.proofs.Common.{◌≡◌, take}
 use Rattle.output_explain.specs.Facts.{advert_facts}
 use Rattle.output_explain.proofs.facts.advert_facts.Given as goal
 
-abbrev pub invariant-loop-ad : goal.invariant-loop-ad
-invariant-loop-ad l = l.facts.items ≡ advert_facts l.notice l.ahead l.before l.within (take l.ad-index l.known)
+abbrev pub invariant-loop-i : goal.invariant-loop-i
+invariant-loop-i l = l.facts.items ≡ advert_facts l.notice l.ahead l.before l.within (take l.i l.known)

@@ -15,8 +15,8 @@ pub at-requires : goal.at-requires
 at-requires c = omega (arith, c.lemma_sorted.ensures.within c.in-Some.i c.in-Some.ensures.some.1, c.requires)
 
 pub returns-then-is_allowed_by : goal.returns-then-is_allowed_by
-returns-then-is_allowed_by c = sym (some-passes (λ a. real.allows a c.args.notice.now) (picked c.args.order.now c.args.row.now.members) c.at.result.now
-    (has-picked c.args.order.now c.args.row.now.members c.in-Some.i c.at.result.now c.in-Some.ensures.some.1 c.at.ensures)
+returns-then-is_allowed_by c = sym (some-passes (λ a. real.allows a c.args.notice.now) (picked c.args.adverts.now c.args.row.now.members) c.at.result.now
+    (has-picked c.args.adverts.now c.args.row.now.members c.in-Some.i c.at.result.now c.in-Some.ensures.some.1 c.at.ensures)
     (sym c.is_allowed_by.ensures ∙ c.if-is_allowed_by.true))
 
 pub overflow_add-at : goal.overflow_add-at
@@ -35,12 +35,12 @@ loop-i-preserved c = record {
   ];
 }
   where
-    here : (k : ℕ) (a : real.Advert) → k < c.in-Some.i + 1 → Has k c.args.row.now.members → slice_get c.args.order.now k ≡ Some a → c.loop-i.at ≤ k → real.allows a c.args.notice.now ≡ false
+    here : (k : ℕ) (a : real.Advert) → k < c.in-Some.i + 1 → Has k c.args.row.now.members → slice_get c.args.adverts.now k ≡ Some a → c.loop-i.at ≤ k → real.allows a c.args.notice.now ≡ false
     here k a l h e s =
         let q : k ≡ c.in-Some.i = omega (arith, l, c.in-Some.ensures.least k s h) in
-        let same : a ≡ c.at.result.now = same_Some a c.at.result.now (sym e ∙ (ap (slice_get c.args.order.now) q ∙ c.at.ensures)) in
+        let same : a ≡ c.at.result.now = same_Some a c.at.result.now (sym e ∙ (ap (slice_get c.args.adverts.now) q ∙ c.at.ensures)) in
         ap (λ z. real.allows z c.args.notice.now) same ∙ (sym c.is_allowed_by.ensures ∙ c.if-is_allowed_by.false)
 
 pub returns : goal.returns
-returns c = sym (none-passes (λ a. real.allows a c.args.notice.now) (picked c.args.order.now c.args.row.now.members)
-    (λ a h. let k = picked-has c.args.order.now c.args.row.now.members a h in c.loop-i.invariant.none k.0 a (c.in_default.ensures.none k.0 k.1) k.1 k.2))
+returns c = sym (none-passes (λ a. real.allows a c.args.notice.now) (picked c.args.adverts.now c.args.row.now.members)
+    (λ a h. let k = picked-has c.args.adverts.now c.args.row.now.members a h in c.loop-i.invariant.none k.0 a (c.in_default.ensures.none k.0 k.1) k.1 k.2))

@@ -7,7 +7,7 @@ abbrev pub invariant-loop-i : goal.invariant-loop-i
 invariant-loop-i l =
     record {
       within : l.at ≤ l.row.width;
-      none : (k : ℕ) (a : real.Advert) → k < l.at → Has k l.row.members → slice_get l.order k ≡ Some a → real.allows a l.notice ≡ false;
+      none : (k : ℕ) (a : real.Advert) → k < l.at → Has k l.row.members → slice_get l.adverts k ≡ Some a → real.allows a l.notice ≡ false;
     }
 
 abbrev pub decreases-loop-i : goal.decreases-loop-i

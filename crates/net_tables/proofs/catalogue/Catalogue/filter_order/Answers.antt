@@ -5,5 +5,4 @@ use Rattle.net_tables.proofs.catalogue.Catalogue.filter_order.Goals as goal
 
 pub narrowed-requires-clause-words : goal.narrowed-requires-clause-words
 narrowed-requires-clause-words c =
-    narrows c.in_ok-copied_subs.field-0.items c.in_ok-words.words.items
-    (c.in_ok-words.ensures ∙ ap (map text_word) (c.filters.ensures ∙ (sym c.filters-2.ensures ∙ sym c.in_ok-copied_subs.ensures)))
+    narrows c.filters-2.result.now c.in_ok-words.words.items (c.in_ok-words.ensures ∙ ap (map text_word) (c.filters.ensures ∙ sym c.filters-2.ensures))

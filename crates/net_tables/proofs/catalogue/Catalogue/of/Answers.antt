@@ -4,14 +4,14 @@ use Rattle.net_tables.specs.Numbering.{IsList}
 use Rattle.net_tables.proofs.Counting.{filters_listed, adverts_listed, all_named, publications_count}
 use Rattle.net_tables.proofs.catalogue.Catalogue.of.Goals as goal
 
-filters : (c : goal.After-deref-6) → c.deref-4.result.now ≡ known_filters c.args.net.now.clients
-filters c = c.deref-4.ensures.value ∙ c.in_ok-filters-2.ensures ∙ c.in_ok-filters.ensures ∙ ap known_filters (c.deref.ensures.value ∙ ap (λ n. n.clients) c.net.view_is)
+filters : (c : goal.After-deref-3) → c.in_ok-filters.filters ≡ known_filters c.args.net.now.clients
+filters c = c.in_ok-filters.ensures ∙ ap known_filters (c.deref.ensures.value ∙ ap (λ n. n.clients) c.net.view_is)
 
-adverts : (c : goal.After-deref-6) → c.deref-5.result.now ≡ known_adverts c.args.net.now.clients
-adverts c = c.deref-5.ensures.value ∙ c.in_ok-adverts-2.ensures ∙ c.in_ok-adverts.ensures ∙ ap known_adverts (c.deref-3.ensures.value ∙ ap (λ n. n.clients) c.net.view_is)
+adverts : (c : goal.After-deref-3) → c.in_ok-adverts.adverts ≡ known_adverts c.args.net.now.clients
+adverts c = c.in_ok-adverts.ensures ∙ ap known_adverts (c.deref-2.ensures.value ∙ ap (λ n. n.clients) c.net.view_is)
 
-clients : (c : goal.After-deref-6) → c.deref-6.result.now ≡ c.args.net.now.clients
-clients c = c.deref-6.ensures.value ∙ ap (λ n. n.clients) c.net.view_is
+clients : (c : goal.After-deref-3) → c.deref-3.result.now ≡ c.args.net.now.clients
+clients c = c.deref-3.ensures.value ∙ ap (λ n. n.clients) c.net.view_is
 
 pub number_all-requires-clause-filters : goal.number_all-requires-clause-filters
 number_all-requires-clause-filters c = subst IsList (sym (filters c)) (filters_listed c.args.net.now.clients c.requires.controls)

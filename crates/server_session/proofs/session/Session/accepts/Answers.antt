@@ -19,8 +19,8 @@ returns c p e =
     let same : c.known.inside.notice ≡ p.notice =
     ap (λ (z : PublicationParts). z.notice) (c.known.view_is ∙ known-read c.publications.result.now (known_publications 1 c.args.self.now.net.clients) c.args.publication
     c.index-publications-publication.result p all c.requires c.index-publications-publication.is e) in
-    a ∙ (ap (λ (z : Semantics). accepts real (net_under z) (picked c.adverts.result.now row) c.known.inside.notice) c.semantics.ensures
-    ∙ (ap (λ (z : Lists). accepts real (net_under c.self.inside.tables.now.semantics) (picked z row) c.known.inside.notice) c.adverts.ensures
+    a ∙ (ap (λ (z : Semantics). accepts real (net_under z) (picked c.advert_items.result.now row) c.known.inside.notice) c.semantics.ensures
+    ∙ (ap (λ (z : Lists). accepts real (net_under c.self.inside.tables.now.semantics) (picked z row) c.known.inside.notice) c.advert_items.ensures
     ∙ (accepts-by-row _ _ _ _ _ _ _ c.self.invariant.0 c.known.inside.notice
     ∙ (ap (λ (z : NetSession). accepts real (net_under z.session.semantics) (adverts_at z.session z.session.taken) c.known.inside.notice) c.self.view_is
     ∙ ap (accepts real (net_under c.args.self.now.session.semantics) (adverts_at c.args.self.now.session c.args.self.now.session.taken)) same))))
