@@ -98,6 +98,20 @@ impl Cells {
         Ok(Cells { history, ends })
     }
 
+    /// How many words a set takes.
+    pub fn span(&self) -> usize
+        ensures { result ≡ length self.now.past.first }
+    {
+        self.history.span()
+    }
+
+    /// How many cells there are.
+    pub fn len(&self) -> usize
+        ensures { result ≡ length self.now.ends }
+    {
+        self.ends.len()
+    }
+
     /// Sets the words to the filters all of whose asks are met in a cell.
     pub fn read(&self, cell: usize, into: &mut [u64])
         requires cell { cell < length self.now.ends }

@@ -56,6 +56,13 @@ impl History {
         self.changes.len()
     }
 
+    /// How many words a set takes.
+    pub fn span(&self) -> usize
+        ensures { result ≡ length self.now.first }
+    {
+        self.span
+    }
+
     /// Whether a number is a member now.
     pub fn has(&self, k: u16) -> bool
         requires { k < 64 * length self.now.first }

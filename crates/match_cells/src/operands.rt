@@ -22,7 +22,7 @@ where
     K: Drop,
     requires paired { length cuts.old.items ≡ length groups.old.items }
     requires rising { AreRising K.order cuts.old.items }
-    requires few { length cuts.old.items < 2 ^ 32 }
+    requires few { length cuts.old.items < 2 ^ 63 }
     ensures paired { OnOk result (length cuts.new.items ≡ length groups.new.items) }
     ensures rising { OnOk result (AreRising K.order cuts.new.items) }
     ensures missed { OnOk result ((x : K) (k : ℕ) → missed_by K.order x k cuts.new.items groups.new.items ≡ cond ((ask.id == k) && not (met (side_of (K.order key x)) ask)) 1 0 + missed_by K.order x k cuts.old.items groups.old.items) }

@@ -11,7 +11,7 @@ use match_index::{LineKey, Sought};
 /// Sets the words to the filters that ask something at the operands and of which the value misses nothing.
 pub fn read_row<K: LineKey, Q: Sought<K>>(cuts: &[K], cells: &Cells, x: Q, into: &mut [u64])
     requires rising { AreRising K.order cuts.now }
-    requires few { length cuts.now < 2 ^ 32 }
+    requires few { length cuts.now < 2 ^ 63 }
     requires ends { length cells.now.ends ≡ 2 * length cuts.now + 1 }
     requires known { (e : ℕ) → e < length cells.now.ends → slice_index cells.now.ends e ≤ length cells.now.past.changes }
     requires wide { length into.old ≡ length cells.now.past.first }

@@ -6,3 +6,4 @@ pub mod Apart
 pub mod Shelves
 pub mod Satisfied
 pub mod Uses
+mod Parts

@@ -4,3 +4,4 @@ pub mod Table
 pub mod Index
 pub mod Shelves
 pub mod Slots
+pub mod Parts
