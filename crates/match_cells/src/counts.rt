@@ -33,6 +33,20 @@ impl Counts {
         }
     }
 
+    /// Counts of 31.
+    #[inline]
+    pub fn most() -> Counts
+        ensures { (q : ℕ) → q < 64 → count_at result q ≡ 31 }
+    {
+        Counts {
+            ones: u64::MAX,
+            twos: u64::MAX,
+            fours: u64::MAX,
+            eights: u64::MAX,
+            sixteens: u64::MAX,
+        }
+    }
+
     /// The counts with one more wherever the word has its bit; 32 is nought again.
     #[inline]
     pub fn with(self, word: u64) -> Counts

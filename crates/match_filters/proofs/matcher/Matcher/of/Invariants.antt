@@ -1,6 +1,5 @@
-use Rattle.std.proofs.Common.{take}
-use Rattle.match_filters.specs.Hits.{IsFilled}
+use Rattle.std.proofs.Common.{◌≡◌, take}
 use Rattle.match_filters.proofs.matcher.Matcher.of.Given as goal
 
-abbrev pub invariant-loop-i : goal.invariant-loop-i
-invariant-loop-i l = IsFilled l.index l.goals.items (take l.i l.filters)
+abbrev pub invariant-loop-filter : goal.invariant-loop-filter
+invariant-loop-filter l = l.builder ≡ take l.filter-index l.filters
