@@ -128,6 +128,15 @@ impl Row {
         words::copy(&mut self.words, &other.words);
     }
 
+    /// Sets it to the set that words show.
+    pub fn put_words(&mut self, words: &[u64])
+        requires { IsKept words.now self.old.width }
+        ensures width { self.new.width ≡ self.old.width }
+        ensures members { self.new.members ≡ members_of words.now self.old.width }
+    {
+        self.words.copy_from_slice(words);
+    }
+
     /// Puts each member of another set in.
     pub fn insert_all(&mut self, other: &Row)
         requires { other.now.width ≡ self.old.width }

@@ -21,7 +21,7 @@ use Rattle.match_index.proofs.Tallies.{tally-append, tally-agree}
 use Rattle.match_index.specs.Keys.{same_bytes, at_key, key_cmp}
 use Rattle.match_filters.specs.Index.{Use, is_satisfied, ids_satisfied}
 use Rattle.match_filters.specs.Shelves.{constraint_of, uses_of}
-use Rattle.match_filters.proofs.Shelves.{AreNamed, shelf-only, shelf-none}
+use Rattle.match_filters.proofs.ShelfLaws.{AreNamed, shelf-only, shelf-none}
 use Rattle.base.proofs.Lists.{bytes_eq-self}
 
 pub tally-satisfied : (q : ℕ → Bool) (n : List Attribute) (us : List Use) → tally q (ids_satisfied n us) ≡ tally (λ u. is_satisfied n u.0 && q u.1) us
@@ -74,7 +74,7 @@ later-none : (m : List ℕ) (n : List Attribute) (a : Attribute) → slice_cmp n
 later-none m [] a h r = rw (less-differs m a.0 h) refl
 later-none m (b ∷ n) a h r = rw (less-differs m a.0 h) (later-none m n b (nat_list_cmp_total.trans m a.0 b.0 h r.0) r.1)
 
-none-later : (a : Attribute) (n : List Attribute) → AreRising (a ∷ n) → attribute_at n a.0 ≡ None
+pub none-later : (a : Attribute) (n : List Attribute) → AreRising (a ∷ n) → attribute_at n a.0 ≡ None
 none-later a [] r = refl
 none-later a (b ∷ n) r = later-none a.0 n b r.0 r.1
 

@@ -1,6 +1,12 @@
+pub mod Goals
 pub mod Hits
 pub mod Matching
 pub mod Table
 pub mod Index
+pub mod Kinds
+pub mod Listed
+pub mod Parts
+pub mod Rows
 pub mod Shelves
 pub mod Slots
+pub mod Uses

@@ -1,18 +1,21 @@
-//! Counts the hits of each filter, and finds the filters that have enough.
-ghost use Rattle.std.specs.Prelude.{◌≡◌, ◌<◌, ◌≤◌, ◌↔◌, ℕ, length, slice_index_or, OnOk};
-ghost use Rattle.match_index.specs.Pairs.{Same};
-ghost use Rattle.base.specs.Sets.{Has};
+//! Finds what a notice's attributes satisfy, and counts it.
+ghost use Rattle.std.specs.Prelude.{◌≡◌, ◌<◌, ◌≤◌, ◌%◌, ◌*◌, ℕ, cond, length, OnOk};
+ghost use Rattle.match_index.specs.Pairs.{Same, tally};
+ghost use Rattle.match_cells.specs.Counts.{goal_at, rows_with};
 ghost use Rattle.match_filters.specs.Index.{ids_satisfied};
-ghost use Rattle.match_filters.specs.Hits.{AreSized, AreFew, hits_of};
+ghost use Rattle.match_filters.specs.Kinds.{all_uses};
+ghost use Rattle.match_filters.specs.Rows.{AreLong, is_met};
+ghost use Rattle.match_filters.specs.Hits.{hits_of};
 
 use crate::index::Index;
+use crate::rows::Rows;
 use base::NoMemory;
-use base_bits::Row;
 use filter_types::Notice;
+use match_cells::{Counts, count_one};
 
-/// The numbers of the filters whose constraints the notice satisfies, once a constraint.
+/// The numbers of the filters whose constraints on strs the notice satisfies, once a constraint.
 pub(crate) fn find(index: &Index, notice: &Notice, found: &mut Vec<u32>) -> Result<(), NoMemory>
-    ensures { OnOk result (Same found.new.items (ids_satisfied notice.now index.now)) }
+    ensures { OnOk result (Same found.new.items (ids_satisfied notice.now index.now.texts)) }
 {
     found.clear();
     for (name, value) in notice.attributes() {
@@ -21,30 +24,56 @@ pub(crate) fn find(index: &Index, notice: &Notice, found: &mut Vec<u32>) -> Resu
     Ok(())
 }
 
-/// Sets how many constraints are unmet to how many each filter has.
-pub(crate) fn reset(unmet: &mut Vec<u8>, goals: &[u8]) -> Result<(), NoMemory>
-    ensures { OnOk result (unmet.new.items ≡ goals.now) }
+/// A row for each part that an attribute of the notice meets.
+pub(crate) fn gather(
+    index: &Index,
+    notice: &Notice,
+    span: usize,
+    rows: &mut Rows,
+) -> Result<(), NoMemory>
+    ensures long { OnOk result (AreLong span rows.new) }
+    ensures counts { OnOk result ((k : ℕ) → k < 64 * span → rows_with rows.new k ≡ tally (λ a. is_met a (all_uses index.now) k) notice.now) }
 {
-    unmet.clear();
-    unmet.extend_from_slice(goals)?;
+    rows.clear();
+    for (name, value) in notice.attributes() {
+        index.read(name, value, span, rows)?;
+    }
     Ok(())
 }
 
-/// Counts each hit, and puts each filter into the row once none of its constraints is unmet.
-pub(crate) fn count(found: &[u32], unmet: &mut [u8], row: &mut Row)
-    requires sized { AreSized unmet.old }
-    requires few { AreFew unmet.old found.now }
-    requires wide { row.old.width ≡ length unmet.old }
-    requires empty { (k : ℕ) → Has k row.old.members → ⊥ }
-    ensures width { row.new.width ≡ row.old.width }
-    ensures full { (k : ℕ) → Has k row.new.members ↔ ((k < length unmet.old) × (slice_index_or unmet.old k 0 ≤ hits_of k found.now)) }
+/// Counts each number that was found.
+fn count_all(counts: &mut [Counts], found: &[u32])
+    requires known { (k : ℕ) → 64 * length counts.old ≤ k → hits_of k found.now ≡ 0 }
+    requires none { (k : ℕ) → goal_at counts.old k ≡ 0 }
+    ensures length { length counts.new ≡ length counts.old }
+    ensures counts { (k : ℕ) → goal_at counts.new k ≡ hits_of k found.now % 32 }
 {
     for id in found {
-        let i = *id as usize;
-        let left = unmet[i] - 1;
-        unmet[i] = left;
-        if left == 0 {
-            row.insert(*id);
-        }
+        count_one(counts, *id as usize);
     }
+}
+
+/// Sets so many counts to nought.
+fn reset(counts: &mut Vec<Counts>, span: usize) -> Result<(), NoMemory>
+    ensures length { OnOk result (length counts.new.items ≡ span) }
+    ensures none { OnOk result ((k : ℕ) → goal_at counts.new.items k ≡ 0) }
+{
+    counts.clear();
+    counts.resize(span, Counts::zero())?;
+    Ok(())
+}
+
+/// How often each number was found.
+pub(crate) fn count_found(
+    counts: &mut Vec<Counts>,
+    found: &[u32],
+    span: usize,
+) -> Result<(), NoMemory>
+    requires known { (k : ℕ) → 64 * span ≤ k → hits_of k found.now ≡ 0 }
+    ensures length { OnOk result (length counts.new.items ≡ span) }
+    ensures counts { OnOk result ((k : ℕ) → goal_at counts.new.items k ≡ hits_of k found.now % 32) }
+{
+    reset(counts, span)?;
+    count_all(counts, found);
+    Ok(())
 }

@@ -1,101 +1,140 @@
-//! The type of the index of the constraints of all filters, by the name of the attribute.
-ghost use Rattle.std.specs.Prelude.{◌≡◌, ◌∷◌, [], OnOk};
+//! The types of the index of the constraints of all filters, while they are put and then.
+ghost use Rattle.std.specs.Prelude.{◌≡◌, ◌*◌, ◌^◌, ◌<◌, ◌∷◌, [], length, IfOk, OnOk};
 ghost use Rattle.match_index.specs.Pairs.{Same, Appends};
 ghost use Rattle.match_filters.specs.Index.{ids_satisfied};
-ghost use Rattle.match_filters.specs.Shelves.{uses_of};
+ghost use Rattle.match_filters.specs.Kinds.{all_uses, AreByKind, IsAdded};
+ghost use Rattle.match_filters.specs.Uses.{AreKnown};
+ghost use Rattle.match_filters.specs.Rows.{HaveMore};
 
-use crate::pairs::Pairs;
+use crate::parts::Parts;
+use crate::rows::Rows;
+use crate::shelves::Shelves;
+use crate::texts::TextShelves;
 use base::NoMemory;
 use filter_constraints::Constraint;
-use filter_values::{Name, Value};
+use filter_values::{Kind, Name, Value};
 use std::alloc::Global;
-use std::collections::BTreeMap;
 use std::marker::Model;
 
-/// The bytes of a name.
-type Key = Vec<u8>;
+/// The constraints of the filters that were put, by kind and name.
+#[derive(Drop)]
+pub(crate) struct IndexBuilder {
+    ints: Shelves,
+    bools: Shelves,
+    times: Shelves,
+    texts: TextShelves,
+}
 
-/// The constraints of all filters, by name.
+impl Model for IndexBuilder {
+    ghost use Rattle.match_filters.specs.Kinds.{ByKind};
+
+    ghost Value = { ByKind };
+
+    ghost view = { λ b. record { ints = b.ints; bools = b.bools; times = b.times; texts = b.texts } };
+}
+
+/// The constraints of all filters, by kind and name.
 #[derive(Drop)]
 pub(crate) struct Index {
-    alloc: Global,
-    shelves: BTreeMap<Key, Pairs>,
+    ints: Parts,
+    bools: Parts,
+    times: Parts,
+    texts: TextShelves,
 }
 
 impl Model for Index {
-    ghost use Rattle.std.specs.Prelude.{List};
-    ghost use Rattle.match_filters.specs.Index.{Use};
-    ghost use Rattle.match_filters.specs.Shelves.{uses_of};
+    ghost use Rattle.match_filters.specs.Kinds.{ByKind, AreByKind};
 
-    ghost Value = { List Use };
+    ghost Value = { ByKind };
 
-    ghost view = { λ index. uses_of index.shelves.entries };
+    ghost view = { λ i. record { ints = i.ints; bools = i.bools; times = i.times; texts = i.texts } };
+
+    ghost invariant = { λ i. AreByKind (record { ints = i.ints; bools = i.bools; times = i.times; texts = i.texts }) };
 }
 
-/// Puts a use on the shelf of its name.
-fn put(
-    alloc: Global,
-    shelves: &mut BTreeMap<Key, Pairs>,
-    constraint: &Constraint,
-    id: u32,
-) -> Result<(), NoMemory>
-    ensures { OnOk result (Same (uses_of shelves.new.entries) ((constraint.now, id) ∷ uses_of shelves.old.entries)) }
-{
-    let name = constraint.name().bytes();
-    if let Some(shelf) = shelves.get_mut(name) {
-        return shelf.add(constraint, id);
-    }
-    let key = Vec::from_slice(alloc, name)?;
-    let mut shelf = Pairs::new(alloc);
-    shelf.add(constraint, id)?;
-    shelves.insert(key, shelf)?;
-    Ok(())
-}
-
-/// Appends the ids of the constraints that the attribute satisfies.
-fn meet(
-    shelves: &BTreeMap<Key, Pairs>,
-    name: &Name,
-    value: &Value,
-    found: &mut Vec<u32>,
-) -> Result<(), NoMemory>
-    ensures { OnOk result (Appends found.old.items found.new.items (ids_satisfied ((name.now, value.now) ∷ []) (uses_of shelves.now.entries))) }
-{
-    // The keys rise, so there is no other shelf of that name.
-    let _size = shelves.len();
-    match shelves.get(name.bytes()) {
-        Some(shelf) => shelf.hits(value, found),
-        None => Ok(()),
-    }
-}
-
-impl Index {
-    /// An index of nothing.
-    pub(crate) fn new(alloc: Global) -> Index
-        ensures { result ≡ [] }
+impl IndexBuilder {
+    /// An index of nothing. It takes no memory.
+    pub(crate) fn new(alloc: Global) -> IndexBuilder
+        ensures { result ≡ record { ints = []; bools = []; times = []; texts = [] } }
     {
-        Index {
-            alloc,
-            shelves: BTreeMap::new(alloc),
+        IndexBuilder {
+            ints: Shelves::new(alloc),
+            bools: Shelves::new(alloc),
+            times: Shelves::new(alloc),
+            texts: TextShelves::new(alloc),
         }
     }
 
     /// Adds a constraint of the filter with this number.
-    pub(crate) fn add(&mut self, constraint: &Constraint, id: u32) -> Result<(), NoMemory>
-        ensures { OnOk result (Same self.new ((constraint.now, id) ∷ self.old)) }
+    pub(crate) fn add(&mut self, constraint: &Constraint, id: u16) -> Result<(), NoMemory>
+        ensures { OnOk result (IsAdded constraint.now id self.old self.new) }
     {
-        put(self.alloc, &mut self.shelves, constraint, id)
+        match constraint.kind() {
+            Kind::Int => self.ints.add(constraint, id)?,
+            Kind::Bool => self.bools.add(constraint, id)?,
+            Kind::Time => self.times.add(constraint, id)?,
+            Kind::Str => self.texts.add(constraint, u32::from(id))?,
+        }
+        Ok(())
+    }
+}
+
+impl Index {
+    /// The index of these constraints.
+    pub(crate) fn of(builder: IndexBuilder, span: usize) -> Result<Index, NoMemory>
+        requires narrow { span < 2 ^ 32 }
+        requires sorted { AreByKind builder }
+        requires known { AreKnown (64 * span) (all_uses builder) }
+        requires few { length (all_uses builder) < 2 ^ 31 }
+        ensures { IfOk result (λ index. index ≡ builder) }
+    {
+        let IndexBuilder {
+            ints,
+            bools,
+            times,
+            texts,
+        } = builder;
+        let ints = Parts::of(ints, span)?;
+        let bools = Parts::of(bools, span)?;
+        let times = Parts::of(times, span)?;
+        Ok(Index {
+            ints,
+            bools,
+            times,
+            texts,
+        })
     }
 
-    /// Appends, for each constraint that the attribute satisfies, the number of its filter.
+    /// Puts in the row of the filters whose part on the attribute is satisfied, if there is a part.
+    pub(crate) fn read(
+        &self,
+        name: &Name,
+        value: &Value,
+        span: usize,
+        rows: &mut Rows,
+    ) -> Result<(), NoMemory>
+        ensures { OnOk result (HaveMore span (name.now, value.now) (all_uses self.now) rows.old rows.new) }
+    {
+        match value {
+            Value::Int(_) => self.ints.read(name, value, span, rows),
+            Value::Bool(_) => self.bools.read(name, value, span, rows),
+            Value::Time(_) => self.times.read(name, value, span, rows),
+            Value::Str(_) => Ok(()),
+        }
+    }
+
+    /// Appends, for each constraint on a str that the attribute satisfies, the number of its filter.
     pub(crate) fn hits(
         &self,
         name: &Name,
         value: &Value,
         found: &mut Vec<u32>,
     ) -> Result<(), NoMemory>
-        ensures { OnOk result (Appends found.old.items found.new.items (ids_satisfied ((name.now, value.now) ∷ []) self.now)) }
+        ensures { OnOk result (Appends found.old.items found.new.items (ids_satisfied ((name.now, value.now) ∷ []) self.now.texts)) }
     {
-        meet(&self.shelves, name, value, found)
+        match value {
+            Value::Str(_) => self.texts.hits(name, value, found),
+            _ => Ok(()),
+        }
     }
 }

@@ -17,4 +17,5 @@ mod sides;
 pub use append::append_ids;
 pub use key::{LineKey, Sought};
 pub use line::Line;
+pub use places::below;
 pub use sides::{EQUAL, Sides};

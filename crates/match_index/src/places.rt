@@ -42,7 +42,7 @@ pub(crate) fn rank<K: LineKey, Q: Sought<K>>(keys: &[K], ids: &[u32], key: Q, id
 
 /// How many keys are less. What is left is halved in each step whichever way the key goes, so that the step is a choice of a
 /// number and no branch.
-pub(crate) fn below<K: LineKey, Q: Sought<K>>(keys: &[K], key: Q) -> usize
+pub fn below<K: LineKey, Q: Sought<K>>(keys: &[K], key: Q) -> usize
     requires { AreSorted K.order keys.now }
     ensures within { result ≤ length keys.now }
     ensures before { (d : _) (k : ℕ) → k < result → is_lt (K.order (slice_index_or keys.now k d) (Q.meant key)) ≡ true }

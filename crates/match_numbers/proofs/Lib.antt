@@ -1,3 +1,5 @@
 pub mod Codes
 pub mod Meets
-pub mod Finds
+pub mod KindsMet
+pub mod Putting
+pub mod Resized

@@ -1,2 +1,4 @@
 pub mod Keys
-pub mod Rows
+pub mod Kinds
+pub mod Told
+pub mod Operands

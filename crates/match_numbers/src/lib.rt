@@ -1,13 +1,16 @@
 //! Layer: match.
-//! Job: an index of int, bool and time constraints.
+//! Job: an index of the int, bool and time constraints on one name.
 //! Users: match_filters, and thread_workers in a proof.
 //!
-//! `add` requires a constraint on int, bool or time. Ids need not differ. One more pair moves the later ones, 12 bytes
-//! each.
+//! Constraints are put into `Operands`, and a `Part` of these finds the ids all of whose constraints a value satisfies. Bools
+//! and times are ordered as numbers: false before true, and a time less 2^63. Contracts see the pairs that were put, which
+//! aren't kept.
 #![tactic(auto)]
 
-mod index;
 mod key;
-mod row;
+mod operands;
+mod part;
+mod told;
 
-pub use index::NumIndex;
+pub use operands::Operands;
+pub use part::Part;

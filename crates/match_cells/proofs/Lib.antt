@@ -1,0 +1,9 @@
+pub mod Adding
+pub mod Written
+pub mod Kept
+pub mod Shifts
+pub mod Firsts
+pub mod Losses
+pub mod Passing
+pub mod Places
+pub mod Puts
