@@ -221,9 +221,9 @@ module _ (n : List Attribute) (rising : AreRising n) (a : Attribute) (c : Constr
             let m : is_part_met (c ∷ f) a ≡ false = numbers f ∙ (ap (λ (b : Bool). nat_lt 0 (1 + inside) && nat_eq (bit_of (not b) + missed) 0) e ∙ grind (arith, nat_tests)) in
             lost g (parts_of f) g2 (parts_of (c ∷ f)) (is_satisfied n c) (list_all (is_satisfied n) f) (omega (arith, one-part f, alone-none f, ap {B = ℕ} bit_of m)) w (sat-is ∙ e)
             (λ all more.
-              let none : missed ≡ 0 = none-missed n a c there f all in
-              let was : is_part_met f a ≡ true = grind (arith, nat_tests, none, some) in
-              omega (arith, one-part f, alone-none f, ap {B = ℕ} bit_of m, ap {B = ℕ} bit_of was, more))
+            let none : missed ≡ 0 = none-missed n a c there f all in
+            let was : is_part_met f a ≡ true = grind (arith, nat_tests, none, some) in
+            omega (arith, one-part f, alone-none f, ap {B = ℕ} bit_of m, ap {B = ℕ} bit_of was, more))
             t
 
         go : (b : Bool) → list_any (is_beside c) f ≡ b → Tells g2 (parts_of (c ∷ f)) (is_satisfied n c && list_all (is_satisfied n) f)

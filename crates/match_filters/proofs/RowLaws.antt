@@ -155,9 +155,13 @@ part-read span name a pairs es old new n of distinct h is = record {
   more = λ k l. (
       let here = subst (λ (m : List ℕ). lookup (at_key m) es ≡ Some pairs) n h in
       let b = is.bits (of-kind a.0 a.1 pairs es of distinct here) k l in
-      omega (arith, ap (λ (rows : List (Vec ℕ Global)). rows_with rows k) is.more, sum_by_push (λ (row : Vec ℕ Global). bit row.items k) old is.row,
-      told (bit is.row.items k) (tally (is_of k) pairs) (tally (is_missed_of a.1 k) pairs) (bit-small is.row.items k) b,
-      ap₂ {C = ℕ} (λ (x y : ℕ). cond (nat_lt 0 x && nat_eq y 0) 1 0) (on-shelf a.0 a.1 pairs es of distinct here k) (missed-shelf a.0 a.1 pairs es of distinct here k)));
+      omega (
+        arith,
+        ap (λ (rows : List (Vec ℕ Global)). rows_with rows k) is.more,
+        sum_by_push (λ (row : Vec ℕ Global). bit row.items k) old is.row,
+        told (bit is.row.items k) (tally (is_of k) pairs) (tally (is_missed_of a.1 k) pairs) (bit-small is.row.items k) b,
+        ap₂ {C = ℕ} (λ (x y : ℕ). cond (nat_lt 0 x && nat_eq y 0) 1 0) (on-shelf a.0 a.1 pairs es of distinct here k) (missed-shelf a.0 a.1 pairs es of distinct here k),
+      ));
 }
   where
     told : (b x y : ℕ) → b < 2 → (b ≡ 1) ↔ ((0 < x) × (y ≡ 0)) → b ≡ cond (nat_lt 0 x && nat_eq y 0) 1 0

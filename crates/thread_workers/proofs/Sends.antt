@@ -4,7 +4,6 @@ use denote.Ref.{NamedLft}
 use denote.Struct.Declared.{shape}
 use denote.Param.Send.{IsSend, IsSync, sendable, struct_send, struct_sync}
 use Rattle.std.proofs.Crossing.{crosses}
-use Rattle.std.proofs.MapsCrossing as maps
 use Rattle.std_heap.specs.contracts.Global as Heap
 use Rattle.std_heap.specs.contracts.GlobalAllocator.TheImpl as heap_impl
 use Rattle.std.proofs.alloc.Global.TheSendSync as heap
@@ -26,18 +25,7 @@ use Rattle.filter_values.specs.contracts.value.Value as Value
 use Rattle.filter_constraints.specs.contracts.constraint.Constraint as Constraint
 use Rattle.filter_types.specs.contracts.filter.Constraints as Constraints
 use Rattle.filter_types.specs.contracts.notice.Notice as Notice
-use Rattle.match_numbers.specs.contracts.index.NumIndex as NumIndex
-use Rattle.match_numbers.specs.contracts.row.Row as NumRow
 use Rattle.base_bits.specs.contracts.row.Row as Row
-use Rattle.match_texts.specs.contracts.key.TextKey as TextKey
-use Rattle.match_texts.specs.contracts.order.Order as TextOrder
-use Rattle.match_texts.specs.contracts.orders.Orders as TextOrders
-use Rattle.match_texts.specs.contracts.marked.Marked as Marked
-use Rattle.match_texts.specs.contracts.patterns.Patterns as Patterns
-use Rattle.match_texts.specs.contracts.texts.Texts as Texts
-use Rattle.match_filters.specs.contracts.pairs.Pairs as Pairs
-use Rattle.match_filters.specs.contracts.index.Index as Index
-use Rattle.match_filters.specs.contracts.matcher.Matcher as Matcher
 use Rattle.filter_text.specs.contracts.command.Command as Command
 use Rattle.filter_text.specs.contracts.delivery.Delivery as Delivery
 use Rattle.filter_text.specs.contracts.lists.Lists as Lists
@@ -47,6 +35,7 @@ use Rattle.net_tables.specs.contracts.publication.Publication as Publication
 use Rattle.net_tables.specs.contracts.catalogue.Catalogue as Catalogue
 use Rattle.base_order.specs.contracts.order.Order as Order
 use Rattle.base_pool.proofs.Crossing.{items_sync}
+use Rattle.match_filters.proofs.Crossing.{matcher_sync}
 use Rattle.net_tables.specs.contracts.found.Found as Found
 use Rattle.net_tables.specs.contracts.tables.Tables as Tables
 use Rattle.server_stock.specs.contracts.holders.Holders as Holders
@@ -129,39 +118,6 @@ row_send = search (sendable, crosses) depth 20
 
 pub row_sync : IsSync Row.the_field.row
 row_sync = search (sendable, crosses) depth 20
-
-pub number_row_sync : IsSync NumRow.the_field.row
-number_row_sync = search (sendable, crosses) depth 20
-
-pub numbers_sync : IsSync NumIndex.the_field.row
-numbers_sync = let a = number_row_sync in search (sendable, crosses) depth 20
-
-pub key_sync : IsSync TextKey.the_field.row
-key_sync = search (sendable, crosses) depth 20
-
-pub text_order_sync : IsSync TextOrder.the_row
-text_order_sync = let a = key_sync in search (sendable, crosses) depth 20
-
-pub text_orders_sync : IsSync TextOrders.the_field.row
-text_orders_sync = let a = text_order_sync in search (sendable, crosses) depth 20
-
-pub marked_sync : IsSync Marked.the_field.row
-marked_sync = search (sendable, crosses, maps.BTreeMap-sync) depth 20
-
-pub patterns_sync : IsSync Patterns.the_field.row
-patterns_sync = let a = marked_sync in search (sendable, crosses) depth 20
-
-pub texts_sync : IsSync Texts.the_field.row
-texts_sync = let a = text_orders_sync in let b = patterns_sync in search ours depth 20
-
-pub pairs_sync : IsSync Pairs.the_field.row
-pairs_sync = let a = numbers_sync in let b = texts_sync in search (sendable, crosses) depth 20
-
-pub index_sync : IsSync Index.the_field.row
-index_sync = let a = pairs_sync in search (ours, maps.BTreeMap-sync) depth 20
-
-pub matcher_sync : IsSync Matcher.the_field.row
-matcher_sync = let a = index_sync in search (sendable, crosses, constraints_sync) depth 20
 
 pub front_send : IsSend Front.the_field.row
 front_send = search ours depth 20
