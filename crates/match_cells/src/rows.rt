@@ -31,7 +31,8 @@ pub fn counted(first: &[Counts], rows: &[Vec<u64>], goals: &[Counts], into: &mut
     requires first { length first.now ≡ length into.old }
     requires goals { length goals.now ≡ length into.old }
     ensures length { length into.new ≡ length into.old }
-    ensures bits { (k : ℕ) → k < 64 * length into.old → (bit into.new k ≡ 1) ↔ ((goal_at first.now k + rows_with rows.now k) % 32 ≡ goal_at goals.now k) }
+    ensures bits { (k : ℕ) → k < 64 * length into.old
+        → (bit into.new k ≡ 1) ↔ ((goal_at first.now k + rows_with rows.now k) % 32 ≡ goal_at goals.now k) }
 {
     for i in 0..into.len() {
         into[i] = sum_at(first[i], rows, i).same(goals[i]);

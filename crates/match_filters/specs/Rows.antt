@@ -19,7 +19,8 @@ pub record IsRead (span : ℕ) (v : Value) (pairs : List Pair) (old new : List (
   pub row : Vec ℕ Global
   pub more : new ≡ old ++ row ∷ []
   pub long : length row.items ≡ span
-  pub bits : AreOf v pairs → (k : ℕ) → k < 64 * span → (bit row.items k ≡ 1) ↔ ((0 < tally (is_of k) pairs) × (tally (is_missed_of v k) pairs ≡ 0))
+  pub bits : AreOf v pairs → (k : ℕ) → k < 64 * span
+      → (bit row.items k ≡ 1) ↔ ((0 < tally (is_of k) pairs) × (tally (is_missed_of v k) pairs ≡ 0))
 
 -- the filter of this number has constraints in the part on the attribute, and the attribute satisfies them all
 abbrev pub is_met : Attribute → List Use → ℕ → Bool

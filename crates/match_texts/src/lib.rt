@@ -1,6 +1,6 @@
 //! Layer: match.
 //! Job: an index of str constraints from which none is ever removed.
-//! Users: match_filters, and thread_workers in a proof.
+//! Users: match_filters.
 //!
 //! A pattern is marked by where its pairs of neighbouring bytes are, so that a text is tested against the few patterns
 //! whose marks it has. A text has the marks of each pattern that it matches; the proofs are `part-first`, `part-last`,
