@@ -10,3 +10,4 @@ pub mod KindLaws
 pub mod Closing
 pub mod Ending
 pub mod GoalLaws
+

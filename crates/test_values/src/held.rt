@@ -128,7 +128,7 @@ fn routed(
     forwarding: &Forwarding,
     notice: &Notice,
 ) -> Result<Vec<u8>, RowFault> {
-    if forwarding.width() as usize != matcher.filters().len() {
+    if forwarding.width() as usize != matcher.len() {
         return Err(RowFault::Form);
     }
     let mut matched = Row::new(alloc, forwarding.width())?;

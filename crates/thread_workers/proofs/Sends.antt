@@ -26,8 +26,9 @@ use Rattle.filter_values.specs.contracts.value.Value as Value
 use Rattle.filter_constraints.specs.contracts.constraint.Constraint as Constraint
 use Rattle.filter_types.specs.contracts.filter.Constraints as Constraints
 use Rattle.filter_types.specs.contracts.notice.Notice as Notice
-use Rattle.match_numbers.specs.contracts.index.NumIndex as NumIndex
-use Rattle.match_numbers.specs.contracts.row.Row as NumRow
+use Rattle.match_cells.specs.contracts.history.History as History
+use Rattle.match_cells.specs.contracts.cells.Cells as Cells
+use Rattle.match_numbers.specs.contracts.part.Part as NumPart
 use Rattle.base_bits.specs.contracts.row.Row as Row
 use Rattle.match_texts.specs.contracts.key.TextKey as TextKey
 use Rattle.match_texts.specs.contracts.order.Order as TextOrder
@@ -35,7 +36,8 @@ use Rattle.match_texts.specs.contracts.orders.Orders as TextOrders
 use Rattle.match_texts.specs.contracts.marked.Marked as Marked
 use Rattle.match_texts.specs.contracts.patterns.Patterns as Patterns
 use Rattle.match_texts.specs.contracts.texts.Texts as Texts
-use Rattle.match_filters.specs.contracts.pairs.Pairs as Pairs
+use Rattle.match_filters.specs.contracts.parts.Parts as Parts
+use Rattle.match_filters.specs.contracts.texts.TextShelves as TextShelves
 use Rattle.match_filters.specs.contracts.index.Index as Index
 use Rattle.match_filters.specs.contracts.matcher.Matcher as Matcher
 use Rattle.filter_text.specs.contracts.command.Command as Command
@@ -129,11 +131,17 @@ row_send = search (sendable, crosses) depth 20
 pub row_sync : IsSync Row.the_field.row
 row_sync = search (sendable, crosses) depth 20
 
-pub number_row_sync : IsSync NumRow.the_field.row
-number_row_sync = search (sendable, crosses) depth 20
+pub history_sync : IsSync History.the_field.row
+history_sync = search (sendable, crosses) depth 20
 
-pub numbers_sync : IsSync NumIndex.the_field.row
-numbers_sync = let a = number_row_sync in search (sendable, crosses) depth 20
+pub cells_sync : IsSync Cells.the_field.row
+cells_sync = let a = history_sync in search (sendable, crosses) depth 20
+
+pub number_part_sync : IsSync NumPart.the_field.row
+number_part_sync = let a = cells_sync in search (sendable, crosses) depth 20
+
+pub parts_sync : IsSync Parts.the_field.row
+parts_sync = let a = number_part_sync in search (ours, maps.BTreeMap-sync) depth 20
 
 pub key_sync : IsSync TextKey.the_field.row
 key_sync = search (sendable, crosses) depth 20
@@ -153,14 +161,14 @@ patterns_sync = let a = marked_sync in search (sendable, crosses) depth 20
 pub texts_sync : IsSync Texts.the_field.row
 texts_sync = let a = text_orders_sync in let b = patterns_sync in search ours depth 20
 
-pub pairs_sync : IsSync Pairs.the_field.row
-pairs_sync = let a = numbers_sync in let b = texts_sync in search (sendable, crosses) depth 20
+pub text_shelves_sync : IsSync TextShelves.the_field.row
+text_shelves_sync = let a = texts_sync in search (ours, maps.BTreeMap-sync) depth 20
 
 pub index_sync : IsSync Index.the_field.row
-index_sync = let a = pairs_sync in search (ours, maps.BTreeMap-sync) depth 20
+index_sync = let a = parts_sync in let b = text_shelves_sync in search (sendable, crosses) depth 20
 
 pub matcher_sync : IsSync Matcher.the_field.row
-matcher_sync = let a = index_sync in search (sendable, crosses, constraints_sync) depth 20
+matcher_sync = let a = index_sync in search (sendable, crosses) depth 20
 
 pub front_send : IsSend Front.the_field.row
 front_send = search ours depth 20
