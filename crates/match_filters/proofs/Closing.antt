@@ -40,9 +40,6 @@ insert-last (f ∷ es) rest e h =
     let more : key_cmp e.0 f.0 ≡ Greater = nat_list_cmp_total.antisymm e.0.items f.0.items ∙ ap ordering_reverse less in
     ap (λ (o : Ordering). match_ordering o (e ∷ f ∷ es) ((f.0, e.1) ∷ es) (f ∷ insert_entry key_cmp es e.0 e.1)) more ∙ ap (λ (xs : List Entry). f ∷ xs) (insert-last es rest e h.1)
 
-pub closed-none : (all : List Entry) → IsStrictlySortedBy key_cmp (keys_of all) → IsClosed all [] all
-closed-none all h = record { ordered = h; whole = refl }
-
 pub closed-more : (all done left new rest : List Entry) (e : Entry) → IsClosed all done left → left ≡ e ∷ rest → new ≡ insert_entry key_cmp done e.0 e.1 → IsClosed all new rest
 closed-more all done left new rest e is l n =
     let whole : all ≡ done ++ (e ∷ rest) = is.whole ∙ ap (λ (xs : List Entry). done ++ xs) l in
