@@ -242,9 +242,9 @@ module _ (th : Theory) (adverts : Bool) (servers : List ℕ) (home : ℕ → ℕ
     same-made m t =
         off-plain (tree_after tree later m.phase).links (tree_after tree later m.phase).hop (entry_at (machine_at th one m.phase) (at_phase th one m.phase m.state) t.0 t.1)
         ∙ by (λ l step phase through. plain l step phase through
-            (entry_at (machine l step phase through) (record { state = m.state.state; clock = m.state.clock; put = m.state.put; taken = m.state.taken }) t.0 t.1)) m.phase
+        (entry_at (machine l step phase through) (record { state = m.state.state; clock = m.state.clock; put = m.state.put; taken = m.state.taken }) t.0 t.1)) m.phase
         ∙ sym (off-plain (tree_after tree' later' m.phase).links (tree_after tree' later' m.phase).hop
-            (entry_at (machine_at th two m.phase) (at_phase th two m.phase m.state) t.0 t.1))
+        (entry_at (machine_at th two m.phase) (at_phase th two m.phase m.state) t.0 t.1))
 
     same-own : (p : ℕ) (own : Option ℕ) → is_of_phase (machine_at th one p) p own ≡ is_of_phase (machine_at th two p) p own
     same-own p None = refl

@@ -170,7 +170,7 @@ answered-question q net e p client publisher ordinal c n o answer told =
 pub by-net : (q : Question) (input : List ℕ) (net : NetParts) (r : Result PrintedParts Unanswered) → IsNetOf input net → IsSound net → AreOfNotices net.clients
     → ((journal : List EntryParts) → IsWholeRun net journal → ClientPromise plain input (run_text plain net journal) net (lists_by net journal) (trace_of plain.trace net journal))
     → ((journal : List EntryParts) → IsWholeRun net journal → GoesBy Walk net journal
-        → NetworkPromise Walk plain net journal (lists_by net journal) (trace_of plain.trace net journal))
+    → NetworkPromise Walk plain net journal (lists_by net journal) (trace_of plain.trace net journal))
     → ExplainsNet q net r → ExplainsInput q input r
 by-net q input net (Ok p) of sound notices clients network h =
     let whole : IsWholeRun net p.journal = record { sound = sound; notices = notices; legal = h.2.legal; drained = h.2.drained } in record {

@@ -81,7 +81,8 @@ pub fn answer<S: Source>(
         → S.faults source.new ≡ S.faults source.old }
     ensures unread { reads_document wanted.entry ≡ false → source.new ≡ source.old }
     ensures failed { IsErrOf result Unanswered.ReadFault → Rose (S.faults source.old) (S.faults source.new) }
-    ensures at_most { reads_document wanted.entry ≡ true → Gave (S.given source.old) (S.given source.new) (λ given. length given ≤ most_for wanted.entry) }
+    ensures at_most { reads_document wanted.entry ≡ true
+        → Gave (S.given source.old) (S.given source.new) (λ given. length given ≤ most_for wanted.entry) }
     ensures told { (given : List ℕ) → S.given source.new ≡ S.given source.old ++ given → Consumes (S.left source.old) (S.left source.new) given }
     ensures read_out { reads_document wanted.entry ≡ true → (Rose (S.faults source.old) (S.faults source.new) → ⊥)
         → IsReadOut (most_for wanted.entry) (S.given source.old) (S.given source.new) (S.ended source.new) ⊎ IsErrOf result Unanswered.NoMemory }

@@ -18,8 +18,8 @@ pub fn lemma_one_document()
         → IsOutputOf one journal output → IsOutputOf two journal output }
     ensures walk { (input : List ℕ) (one two : NetParts) (journal : List EntryParts) → IsNetOf input one → IsNetOf input two
         → GoesBy Schedule.Walk one journal → GoesBy Schedule.Walk two journal }
-    ensures flooding { (input : List ℕ) (one two : NetParts) (rows : List (List OwedRow)) (refused : List (List ℕ)) → IsNetOf input one → IsNetOf input two
-        → IsFlooding one rows refused → IsFlooding two rows refused }
+    ensures flooding { (input : List ℕ) (one two : NetParts) (rows : List (List OwedRow)) (refused : List (List ℕ)) → IsNetOf input one
+        → IsNetOf input two → IsFlooding one rows refused → IsFlooding two rows refused }
     ensures text { (input : List ℕ) (one two : NetParts) → IsNetOf input one → IsNetOf input two → document_text one ≡ document_text two }
     ensures refusal { (input : List ℕ) (line other : ℕ) (kind second : Fault) → IsBadAt input line kind → IsBadAt input other second
         → (line ≡ other) × (kind ≡ second) }

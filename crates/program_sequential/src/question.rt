@@ -83,11 +83,7 @@ pub fn read_question<'w>(
     ensures { result ≡ question_by client.now publisher.now number.now }
 {
     match ordinal(number.as_slice()) {
-        Some(ordinal) => Some(Question::of(
-            client.as_slice(),
-            publisher.as_slice(),
-            ordinal,
-        )),
+        Some(ordinal) => Some(Question::of(client.as_slice(), publisher.as_slice(), ordinal)),
         None => None,
     }
 }

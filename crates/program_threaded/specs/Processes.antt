@@ -67,7 +67,7 @@ abbrev pub IsDone : {Z D V : Type 0} → Result (IntoIter (String Z) Z) Error �
     → V → V → AnswersParts → Option (List ℕ) → Option (List ℕ) → Status → List EntryParts → Type 0
 IsDone arguments input read answers ended before after output written taken held holds status journal =
     ((words : List (List ℕ)) × GivesWords arguments words
-        × IsCall (wanted_by words) input read answers ended before after output written taken held holds status journal)
+    × IsCall (wanted_by words) input read answers ended before after output written taken held holds status journal)
     ⊎ (IsUnread arguments status × IsUncalled input read answers output written taken)
 
 -- STANDARD ERROR TOOK A TEXT; or nothing, as memory was refused for it; or a proper front of it, as a write failed

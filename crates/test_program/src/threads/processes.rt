@@ -113,30 +113,59 @@ fn ended<T: Threads + Wait + Sync>(
 /// Prints of each call whether it ends as wanted: with its number, and with a text on the one stream or on the other.
 fn print_calls<R: Print + Threads + Wait + Sync>(rt: &R, alloc: Global) -> Result<(), Failure> {
     for call in &CALLS {
-        let (number, output, errors) = ended(rt, alloc, Ok(arguments(alloc, call.words)?), call.document);
+        let (number, output, errors) = ended(
+            rt,
+            alloc,
+            Ok(arguments(alloc, call.words)?),
+            call.document,
+        );
         let told = (number == 0) == (errors == 0) && (number == 0) == (output > 0);
-        println!(rt; "`{}` ends with {number}: {}", call.words, told && number == call.number)?;
+        println!(rt;
+            "`{}` ends with {number}: {}",
+            call.words,
+            told && number == call.number
+        )?;
     }
     Ok(())
 }
 
-/// Prints the numbers where devices fail, and where arguments can't be read.
+/// Prints the numbers where devices fail.
+fn print_broken<R: Print + Threads + Wait + Sync>(rt: &R, alloc: Global) -> Result<(), Failure> {
+    for words in ["walk", "run"] {
+        let mut taken = Vec::new(alloc);
+        let given = Ok(arguments(alloc, words)?);
+        let unread = program(alloc, rt, given, Broken, &mut taken, Broken);
+        println!(rt; "`{words}` without an input ends with {}", unread.number)?;
+        let mut told = Vec::new(alloc);
+        let given = Ok(arguments(alloc, words)?);
+        let unwritten = program(alloc, rt, given, GOOD.as_bytes(), Broken, &mut told);
+        println!(rt;
+            "`{words}` without an output ends with {}",
+            unwritten.number
+        )?;
+    }
+    Ok(())
+}
+
+/// Prints the numbers where arguments can't be read.
+fn print_unread<R: Print + Threads + Wait + Sync>(rt: &R, alloc: Global) -> Result<(), Failure> {
+    for kind in [
+        ErrorKind::InvalidData,
+        ErrorKind::Other,
+        ErrorKind::OutOfMemory,
+    ] {
+        let (number, _, _) = ended(rt, alloc, Err(Error::from(kind)), GOOD);
+        println!(rt; "arguments that can't be read end with {number}")?;
+    }
+    Ok(())
+}
+
+/// Prints with which numbers the whole program ends.
 pub fn print_processes<R: Print + Threads + Wait + Sync>(
     rt: &R,
     alloc: Global,
 ) -> Result<(), Failure> {
     print_calls(rt, alloc)?;
-    for words in ["walk", "run"] {
-        let mut output = Vec::new(alloc);
-        let unread = program(alloc, rt, Ok(arguments(alloc, words)?), Broken, &mut output, Broken);
-        println!(rt; "`{words}` without an input ends with {}", unread.number)?;
-        let mut errors = Vec::new(alloc);
-        let unwritten = program(alloc, rt, Ok(arguments(alloc, words)?), GOOD.as_bytes(), Broken, &mut errors);
-        println!(rt; "`{words}` without an output ends with {}", unwritten.number)?;
-    }
-    for kind in [ErrorKind::InvalidData, ErrorKind::Other, ErrorKind::OutOfMemory] {
-        let (number, _, _) = ended(rt, alloc, Err(Error::from(kind)), GOOD);
-        println!(rt; "arguments that can't be read end with {number}")?;
-    }
-    Ok(())
+    print_broken(rt, alloc)?;
+    print_unread(rt, alloc)
 }
