@@ -1,5 +1,5 @@
 -- Two nets of one document have the same runs with the same texts.
-use Rattle.std.proofs.Common.{◌≡◌, ℕ, zero, suc, false, cond, List, [], ◌∷◌, ◌++◌, length, map, take, refl, sym, ap, subst, ◌∙◌, Result, Ok}
+use Rattle.std.proofs.Common.{◌≡◌, ℕ, zero, suc, ◌-◌, false, cond, List, [], ◌∷◌, ◌++◌, length, map, take, refl, sym, ap, subst, ◌∙◌, Result, Ok}
 use Rattle.std.specs.List.{range_with_len}
 use Rattle.base_tree.specs.Tree.{Topology}
 use Rattle.law_routing.specs.Net.{Command, Subscribe, Unsubscribe, Advertise, Unadvertise, Publish, PhasedCommand}
@@ -11,10 +11,11 @@ use Rattle.server_spec.specs.Control.{texts}
 use Rattle.net_model.specs.declared.turn.Turn.{Turn}
 use Rattle.net_model.specs.Parts.{ClientParts, NetParts, EntryParts, net_parts}
 use Rattle.net_model.specs.Meaning.{deliveries_of, entry_of, journal_of}
-use Rattle.net_model.specs.Nets.{home_of, phased_net, script_of}
+use Rattle.net_model.specs.Nets.{home_of, phased_net, phases_of, script_of}
 use Rattle.net_model.specs.Lists.{refused_ordinals}
 use Rattle.net_turns.specs.Network.{received_by, refused_by, executed_by}
 use Rattle.net_turns.specs.Told.{told_from}
+use Rattle.net_turns.specs.Walked.{walk_after}
 use Rattle.document_reader.specs.Drawn.{Block}
 use Rattle.document_reader.specs.Net.{AreTreesOf, IsNetOf}
 use Rattle.document_reader.specs.declared.fault.Fault.{Fault}
@@ -22,7 +23,7 @@ use Rattle.document_reader.specs.declared.state.State.{State}
 use Rattle.output_report.specs.Deliveries.{deliveries_text}
 use Rattle.output_report.specs.Trace.{trace_text}
 use Rattle.audit_verdict.specs.Verdict.{IsOutputOf, traced_text}
-use Rattle.audit_verdict.proofs.SameRuns.{AreAlike, drained-here, neighbours-here, run-here, state-here, told-here}
+use Rattle.audit_verdict.proofs.SameRuns.{AreAlike, drained-here, neighbours-here, run-here, state-here, told-here, walk-here}
 
 -- trees of the same edges are alike
 alike : (n : ℕ) (blocks : List Block) (ts us : List (ℕ × Topology)) → AreTreesOf n blocks ts → AreTreesOf n blocks us → AreAlike ts us
@@ -84,6 +85,9 @@ module _ (semantics : Semantics) (clients : List ClientParts) (v w : ℕ) (t u :
     text = h.text ∙ text-same;
   }
 
+  walk-same : walk_after here [] ≡ walk_after there []
+  walk-same = walk-here semantics clients v w t u x y same (phases_of here - 0) 0
+
 the-state : (r : Result State (ℕ × Fault)) (s z : State) → r ≡ Ok s → r ≡ Ok z → s ≡ z
 the-state r s z p q = cc
 
@@ -98,3 +102,15 @@ same-output document one two journal output a b h =
     subst (λ z. IsOutputOf (net_parts two.version z two.trees two.clients two.schedule) journal output) semantics
     (subst (λ z. IsOutputOf (net_parts two.version one.semantics two.trees z two.schedule) journal output) clients
     (output-same one.semantics one.clients one.version two.version one.trees two.trees one.schedule two.schedule trees journal output h))
+
+-- two nets of one document have the same walk
+pub same-walk : (document : List ℕ) (one two : NetParts) → IsNetOf document one → IsNetOf document two → walk_after one [] ≡ walk_after two []
+same-walk document one two a b =
+    let state : a.state ≡ b.state = the-state _ a.state b.state a.read b.read in
+    let semantics : one.semantics ≡ two.semantics = a.holds.semantics ∙ ap (λ (s : State). s.semantics) state ∙ sym b.holds.semantics in
+    let clients : one.clients ≡ two.clients = a.holds.clients ∙ ap (λ (s : State). map Rattle.document_reader.specs.Net.client_of s.clients) state ∙ sym b.holds.clients in
+    let trees : AreAlike one.trees two.trees = alike a.state.trees.servers (Rattle.document_reader.specs.Drawn.blocks a.state.trees) one.trees two.trees a.holds.trees
+    (subst (λ (s : State). AreTreesOf s.trees.servers (Rattle.document_reader.specs.Drawn.blocks s.trees) two.trees) (sym state) b.holds.trees) in
+    subst (λ z. walk_after one [] ≡ walk_after (net_parts two.version z two.trees two.clients two.schedule) []) semantics
+    (subst (λ z. walk_after one [] ≡ walk_after (net_parts two.version one.semantics two.trees z two.schedule) []) clients
+    (walk-same one.semantics one.clients one.version two.version one.trees two.trees one.schedule two.schedule trees []))

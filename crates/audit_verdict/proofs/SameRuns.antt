@@ -14,7 +14,8 @@ use Rattle.filter_text.specs.declared.semantics.Semantics.{Semantics}
 use Rattle.net_model.specs.declared.turn.Turn.{Turn}
 use Rattle.net_model.specs.Parts.{ClientParts, NetParts, net_parts}
 use Rattle.net_model.specs.Nets.{phased_net, phased_tree, tree_of, first_tree, later_trees, with_adverts, home_of, clients_of, script_of}
-use Rattle.audit_verdict.proofs.SameTrees.{run-there, same-after, same-found-after, drained-there, same-messages}
+use Rattle.law_phases.specs.Walk.{walk_phases}
+use Rattle.audit_verdict.proofs.SameTrees.{run-there, same-after, same-found-after, drained-there, same-messages, same-phases}
 
 -- trees with the same first phases and the same neighbours, one by one
 abbrev pub AreAlike : List (ℕ × Topology) → List (ℕ × Topology) → Type 0
@@ -133,3 +134,9 @@ module _ (semantics : Semantics) (clients : List ClientParts) (v w : ℕ) (t u :
       ∙ ap (λ (m : Moment real (between (first_tree t).count)). (net_at real (between (first_tree t).count) m.phase).links server)
       (same-found-after real (with_adverts semantics) (servers_to (first_tree t).count) (home_of here) (clients_of here) (script_of here) (tree_of (first_tree t)) (tree_of (first_tree u)) (map phased_tree (later_trees t)) (map phased_tree (later_trees u)) near many es k (opening_moment real (phased_net here)))
       ∙ ap (λ n. neighbours es k server (between n)) counts
+
+  pub walk-here : (n p : ℕ) → walk_phases real (phased_net here) n p (opening_moment real (phased_net here)) ≡ walk_phases real (phased_net there) n p (opening_moment real (phased_net there))
+  walk-here n p =
+      same-phases real (with_adverts semantics) (servers_to (first_tree t).count) (home_of here) (clients_of here) (script_of here) (tree_of (first_tree t)) (tree_of (first_tree u)) (map phased_tree (later_trees t)) (map phased_tree (later_trees u)) near many
+      n p (opening_moment real (phased_net here))
+      ∙ ap (λ k. walk_phases real (between k) n p (opening_moment real (between k))) counts

@@ -1,20 +1,24 @@
 -- Runs depend on the neighbours of servers alone: nets over trees with the same neighbours have the same runs, however their trees represent the way.
-use Rattle.std.proofs.Common.{◌≡◌, ℕ, zero, suc, ◌==◌, ◌&&◌, Bool, true, false, cond, inl, inr, List, [], ◌∷◌, Option, Some, None, refl, sym, ap, subst, ◌∙◌}
+use Rattle.std.proofs.Common.{◌≡◌, ℕ, zero, suc, ◌==◌, ◌&&◌, Bool, true, false, cond, inl, inr, List, [], ◌∷◌, ◌++◌, length, map, Option, Some, None, refl, sym, ap, subst, ◌∙◌}
 use Rattle.std.specs.Prelude.{slice_get}
-use Rattle.law_machine.specs.Machine.{Machine, Input, Does, Receives, Outcome, Act, act_phase}
-use Rattle.law_machine.specs.Network.{IsStep, turn, messages_of}
+use Rattle.law_machine.specs.Machine.{Machine, Input, Does, Receives, Outcome, Act, Did, Received, Entry, act_phase}
+use Rattle.law_machine.specs.Network.{IsStep, entry_at, turn, messages_of}
+use Rattle.law_machine.specs.Walk.{is_of_phase, repeated, with_default}
 use Rattle.law_machine.specs.Runs.{IsQuiet, IsThrough, raised}
 use Rattle.law_routing.specs.Theory.{Theory}
 use Rattle.law_routing.specs.Net.{Net, PhasedCommand, Command, Subscribe, Unsubscribe, Advertise, Unadvertise, Publish}
 use Rattle.law_routing.specs.Server.{Message, ServerState, is_among}
 use Rattle.law_routing.specs.Step.{Task, NextCommand, TableUpdate, Work, SetsFilters, SetsAdverts, Routes, InstallsTable, Nothing, effect, command_work, message_work, command_outcome, with_command_executed, local_step}
 use Rattle.law_routing.specs.Server.{Subs, Advs, Noticed}
-use Rattle.law_routing.specs.Routing.{task_phase, all_through, phase_of, not_below}
+use Rattle.law_routing.specs.Routing.{NetEntry, all_through, not_below, phase_of, routing_machine, task_phase}
+use Rattle.law_routing.specs.Walk.{client_turns, command_turns, enough_rounds, round_at, walk_round, walk_turns}
 use Rattle.law_routing.specs.Change.{on_tree}
 use Rattle.law_routing.specs.Rest.{IsDrained}
 use Rattle.law_phases.specs.Trees.{Tree, JournalEntry, State, off, entry_on, PhasedNet, tree_after, trees_by, net_at, machine_at, at_phase, IsQuietOn, IsThroughOn}
 use Rattle.law_phases.specs.Moments.{Moment, with_clocks_raised, with_tree_changed, begun, command_phase, as_found, found_by, acted, moment_after, found_after}
-use Rattle.law_phases.specs.Runs.{ActFinds, IsStepOn, IsPhasedRun}
+use Rattle.law_phases.specs.Runs.{ActFinds, IsStepOn, IsPhasedRun, Turn}
+use Rattle.law_phases.specs.Turns.{entry_made, off_maybe}
+use Rattle.law_phases.specs.Walk.{entries_by, entry_in, entry_of_phase, moment_by, moment_next, walk_phases}
 
 -- a net but for its tree
 module _ (th : Theory) (adverts : Bool) (servers : List ℕ) (home : ℕ → ℕ) (clients : ℕ → List ℕ) (script : ℕ → List (PhasedCommand th)) where
@@ -221,3 +225,113 @@ module _ (th : Theory) (adverts : Bool) (servers : List ℕ) (home : ℕ → ℕ
     same-messages p s e link = by (λ l step phase through.
         messages_of (machine l step phase through) (record { state = s.state; clock = s.clock; put = s.put; taken = s.taken })
         (record { stamp = e.stamp; server = e.server; act = e.act; outs = e.outs }) link) p
+
+    -- the walk: what a turn makes
+    plain : (links : ℕ → List ℕ) (step : Step) (phase : ℕ → ServerState th → Task → Option ℕ) (through : ℕ → ServerState th → ℕ → Bool)
+        → Option (Entry (machine links step phase through)) → Option JournalEntry
+    plain links step phase through None = None
+    plain links step phase through (Some e) = Some (record { stamp = e.stamp; server = e.server; act = e.act; outs = e.outs })
+
+    off-plain : (links : ℕ → List ℕ) (hop : ℕ → ℕ → ℕ) (o : Option (NetEntry th (net_on links hop)))
+        → off_maybe th (net_on links hop) o
+        ≡ plain links (local_step th (net_on links hop)) (task_phase th (net_on links hop)) (λ t s k. all_through th (net_on links hop) s k (clients t)) o
+    off-plain links hop None = refl
+    off-plain links hop (Some e) = refl
+
+    same-made : (m : Moment th one) (t : Turn) → entry_made th one m t ≡ entry_made th two (moved m) t
+    same-made m t =
+        off-plain (tree_after tree later m.phase).links (tree_after tree later m.phase).hop (entry_at (machine_at th one m.phase) (at_phase th one m.phase m.state) t.0 t.1)
+        ∙ by (λ l step phase through. plain l step phase through
+        (entry_at (machine l step phase through) (record { state = m.state.state; clock = m.state.clock; put = m.state.put; taken = m.state.taken }) t.0 t.1)) m.phase
+        ∙ sym (off-plain (tree_after tree' later' m.phase).links (tree_after tree' later' m.phase).hop
+        (entry_at (machine_at th two m.phase) (at_phase th two m.phase m.state) t.0 t.1))
+
+    same-own : (p : ℕ) (own : Option ℕ) → is_of_phase (machine_at th one p) p own ≡ is_of_phase (machine_at th two p) p own
+    same-own p None = refl
+    same-own p (Some k) = refl
+
+    same-of : (p : ℕ) (m : Moment th one) (t : Turn) (own : Option ℕ) → entry_of_phase th one p m t own ≡ entry_of_phase th two p (moved m) t own
+    same-of p m t own =
+        ap (λ b. cond b (entry_made th one (as_found th one m own) t) None) (same-own p own)
+        ∙ ap (λ z. cond (is_of_phase (machine_at th two p) p own) z None)
+        (same-made (as_found th one m own) t ∙ ap (λ z. entry_made th two z t) (same-as m own))
+
+    same-in : (p : ℕ) (m : Moment th one) (t : Turn) → entry_in th one p m t ≡ entry_in th two p (moved m) t
+    same-in p m t =
+        same-of p m t (act_phase (machine_at th one m.phase) t.0 (m.state.state t.0) t.1)
+        ∙ ap (entry_of_phase th two p (moved m) t) (same-phase m.phase t.0 (m.state.state t.0) t.1)
+
+    -- and turns one after the other
+    same-entries : (p : ℕ) (ts : List Turn) (m : Moment th one) → entries_by th one p m ts ≡ entries_by th two p (moved m) ts
+    same-entries p [] m = refl
+    same-entries p (t ∷ ts) m =
+        step (λ n. same-entries p ts n) (entry_in th one p m t)
+        ∙ ap (λ o. with_default o (λ e. e ∷ entries_by th two p (moment_next th two (moved m) e) ts) (entries_by th two p (moved m) ts)) (same-in p m t)
+      where
+        step : ((n : Moment th one) → entries_by th one p n ts ≡ entries_by th two p (moved n) ts) → (o : Option JournalEntry)
+            → with_default o (λ e. e ∷ entries_by th one p (moment_next th one m e) ts) (entries_by th one p m ts)
+            ≡ with_default o (λ e. e ∷ entries_by th two p (moment_next th two (moved m) e) ts) (entries_by th two p (moved m) ts)
+        step rest None = rest m
+        step rest (Some e) = ap (λ l. e ∷ l) (rest (moment_next th one m e) ∙ ap (λ z. entries_by th two p z ts) (same-next m e))
+
+    same-then : (p : ℕ) (ts : List Turn) (m : Moment th one) → moved (moment_by th one p m ts) ≡ moment_by th two p (moved m) ts
+    same-then p [] m = refl
+    same-then p (t ∷ ts) m =
+        step (λ n. same-then p ts n) (entry_in th one p m t)
+        ∙ ap (λ o. with_default o (λ e. moment_by th two p (moment_next th two (moved m) e) ts) (moment_by th two p (moved m) ts)) (same-in p m t)
+      where
+        step : ((n : Moment th one) → moved (moment_by th one p n ts) ≡ moment_by th two p (moved n) ts) → (o : Option JournalEntry)
+            → moved (with_default o (λ e. moment_by th one p (moment_next th one m e) ts) (moment_by th one p m ts))
+            ≡ with_default o (λ e. moment_by th two p (moment_next th two (moved m) e) ts) (moment_by th two p (moved m) ts)
+        step rest None = rest m
+        step rest (Some e) = rest (moment_next th one m e) ∙ ap (λ z. moment_by th two p z ts) (same-next m e)
+
+    -- the turns of a phase
+    same-repeated : (links : ℕ → List ℕ) (hop other : ℕ → ℕ → ℕ) (n : ℕ) (ts : List (ℕ × Act Task))
+        → repeated (routing_machine th (net_on links hop)) n ts ≡ repeated (routing_machine th (net_on links other)) n ts
+    same-repeated links hop other zero ts = refl
+    same-repeated links hop other (suc n) ts = ap (λ l. ts ++ l) (same-repeated links hop other n ts)
+
+    same-round : (links : ℕ → List ℕ) (hop other : ℕ → ℕ → ℕ) (ss : List ℕ) → round_at th (net_on links hop) ss ≡ round_at th (net_on links other) ss
+    same-round links hop other [] = refl
+    same-round links hop other (s ∷ ss) = ap (λ l. map (λ n. (s, Received n)) (links s) ++ ((s, Did TableUpdate) ∷ l)) (same-round links hop other ss)
+
+    same-client-turns : (links : ℕ → List ℕ) (hop other : ℕ → ℕ → ℕ) (s : ℕ) (cs : List ℕ)
+        → client_turns th (net_on links hop) s cs ≡ client_turns th (net_on links other) s cs
+    same-client-turns links hop other s [] = refl
+    same-client-turns links hop other s (c ∷ cs) =
+        ap (λ l. l ++ client_turns th (net_on links hop) s cs) (same-repeated links hop other (length (script c)) ((s, Did (NextCommand c)) ∷ []))
+        ∙ ap (λ l. repeated (routing_machine th (net_on links other)) (length (script c)) ((s, Did (NextCommand c)) ∷ []) ++ l) (same-client-turns links hop other s cs)
+
+    same-command-turns : (links : ℕ → List ℕ) (hop other : ℕ → ℕ → ℕ) (ss : List ℕ) → command_turns th (net_on links hop) ss ≡ command_turns th (net_on links other) ss
+    same-command-turns links hop other [] = refl
+    same-command-turns links hop other (s ∷ ss) =
+        ap (λ l. l ++ command_turns th (net_on links hop) ss) (same-client-turns links hop other s (clients s))
+        ∙ ap (λ l. client_turns th (net_on links other) s (clients s) ++ l) (same-command-turns links hop other ss)
+
+    same-turns : (p : ℕ) → walk_turns th (net_at th one p) ≡ walk_turns th (net_at th two p)
+    same-turns p =
+        (λ i. walk_turns th (net_on (near p i) (tree_after tree later p).hop))
+        ∙ hops (tree_after tree' later' p).links (tree_after tree later p).hop (tree_after tree' later' p).hop
+      where
+        hops : (links : ℕ → List ℕ) (hop other : ℕ → ℕ → ℕ) → walk_turns th (net_on links hop) ≡ walk_turns th (net_on links other)
+        hops links hop other =
+            ap (λ l. l ++ repeated (routing_machine th (net_on links hop)) (enough_rounds th (net_on links hop)) (walk_round th (net_on links hop))) (same-command-turns links hop other servers)
+            ∙ ap (λ l. command_turns th (net_on links other) servers ++ l)
+            (same-repeated links hop other (enough_rounds th (net_on links hop)) (walk_round th (net_on links hop))
+            ∙ ap (λ r. repeated (routing_machine th (net_on links other)) (enough_rounds th (net_on links other)) r) (same-round links hop other servers))
+
+    -- so many phases of the walk
+    pub same-phases : (n p : ℕ) (m : Moment th one) → walk_phases th one n p m ≡ walk_phases th two n p (moved m)
+    same-phases zero p m = refl
+    same-phases (suc n) p m =
+        ap (λ ts. entries_by th one p m ts ++ walk_phases th one n (suc p) (moment_by th one p m ts)) (same-turns p)
+        ∙ rest (walk_turns th (net_at th two p)) (λ x. same-phases n (suc p) x)
+      where
+        rest : (ts : List Turn) → ((x : Moment th one) → walk_phases th one n (suc p) x ≡ walk_phases th two n (suc p) (moved x))
+            → entries_by th one p m ts ++ walk_phases th one n (suc p) (moment_by th one p m ts)
+            ≡ entries_by th two p (moved m) ts ++ walk_phases th two n (suc p) (moment_by th two p (moved m) ts)
+        rest ts later =
+            ap (λ l. l ++ walk_phases th one n (suc p) (moment_by th one p m ts)) (same-entries p ts m)
+            ∙ ap (λ l. entries_by th two p (moved m) ts ++ l)
+            (later (moment_by th one p m ts) ∙ ap (λ z. walk_phases th two n (suc p) z) (same-then p ts m))

@@ -183,9 +183,9 @@ searched-read input r h e = subst (SearchesInput input) e h
 pub audited-read : (input : List ℕ) (r : Result PrintedParts Unanswered) → AuditsInput input r → IsErrOf r whys.ReadFault → ⊥
 audited-read input r h e = subst (AuditsInput input) e h
 
--- a source that did not fail, and gave no more than it may, was not read to its end for lack of memory alone
-pub only-long : {T : Type 0} (e : ReadAll) (F : Type 0) → (e ≡ reads.TooLong → F) → (IsErrOf {T = T} (Err (of_unread e)) whys.ReadFault → ⊥)
-    → (IsErrOf {T = T} (Err (of_unread e)) whys.NoMemory → ⊥) → F
-only-long reads.TooLong F long read memory = long refl
-only-long reads.Failed F long read memory = absurd (read refl)
-only-long reads.NoMemory F long read memory = absurd (memory refl)
+-- what is answered of a source that was not read out, where it did not fail and memory was not refused
+pub only-long : (e : ReadAll) (why : Unanswered) (F : Type 0) → why ≡ of_unread e → (e ≡ reads.TooLong → F) → (why ≡ whys.ReadFault → ⊥)
+    → (why ≡ whys.NoMemory → ⊥) → F
+only-long reads.TooLong why F is long read memory = long refl
+only-long reads.Failed why F is long read memory = absurd (read is)
+only-long reads.NoMemory why F is long read memory = absurd (memory is)

@@ -1,5 +1,5 @@
 -- The answer to `explain`, and what it tells of the input.
-use Rattle.std.proofs.Common.{◌≡◌, ◌⊎◌, inl, inr, ℕ, suc, ◌<◌, ◌≤◌, Bool, true, List, ◌++◌, length, map, slice_get, take, Some, Result, Ok, Err, refl, sym, ap, ◌∙◌, subst, arith}
+use Rattle.std.proofs.Common.{◌≡◌, ◌⊎◌, inl, inr, ℕ, suc, ◌<◌, ◌≤◌, Bool, true, List, ◌++◌, length, slice_get, take, Some, Result, Ok, Err, refl, sym, ap, ◌∙◌, subst, arith}
 use Rattle.std.specs.Result.{IsOk, IsErrOf}
 use Rattle.base_devices.specs.Whole.{Gave}
 use Rattle.filter_types.specs.Notice.{Attribute}
@@ -16,8 +16,7 @@ use Rattle.net_model.specs.Sound.{IsSound}
 use Rattle.document_reader.specs.declared.fault.Fault.{Fault}
 use Rattle.document_reader.specs.declared.fault.InputFault.{InputFault}
 use Rattle.document_reader.specs.declared.fault.InputFault.TheVariants as inputs
-use Rattle.document_reader.specs.declared.state.State.{State}
-use Rattle.document_reader.specs.Net.{IsNetOf, IsBadAt, client_of}
+use Rattle.document_reader.specs.Net.{IsNetOf, IsBadAt}
 use Rattle.output_explain.specs.declared.answer.Explanation.{Explanation}
 use Rattle.output_explain.specs.declared.fault.ExplainFault.{ExplainFault}
 use Rattle.output_explain.specs.declared.fault.ExplainFault.TheVariants as explains
@@ -42,33 +41,8 @@ use Rattle.program_sequential.specs.Showing.{PrintedParts}
 use Rattle.program_sequential.specs.Asking.{question_of}
 use Rattle.program_sequential.specs.Answering.{of_explain_fault, of_input_fault, of_unread}
 use Rattle.program_sequential.specs.Explaining.{IsTold, ExplainsNet, ExplainsInput, ExplainsSource}
+use Rattle.program_sequential.proofs.Documents.{net-or-bad, same-bad, same-clients}
 use Rattle.program_sequential.proofs.Sources.{same-given, too-long}
-
--- What a document says once.
-
-unok : (s t : State) → ◌≡◌ {A = Result State (ℕ × Fault)} (Ok s) (Ok t) → s ≡ t
-unok s t e = cc
-
--- two nets of one document have the same clients
-same-clients : (input : List ℕ) (a b : NetParts) → IsNetOf input a → IsNetOf input b → a.clients ≡ b.clients
-same-clients input a b p q =
-    p.holds.clients ∙ ap (λ (s : State). map client_of s.clients) (unok p.state q.state (sym p.read ∙ q.read)) ∙ sym q.holds.clients
-
--- a document with a net has no line at fault
-net-or-bad : (input : List ℕ) (net : NetParts) (line : ℕ) (kind : Fault) → IsNetOf input net → IsBadAt input line kind → ⊥
-net-or-bad input net line kind of bad = go (sym of.read ∙ bad)
-  where
-    go : ◌≡◌ {A = Result State (ℕ × Fault)} (Ok of.state) (Err (line, kind)) → ⊥
-    go e = absurd cc
-
-same-bad : (input : List ℕ) (l line : ℕ) (k kind : Fault) → IsBadAt input l k → IsBadAt input line kind → (l ≡ line) × (k ≡ kind)
-same-bad input l line k kind a b = go (sym a ∙ b)
-  where
-    pair : ◌≡◌ {A = Result State (ℕ × Fault)} (Err (l, k)) (Err (line, kind)) → ◌≡◌ {A = ℕ × Fault} (l, k) (line, kind)
-    pair e = cc
-
-    go : ◌≡◌ {A = Result State (ℕ × Fault)} (Err (l, k)) (Err (line, kind)) → (l ≡ line) × (k ≡ kind)
-    go e = (ap (λ (z : ℕ × Fault). z.0) (pair e), ap (λ (z : ℕ × Fault). z.1) (pair e))
 
 -- What names say depends on the clients of a net alone.
 

@@ -1,5 +1,6 @@
 pub mod Inboxes
 pub mod SameNets
+pub mod Documents
 pub mod Flooded
 pub mod Settled
 pub mod Phased

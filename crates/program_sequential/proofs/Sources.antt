@@ -6,7 +6,6 @@ use Rattle.std.specs.Result.{IsErrOf}
 use Rattle.base_devices.specs.Whole.{Gave}
 use Rattle.document_reader.specs.declared.fault.Fault.{Fault}
 use Rattle.document_reader.specs.declared.fault.Fault.TheVariants.{TooLong}
-use Rattle.document_reader.specs.declared.state.State.{State}
 use Rattle.document_reader.specs.Lines.{lines}
 use Rattle.document_reader.specs.Places.{document_of, read_from, start}
 use Rattle.document_reader.specs.Net.{IsBadAt}
@@ -19,6 +18,7 @@ use Rattle.program_sequential.specs.declared.words.Query.TheVariants.{Run, Hiera
 use Rattle.program_sequential.specs.declared.words.Wanted.TheVariants.{Document}
 use Rattle.program_sequential.specs.Faults.{HasNet, IsAtFault, MustBeRefused, CanBeDone}
 use Rattle.program_sequential.specs.Answers.{HasFaultFor}
+use Rattle.program_sequential.proofs.Documents.{net-or-bad, same-bad}
 
 -- a document that is too long
 pub too-long : (input : List ℕ) → 4194304 < length input → IsBadAt input 0 TooLong
@@ -49,19 +49,10 @@ long-fault query a b ended t =
     (input, (t.1, inr big), by-bytes query input 0 TooLong (too-long input big))
 
 one-fault : (input : List ℕ) (line : ℕ) (kind : Fault) → IsBadAt input 0 TooLong → IsBadAt input line kind → (0 ≡ line) × (TooLong ≡ kind)
-one-fault input line kind a b = go (sym a ∙ b)
-  where
-    pair : ◌≡◌ {A = Result State (ℕ × Fault)} (Err (0, TooLong)) (Err (line, kind)) → ◌≡◌ {A = ℕ × Fault} (0, TooLong) (line, kind)
-    pair e = cc
-
-    go : ◌≡◌ {A = Result State (ℕ × Fault)} (Err (0, TooLong)) (Err (line, kind)) → (0 ≡ line) × (TooLong ≡ kind)
-    go e = (ap (λ (z : ℕ × Fault). z.0) (pair e), ap (λ (z : ℕ × Fault). z.1) (pair e))
+one-fault input line kind a b = same-bad input 0 line TooLong kind a b
 
 no-net : (input : List ℕ) → IsBadAt input 0 TooLong → HasNet input → ⊥
-no-net input a b = go (sym a ∙ b.1.read)
-  where
-    go : ◌≡◌ {A = Result State (ℕ × Fault)} (Err (0, TooLong)) (Ok b.1.state) → ⊥
-    go e = absurd cc
+no-net input a b = net-or-bad input b.0 0 TooLong b.1 a
 
 -- what must be refused of a document that is too long is that
 must-be-long : (query : Query) (input : List ℕ) (line : ℕ) (kind : Fault) → IsBadAt input 0 TooLong → MustBeRefused query input line kind → (0 ≡ line) × (TooLong ≡ kind)

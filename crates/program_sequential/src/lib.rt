@@ -7,8 +7,9 @@
 //! sound net. `lemma_hierarchy_promise` does this for a hierarchy.
 //!
 //! Several nets may be those of one document. They differ only in tables inside the trees, which no definition of a run
-//! mentions. `printed` and `bad_input` speak of one of them, `refused` and `complete` of each. The summary of a seed
-//! whose document had no net would be answered as out of memory; that each has one is not proved.
+//! mentions: `lemma_one_document` says that they have the same runs, walk, flooding and texts. `printed` and `bad_input`
+//! speak of one of them, `refused` and `complete` of each. The summary of a seed whose document had no net would be
+//! answered as out of memory; that each has one is not proved.
 //!
 //! The text of a run isn't made in memory as a whole, except a trace: the lists of deliveries are written one after the
 //! other, in great pieces. `Printed` holds all memory that this needs. So all memory is taken before the first write,
@@ -18,6 +19,7 @@
 mod answer;
 mod audits;
 mod body;
+mod document_law;
 mod explanation;
 mod generated;
 mod given;
@@ -45,6 +47,7 @@ mod unknown;
 mod words;
 
 pub use audits::printed_is_confirmed;
+pub use document_law::lemma_one_document;
 pub use law::lemma_promise;
 pub use printed::Printed;
 pub use question::Question;

@@ -1,3 +1,4 @@
 pub mod Teams
 pub mod Runs
 pub mod Wishes
+pub mod Processes

@@ -7,6 +7,7 @@ mod moving;
 mod orders;
 mod overtaken;
 mod phases;
+mod processes;
 mod relayed;
 mod runs;
 mod starts;
@@ -21,6 +22,7 @@ use test_support::Failure;
 /// Runs documents, free and held at gates, and prints of each whether what it wrote is as wanted.
 pub fn print_all<R: Print + Threads + Wait + Sync>(rt: &R, alloc: Global) -> Result<(), Failure> {
     tried::print_rows(rt, alloc, &runs::RUNS)?;
+    processes::print_processes(rt, alloc)?;
     meeting::print_meeting(rt, alloc)?;
     overtaken::print_overtaken(rt, alloc)?;
     relayed::print_relayed(rt, alloc)?;

@@ -1,6 +1,5 @@
 use Rattle.std.proofs.Common.{◌≡◌, true, false, Err, sym, ap, subst}
 use Rattle.base_devices.proofs.Pieces.{told_unread}
-use Rattle.program_sequential.specs.declared.unanswered.Unanswered.TheVariants as whys
 use Rattle.program_sequential.specs.Answering.{IsAnswer}
 use Rattle.program_sequential.specs.Answers.{reads_document}
 use Rattle.program_sequential.proofs.Answering.{only-long, unread-wanted}
@@ -23,5 +22,4 @@ returns-in-Err-clause-answers g c =
 
 pub returns-in-Err-clause-sure : goal.returns-in-Err-clause-sure
 returns-in-Err-clause-sure g c = λ read memory.
-    only-long c.in-Err.fault _ (λ e. c.in-Err.ensures.kept_at_the_limit (ap Err e))
-    (λ e. read (subst (λ z. Err z ≡ Err whys.ReadFault) (sym c.from.ensures) e)) (λ e. memory (subst (λ z. Err z ≡ Err whys.NoMemory) (sym c.from.ensures) e))
+    only-long c.in-Err.fault c.from.result _ c.from.ensures (λ e. c.in-Err.ensures.kept_at_the_limit (ap Err e)) (λ e. read (ap Err e)) (λ e. memory (ap Err e))

@@ -21,5 +21,4 @@ returns-in-Ok-clause-failed g c = λ e. absurd (never-unread c.of_document.resul
 
 pub returns-in-Err-clause-sure : goal.returns-in-Err-clause-sure
 returns-in-Err-clause-sure g c = λ read memory.
-    only-long c.in-Err.fault _ (λ e. c.in-Err.ensures.sure_long (ap Err e))
-    (λ e. read (subst (λ z. Err z ≡ Err whys.ReadFault) (sym c.from.ensures) e)) (λ e. memory (subst (λ z. Err z ≡ Err whys.NoMemory) (sym c.from.ensures) e))
+    only-long c.in-Err.fault c.from.result _ c.from.ensures (λ e. c.in-Err.ensures.sure_long (ap Err e)) (λ e. read (ap Err e)) (λ e. memory (ap Err e))
