@@ -17,7 +17,7 @@ first_tables-requires-clause-few_scripts c =
 pub loop-place-init : goal.loop-place-init
 loop-place-init c = record {
   count = c.in_ok-mets.ensures;
-  room = c.in_ok-room.ensures;
+  room = subst (λ n. IsRoom n c.in_ok-room.room) c.len.ensures c.in_ok-room.ensures;
   tables = c.in_ok-tables.ensures;
   met = met_first c.args.catalogue.now.clients c.args.publications.now c.in_ok-mets.mets.items c.deref-place-items.result.now;
 }
