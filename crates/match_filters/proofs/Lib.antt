@@ -10,4 +10,3 @@ pub mod KindLaws
 pub mod Closing
 pub mod Ending
 pub mod GoalLaws
-

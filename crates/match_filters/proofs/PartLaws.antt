@@ -1,6 +1,5 @@
 -- A filter matches where as many of its parts are satisfied as it has.
-use Rattle.std.proofs.Common.{◌≡◌, ◌↔◌, ◌&&◌, ◌||◌, ◌∙◌, ℕ, ◌+◌, ◌<◌, ◌≤◌, inl, inr, Bool, true, false, not, cond, List, [], ◌∷◌, length, Some, None, refl, sym, ap, ap₂, subst, arith, nat_lt, nat_eq}
-use Rattle.std.specs.Prelude.{find}
+use Rattle.std.proofs.Common.{◌≡◌, ◌&&◌, ◌||◌, ◌∙◌, ℕ, ◌+◌, ◌<◌, ◌≤◌, Bool, true, false, not, cond, List, [], ◌∷◌, length, Some, None, refl, sym, ap, ap₂, subst, arith, nat_lt, nat_eq}
 use Rattle.std.specs.declared.option.Option.{Option}
 use Rattle.std.specs.List.{list_all, list_any}
 use Rattle.std.specs.Str.{bytes_eq}
@@ -13,7 +12,7 @@ use Rattle.filter_constraints.proofs.ConstraintLaws.{sat-kind, subject-tells}
 use Rattle.filter_values.specs.declared.value.Kind.{Kind}
 use Rattle.filter_values.specs.declared.value.Kind.TheVariants as kinds
 use Rattle.filter_types.specs.Notice.{Attribute, attribute_at, AreRising}
-use Rattle.filter_types.specs.Cover.{attribute_satisfies, matches}
+use Rattle.filter_types.specs.Cover.{attribute_satisfies}
 use Rattle.filter_types.proofs.SideBySide.{later_rising}
 use Rattle.match_index.specs.Pairs.{tally}
 use Rattle.match_index.proofs.Tallies.{tally-agree, tally-none}
@@ -221,9 +220,9 @@ module _ (n : List Attribute) (rising : AreRising n) (a : Attribute) (c : Constr
             let m : is_part_met (c ∷ f) a ≡ false = numbers f ∙ (ap (λ (b : Bool). nat_lt 0 (1 + inside) && nat_eq (bit_of (not b) + missed) 0) e ∙ grind (arith, nat_tests)) in
             lost g (parts_of f) g2 (parts_of (c ∷ f)) (is_satisfied n c) (list_all (is_satisfied n) f) (omega (arith, one-part f, alone-none f, ap {B = ℕ} bit_of m)) w (sat-is ∙ e)
             (λ all more.
-              let none : missed ≡ 0 = none-missed n a c there f all in
-              let was : is_part_met f a ≡ true = grind (arith, nat_tests, none, some) in
-              omega (arith, one-part f, alone-none f, ap {B = ℕ} bit_of m, ap {B = ℕ} bit_of was, more))
+            let none : missed ≡ 0 = none-missed n a c there f all in
+            let was : is_part_met f a ≡ true = grind (arith, nat_tests, none, some) in
+            omega (arith, one-part f, alone-none f, ap {B = ℕ} bit_of m, ap {B = ℕ} bit_of was, more))
             t
 
         go : (b : Bool) → list_any (is_beside c) f ≡ b → Tells g2 (parts_of (c ∷ f)) (is_satisfied n c && list_all (is_satisfied n) f)
