@@ -20,7 +20,8 @@ fn pass(
     c: usize,
 ) -> Result<(), NoMemory>
     requires within { c < length groups.now }
-    requires known { (d : _) (e : _) (b i : ℕ) → b < length groups.now → i < length (slice_index_or groups.now b d).items → (slice_index_or (slice_index_or groups.now b d).items i e).id < length lost.old }
+    requires known { (d : _) (e : _) (b i : ℕ) → b < length groups.now → i < length (slice_index_or groups.now b d).items
+        → (slice_index_or (slice_index_or groups.now b d).items i e).id < length lost.old }
     requires wide { length lost.old ≡ 64 * length history.old.first }
     requires few { total groups.now < 2 ^ 31 }
     requires counted { IsCounted groups.now (2 * c) lost.old history.old }

@@ -50,7 +50,8 @@ fn put_one(words: &mut [u64], lost: &[u32], asks: &[Ask])
 
 /// Counts the asks of all operands that a value below them doesn't meet.
 pub(crate) fn count_all(lost: &mut [u32], groups: &[Vec<Ask>])
-    requires known { (d : _) (e : _) (c i : ℕ) → c < length groups.now → i < length (slice_index_or groups.now c d).items → (slice_index_or (slice_index_or groups.now c d).items i e).id < length lost.old }
+    requires known { (d : _) (e : _) (c i : ℕ) → c < length groups.now → i < length (slice_index_or groups.now c d).items
+        → (slice_index_or (slice_index_or groups.now c d).items i e).id < length lost.old }
     requires few { total groups.now < 2 ^ 31 }
     requires zero { (k : ℕ) → slice_index lost.old k ≡ 0 }
     ensures length { length lost.new ≡ length lost.old }
@@ -63,7 +64,8 @@ pub(crate) fn count_all(lost: &mut [u32], groups: &[Vec<Ask>])
 
 /// Puts the filters of all asks in of which nothing is missed.
 pub(crate) fn put_all(words: &mut [u64], lost: &[u32], groups: &[Vec<Ask>])
-    requires known { (d : _) (e : _) (c i : ℕ) → c < length groups.now → i < length (slice_index_or groups.now c d).items → (slice_index_or (slice_index_or groups.now c d).items i e).id < length lost.now }
+    requires known { (d : _) (e : _) (c i : ℕ) → c < length groups.now → i < length (slice_index_or groups.now c d).items
+        → (slice_index_or (slice_index_or groups.now c d).items i e).id < length lost.now }
     requires wide { length lost.now ≡ 64 * length words.old }
     requires none { (k : ℕ) → bit words.old k ≡ 0 }
     ensures length { length words.new ≡ length words.old }

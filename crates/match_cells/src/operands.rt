@@ -25,7 +25,8 @@ where
     requires few { length cuts.old.items < 2 ^ 63 }
     ensures paired { OnOk result (length cuts.new.items ≡ length groups.new.items) }
     ensures rising { OnOk result (AreRising K.order cuts.new.items) }
-    ensures missed { OnOk result ((x : K) (k : ℕ) → missed_by K.order x k cuts.new.items groups.new.items ≡ cond ((ask.id == k) && not (met (side_of (K.order key x)) ask)) 1 0 + missed_by K.order x k cuts.old.items groups.old.items) }
+    ensures missed { OnOk result ((x : K) (k : ℕ) → missed_by K.order x k cuts.new.items groups.new.items
+        ≡ cond ((ask.id == k) && not (met (side_of (K.order key x)) ask)) 1 0 + missed_by K.order x k cuts.old.items groups.old.items) }
     ensures asked { OnOk result ((k : ℕ) → asked k groups.new.items ≡ cond (ask.id == k) 1 0 + asked k groups.old.items) }
     ensures known { OnOk result ((span : ℕ) → AreKnown span groups.old.items → ask.id < 64 * span → AreKnown span groups.new.items) }
     ensures size { OnOk result (length cuts.new.items ≤ length cuts.old.items + 1) }

@@ -38,7 +38,8 @@ pub(crate) fn shift(
     ensures length { length lost.new ≡ length lost.old }
     ensures lost { OnOk result ((k : ℕ) → slice_index lost.new k + missed from k asks.now ≡ slice_index lost.old k + missed to k asks.now) }
     ensures continues { OnOk result (Continues history.old history.new) }
-    ensures shows { OnOk result ((members : ℕ → Bool) → AreMembers members asks.now → Show members lost.old (present history.old) → Show members lost.new (present history.new)) }
+    ensures shows { OnOk result ((members : ℕ → Bool) → AreMembers members asks.now
+        → Show members lost.old (present history.old) → Show members lost.new (present history.new)) }
 {
     for i in 0..asks.len() {
         let ask = asks[i];

@@ -35,7 +35,8 @@ impl Model for MatcherBuilder {
 
     ghost view = { λ b. b.filters.value };
 
-    ghost invariant = { λ b. (length b.filters.value ≤ 4096) × (b.whole ≡ true → (b.count ≡ length b.filters.value) × IsFilled b.index b.goals.items b.filters.value) };
+    ghost invariant = { λ b. (length b.filters.value ≤ 4096)
+        × (b.whole ≡ true → (b.count ≡ length b.filters.value) × IsFilled b.index b.goals.items b.filters.value) };
 }
 
 /// Puts a filter's constraints into the index.
@@ -57,7 +58,8 @@ fn put(
 ) -> Result<(), NoMemory>
     requires small { id < 4096 }
     requires unreached { IsOpen id goals.old.items }
-    ensures { OnOk result ((filters : List (List ConstraintParts)) → length filters ≡ id → IsFilled index.old goals.old.items filters → IsFilled index.new goals.new.items (filters ++ filter.now ∷ [])) }
+    ensures { OnOk result ((filters : List (List ConstraintParts)) → length filters ≡ id → IsFilled index.old goals.old.items filters
+        → IsFilled index.new goals.new.items (filters ++ filter.now ∷ [])) }
 {
     let constraints = filter.constraints();
     enter(index, constraints, id as u16)?;

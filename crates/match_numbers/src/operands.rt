@@ -46,7 +46,8 @@ fn put(
 ) -> Result<(), NoMemory>
     requires paired { length cuts.old.items ≡ length groups.old.items }
     requires rising { AreRising int_cmp cuts.old.items }
-    ensures { OnOk result ((pairs : List Pair) → IsTold cuts.old.items groups.old.items pairs → IsTold cuts.new.items groups.new.items ((test_of constraint.now, id) ∷ pairs)) }
+    ensures { OnOk result ((pairs : List Pair) → IsTold cuts.old.items groups.old.items pairs
+        → IsTold cuts.new.items groups.new.items ((test_of constraint.now, id) ∷ pairs)) }
 {
     let key = key_of(constraint.operand());
     let ask = Ask::of(id, sides_for(constraint.op()));
