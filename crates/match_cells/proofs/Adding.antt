@@ -1,9 +1,9 @@
 -- Sums of bits, and what a number of five bits says.
-use Rattle.std.proofs.Common.{◌≡◌, ◌≢◌, ◌↔◌, ℕ, ◌+◌, ◌-◌, ◌*◌, ◌%◌, ◌^◌, ◌<◌, inl, inr, min, max, bit_and, bit_or, bit_xor, refl, sym, ap, ◌∙◌, arith, w64}
-use Rattle.std.specs.Int.{bit_at, bit_not}
+use Rattle.std.proofs.Common.{◌≡◌, ◌↔◌, ℕ, ◌+◌, ◌*◌, ◌%◌, ◌<◌, min, max, bit_and, bit_or, bit_xor, arith}
+use Rattle.std.specs.Int.{bit_at}
 use Rattle.match_cells.specs.declared.counts.Counts.{Counts}
 use Rattle.match_cells.specs.Counts.{count_at}
-use Rattle.std.proofs.lemmas.Nat.Bits.{bit_at-lt, bit_at-zero, bit_at_or, bit_at_and, bit_at_xor, bit_at_not}
+use Rattle.std.proofs.lemmas.Nat.Bits.{bit_at-lt, bit_at-zero, bit_at_or, bit_at_and, bit_at_xor}
 
 pub half-bits : (a b q : ℕ) → bit_at (bit_xor a b) q + 2 * bit_at (bit_and a b) q ≡ bit_at a q + bit_at b q
 half-bits a b q = omega (arith, bit_at_xor a b q, bit_at_and a b q, bit_at-lt a q, bit_at-lt b q)

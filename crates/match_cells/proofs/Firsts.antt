@@ -1,5 +1,5 @@
 -- The filters that the first cell has, an ask after the other.
-use Rattle.std.proofs.Common.{◌≡◌, ◌≢◌, ◌↔◌, ◌⊎◌, ◌==◌, ◌∙◌, ℕ, ◌+◌, ◌<◌, inl, inr, cond, List, length, take, get_or, refl, sym, ap, subst, arith, eqb-true, eq-eqb}
+use Rattle.std.proofs.Common.{◌≡◌, ◌≢◌, ◌↔◌, ◌⊎◌, ◌==◌, ◌∙◌, ℕ, ◌+◌, ◌<◌, inl, inr, cond, List, length, take, get_or, refl, sym, ap, arith, eqb-true, eq-eqb}
 use Rattle.std.proofs.lemmas.Bool.{cases_eq, false_from_ne_true}
 use Rattle.std.proofs.lemmas.List.Sums.{sum_by_more}
 use Rattle.base_bits.specs.Words.{bit}

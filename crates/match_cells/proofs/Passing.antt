@@ -1,5 +1,5 @@
 -- From a cell to the next one.
-use Rattle.std.proofs.Common.{◌≡◌, ◌↔◌, ◌==◌, ◌∙◌, ℕ, suc, ◌+◌, ◌*◌, ◌<◌, ◌≤◌, inl, inr, Bool, true, cond, nat_lt, List, [], ◌∷◌, ◌++◌, length, get_or, refl, sym, ap, subst, arith, eq-eqb, length-append}
+use Rattle.std.proofs.Common.{◌≡◌, ◌↔◌, ◌==◌, ◌∙◌, ℕ, suc, ◌+◌, ◌*◌, ◌<◌, inl, inr, Bool, cond, nat_lt, List, [], ◌∷◌, ◌++◌, length, get_or, refl, sym, ap, subst, arith, eq-eqb, length-append}
 use Rattle.std.specs.Prelude.{Vec}
 use Rattle.std.specs.declared.alloc.Global.{Global}
 use Rattle.std.proofs.lemmas.Bool.{cases_lt, ltb-true, lt-ltb}
@@ -10,7 +10,7 @@ use Rattle.match_cells.specs.Changes.{Past, after, present, Continues}
 use Rattle.match_cells.specs.declared.ask.Ask.{Ask}
 use Rattle.match_cells.specs.declared.ask.Side.TheVariants as sides
 use Rattle.match_cells.specs.Asks.{missed, own}
-use Rattle.match_cells.specs.Cells.{Groups, lost_in, asked, IsMet, AreTold}
+use Rattle.match_cells.specs.Cells.{Groups, asked, IsMet, AreTold}
 use Rattle.match_cells.specs.Moves.{Show, AreMembers}
 use Rattle.match_cells.specs.Walks.{IsCounted}
 use Rattle.match_cells.proofs.Losses.{lost-at, lost-past}

@@ -1,21 +1,16 @@
 -- An ask more, at a new operand or at one that is there.
-use Rattle.std.proofs.Common.{◌≡◌, ◌≢◌, ◌&&◌, ◌==◌, ◌∙◌, ℕ, zero, suc, ◌+◌, ◌*◌, ◌/◌, ◌%◌, ◌<◌, ◌≤◌, inl, inr, Bool, true, false, not, cond, List, [], ◌∷◌, ◌++◌, length, get_or, set, refl, sym, ap, ap₂, subst, arith, length-append}
+use Rattle.std.proofs.Common.{◌≡◌, ◌&&◌, ◌==◌, ◌∙◌, ℕ, zero, suc, ◌+◌, ◌*◌, ◌/◌, ◌%◌, ◌<◌, ◌≤◌, not, cond, List, [], ◌∷◌, ◌++◌, length, get_or, set, refl, ap, ap₂, arith}
 use Rattle.std.specs.Prelude.{Vec}
-use Rattle.std.specs.List.{insert, sum_by, count_by}
+use Rattle.std.specs.List.{insert}
 use Rattle.std.specs.declared.alloc.Global.{Global}
 use Rattle.std.specs.declared.cmp.Ordering.{Ordering}
-use Rattle.std.specs.declared.cmp.Ordering.TheVariants.{Less, Equal, Greater}
-use Rattle.std.specs.Cmp.{IsTotalOrder}
-use Rattle.std.specs.Ordering.{is_lt, is_eq, is_gt, ordering_reverse}
-use Rattle.std.proofs.lemmas.Bool.{cases_lt, cases_eq}
-use Rattle.std.proofs.lemmas.List.Edits.{length-insert, get_or-insert_below, get_or-insert_at, get_or-insert_above}
-use Rattle.std.proofs.lemmas.List.Sums.{sum_by-cons, sum_by-set, sum_by-insert, sum_by_push}
-use Rattle.match_index.proofs.Orders.{greater-is}
+use Rattle.std.specs.declared.cmp.Ordering.TheVariants.{Equal}
+use Rattle.std.proofs.lemmas.List.Sums.{sum_by-cons, sum_by_push}
 use Rattle.match_cells.specs.declared.ask.Ask.{Ask}
 use Rattle.match_cells.specs.declared.ask.Side.{Side}
-use Rattle.match_cells.specs.Asks.{met, missed, own}
-use Rattle.match_cells.specs.Cells.{Groups, asked, total}
-use Rattle.match_cells.specs.Places.{side_of, AreRising, IsCell, missed_by}
+use Rattle.match_cells.specs.Asks.{met, missed}
+use Rattle.match_cells.specs.Cells.{Groups}
+use Rattle.match_cells.specs.Places.{side_of, IsCell, missed_by}
 use Rattle.base.proofs.Bools.{is_eq-equal}
 
 -- what one more ask adds

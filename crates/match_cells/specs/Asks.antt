@@ -1,7 +1,6 @@
 -- What filters ask of a value at the operands of one name and kind.
-use Rattle.std.specs.Prelude.{◌≡◌, ℕ, zero, suc, ◌+◌, ◌&&◌, ◌==◌, Bool, not, List, [], ◌∷◌, Vec}
+use Rattle.std.specs.Prelude.{ℕ, ◌&&◌, ◌==◌, Bool, not, List}
 use Rattle.std.specs.List.{count_by}
-use Rattle.std.specs.declared.alloc.Global.{Global}
 use Rattle.match_cells.specs.declared.ask.Ask.{Ask}
 use Rattle.match_cells.specs.declared.ask.Side.{Side}
 use Rattle.match_cells.specs.declared.ask.Side.TheVariants as sides

@@ -33,7 +33,8 @@ IsMet groups cell k = (0 < asked k groups) × (lost_in k groups cell ≡ 0)
 
 -- each ask is of a filter that has a bit in so many words
 abbrev pub AreKnown : ℕ → Groups → Type 0
-AreKnown span groups = (d : Vec Ask Global) (e : Ask) (c i : ℕ) → c < length groups → i < length (slice_index_or groups c d).items
+AreKnown span groups =
+    (d : Vec Ask Global) (e : Ask) (c i : ℕ) → c < length groups → i < length (slice_index_or groups c d).items
     → (slice_index_or (slice_index_or groups c d).items i e).id < 64 * span
 
 -- where a history stands behind each cell
@@ -43,7 +44,8 @@ pub record CellParts : Type 0 where
 
 -- in the history at each of the first cells are the filters all of whose asks are met there
 abbrev pub AreTold : Groups → Past → List ℕ → Type 0
-AreTold groups h ends = (e : ℕ) → e < length ends
+AreTold groups h ends =
+    (e : ℕ) → e < length ends
     → (slice_index ends e ≤ length h.changes) × ((k : ℕ) → (bit (after h.first h.changes (slice_index ends e)) k ≡ 1) ↔ IsMet groups e k)
 
 -- the cells of the groups

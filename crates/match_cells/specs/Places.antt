@@ -1,10 +1,8 @@
 -- The cell of a value among operands that rise.
-use Rattle.std.specs.Prelude.{◌≡◌, ℕ, ◌+◌, ◌*◌, ◌<◌, ◌≤◌, true, List, [], ◌∷◌, Vec, length, slice_index_or}
-use Rattle.std.specs.declared.alloc.Global.{Global}
+use Rattle.std.specs.Prelude.{◌≡◌, ℕ, ◌+◌, ◌*◌, ◌<◌, true, List, [], ◌∷◌, length, slice_index_or}
 use Rattle.std.specs.declared.cmp.Ordering.{Ordering}
 use Rattle.std.specs.declared.cmp.Ordering.TheVariants.{Less, Equal, Greater}
 use Rattle.std.specs.Ordering.{is_lt, is_eq, is_gt}
-use Rattle.match_cells.specs.declared.ask.Ask.{Ask}
 use Rattle.match_cells.specs.declared.ask.Side.{Side}
 use Rattle.match_cells.specs.declared.ask.Side.TheVariants as sides
 use Rattle.match_cells.specs.Asks.{missed}

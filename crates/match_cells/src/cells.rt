@@ -106,13 +106,6 @@ impl Cells {
         self.history.span()
     }
 
-    /// How many cells there are.
-    pub fn len(&self) -> usize
-        ensures { result ≡ length self.now.ends }
-    {
-        self.ends.len()
-    }
-
     /// Sets the words to the filters all of whose asks are met in a cell.
     pub fn read(&self, cell: usize, into: &mut [u64])
         requires cell { cell < length self.now.ends }

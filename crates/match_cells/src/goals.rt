@@ -1,4 +1,4 @@
-//! Counts of all numbers below a bound.
+//! Counts one number once more.
 ghost use Rattle.std.specs.Prelude.{◌≡◌, ◌≢◌, ℕ, ◌+◌, ◌*◌, ◌%◌, ◌<◌, length};
 ghost use Rattle.match_cells.specs.Counts.{goal_at};
 
@@ -12,14 +12,4 @@ pub fn count_one(counts: &mut [Counts], k: usize)
     ensures others { (i : ℕ) → i ≢ k → goal_at counts.new i ≡ goal_at counts.old i }
 {
     counts[k / 64] = counts[k / 64].with(1 << (k % 64) as u32);
-}
-
-/// Counts nought of each number.
-pub fn count_none(counts: &mut [Counts])
-    ensures length { length counts.new ≡ length counts.old }
-    ensures none { (i : ℕ) → goal_at counts.new i ≡ 0 }
-{
-    for i in 0..counts.len() {
-        counts[i] = Counts::zero();
-    }
 }

@@ -1,8 +1,7 @@
 -- Words that have the filters whose count is the number of their parts have those that the notice matches.
-use Rattle.std.proofs.Common.{◌≡◌, ◌↔◌, ◌==◌, ◌&&◌, ◌∙◌, ℕ, ◌+◌, ◌*◌, ◌/◌, ◌%◌, ◌^◌, ◌<◌, ◌≤◌, inl, inr, Bool, true, false, not, cond, nat_lt, nat_eq, List, [], ◌∷◌, length, get_or, refl, sym, ap, ap₂, subst, arith, eqb-true, eq-eqb}
+use Rattle.std.proofs.Common.{◌≡◌, ◌↔◌, ◌==◌, ◌&&◌, ◌∙◌, ℕ, ◌+◌, ◌*◌, ◌/◌, ◌%◌, ◌<◌, ◌≤◌, inl, inr, Bool, true, false, not, cond, nat_lt, nat_eq, List, [], length, get_or, refl, sym, ap, ap₂, arith, eqb-true, eq-eqb}
 use Rattle.std.specs.Prelude.{Vec}
 use Rattle.std.specs.declared.alloc.Global.{Global}
-use Rattle.std.specs.List.{list_all}
 use Rattle.std.specs.Int.{bit_at}
 use Rattle.std.proofs.lemmas.Bool.{cases_lt}
 use Rattle.std.proofs.lemmas.Bool.Decides.{nat_tests}
@@ -22,10 +21,10 @@ use Rattle.match_index.specs.Pairs.{tally, Same}
 use Rattle.match_index.proofs.Tallies.{tally-agree, tally-none}
 use Rattle.match_cells.specs.declared.counts.Counts.{Counts}
 use Rattle.match_cells.specs.Counts.{goal_at, rows_with}
-use Rattle.match_filters.specs.Goals.{IsFilled, wanted_of}
+use Rattle.match_filters.specs.Goals.{IsFilled}
 use Rattle.match_filters.specs.Hits.{hits_of}
 use Rattle.match_filters.specs.Index.{Use, is_satisfied, ids_satisfied}
-use Rattle.match_filters.specs.Kinds.{ByKind, all_uses, AreByKind}
+use Rattle.match_filters.specs.Kinds.{ByKind, all_uses}
 use Rattle.match_filters.specs.Matching.{matched}
 use Rattle.match_filters.specs.Parts.{is_alone, is_on, is_missed, parts_of, is_part_met}
 use Rattle.match_filters.specs.Rows.{is_met}
@@ -33,7 +32,7 @@ use Rattle.match_filters.specs.Uses.{is_other, AreAll}
 use Rattle.match_filters.proofs.Filling.{of_filter, of-filter, tally-within}
 use Rattle.match_filters.proofs.KindLaws.{tally-kinds}
 use Rattle.match_filters.proofs.Members.{matched-iff, rising-matched}
-use Rattle.match_filters.proofs.PartLaws.{Tells, parts-tell, parts-few}
+use Rattle.match_filters.proofs.PartLaws.{parts-tell, parts-few}
 use Rattle.match_filters.proofs.RowLaws.{tally-agree-but}
 use Rattle.match_filters.proofs.Satisfied.{tally-satisfied}
 

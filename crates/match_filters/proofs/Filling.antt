@@ -1,5 +1,5 @@
 -- What an index tells of a filter, where it has the constraints of some filters.
-use Rattle.std.proofs.Common.{◌≡◌, ◌+◌, ◌*◌, ◌≤◌, ◌<◌, ◌==◌, ◌&&◌, ◌∙◌, refl, sym, ap, subst, arith, ℕ, Bool, true, false, cond, nat_le, List, [], ◌∷◌, ◌++◌, length, map, get_or, zero, suc}
+use Rattle.std.proofs.Common.{◌≡◌, ◌+◌, ◌*◌, ◌≤◌, ◌<◌, ◌==◌, ◌&&◌, ◌∙◌, refl, sym, ap, arith, ℕ, Bool, true, false, cond, nat_le, List, [], ◌∷◌, ◌++◌, length, get_or, zero, suc}
 use Rattle.std.proofs.lemmas.Bool.Decides.{nat_tests}
 use Rattle.filter_constraints.specs.Constraint.{ConstraintParts}
 use Rattle.match_index.specs.Pairs.{tally, Same}

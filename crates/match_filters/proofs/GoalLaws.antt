@@ -1,16 +1,11 @@
 -- The goal of one filter more.
-use Rattle.std.proofs.Common.{◌≡◌, ◌≢◌, ◌∙◌, ℕ, ◌+◌, ◌*◌, ◌/◌, ◌%◌, ◌<◌, ◌≤◌, inl, inr, Bool, true, false, cond, nat_lt, List, [], ◌∷◌, ◌++◌, length, take, get_or, zero, suc, refl, sym, ap, ap₂, subst, arith, length-append}
-use Rattle.std.proofs.lemmas.Bool.{cases_lt, cases_eq}
-use Rattle.std.proofs.lemmas.Bool.Decides.{nat_tests}
-use Rattle.std.proofs.lemmas.List.{get_or_append_left, get_or_push, get_or_past}
+use Rattle.std.proofs.Common.{◌≡◌, ℕ, ◌+◌, ◌<◌, ◌≤◌, List, [], ◌∷◌, ◌++◌, length, take, get_or, zero, suc, refl, ap, arith}
 use Rattle.filter_constraints.specs.Constraint.{ConstraintParts}
-use Rattle.match_index.specs.Pairs.{tally, Same}
+use Rattle.match_index.specs.Pairs.{tally}
 use Rattle.match_index.proofs.Tallies.{tally-append}
 use Rattle.match_cells.specs.declared.counts.Counts.{Counts}
-use Rattle.match_cells.specs.Counts.{count_at, goal_at}
-use Rattle.match_filters.specs.Goals.{AreGoals, IsOpen, wanted_of, uses_from, IsFilled, AreEntered}
+use Rattle.match_filters.specs.Goals.{AreGoals, IsFilled, AreEntered}
 use Rattle.match_filters.specs.Kinds.{ByKind, all_uses, IsAdded}
-use Rattle.match_filters.specs.Parts.{parts_of}
 use Rattle.match_filters.specs.Slots.{numbered}
 use Rattle.match_filters.proofs.Filling.{uses-push}
 use Rattle.match_filters.proofs.Uses.{in-step}

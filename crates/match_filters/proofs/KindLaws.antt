@@ -1,9 +1,8 @@
 -- The constraints of all filters, kept apart by kind.
-use Rattle.std.proofs.Common.{◌≡◌, ◌+◌, ◌≤◌, ◌<◌, ◌==◌, ◌&&◌, ◌∙◌, inl, inr, refl, sym, ap, ap₂, subst, arith, ℕ, Bool, true, false, not, cond, nat_lt, nat_le, nat_eq, List, [], ◌∷◌, ◌++◌, length, Some, None, append-nil}
+use Rattle.std.proofs.Common.{◌≡◌, ◌+◌, ◌≤◌, ◌==◌, ◌&&◌, ◌∙◌, refl, sym, ap, ap₂, arith, ℕ, Bool, true, false, not, cond, nat_lt, nat_le, nat_eq, List, [], ◌∷◌, ◌++◌, Some, None, append-nil}
 use Rattle.std.specs.Prelude.{Vec}
 use Rattle.std.specs.declared.alloc.Global.{Global}
 use Rattle.std.specs.Str.{bytes_eq}
-use Rattle.std.proofs.lemmas.Bool.Decides.{nat_tests}
 use Rattle.filter_values.specs.Value.{kind_of, same_kind}
 use Rattle.filter_values.specs.declared.value.Kind.{Kind}
 use Rattle.filter_values.specs.declared.value.Value.{Value}

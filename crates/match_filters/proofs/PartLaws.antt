@@ -1,6 +1,5 @@
 -- A filter matches where as many of its parts are satisfied as it has.
-use Rattle.std.proofs.Common.{◌≡◌, ◌↔◌, ◌&&◌, ◌||◌, ◌∙◌, ℕ, ◌+◌, ◌<◌, ◌≤◌, inl, inr, Bool, true, false, not, cond, List, [], ◌∷◌, length, Some, None, refl, sym, ap, ap₂, subst, arith, nat_lt, nat_eq}
-use Rattle.std.specs.Prelude.{find}
+use Rattle.std.proofs.Common.{◌≡◌, ◌&&◌, ◌||◌, ◌∙◌, ℕ, ◌+◌, ◌<◌, ◌≤◌, Bool, true, false, not, cond, List, [], ◌∷◌, length, Some, None, refl, sym, ap, ap₂, subst, arith, nat_lt, nat_eq}
 use Rattle.std.specs.declared.option.Option.{Option}
 use Rattle.std.specs.List.{list_all, list_any}
 use Rattle.std.specs.Str.{bytes_eq}
@@ -13,7 +12,7 @@ use Rattle.filter_constraints.proofs.ConstraintLaws.{sat-kind, subject-tells}
 use Rattle.filter_values.specs.declared.value.Kind.{Kind}
 use Rattle.filter_values.specs.declared.value.Kind.TheVariants as kinds
 use Rattle.filter_types.specs.Notice.{Attribute, attribute_at, AreRising}
-use Rattle.filter_types.specs.Cover.{attribute_satisfies, matches}
+use Rattle.filter_types.specs.Cover.{attribute_satisfies}
 use Rattle.filter_types.proofs.SideBySide.{later_rising}
 use Rattle.match_index.specs.Pairs.{tally}
 use Rattle.match_index.proofs.Tallies.{tally-agree, tally-none}

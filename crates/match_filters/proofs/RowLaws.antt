@@ -1,13 +1,11 @@
 -- What one attribute adds to the rows.
-use Rattle.std.proofs.Common.{◌≡◌, ◌↔◌, ◌+◌, ◌*◌, ◌/◌, ◌%◌, ◌≤◌, ◌<◌, ◌==◌, ◌&&◌, ◌∙◌, inl, inr, refl, sym, ap, ap₂, subst, arith, ℕ, Bool, true, false, not, cond, nat_lt, nat_eq, List, [], ◌∷◌, ◌++◌, length, take, set, add-one, zero, suc, get_or, Some, None}
+use Rattle.std.proofs.Common.{◌≡◌, ◌↔◌, ◌+◌, ◌/◌, ◌%◌, ◌≤◌, ◌<◌, ◌==◌, ◌&&◌, ◌∙◌, inl, inr, refl, sym, ap, ap₂, subst, arith, ℕ, Bool, true, false, not, cond, nat_lt, nat_eq, List, [], ◌∷◌, ◌++◌, length, take, set, add-one, zero, suc, get_or, Some, None}
 use Rattle.std.specs.Prelude.{Vec}
 use Rattle.std.specs.declared.alloc.Global.{Global}
-use Rattle.std.specs.List.{IsDistinct, sum_by}
+use Rattle.std.specs.List.{IsDistinct}
 use Rattle.std.specs.Map.{lookup, keys_of}
 use Rattle.std.specs.Ordering.{is_eq}
 use Rattle.std.specs.Str.{bytes_eq}
-use Rattle.std.specs.Int.{bit_at}
-use Rattle.std.proofs.lemmas.Bool.{cases_lt, both_ways}
 use Rattle.std.proofs.lemmas.Bool.Decides.{nat_tests}
 use Rattle.std.proofs.lemmas.List.Sums.{sum_by_push}
 use Rattle.std.proofs.lemmas.Map.Text.{is_eq-slice_cmp}
@@ -16,24 +14,20 @@ use Rattle.filter_values.specs.Value.{kind_of, same_kind}
 use Rattle.filter_values.specs.declared.value.Kind.{Kind}
 use Rattle.filter_values.specs.declared.value.Kind.TheVariants as kinds
 use Rattle.filter_values.specs.declared.value.Value.{Value}
-use Rattle.filter_constraints.specs.Constraint.{ConstraintParts, satisfies}
-use Rattle.filter_constraints.proofs.ConstraintLaws.{sat-kind}
+use Rattle.filter_constraints.specs.Constraint.{satisfies}
 use Rattle.filter_types.specs.Notice.{Attribute}
-use Rattle.filter_types.specs.Cover.{attribute_satisfies}
 use Rattle.base.proofs.Lists.{bytes_eq-self}
 use Rattle.base_bits.specs.Words.{bit}
-use Rattle.match_index.specs.Pairs.{tally, Pair, Test, Same, passes}
+use Rattle.match_index.specs.Pairs.{tally, Pair, Test, passes}
 use Rattle.match_index.specs.Keys.{same_bytes, at_key, key_cmp}
-use Rattle.match_index.proofs.Tallies.{tally-append, tally-none}
 use Rattle.match_cells.specs.Counts.{rows_with}
 use Rattle.match_numbers.specs.Operands.{IsNumeric, AreOf, is_other as is_other_pair, is_of, is_missed as is_missed_of}
-use Rattle.match_filters.specs.Index.{Use, is_satisfied, ids_satisfied}
+use Rattle.match_filters.specs.Index.{Use}
 use Rattle.match_filters.specs.Parts.{is_alone, is_on, is_missed}
-use Rattle.match_filters.specs.Rows.{AreLong, IsRead, is_met, HaveMore}
+use Rattle.match_filters.specs.Rows.{AreLong, IsRead, HaveMore}
 use Rattle.match_filters.specs.Shelves.{constraint_of, uses_of}
-use Rattle.match_filters.specs.Uses.{is_other, AreAll, AreOfKind}
+use Rattle.match_filters.specs.Uses.{is_other, AreOfKind}
 use Rattle.match_filters.proofs.Filling.{of_filter, tally-within}
-use Rattle.match_filters.proofs.Satisfied.{tally-satisfied}
 use Rattle.match_filters.proofs.ShelfLaws.{AreNamed, shelf-only, shelf-none}
 
 -- tests that agree on all members but some, of which there are none

@@ -1,5 +1,5 @@
 -- Laws of lists with the same members in whatever order.
-use Rattle.std.proofs.Common.{◌≡◌, ◌+◌, ◌∙◌, ℕ, refl, sym, ap, List, [], ◌++◌, append-nil}
+use Rattle.std.proofs.Common.{◌≡◌, ◌∙◌, ℕ, refl, sym, ap, List, [], append-nil}
 use Rattle.match_index.specs.Pairs.{tally, Same, Appends}
 
 pub same-of : {X : Type 0} (xs ys : List X) → xs ≡ ys → Same xs ys

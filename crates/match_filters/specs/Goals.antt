@@ -1,7 +1,7 @@
 -- Defines what a matcher keeps of its filters, and goals: how many parts each filter has, and 31 where there is no filter.
 use Rattle.std.specs.Prelude.{◌≡◌, ◌≤◌, ◌<◌, ◌+◌, ◌*◌, ◌/◌, ℕ, suc, List, [], ◌∷◌, ◌++◌, length, nat_lt, cond, slice_index_or}
 use Rattle.filter_constraints.specs.Constraint.{ConstraintParts}
-use Rattle.match_index.specs.Pairs.{tally, Same}
+use Rattle.match_index.specs.Pairs.{Same}
 use Rattle.match_cells.specs.declared.counts.Counts.{Counts}
 use Rattle.match_cells.specs.Counts.{goal_at}
 use Rattle.match_filters.specs.Index.{Use}

@@ -58,8 +58,8 @@ fn put(
 ) -> Result<(), NoMemory>
     requires small { id < 4096 }
     requires unreached { IsOpen id goals.old.items }
-    ensures { OnOk result ((filters : List (List ConstraintParts)) → length filters ≡ id
-        → IsFilled index.old goals.old.items filters → IsFilled index.new goals.new.items (filters ++ filter.now ∷ [])) }
+    ensures { OnOk result ((filters : List (List ConstraintParts)) → length filters ≡ id → IsFilled index.old goals.old.items filters
+        → IsFilled index.new goals.new.items (filters ++ filter.now ∷ [])) }
 {
     let constraints = filter.constraints();
     enter(index, constraints, id as u16)?;

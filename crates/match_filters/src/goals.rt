@@ -112,8 +112,8 @@ pub(crate) fn put_goal(
     requires few { length constraints.now ≤ 16 }
     requires small { id < 4096 }
     requires unreached { IsOpen id goals.old.items }
-    ensures { OnOk result ((filters : List (List ConstraintParts)) → length filters ≡ id
-        → AreGoals goals.old.items filters → AreGoals goals.new.items (filters ++ constraints.now ∷ [])) }
+    ensures { OnOk result ((filters : List (List ConstraintParts)) → length filters ≡ id → AreGoals goals.old.items filters
+        → AreGoals goals.new.items (filters ++ constraints.now ∷ [])) }
 {
     make_room(goals, id)?;
     set_goal(goals, constraints, id);

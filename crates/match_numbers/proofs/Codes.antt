@@ -1,5 +1,5 @@
 -- Proves that a key represents the test that it is made of.
-use Rattle.std.proofs.Common.{◌≡◌, ◌⊎◌, ◌+ℤ◌, ◌-ℤ◌, ◌^◌, inl, inr, ap, ℕ, ℤ, Bool, true, false, refl, pos, Option}
+use Rattle.std.proofs.Common.{◌≡◌, ◌⊎◌, ◌+ℤ◌, ◌^◌, inl, inr, ap, ℕ, true, false, refl, pos, Option}
 use Rattle.std.specs.Prelude.{Some, None}
 use Rattle.std.proofs.Math.IntN as IntN
 use Rattle.filter_values.specs.declared.value.Kind.{Kind}

@@ -1,11 +1,10 @@
 -- An operand on a side that its operator asks for is one that the value meets.
-use Rattle.std.proofs.Common.{◌≡◌, ◌⊎◌, ◌∙◌, ℕ, ℤ, Bool, true, false, Some, None, refl, sym, ap, subst, inl, inr}
+use Rattle.std.proofs.Common.{◌≡◌, ◌∙◌, ℕ, ℤ, Bool, true, false, Some, None, refl, ap, subst, inl, inr}
 use Rattle.std.specs.declared.option.Option.{Option}
 use Rattle.std.specs.declared.cmp.Ordering.{Ordering}
 use Rattle.std.specs.declared.cmp.Ordering.TheVariants.{Less, Equal, Greater}
 use Rattle.std.specs.Ordering.{int_cmp}
 use Rattle.filter_values.specs.Value.{kind_of}
-use Rattle.filter_values.specs.declared.value.Kind.{Kind}
 use Rattle.filter_values.specs.declared.value.Kind.TheVariants as kinds
 use Rattle.filter_values.specs.declared.value.Value.{Value}
 use Rattle.filter_values.specs.declared.value.Value.TheVariants as values

@@ -1,24 +1,17 @@
 -- Which keys of a row have a test that a value passes.
-use Rattle.std.proofs.Common.{◌≡◌, ◌+ℤ◌, ◌^◌, ◌∙◌, ℕ, ℤ, Bool, true, false, not, refl, arith, pos, negsuc}
+use Rattle.std.proofs.Common.{◌≡◌, ◌+ℤ◌, ◌^◌, ◌∙◌, ℕ, ℤ, true, false, refl, arith, pos, negsuc}
 use Rattle.std.proofs.lemmas.Int.{ints}
-use Rattle.std.specs.declared.cmp.Ordering.{Ordering}
-use Rattle.std.specs.declared.cmp.Ordering.TheVariants.{Less, Equal, Greater}
-use Rattle.std.specs.Ordering.{int_cmp, int_eq, is_eq}
-use Rattle.std.proofs.lemmas.Cmp.{int_cmp_total}
-use Rattle.filter_values.specs.declared.value.Kind.{Kind}
-use Rattle.filter_values.specs.declared.value.Value.{Value}
+use Rattle.std.specs.Ordering.{int_cmp}
 use Rattle.filter_values.specs.declared.value.Kind.TheVariants as kinds
 use Rattle.filter_values.specs.declared.value.Value.TheVariants as values
 use Rattle.filter_constraints.specs.declared.op.Op.{Op}
 use Rattle.filter_constraints.specs.declared.op.Op.TheVariants as ops
-use Rattle.std.specs.Prelude.{Some, None, int_lt, if◌then◌else◌}
+use Rattle.std.specs.Prelude.{int_lt}
 use Rattle.match_index.specs.Pairs.{passes}
 use Rattle.match_index.specs.Lines.{on_side}
-use Rattle.match_index.specs.Sides.{asked, sides_of}
-use Rattle.match_index.specs.declared.sides.Sides.{Sides}
-use Rattle.match_index.proofs.Orders.{same-turned}
+use Rattle.match_index.specs.Sides.{sides_of}
 use Rattle.filter_constraints.specs.Numbers.{number_satisfies}
-use Rattle.match_numbers.specs.Keys.{same_key, truth_key, time_key, key_meets, test_at, time_test, below_test, no_test}
+use Rattle.match_numbers.specs.Keys.{time_key, key_meets, test_at, time_test, below_test}
 
 -- the keys on the sides that an operator asks for
 pub side-meets : (op : Op) → (op ≡ ops.Any → ⊥) → (x k : ℤ) → on_side (sides_of op) (int_cmp k x) ≡ key_meets op x k

@@ -1,12 +1,12 @@
 -- One pair more, among operands that say what the pairs say.
-use Rattle.std.proofs.Common.{◌≡◌, ◌&&◌, ◌==◌, ◌∙◌, ℕ, ℤ, ◌+◌, ◌*◌, ◌<◌, ◌≤◌, inl, inr, Bool, true, false, not, cond, nat_le, List, [], ◌∷◌, length, Some, refl, sym, ap, ap₂, subst, arith}
+use Rattle.std.proofs.Common.{◌≡◌, ◌&&◌, ◌==◌, ◌∙◌, ℕ, ℤ, ◌+◌, ◌*◌, ◌<◌, Bool, true, false, not, cond, nat_le, List, [], ◌∷◌, length, Some, refl, sym, ap, ap₂, subst, arith}
 use Rattle.std.specs.Ordering.{int_cmp}
 use Rattle.std.proofs.lemmas.Bool.Decides.{nat_tests}
 use Rattle.filter_values.specs.Value.{kind_of, same_kind}
 use Rattle.filter_values.specs.declared.value.Kind.{Kind}
 use Rattle.filter_values.specs.declared.value.Value.{Value}
 use Rattle.filter_constraints.specs.Constraint.{ConstraintParts, IsConstraint, IsTest}
-use Rattle.match_index.specs.Pairs.{tally, Pair, Test, test_of, passes}
+use Rattle.match_index.specs.Pairs.{tally, Pair, test_of, passes}
 use Rattle.match_index.specs.Lines.{on_side}
 use Rattle.match_cells.specs.declared.ask.Ask.{Ask}
 use Rattle.match_cells.specs.Asks.{met}
@@ -14,7 +14,7 @@ use Rattle.match_cells.specs.Cells.{Groups, asked, total, AreKnown}
 use Rattle.match_cells.specs.Places.{AreRising, missed_by, side_of}
 use Rattle.match_numbers.specs.Keys.{key_of}
 use Rattle.match_numbers.specs.Kinds.{sides_for}
-use Rattle.match_numbers.specs.Operands.{IsNumeric, is_other, AreOf, is_of, is_missed, AreBelow, IsTold}
+use Rattle.match_numbers.specs.Operands.{is_other, AreOf, is_missed, IsTold}
 use Rattle.match_numbers.proofs.KindsMet.{side-passes}
 
 pub told-none : IsTold [] [] []

@@ -1,4 +1,4 @@
-use Rattle.std.proofs.Common.{◌≡◌, ◌∙◌, ℕ, suc, ◌+◌, ◌*◌, ◌<◌, ap, refl, sym, subst, [], ◌∷◌, length, get_or, arith, length-append}
+use Rattle.std.proofs.Common.{◌≡◌, ◌∙◌, ℕ, suc, ◌+◌, ◌*◌, ap, refl, subst, [], ◌∷◌, length, arith, length-append}
 use Rattle.match_cells.specs.declared.ask.Side.TheVariants as sides
 use Rattle.match_cells.specs.Asks.{missed}
 use Rattle.match_cells.specs.Walks.{IsCounted}

@@ -1,4 +1,4 @@
-use Rattle.std.proofs.Common.{◌+◌, false, sym, subst, take, arith}
+use Rattle.std.proofs.Common.{◌+◌, false, sym, subst, take}
 use Rattle.match_cells.specs.declared.ask.Ask.{Ask}
 use Rattle.match_cells.proofs.Firsts.{Has, has-put, has-still}
 use Rattle.match_cells.proofs.first.put_one.Goals as goal

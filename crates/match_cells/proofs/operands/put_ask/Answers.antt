@@ -1,4 +1,4 @@
-use Rattle.std.proofs.Common.{◌*◌, ◌≤◌, List, length, subst, sym, ap, arith}
+use Rattle.std.proofs.Common.{List, length, subst, ap, arith}
 use Rattle.match_cells.specs.Places.{IsCell}
 use Rattle.match_cells.proofs.Puts.{put-new, put-there}
 use Rattle.match_cells.proofs.operands.put_ask.Goals as goal

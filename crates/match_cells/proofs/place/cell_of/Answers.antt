@@ -1,4 +1,4 @@
-use Rattle.std.proofs.Common.{◌≡◌, ◌∙◌, ◌<◌, Bool, ap, sym, length, arith}
+use Rattle.std.proofs.Common.{◌∙◌, ◌<◌, Bool, ap, sym, length, arith}
 use Rattle.std.specs.Ordering.{is_eq}
 use Rattle.std.proofs.lemmas.List.{get_or_default}
 use Rattle.match_cells.proofs.Places.{between}

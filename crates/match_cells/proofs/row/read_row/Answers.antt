@@ -1,6 +1,6 @@
-use Rattle.std.proofs.Common.{◌≡◌, ◌↔◌, ◌∙◌, ◌<◌, ℕ, List, length, sym, ap, subst, arith}
+use Rattle.std.proofs.Common.{◌≡◌, ◌∙◌, sym, ap, arith}
 use Rattle.base_bits.specs.Words.{bit}
-use Rattle.match_cells.specs.Cells.{lost_in, asked}
+use Rattle.match_cells.specs.Cells.{lost_in}
 use Rattle.match_cells.proofs.Places.{cell-misses}
 use Rattle.match_cells.proofs.row.read_row.Goals as goal
 

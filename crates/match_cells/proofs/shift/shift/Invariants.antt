@@ -1,4 +1,4 @@
-use Rattle.std.proofs.Common.{◌≡◌, ℕ, ◌+◌, ◌*◌, Bool, length, take, get_or}
+use Rattle.std.proofs.Common.{◌≡◌, ℕ, ◌+◌, Bool, take, get_or}
 use Rattle.match_cells.specs.Changes.{present, Continues}
 use Rattle.match_cells.specs.Asks.{missed}
 use Rattle.match_cells.specs.Moves.{Show, AreMembers}

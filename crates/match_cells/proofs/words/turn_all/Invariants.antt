@@ -1,4 +1,4 @@
-use Rattle.std.proofs.Common.{◌≡◌, List, length}
+use Rattle.std.proofs.Common.{◌≡◌}
 use Rattle.match_cells.specs.Changes.{after}
 use Rattle.match_cells.proofs.words.turn_all.Given as goal
 

@@ -1,4 +1,3 @@
-use Rattle.std.proofs.Common.{take}
 use Rattle.match_filters.proofs.GoalLaws.{entered-none, entered-more}
 use Rattle.match_filters.proofs.builder.enter.Goals as goal
 

@@ -1,6 +1,6 @@
-use Rattle.std.proofs.Common.{◌≡◌, ◌∙◌, ◌++◌, ◌∷◌, [], length, ap, sym, subst, arith, ℕ, List}
+use Rattle.std.proofs.Common.{◌≡◌, ◌++◌, ◌∷◌, [], subst, List}
 use Rattle.filter_constraints.specs.Constraint.{ConstraintParts}
-use Rattle.match_filters.specs.Goals.{AreEntered, AreGoals, IsFilled}
+use Rattle.match_filters.specs.Goals.{AreEntered, AreGoals}
 use Rattle.match_filters.proofs.GoalLaws.{filled-more}
 use Rattle.match_filters.proofs.builder.put.Goals as goal
 

@@ -1,4 +1,4 @@
-use Rattle.std.proofs.Common.{◌≡◌, ◌+◌, ◌*◌, ◌%◌, ◌<◌, ◌≤◌, ◌==◌, ◌∙◌, inl, inr, ℕ, Bool, true, false, cond, take, get_or, length, refl, sym, ap, subst, arith}
+use Rattle.std.proofs.Common.{◌≡◌, ◌+◌, ◌*◌, ◌%◌, ◌==◌, ◌∙◌, inl, inr, ℕ, Bool, cond, take, get_or, length, sym, ap, subst, arith}
 use Rattle.std.proofs.lemmas.Bool.{cases_lt, cases_eq}
 use Rattle.base.proofs.Numbers.{eqb-self, neq-eqb}
 use Rattle.match_index.proofs.Tallies.{tally-at, tally-more}

@@ -1,5 +1,4 @@
-use Rattle.std.proofs.Common.{◌≡◌, ◌+◌, ◌*◌, ◌<◌, ◌∙◌, ℕ, Bool, cond, List, take, get_or, sym, ap, arith}
-use Rattle.std.proofs.lemmas.List.{take_all}
+use Rattle.std.proofs.Common.{◌≡◌, ◌+◌, ◌*◌, ◌<◌, ℕ, cond, take, ap, arith}
 use Rattle.filter_types.specs.Notice.{Attribute}
 use Rattle.match_index.specs.Pairs.{tally}
 use Rattle.match_index.proofs.Tallies.{tally-more}

@@ -1,4 +1,4 @@
-use Rattle.std.proofs.Common.{◌≡◌, ◌/◌, ◌%◌, ◌<◌, ◌∙◌, inl, inr, ℕ, length, get_or, refl, ap, arith}
+use Rattle.std.proofs.Common.{◌/◌, ◌%◌, ◌∙◌, inl, inr, refl, ap, arith}
 use Rattle.std.proofs.lemmas.Bool.{cases_lt}
 use Rattle.std.proofs.lemmas.List.{get_or_past}
 use Rattle.match_cells.specs.declared.counts.Counts.{Counts}

@@ -1,7 +1,6 @@
 use Rattle.std.proofs.Common.{◌≡◌, ◌+◌, ◌∙◌, ℕ, Bool, cond, ◌∷◌, drop, sym, ap, arith}
 use Rattle.base.proofs.Lists.{drop-next}
 use Rattle.filter_constraints.specs.Constraint.{ConstraintParts}
-use Rattle.match_cells.specs.Counts.{goal_at}
 use Rattle.match_filters.specs.Parts.{parts_of, ends_part}
 use Rattle.match_filters.proofs.PartLaws.{parts-few}
 use Rattle.match_filters.proofs.goals.count_parts.Goals as goal

@@ -1,4 +1,4 @@
-use Rattle.std.proofs.Common.{◌≡◌, ◌++◌, length}
+use Rattle.std.proofs.Common.{length}
 use Rattle.match_filters.proofs.Closing.{IsClosed}
 use Rattle.match_filters.proofs.parts.close.Given as goal
 

@@ -1,5 +1,4 @@
-use Rattle.std.proofs.Common.{arith, w64, ◌∙◌, sym}
-use Rattle.std.specs.Int.{bit_at}
+use Rattle.std.proofs.Common.{arith, w64}
 use Rattle.std.proofs.lemmas.Nat.Bits.{bit_at-lt, bit_at_not}
 use Rattle.match_cells.proofs.counts.Counts.same.Goals as goal
 

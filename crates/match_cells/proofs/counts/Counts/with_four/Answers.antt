@@ -1,4 +1,3 @@
-use Rattle.std.specs.Int.{bit_at}
 use Rattle.std.proofs.lemmas.Nat.Bits.{bit_at-lt}
 use Rattle.match_cells.specs.Counts.{count_at}
 use Rattle.match_cells.proofs.Adding.{four-more}

@@ -1,4 +1,4 @@
-use Rattle.std.proofs.Common.{◌*◌, ◌<◌, ap, ◌∙◌, length, arith}
+use Rattle.std.proofs.Common.{ap, ◌∙◌, length, arith}
 use Rattle.std.proofs.lemmas.List.{with_items_is}
 use Rattle.match_cells.specs.Changes.{Past, turned}
 use Rattle.match_cells.proofs.Kept.{length-now, changed, changed-still, changed-marked}

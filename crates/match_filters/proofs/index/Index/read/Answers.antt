@@ -1,10 +1,10 @@
-use Rattle.std.proofs.Common.{◌∙◌, ap, sym, subst}
+use Rattle.std.proofs.Common.{ap, subst}
 use Rattle.std.proofs.lemmas.Result.{on_ok_weaker}
 use Rattle.filter_values.specs.Value.{kind_of}
 use Rattle.filter_types.specs.Notice.{Attribute}
 use Rattle.match_filters.specs.Kinds.{ByKind, all_uses}
 use Rattle.match_filters.specs.Rows.{HaveMore}
-use Rattle.match_filters.proofs.KindLaws.{read-int, read-bool, read-time, read-text}
+use Rattle.match_filters.proofs.KindLaws.{read-int, read-bool, read-time}
 use Rattle.match_filters.proofs.index.Index.read.Goals as goal
 
 pub returns-in-Int : goal.returns-in-Int

@@ -1,4 +1,4 @@
-use Rattle.std.proofs.Common.{◌≡◌, ◌∙◌, ◌++◌, ◌∷◌, [], ap}
+use Rattle.std.proofs.Common.{◌∙◌, ◌++◌, ◌∷◌, [], ap}
 use Rattle.match_filters.proofs.RowLaws.{read-more}
 use Rattle.match_filters.proofs.rows.Rows.read.Goals as goal
 

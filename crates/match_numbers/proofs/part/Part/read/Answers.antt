@@ -1,11 +1,10 @@
-use Rattle.std.proofs.Common.{◌≡◌, ◌∙◌, ℕ, Some, refl, sym, ap, subst, ℤ, to_z, of_z, rules, length, arith}
+use Rattle.std.proofs.Common.{◌≡◌, ◌∙◌, Some, refl, sym, ap, subst, ℤ, to_z, of_z, rules, length, arith}
 use Rattle.std.specs.Int.{w64}
 use Rattle.std.proofs.lemmas.Int.{to_z-of_z}
 use Rattle.std.specs.Ordering.{int_cmp}
 use Rattle.std.proofs.lemmas.List.{with_items_is}
 use Rattle.base_bits.specs.Words.{bit}
 use Rattle.match_index.specs.Pairs.{tally}
-use Rattle.match_cells.specs.Cells.{asked}
 use Rattle.match_cells.specs.Places.{missed_by}
 use Rattle.match_numbers.specs.Keys.{key_of}
 use Rattle.match_numbers.specs.Operands.{AreOf, is_of, is_missed}
