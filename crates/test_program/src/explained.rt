@@ -1,5 +1,5 @@
 //! Rows of explanations: each of their lines, each verdict and each reason, and what isn't there.
-use crate::examples;
+use crate::examples::{ALARMS, MACHINES, MARKET};
 use crate::row::Row;
 use crate::usage::USAGE_LINE;
 
@@ -192,7 +192,7 @@ pub const EXPLAINED: [Row; 30] = [
     Row {
         name: "An alarm that is not loud enough",
         words: "explain brigade attic 1",
-        document: examples::EXAMPLES[0].text,
+        document: ALARMS,
         fault: "",
         text: "publication attic 1 floor int 4; kind str \"smoke\"; level int 2\nclient brigade\nphase 1\npath 2 1\n\
             filter kind str = \"smoke\"; level int >= 3\nunsatisfied level int >= 3 by level int 2\n\
@@ -202,7 +202,7 @@ pub const EXPLAINED: [Row; 30] = [
     Row {
         name: "A price that is not advertised",
         words: "explain trader feed 3",
-        document: examples::EXAMPLES[1].text,
+        document: MARKET,
         fault: "",
         text: "publication feed 3 price int 0; symbol str \"ACME\"\nclient trader\nphase 1\npath 4 2 3\n\
             filter price int < 5000; symbol str = \"ACME\"\nmatches\nin force throughout the phase\n\
@@ -213,7 +213,7 @@ pub const EXPLAINED: [Row; 30] = [
     Row {
         name: "A machine whose watch begins in the same phase",
         words: "explain duty web 1",
-        document: examples::EXAMPLES[2].text,
+        document: MACHINES,
         fault: "",
         text: "publication web 1 host str \"web-1\"; load int 97\nclient duty\nphase 0\npath 3 2 1\n\
             filter host str prefix \"web\"; load int > 90\nmatches\nin force since command 1\n\

@@ -9,7 +9,10 @@
 //! program gives them. The document of seed 1 is compared by its MD5 digest and that of its flood; its sorted walk,
 //! sorted replay, sorted walk of its hierarchy and flood are one text. Audits confirm what the program itself writes.
 //! They never confirm the output of another document, an output with a byte changed at 500 places, or a claim cut at a
-//! line.
+//! line. Explanations have a row for each of their lines, verdicts and reasons, and for each name that isn't there.
+//!
+//! The whole program is called with each word, for each number with which it ends, over readers and writers that fail,
+//! and with arguments that can't be read.
 //!
 //! With threads: documents whose outcome doesn't move, two with their traces, one phase after another and with a change
 //! of tree. Workers are held at a gate: two meet before their first turns; a table update overtakes a match ahead; a

@@ -17,50 +17,43 @@ const GOOD: &str =
 const EARLY: &str =
     "siena 1\nsemantics subscription\nservers 1\nclient p 1\nscript p\nbarrier\npublish x int 7\nschedule\nversion 1\n";
 
-/// Words over a document, and the number with which the program ends.
-struct Call {
-    words: &'static str,
-    document: &'static str,
-    number: u8,
-}
+/// Behind this document stands a pattern at fault.
+const FAULTY: &str =
+    "siena 1\nsemantics subscription\nservers 1\nclient a 1\npatterns\npattern a up\nstep s str prefix \"\"\n";
 
-const fn call(words: &'static str, document: &'static str, number: u8) -> Call {
-    Call {
-        words,
-        document,
-        number,
-    }
-}
+/// Words, a document, and the number with which the program ends.
+type Call = (&'static str, &'static str, u8);
 
 /// Each word, and each number that a document or words lead to.
 const CALLS: [Call; 24] = [
-    call("walk", GOOD, 0),
-    call("run", GOOD, 0),
-    call("run --trace --sorted", GOOD, 0),
-    call("replay", GOOD, 0),
-    call("hier", GOOD, 0),
-    call("flood", GOOD, 0),
-    call("traffic --dot", GOOD, 0),
-    call("explain a p 1", GOOD, 0),
-    call("check", GOOD, 0),
-    call("format", GOOD, 0),
-    call("gen --seed 1", "", 0),
-    call("help", "", 0),
-    call("version", "", 0),
-    call("", GOOD, 2),
-    call("run --dot", GOOD, 2),
-    call("explain a p", GOOD, 2),
-    call("check", "siena 3\n", 3),
-    call("run", "siena 3\n", 3),
-    call("explain a p 1", "siena 3\n", 3),
-    call("replay", EARLY, 3),
-    call("patterns", GOOD, 8),
-    call("audit", GOOD, 9),
-    call("explain b p 1", GOOD, 10),
-    call("explain a p 2", GOOD, 10),
+    ("walk", GOOD, 0),
+    ("run", GOOD, 0),
+    ("run --trace --sorted", GOOD, 0),
+    ("replay", GOOD, 0),
+    ("hier", GOOD, 0),
+    ("flood", GOOD, 0),
+    ("traffic --dot", GOOD, 0),
+    ("explain a p 1", GOOD, 0),
+    ("check", GOOD, 0),
+    ("format", GOOD, 0),
+    ("gen --seed 1", "", 0),
+    ("help", "", 0),
+    ("version", "", 0),
+    ("", GOOD, 2),
+    ("run --dot", GOOD, 2),
+    ("explain a p", GOOD, 2),
+    ("check", "siena 3\n", 3),
+    ("run", "siena 3\n", 3),
+    ("explain a p 1", "siena 3\n", 3),
+    ("replay", EARLY, 3),
+    ("patterns", FAULTY, 8),
+    ("audit", GOOD, 9),
+    ("explain b p 1", GOOD, 10),
+    ("explain a p 2", GOOD, 10),
 ];
 
 /// A device of which each call fails.
+#[derive(Drop)]
 struct Broken;
 
 impl Read for Broken {
@@ -112,18 +105,13 @@ fn ended<T: Threads + Wait + Sync>(
 
 /// Prints of each call whether it ends as wanted: with its number, and with a text on the one stream or on the other.
 fn print_calls<R: Print + Threads + Wait + Sync>(rt: &R, alloc: Global) -> Result<(), Failure> {
-    for call in &CALLS {
-        let (number, output, errors) = ended(
-            rt,
-            alloc,
-            Ok(arguments(alloc, call.words)?),
-            call.document,
-        );
+    for (words, document, wanted) in &CALLS {
+        let given = Ok(arguments(alloc, words)?);
+        let (number, output, errors) = ended(rt, alloc, given, document);
         let told = (number == 0) == (errors == 0) && (number == 0) == (output > 0);
         println!(rt;
-            "`{}` ends with {number}: {}",
-            call.words,
-            told && number == call.number
+            "`{words}` ends with {number}: {}",
+            told && number == *wanted
         )?;
     }
     Ok(())
