@@ -17,13 +17,14 @@ use Rattle.match_index.proofs.Tallies.{tally-append, tally-none}
 use Rattle.match_cells.specs.Counts.{rows_with}
 use Rattle.match_filters.specs.Index.{Use, is_satisfied, ids_satisfied}
 use Rattle.match_filters.specs.Kinds.{ByKind, all_uses, AreByKind, IsAdded}
+use Rattle.std.proofs.lemmas.Bool.{and_parts}
 use Rattle.match_filters.specs.Parts.{is_alone, is_on, is_missed}
 use Rattle.match_filters.specs.Rows.{is_met, HaveMore}
 use Rattle.match_filters.specs.Uses.{is_other, AreAll, AreKnown}
 use Rattle.match_filters.proofs.Filling.{of_filter, tally-within}
 use Rattle.match_filters.proofs.Satisfied.{tally-satisfied}
 
-kind-tells : (a b : Kind) → same_kind a b ≡ true → a ≡ b
+pub kind-tells : (a b : Kind) → same_kind a b ≡ true → a ≡ b
 kind-tells a b h = grind arith
 
 front : {X : Type 0} (a new r : List X) (x : X) → Same new (x ∷ a) → Same (new ++ r) (x ∷ (a ++ r))
@@ -69,22 +70,14 @@ module _ (c : ConstraintParts) (id : ℕ) (ints bools times texts : List Use) (n
 pub tally-kinds : (p : Use → Bool) (x : ByKind) → tally p (all_uses x) ≡ tally p x.ints + (tally p x.bools + (tally p x.times + tally p x.texts))
 tally-kinds p x = omega (arith, tally-append p x.ints (x.bools ++ (x.times ++ x.texts)), tally-append p x.bools (x.times ++ x.texts), tally-append p x.times x.texts)
 
-and_first : (x y : Bool) → x && y ≡ true → x ≡ true
-and_first true y e = refl
-and_first false y e = cc
-
-and_second : (x y : Bool) → x && y ≡ true → y ≡ true
-and_second true y e = e
-and_second false y e = cc
-
 -- no constraint of another kind belongs to the part on an attribute
 off : (a : Attribute) (kind : Kind) → same_kind (kind_of a.1) kind ≡ false → (c : ConstraintParts) → is_on a c ≡ true → not (same_kind c.kind kind) ≡ true
 off a kind h c e =
-    let k : kind_of a.1 ≡ c.kind = kind-tells (kind_of a.1) c.kind (and_second (bytes_eq a.0 c.name) (same_kind (kind_of a.1) c.kind) (and_second (not (is_alone c)) (bytes_eq a.0 c.name && same_kind (kind_of a.1) c.kind) e)) in
+    let k : kind_of a.1 ≡ c.kind = kind-tells (kind_of a.1) c.kind (and_parts (bytes_eq a.0 c.name) (same_kind (kind_of a.1) c.kind) (and_parts (not (is_alone c)) (bytes_eq a.0 c.name && same_kind (kind_of a.1) c.kind) e).1).1 in
     ap not (ap (λ (z : Kind). same_kind z kind) (sym k) ∙ h)
 
 none-on : (a : Attribute) (kind : Kind) → same_kind (kind_of a.1) kind ≡ false → (uses : List Use) → AreAll kind uses → (k : ℕ) → tally (of_filter (is_on a) k) uses ≡ 0
-none-on a kind h uses all k = omega (arith, all, tally-within (of_filter (is_on a) k) (is_other kind) (λ u e. off a kind h u.0 (and_first (is_on a u.0) (u.1 == k) e)) uses)
+none-on a kind h uses all k = omega (arith, all, tally-within (of_filter (is_on a) k) (is_other kind) (λ u e. off a kind h u.0 ((and_parts (is_on a u.0) (u.1 == k) e).0)) uses)
 
 missed-few : (a : Attribute) (k : ℕ) (uses : List Use) → tally (of_filter (is_missed a) k) uses ≤ tally (of_filter (is_on a) k) uses
 missed-few a k uses = tally-within (of_filter (is_missed a) k) (of_filter (is_on a) k) (λ u e. each (is_on a u.0) (not (satisfies u.0 a.1)) (u.1 == k) e) uses
@@ -152,7 +145,7 @@ pub no-text : (a : Attribute) (found : List ℕ) (uses : List Use) → same_kind
 no-text a found uses e all = record {
   tail = [];
   whole = sym (append-nil found);
-  same = λ q. omega (arith, all, tally-satisfied q (a ∷ []) uses, tally-within (λ u. is_satisfied (a ∷ []) u.0 && q u.1) (is_other kinds.Str) (λ u h. each u.0 (and_first (is_satisfied (a ∷ []) u.0) (q u.1) h)) uses);
+  same = λ q. omega (arith, all, tally-satisfied q (a ∷ []) uses, tally-within (λ u. is_satisfied (a ∷ []) u.0 && q u.1) (is_other kinds.Str) (λ u h. each u.0 ((and_parts (is_satisfied (a ∷ []) u.0) (q u.1) h).0)) uses);
 }
   where
     each : (c : ConstraintParts) → is_satisfied (a ∷ []) c ≡ true → not (same_kind c.kind kinds.Str) ≡ true

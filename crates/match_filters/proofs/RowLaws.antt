@@ -1,5 +1,5 @@
 -- What one attribute adds to the rows.
-use Rattle.std.proofs.Common.{◌≡◌, ◌↔◌, ◌+◌, ◌/◌, ◌%◌, ◌≤◌, ◌<◌, ◌==◌, ◌&&◌, ◌∙◌, inl, inr, refl, sym, ap, ap₂, subst, arith, ℕ, Bool, true, false, not, cond, nat_lt, nat_eq, List, [], ◌∷◌, ◌++◌, length, take, set, add-one, zero, suc, get_or, Some, None}
+use Rattle.std.proofs.Common.{◌≡◌, ◌↔◌, ◌+◌, ◌≤◌, ◌<◌, ◌==◌, ◌&&◌, ◌∙◌, inl, inr, refl, sym, ap, ap₂, subst, arith, ℕ, Bool, true, false, not, cond, nat_lt, nat_eq, List, [], ◌∷◌, ◌++◌, length, take, set, add-one, zero, suc, get_or, Some, None}
 use Rattle.std.specs.Prelude.{Vec}
 use Rattle.std.specs.declared.alloc.Global.{Global}
 use Rattle.std.specs.List.{IsDistinct}
@@ -9,7 +9,6 @@ use Rattle.std.specs.Str.{bytes_eq}
 use Rattle.std.proofs.lemmas.Bool.Decides.{nat_tests}
 use Rattle.std.proofs.lemmas.List.Sums.{sum_by_push}
 use Rattle.std.proofs.lemmas.Map.Text.{is_eq-slice_cmp}
-use Rattle.std.proofs.lemmas.Nat.Bits.{bit_at-lt}
 use Rattle.filter_values.specs.Value.{kind_of, same_kind}
 use Rattle.filter_values.specs.declared.value.Kind.{Kind}
 use Rattle.filter_values.specs.declared.value.Kind.TheVariants as kinds
@@ -23,6 +22,9 @@ use Rattle.match_index.specs.Keys.{same_bytes, at_key, key_cmp}
 use Rattle.match_cells.specs.Counts.{rows_with}
 use Rattle.match_numbers.specs.Operands.{IsNumeric, AreOf, is_other as is_other_pair, is_of, is_missed as is_missed_of}
 use Rattle.match_filters.specs.Index.{Use}
+use Rattle.std.proofs.lemmas.Bool.{and_parts}
+use Rattle.base_bits.proofs.Bits.{bit-small}
+use Rattle.match_filters.proofs.KindLaws.{kind-tells}
 use Rattle.match_filters.specs.Parts.{is_alone, is_on, is_missed}
 use Rattle.match_filters.specs.Rows.{AreLong, IsRead, HaveMore}
 use Rattle.match_filters.specs.Shelves.{constraint_of, uses_of}
@@ -42,9 +44,6 @@ tally-agree-but bad p q (x ∷ xs) e h = omega (arith, tally-agree-but bad p q x
     here : (b : Bool) → cond b 1 0 + tally bad xs ≡ 0 → b ≡ false
     here true s = absurd (omega (arith, s))
     here false s = refl
-
-kind-tells : (a b : Kind) → same_kind a b ≡ true → a ≡ b
-kind-tells a b h = grind arith
 
 kind-self : (x : Kind) → same_kind x x ≡ true
 kind-self kinds.Bool = refl
@@ -102,12 +101,8 @@ module _ (name : List ℕ) (v : Value) (pairs : List Pair) (es : List (Vec ℕ G
       p : Use → Bool
       p u = same_bytes name u.0.name && is_other (kind_of v) u
 
-      and_second : (x y : Bool) → x && y ≡ true → y ≡ true
-      and_second true y e = e
-      and_second false y e = cc
-
       few : tally p (uses_of es) ≤ tally (is_other (kind_of v)) (uses_of es)
-      few = tally-within p (is_other (kind_of v)) (λ u e. and_second (same_bytes name u.0.name) (is_other (kind_of v) u) e) (uses_of es)
+      few = tally-within p (is_other (kind_of v)) (λ u e. (and_parts (same_bytes name u.0.name) (is_other (kind_of v) u) e).1) (uses_of es)
 
       here-same : (x : Pair) → p (constraint_of name x.0, x.1) ≡ is_other_pair v x
       here-same x = ap (λ (b : Bool). b && not (same_kind x.0.kind (kind_of v))) (is_eq-slice_cmp name name ∙ bytes_eq-self name)
@@ -137,10 +132,6 @@ long-more span rows new row e l h = subst (AreLong span) (sym e) (λ d r m. go r
     go [] h d (suc r) m = absurd (omega (arith, m))
     go (x ∷ rows) h d zero m = h d 0 (omega arith)
     go (x ∷ rows) h d (suc r) m = go rows (λ e s n. h e (suc s) (omega (arith, n))) d r (omega (arith, m))
-
-bit-small : (words : List ℕ) (k : ℕ) → bit words k < 2
-unfolding bit
-bit-small words k = bit_at-lt (get_or words (k / 64) 0) (k % 64)
 
 -- the row of an attribute's part
 pub part-read : (span : ℕ) (name : List ℕ) (a : Attribute) (pairs : List Pair) (es : List (Vec ℕ Global × List Pair)) (old new : List (Vec ℕ Global)) → name ≡ a.0 → AreOfKind a.1 (uses_of es) → IsDistinct (λ j k. is_eq (key_cmp j k)) (keys_of es) → lookup (at_key name) es ≡ Some pairs → IsRead span a.1 pairs old new → HaveMore span a (uses_of es) old new
