@@ -185,7 +185,12 @@ impl ClientFilters {
     }
 
     /// Goes on to a phase of the script.
-    pub(crate) fn enter(&mut self, filters: &Items<Sub>, steps: &[(u32, NumberedCommand)], phase: u32)
+    pub(crate) fn enter(
+        &mut self,
+        filters: &Items<Sub>,
+        steps: &[(u32, NumberedCommand)],
+        phase: u32,
+    )
         requires numbers { AreNumbers (length filters.now) steps.now }
         requires sized { IsSized (length filters.now) self.old }
         requires at { IsAt filters.now steps.now self.old }
