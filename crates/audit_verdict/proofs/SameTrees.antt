@@ -227,7 +227,7 @@ module _ (th : Theory) (adverts : Bool) (servers : List ℕ) (home : ℕ → ℕ
         (record { stamp = e.stamp; server = e.server; act = e.act; outs = e.outs }) link) p
 
     -- the walk: what a turn makes
-    plain : (links : ℕ → List ℕ) (step : Step) (phase : ℕ → ServerState th → Task → Option ℕ) (through : ℕ → ServerState th → ℕ → Bool)
+    abbrev plain : (links : ℕ → List ℕ) (step : Step) (phase : ℕ → ServerState th → Task → Option ℕ) (through : ℕ → ServerState th → ℕ → Bool)
         → Option (Entry (machine links step phase through)) → Option JournalEntry
     plain links step phase through None = None
     plain links step phase through (Some e) = Some (record { stamp = e.stamp; server = e.server; act = e.act; outs = e.outs })
