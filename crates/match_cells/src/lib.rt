@@ -1,6 +1,6 @@
 //! Layer: match.
 //! Job: the filters that a value satisfies on one name and kind, by the cell of their operands that it falls in, and how many of some sets have each filter.
-//! Users: match_filters.
+//! Users: match_numbers and match_filters.
 //!
 //! The operands cut the values into cells: those below the first, the first, those between it and the second, and so on. From a
 //! cell to the next only the filters change that ask something of the operand there, so that what is satisfied in each cell is a
