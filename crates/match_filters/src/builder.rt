@@ -16,7 +16,6 @@ use std::marker::Model;
 use std::snapshot::Snapshot;
 
 /// A list of at most 4,096 filters, to which filters are put one after another. It keeps no filter.
-#[derive(Drop)]
 pub struct MatcherBuilder {
     index: IndexBuilder,
     goals: Vec<Counts>,
@@ -24,6 +23,18 @@ pub struct MatcherBuilder {
     /// False after running out of memory.
     whole: bool,
     filters: Snapshot<Listed>,
+}
+
+impl Drop for MatcherBuilder {
+    fn drop(self) {
+        let Self {
+            index: _,
+            goals: _,
+            count: _,
+            whole: _,
+            filters: _,
+        } = self;
+    }
 }
 
 impl Model for MatcherBuilder {

@@ -1,6 +1,6 @@
 //! Layer: match.
 //! Job: what the indexes of constraints hold: pairs of a test and an id, and the lines and groups in which ids are kept.
-//! Users: match_numbers, match_texts and match_filters.
+//! Users: match_cells, match_numbers, match_texts and match_filters.
 //!
 //! Texts and patterns are kept in an index by their bytes and by their ends. For these there are definitions and lemmas
 //! alone; `match_texts` finds the patterns that match a text. After running out of memory, a list of ids still begins
