@@ -1,6 +1,6 @@
 use Rattle.std.proofs.Common.{◌≡◌, ◌++◌, true, Err, refl, sym, subst}
 use Rattle.program_sequential.specs.declared.words.Wanted.{Wanted}
-use Rattle.program_sequential.specs.declared.words.Wanted.TheVariants.{About, Document, Explain, Generate}
+use Rattle.program_sequential.specs.declared.words.Wanted.TheVariants.{About, Document, Generate}
 use Rattle.program_sequential.specs.declared.unanswered.Unanswered.TheVariants as whys
 use Rattle.program_sequential.specs.Answering.{IsAnswer}
 use Rattle.program_sequential.proofs.Answering.{audited-read, claim-answer, document-answer, never-unread, pattern-answer, question-answer, searched-read}

@@ -1,4 +1,4 @@
-use Rattle.std.proofs.Common.{inl, inr, subst, sym}
+use Rattle.std.proofs.Common.{inr, subst, sym}
 use Rattle.program_threaded.specs.Processes.{IsUnread}
 use Rattle.program_threaded.proofs.process.done.Goals as goal
 
