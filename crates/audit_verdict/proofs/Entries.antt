@@ -137,6 +137,16 @@ act-read net sound apart server (acts.Receive from) h =
     small x l = omega (arith, l, first-most net sound)
 act-read net sound apart server acts.TableUpdate h = version-read net server
 
+pub readable-by : (net : NetParts) → IsSound net → AreApart net.clients → (e : EntryParts) → IsThere real (phased_net net) (entry_of e) → e.stamp < 1000000000 → IsReadable net e
+readable-by net sound apart e at low =
+    let within = server-in (first_tree net.trees).count e.server at.server in
+    record {
+      low = omega (arith, low);
+      small = omega (arith, within.1, first-most net sound);
+      server = server-there net e.server at.server;
+      act = act-read net sound apart e.server e.act at.act;
+    }
+
 -- a legal run from the opening
 module _ (net : NetParts) (sound : IsSound net) (journal : List EntryParts) (end : Moment real (phased_net net)) (legal : IsRunTo real (phased_net net) (opening_moment real (phased_net net)) (journal_of journal) end) where
   run : PhasedRun real
@@ -162,12 +172,4 @@ module _ (net : NetParts) (sound : IsSound net) (journal : List EntryParts) (end
 
   pub readable : AreApart net.clients → (e : EntryParts) → Has e journal → IsReadable net e
   unfolding run
-  readable apart e h =
-      let at = there e h in
-      let within = server-in (first_tree net.trees).count e.server at.server in
-      record {
-        low = omega (arith, low.stamps (entry_of e) (map-has entry_of journal e h));
-        small = omega (arith, within.1, first-most net sound);
-        server = server-there net e.server at.server;
-        act = act-read net sound apart e.server e.act at.act;
-      }
+  readable apart e h = readable-by net sound apart e (there e h) (omega (arith, low.stamps (entry_of e) (map-has entry_of journal e h)))

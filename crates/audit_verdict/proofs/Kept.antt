@@ -131,7 +131,7 @@ module _ (th : Theory) (F : th.Filter → Type 0) (A : th.Advert → Type 0) (N 
     sent-adverts-kept : (s : ServerState th) (t l : ℕ) → ((i : ℕ) → All A (s.advs i)) → All A (sent_adverts th net s t l)
     sent-adverts-kept s t l k = all-cond A net.adverts _ _ (all-filter A (is_root th.covers_advert th.before_advert (needed_adverts th net s t l)) (needed_adverts th net s t l) (all-except A th.before_advert s.advs l (interfaces th net t) k)) (all-none A)
 
-    filter-change-kept : (old new : List th.Filter) → All F old → All F new → All KeepsMessage (filter_change th net old new)
+    pub filter-change-kept : (old new : List th.Filter) → All F old → All F new → All KeepsMessage (filter_change th net old new)
     filter-change-kept old new p q = all-cond KeepsMessage (same_list th.before old new) _ _ (all-none KeepsMessage)
         (all-one KeepsMessage (Subs (minus th.before old new) (minus th.before new old)) (all-filter F (λ x. not (member th.before x new)) old p, all-filter F (λ x. not (member th.before x old)) new q))
 
@@ -174,7 +174,7 @@ module _ (th : Theory) (F : th.Filter → Type 0) (A : th.Advert → Type 0) (N 
         let r = full-kept t s w k h in
         record { state = r.state; outs = λ l. all-cond KeepsMessage (is_among l (net.links t)) _ _ (r.outs l) (all-none KeepsMessage) }
 
-    command-kept : (c n : ℕ) (x : Command th) → KeepsCommand x → KeepsWork (command_work th net c n x)
+    pub command-kept : (c n : ℕ) (x : Command th) → KeepsCommand x → KeepsWork (command_work th net c n x)
     command-kept c n (Subscribe f) k = filters-kept [] (take (suc n) (net.script c)) (all-none F) (all-take _ (suc n) (net.script c) (scripts c))
     command-kept c n (Unsubscribe f) k = filters-kept [] (take (suc n) (net.script c)) (all-none F) (all-take _ (suc n) (net.script c) (scripts c))
     command-kept c n (Advertise a) k = go net.adverts
@@ -193,7 +193,7 @@ module _ (th : Theory) (F : th.Filter → Type 0) (A : th.Advert → Type 0) (N 
         go true = k
         go false = tt
 
-    message-kept : (s : ServerState th) (from : ℕ) (m : Message th) → KeepsServer s → KeepsMessage m → KeepsWork (message_work th net s from m)
+    pub message-kept : (s : ServerState th) (from : ℕ) (m : Message th) → KeepsServer s → KeepsMessage m → KeepsWork (message_work th net s from m)
     message-kept s from (Subs out add) k h = all-union F th.before _ add (all-filter F (λ x. not (member th.before x out)) (s.subs from) (k.subs from)) h.1
     message-kept s from (Advs out add) k h = all-union A th.before_advert _ add (all-filter A (λ x. not (member th.before_advert x out)) (s.advs from) (k.advs from)) h.1
     message-kept s from (Noticed q o n) k h = h

@@ -12,4 +12,7 @@ pub mod Remade
 pub mod SameOutputs
 pub mod ShownRuns
 pub mod Complete
-pub mod Making
+pub mod MadeRuns
+pub mod Stopping
+pub mod ToldMore
+pub mod PeersLaws

@@ -20,7 +20,7 @@ use Rattle.net_model.specs.Meaning.{act_of, entry_of, journal_of}
 use Rattle.net_model.specs.Nets.{home_of, phased_net, turn_of}
 use Rattle.net_turns.specs.Network.{IsLegal, moment_by}
 use Rattle.net_turns.specs.Retold.{turn_by, turn_of_entry}
-use Rattle.net_turns.specs.Turns.{AreMade}
+use Rattle.audit_verdict.specs.Kinds.{AreMade, peers}
 use Rattle.audit_verdict.proofs.Acts.{IsActOf, IsThere}
 
 -- a command is a turn of its client's home
@@ -37,7 +37,7 @@ module _ (net : NetParts) (end : Moment real (phased_net net)) where
 
   remade : (es done : List EntryParts) (m : Moment real (phased_net net)) (list : List (ℕ × NetTurn)) → IsRunTo real (phased_net net) (opening_moment real (phased_net net)) (journal_of done) m
       → IsRunTo real (phased_net net) m (journal_of es) end → ((e : EntryParts) → Has e es → IsThere real (phased_net net) (entry_of e))
-      → map (λ (t : ℕ × NetTurn). t.1) list ≡ map turn_of_entry es → AreMade net done list (done ++ es)
+      → map (λ (t : ℕ × NetTurn). t.1) list ≡ map turn_of_entry es → AreMade peers net done list (done ++ es)
   remade [] done m [] sofar run there same = sym (append-nil done)
   remade [] done m (t ∷ list) sofar run there same = absurd cc
   remade (e ∷ es) done m [] sofar run there same = absurd cc
@@ -58,9 +58,9 @@ module _ (net : NetParts) (end : Moment real (phased_net net)) where
       (subst (λ (z : Turn). IsPermittedTurn real (phased_net net) m z (entry_of e) v) (sym own) permitted)) in (
         e,
         here,
-        subst (AreMade net (done ++ e ∷ []) list) (append_assoc done (e ∷ []) es) (remade es (done ++ e ∷ []) v list grown rest (λ x h. there x (inr h)) others),
+        subst (AreMade peers net (done ++ e ∷ []) list) (append_assoc done (e ∷ []) es) (remade es (done ++ e ∷ []) v list grown rest (λ x h. there x (inr h)) others),
       )
 
 pub run-remade : (net : NetParts) (journal : List EntryParts) → IsLegal net journal → ((e : EntryParts) → Has e journal → IsThere real (phased_net net) (entry_of e))
-    → (list : List (ℕ × NetTurn)) → map (λ (t : ℕ × NetTurn). t.1) list ≡ map turn_of_entry journal → AreMade net [] list journal
+    → (list : List (ℕ × NetTurn)) → map (λ (t : ℕ × NetTurn). t.1) list ≡ map turn_of_entry journal → AreMade peers net [] list journal
 run-remade net journal legal there list same = remade net (moment_by net journal) journal [] (opening_moment real (phased_net net)) list (refl, refl) legal there same

@@ -1,17 +1,11 @@
 -- Lemmas on the runs that turns make, and on their texts.
-use Rattle.std.proofs.Common.{◌≡◌, ℕ, zero, suc, ◌+◌, ◌<◌, Bool, true, false, List, [], ◌∷◌, ◌++◌, length, take, drop, get_or, refl, sym, ap, ◌∙◌, arith, append_assoc}
-use Rattle.std.specs.Prelude.{not}
-use Rattle.std.proofs.lemmas.List.{take_more}
+use Rattle.std.proofs.Common.{◌≡◌, ℕ, zero, suc, ◌+◌, ◌<◌, List, [], ◌∷◌, ◌++◌, length, take, drop, get_or, refl, sym, ap, ◌∙◌, arith, append_assoc}
+use Rattle.std.proofs.lemmas.List.{length-take-le, take_more}
 use Rattle.base.specs.Numbers.{sum_over}
 use Rattle.filter_text.specs.declared.sent.Sent.{Sent}
 use Rattle.net_model.specs.Parts.{ClientParts, NetParts, EntryParts}
-use Rattle.net_turns.specs.Network.{NetworkParts, IsLegal}
 use Rattle.net_turns.specs.Told.{told_from}
-use Rattle.net_turns.specs.Walked.{IsPhaseOf}
-use Rattle.net_turns.proofs.Again.{IsRetoldTo}
-use Rattle.net_turns.proofs.Drained.{walked-open}
 use Rattle.output_report.specs.Trace.{entries_text, entry_text}
-use Rattle.audit_verdict.specs.Answers.{TellsDrained}
 
 -- a sum over what is left
 sum_suc : {A : Type 0} (f : A → ℕ) (xs : List A) (i : ℕ) (d : A) → i < length xs → sum_over f (drop i xs) ≡ f (get_or xs i d) + sum_over f (drop (suc i) xs)
@@ -23,15 +17,6 @@ pub sum_next : {A : Type 0} (f : A → ℕ) (xs : List A) (i : ℕ) (x : A) → 
 sum_next f xs i x l e =
     let next : suc i ≡ i + 1 = omega arith in
     sum_suc f xs i x l ∙ (λ k. f (sym e k) + sum_over f (drop (next k) xs))
-
--- a walk decides whether a run is drained
-pub tells_drained : (more : Bool) (old new : NetworkParts) → IsPhaseOf more old new → IsLegal new.net new.journal → TellsDrained (not more) old.net old.journal
-tells_drained true old new w legal = walked-open old new w legal
-tells_drained false old new w legal = w.1
-
-pub stays_drained : (more : Bool) (old new : NetworkParts) → IsPhaseOf more old new → not more ≡ true → new ≡ old
-stays_drained true old new w e = cc
-stays_drained false old new w e = w.0
 
 -- each entry has its messages
 pub told-length : (net : NetParts) (journal : List EntryParts) (n : ℕ) (es : List EntryParts) → length (told_from net journal n es) ≡ length es
@@ -51,9 +36,8 @@ text_more clients (f ∷ es) [] e o l = absurd (omega (arith, l))
 text_more clients (f ∷ es) (p ∷ os) e o l =
     append_assoc (entry_text clients f p) (entries_text clients es os) (entry_text clients e o) ∙ ap (λ z. entry_text clients f p ++ z) (text_more clients es os e o (omega (arith, l)))
 
-pub entries_more : (net : NetParts) (journal : List EntryParts) (i : ℕ) (d : EntryParts) (told : List (List Sent)) (last : List Sent) (network : NetworkParts) → i < length journal
-    → IsRetoldTo i net journal network told
-    → entries_text net.clients (take i journal) told ++ entry_text net.clients (get_or journal i d) last ≡ entries_text net.clients (take (i + 1) journal) (told ++ last ∷ [])
-entries_more net journal i d told last network l again =
-    text_more net.clients (take i journal) told (get_or journal i d) last (ap length again.told ∙ told-length net journal zero (take i journal))
-    ∙ ap (λ z. entries_text net.clients z (told ++ last ∷ [])) (sym (take_more journal i d l))
+pub entries_more : (clients : List ClientParts) (journal : List EntryParts) (i : ℕ) (d : EntryParts) (told : List (List Sent)) (last : List Sent) → i < length journal → length told ≡ i
+    → entries_text clients (take i journal) told ++ entry_text clients (get_or journal i d) last ≡ entries_text clients (take (i + 1) journal) (told ++ last ∷ [])
+entries_more clients journal i d told last l many =
+    text_more clients (take i journal) told (get_or journal i d) last (many ∙ sym (length-take-le i journal (omega (arith, l))))
+    ∙ ap (λ z. entries_text clients z (told ++ last ∷ [])) (sym (take_more journal i d l))

@@ -22,6 +22,7 @@ use Rattle.document_reader.specs.declared.fault.Fault.{Fault}
 use Rattle.document_reader.specs.declared.state.State.{State}
 use Rattle.output_report.specs.Deliveries.{deliveries_text}
 use Rattle.output_report.specs.Trace.{trace_text}
+use Rattle.audit_verdict.specs.Kinds.{peers}
 use Rattle.audit_verdict.specs.Verdict.{IsOutputOf, traced_text}
 use Rattle.audit_verdict.proofs.SameRuns.{AreAlike, drained-here, neighbours-here, run-here, state-here, told-here, walk-here}
 
@@ -73,12 +74,12 @@ module _ (semantics : Semantics) (clients : List ClientParts) (v w : ℕ) (t u :
       texts (λ link. told-here semantics clients v w t u x y same (journal_of journal) n (entry_of e) link i) (neighbours-here semantics clients v w t u x y same (journal_of journal) n e.server i)
       ∷ told-same (suc n) es i
 
-  text-same : traced_text here journal ≡ traced_text there journal
+  text-same : traced_text peers here journal ≡ traced_text peers there journal
   text-same = λ i.
       deliveries_text here (map (λ c. refused-same c i) (range_with_len 1 (length clients))) (map (λ c. received-same c i) (range_with_len 1 (length clients))) false
       ++ trace_text here journal (told-same zero journal i)
 
-  output-same : (output : List ℕ) → IsOutputOf here journal output → IsOutputOf there journal output
+  output-same : (output : List ℕ) → IsOutputOf peers here journal output → IsOutputOf peers there journal output
   output-same output h = record {
     legal = run-here semantics clients v w t u x y same (journal_of journal) h.legal;
     drained = drained-here semantics clients v w t u x y same (journal_of journal) h.drained;
@@ -88,19 +89,19 @@ module _ (semantics : Semantics) (clients : List ClientParts) (v w : ℕ) (t u :
   walk-same : walk_after here [] ≡ walk_after there []
   walk-same = walk-here semantics clients v w t u x y same (phases_of here - 0) 0
 
-the-state : (r : Result State (ℕ × Fault)) (s z : State) → r ≡ Ok s → r ≡ Ok z → s ≡ z
+pub the-state : (r : Result State (ℕ × Fault)) (s z : State) → r ≡ Ok s → r ≡ Ok z → s ≡ z
 the-state r s z p q = cc
 
 -- what is the output of a run by one net of a document, is so by another
-pub same-output : (document : List ℕ) (one two : NetParts) (journal : List EntryParts) (output : List ℕ) → IsNetOf document one → IsNetOf document two → IsOutputOf one journal output → IsOutputOf two journal output
+pub same-output : (document : List ℕ) (one two : NetParts) (journal : List EntryParts) (output : List ℕ) → IsNetOf document one → IsNetOf document two → IsOutputOf peers one journal output → IsOutputOf peers two journal output
 same-output document one two journal output a b h =
     let state : a.state ≡ b.state = the-state _ a.state b.state a.read b.read in
     let semantics : one.semantics ≡ two.semantics = a.holds.semantics ∙ ap (λ (s : State). s.semantics) state ∙ sym b.holds.semantics in
     let clients : one.clients ≡ two.clients = a.holds.clients ∙ ap (λ (s : State). map Rattle.document_reader.specs.Net.client_of s.clients) state ∙ sym b.holds.clients in
     let trees : AreAlike one.trees two.trees = alike a.state.trees.servers (Rattle.document_reader.specs.Drawn.blocks a.state.trees) one.trees two.trees a.holds.trees
     (subst (λ (s : State). AreTreesOf s.trees.servers (Rattle.document_reader.specs.Drawn.blocks s.trees) two.trees) (sym state) b.holds.trees) in
-    subst (λ z. IsOutputOf (net_parts two.version z two.trees two.clients two.schedule) journal output) semantics
-    (subst (λ z. IsOutputOf (net_parts two.version one.semantics two.trees z two.schedule) journal output) clients
+    subst (λ z. IsOutputOf peers (net_parts two.version z two.trees two.clients two.schedule) journal output) semantics
+    (subst (λ z. IsOutputOf peers (net_parts two.version one.semantics two.trees z two.schedule) journal output) clients
     (output-same one.semantics one.clients one.version two.version one.trees two.trees one.schedule two.schedule trees journal output h))
 
 -- two nets of one document have the same walk

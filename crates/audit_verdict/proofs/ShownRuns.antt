@@ -65,7 +65,7 @@ names-shown version count (c ∷ cs) is = λ x h. elim h [
 
 -- What is delivered.
 
-of-clients : {A : Type 0} (P : A → Type 0) (net : NetParts) (f : ℕ → A) → ((c : ℕ) → P (f c)) → All P (of_clients net f)
+pub of-clients : {A : Type 0} (P : A → Type 0) (net : NetParts) (f : ℕ → A) → ((c : ℕ) → P (f c)) → All P (of_clients net f)
 of-clients P net f h = all-map P f (range_with_len 1 (length net.clients)) (λ c m. h c)
 
 module _ (net : NetParts) (scripts : (c : ℕ) → All (λ (x : PhasedCommand real). KeepsCommand real IsShownList IsShownList IsShownNotice x.command) (script_of net c)) (journal : List EntryParts) where

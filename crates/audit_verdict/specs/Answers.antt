@@ -2,9 +2,7 @@
 use Rattle.std.specs.Prelude.{◌≡◌, ℕ, Bool, true, false, List, [], Result, Ok, Err, Option, Some, None}
 use Rattle.net_model.specs.declared.turn.Turn.{Turn}
 use Rattle.net_model.specs.Parts.{NetParts, EntryParts}
-use Rattle.net_turns.specs.Network.{NetworkParts, IsDrainedBy}
-use Rattle.net_turns.specs.Stopping.{StopsAtLine}
-use Rattle.net_turns.specs.Turns.{AreMade}
+use Rattle.net_turns.specs.Network.{NetworkParts}
 use Rattle.audit_claim.specs.Claim.{IsBadDocument}
 use Rattle.audit_claim.specs.Difference.{difference}
 use Rattle.audit_claim.specs.declared.fault.ClaimFault.{ClaimFault}
@@ -12,6 +10,7 @@ use Rattle.audit_claim.specs.declared.fault.ClaimFault.TheVariants as claims
 use Rattle.audit_verdict.specs.declared.fault.AuditFault.{AuditFault}
 use Rattle.audit_verdict.specs.declared.fault.AuditFault.TheVariants as faults
 use Rattle.audit_verdict.specs.declared.fault.AuditKind.TheVariants.{BadTurn, Differs, Form, Open}
+use Rattle.audit_verdict.specs.Kinds.{AreMade, RunKind, StopsAtLine}
 use Rattle.audit_verdict.specs.Comparing.{ComparingParts, IsComparedTo}
 use Rattle.audit_verdict.specs.Verdict.{IsAudited, IsOutputOf, IsRefuted, MakesRun, Owes, delivered_in, line_at}
 
@@ -22,16 +21,16 @@ fault_of_claim (claims.Form line) = faults.Refuted line Form
 fault_of_claim claims.NoMemory = faults.NoMemory
 
 -- whether a run is drained
-abbrev pub TellsDrained : Bool → NetParts → List EntryParts → Type 0
-TellsDrained true net journal = IsDrainedBy net journal
-TellsDrained false net journal = IsDrainedBy net journal → ⊥
+abbrev pub TellsDrained : RunKind → Bool → NetParts → List EntryParts → Type 0
+TellsDrained kind true net journal = kind.IsDrainedBy net journal
+TellsDrained kind false net journal = kind.IsDrainedBy net journal → ⊥
 
 -- the network after turns, as it is seen, or the turn that is not permitted
-abbrev pub TellsMade : {A : Type 0} → (A → NetworkParts) → NetParts → List (ℕ × Turn) → Result A AuditFault → Type 0
-TellsMade view net turns (Ok a) = ((view a).net ≡ net) × AreMade net [] turns (view a).journal
-TellsMade view net turns (Err faults.NoMemory) = Unit {0}
-TellsMade view net turns (Err (faults.Document line kind)) = ⊥
-TellsMade view net turns (Err (faults.Refuted line kind)) = (kind ≡ BadTurn) × StopsAtLine net [] turns line
+abbrev pub TellsMade : {A : Type 0} → RunKind → (A → NetworkParts) → NetParts → List (ℕ × Turn) → Result A AuditFault → Type 0
+TellsMade kind view net turns (Ok a) = ((view a).net ≡ net) × AreMade kind net [] turns (view a).journal
+TellsMade kind view net turns (Err faults.NoMemory) = Unit {0}
+TellsMade kind view net turns (Err (faults.Document line fault)) = ⊥
+TellsMade kind view net turns (Err (faults.Refuted line fault)) = (fault ≡ BadTurn) × StopsAtLine kind net [] turns line
 
 -- by the text that was compared, and whether the run is drained
 abbrev pub ConcludesAt : ℕ → ℕ → List ℕ → Bool → Result (Unit {0}) AuditFault → Option ℕ → Type 0
@@ -43,26 +42,27 @@ abbrev pub Concludes : ComparingParts → ℕ → ℕ → List ℕ → Bool → 
 Concludes c first end output drained result = (text : List ℕ) → IsComparedTo c text → ConcludesAt first end output drained result (difference output text)
 
 -- what is told of the run that turns make
-abbrev pub TellsRun : {A : Type 0} → (A → List EntryParts) → (A → ℕ) → NetParts → ℕ → ℕ → List ℕ → List (ℕ × Turn) → Result A AuditFault → Type 0
-TellsRun journal deliveries net first end output turns (Ok a) =
-    MakesRun net first end output turns (Ok (journal a)) × IsOutputOf net (journal a) output × (deliveries a ≡ delivered_in net (journal a))
-TellsRun journal deliveries net first end output turns (Err faults.NoMemory) = Unit {0}
-TellsRun journal deliveries net first end output turns (Err (faults.Document line kind)) = ⊥
-TellsRun journal deliveries net first end output turns (Err (faults.Refuted line kind)) = MakesRun net first end output turns (Err (line, kind))
+abbrev pub TellsRun : {A : Type 0} → RunKind → (A → List EntryParts) → (A → ℕ) → NetParts → ℕ → ℕ → List ℕ → List (ℕ × Turn) → Result A AuditFault → Type 0
+TellsRun kind journal deliveries net first end output turns (Ok a) =
+    MakesRun kind net first end output turns (Ok (journal a)) × IsOutputOf kind net (journal a) output × (deliveries a ≡ delivered_in kind net (journal a))
+TellsRun kind journal deliveries net first end output turns (Err faults.NoMemory) = Unit {0}
+TellsRun kind journal deliveries net first end output turns (Err (faults.Document line fault)) = ⊥
+TellsRun kind journal deliveries net first end output turns (Err (faults.Refuted line fault)) =
+    MakesRun kind net first end output turns (Err (line, fault))
 
 -- and of what it owes besides, by its net
 abbrev pub OwesWhere : {A : Type 0} → (A → NetParts) → (A → ℕ) → NetParts → Result A AuditFault → Type 0
 OwesWhere of owed net (Ok a) = (of a ≡ net) × Owes net (owed a)
 OwesWhere of owed net (Err e) = Unit {0}
 
-abbrev pub TellsAudited : {A : Type 0} → (A → NetParts) → (A → List EntryParts) → (A → ℕ) → (A → ℕ) → NetParts → ℕ → ℕ → List ℕ → List (ℕ × Turn)
-    → Result A AuditFault → Type 0
-TellsAudited of journal owed deliveries net first end output turns result =
-    TellsRun journal deliveries net first end output turns result × OwesWhere of owed net result
+abbrev pub TellsAudited : {A : Type 0} → RunKind → (A → NetParts) → (A → List EntryParts) → (A → ℕ) → (A → ℕ)
+    → NetParts → ℕ → ℕ → List ℕ → List (ℕ × Turn) → Result A AuditFault → Type 0
+TellsAudited kind of journal owed deliveries net first end output turns result =
+    TellsRun kind journal deliveries net first end output turns result × OwesWhere of owed net result
 
 -- the answer to an input
-abbrev pub AnswersAudit : {A : Type 0} → (A → NetParts) → (A → List EntryParts) → (A → ℕ) → (A → ℕ) → List ℕ → Result A AuditFault → Type 0
-AnswersAudit of journal owed deliveries bytes (Ok a) = IsAudited bytes (of a) (journal a) (owed a) (deliveries a)
-AnswersAudit of journal owed deliveries bytes (Err faults.NoMemory) = Unit {0}
-AnswersAudit of journal owed deliveries bytes (Err (faults.Document line kind)) = IsBadDocument bytes line kind
-AnswersAudit of journal owed deliveries bytes (Err (faults.Refuted line kind)) = IsRefuted bytes line kind
+abbrev pub AnswersAudit : {A : Type 0} → RunKind → (A → NetParts) → (A → List EntryParts) → (A → ℕ) → (A → ℕ) → List ℕ → Result A AuditFault → Type 0
+AnswersAudit kind of journal owed deliveries bytes (Ok a) = IsAudited kind bytes (of a) (journal a) (owed a) (deliveries a)
+AnswersAudit kind of journal owed deliveries bytes (Err faults.NoMemory) = Unit {0}
+AnswersAudit kind of journal owed deliveries bytes (Err (faults.Document line fault)) = IsBadDocument bytes line fault
+AnswersAudit kind of journal owed deliveries bytes (Err (faults.Refuted line fault)) = IsRefuted kind bytes line fault

@@ -1,12 +1,8 @@
 -- A text that is compared with what is claimed, as it is written; no promise to a caller speaks of it.
 use Rattle.std.specs.Prelude.{◌≡◌, ◌≤◌, ℕ, Bool, true, false, List, [], ◌∷◌, ◌++◌, length, take, Some}
-use Rattle.law_phases.specs.Moments.{found_of}
-use Rattle.net_model.specs.Real.{real}
-use Rattle.net_model.specs.Parts.{EntryParts}
-use Rattle.net_model.specs.Meaning.{journal_of}
-use Rattle.net_model.specs.Nets.{phased_net}
+use Rattle.filter_text.specs.declared.sent.Sent.{Sent}
+use Rattle.net_model.specs.Parts.{NetParts, EntryParts}
 use Rattle.net_turns.specs.Network.{NetworkParts}
-use Rattle.net_turns.specs.Told.{told_of}
 use Rattle.output_report.specs.Trace.{entry_text}
 use Rattle.audit_claim.specs.Difference.{difference}
 
@@ -38,13 +34,16 @@ abbrev pub Follows : Bool → ComparingParts → ComparingParts → List ℕ →
 Follows true old new piece = GoesOn old new piece
 Follows false old new piece = new ≡ old
 
+-- the messages of an entry that a journal has behind so many
+abbrev pub ToldAt : Type 0
+ToldAt = NetParts → List EntryParts → ℕ → EntryParts → List Sent
+
 -- the text of the last entry of a network's run, with its messages, was compared
-abbrev pub ComparesLast : NetworkParts → ComparingParts → ComparingParts → Type 0
-ComparesLast network old new = (before : List EntryParts) (entry : EntryParts) → network.journal ≡ before ++ entry ∷ []
-    → GoesOn old new (entry_text network.net.clients entry
-    (told_of network.net (found_of real (phased_net network.net) (journal_of network.journal) (length before)) entry))
+abbrev pub ComparesLast : ToldAt → NetworkParts → ComparingParts → ComparingParts → Type 0
+ComparesLast told_at network old new = (before : List EntryParts) (entry : EntryParts) → network.journal ≡ before ++ entry ∷ []
+    → GoesOn old new (entry_text network.net.clients entry (told_at network.net network.journal (length before) entry))
 
 -- that of a turn, where it was made
-abbrev pub ComparesTurn : Bool → NetworkParts → ComparingParts → ComparingParts → Type 0
-ComparesTurn true network old new = ComparesLast network old new
-ComparesTurn false network old new = Unit {0}
+abbrev pub ComparesTurn : ToldAt → Bool → NetworkParts → ComparingParts → ComparingParts → Type 0
+ComparesTurn told_at true network old new = ComparesLast told_at network old new
+ComparesTurn told_at false network old new = Unit {0}

@@ -2,7 +2,7 @@
 ghost use Rattle.std.specs.Prelude.{◌≡◌, ◌≤◌, false, length, OnOk};
 ghost use Rattle.std.specs.List.{flat_map};
 ghost use Rattle.net_model.specs.Nets.{of_clients};
-ghost use Rattle.net_turns.specs.Network.{received_by, refused_by};
+ghost use Rattle.sequential_network.specs.Ruling.{refused_by};
 ghost use Rattle.output_report.specs.Deliveries.{deliveries_text, delivery_line, delivery_section};
 ghost use Rattle.audit_verdict.specs.Comparing.{GoesOn};
 
@@ -10,7 +10,7 @@ use crate::comparing::Comparing;
 use base::NoMemory;
 use net_model::{Client, Delivery, Net};
 use output_report::{push_client, push_delivery, push_refused};
-use sequential_network::{Kept, Network};
+use sequential_network::{Kept, Networked, RuledNetwork};
 use std::alloc::Global;
 
 // The line of a delivery, put together in a buffer.
@@ -63,16 +63,16 @@ fn compare_section(
 }
 
 /// Compares what the clients of a network have received, client by client in the order of its net, each delivery in the order received.
-pub fn compare_deliveries(
+pub fn compare_deliveries<'a, P: Networked<'a>>(
     alloc: Global,
     text: &mut Comparing<'_>,
     net: &Net,
-    network: &Network<'_, Kept>,
+    network: &RuledNetwork<'a, P, Kept>,
 ) -> Result<(), NoMemory>
     requires few { length net.now.clients ≤ 1024 }
     requires same { network.now.net ≡ net.now }
     ensures { OnOk result (GoesOn text.old text.new (deliveries_text net.now
-        (of_clients net.now (refused_by net.now network.now.journal)) (of_clients net.now (received_by net.now network.now.journal)) false)) }
+        (of_clients net.now (refused_by P.ruling net.now network.now.journal)) (of_clients net.now (P.ruling.received_by net.now network.now.journal)) false)) }
 {
     let mut line = Vec::new(alloc);
     for (i, client) in net.clients.iter().enumerate() {

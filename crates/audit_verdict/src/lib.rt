@@ -16,8 +16,12 @@ mod compared;
 mod comparing;
 mod counts;
 mod fault;
+mod kind;
+mod making;
 mod place;
 mod traced;
 
 pub use auditing::{Audited, audit};
 pub use fault::{AuditFault, AuditKind};
+pub use kind::{AuditedKind, NetworkKind, Peers};
+pub use making::make_run;

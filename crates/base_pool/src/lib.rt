@@ -7,8 +7,8 @@
 //! the canonical order of their items, so that an item is found by a binary search. `Items` is a pool that won't change
 //! any more, seen as the list of its items: an item's place is its number.
 //!
-//! `Pool::lemma_plain` says what each pool keeps. The rows of `test_documents` try a pool against a plain list, and refuse
-//! each allocation in turn.
+//! `Pool::lemma_plain` says what each pool keeps. The rows of `test_values` try pools of filters and of advertisements
+//! against a plain list.
 #![tactic(auto)]
 
 mod items;

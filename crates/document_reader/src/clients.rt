@@ -1,13 +1,13 @@
 //! Collects the clients of a document with their scripts, found by name.
 ghost use Rattle.std.specs.Prelude.{◌≡◌, ◌∷◌, ◌++◌, [], ◌<◌, ◌≤◌, None, OnOk, OnErr, IfOk, IfSome, length, map};
+ghost use Rattle.filter_values.specs.Name.{IsName};
 ghost use Rattle.document_reader.specs.Net.{client_of};
 ghost use Rattle.document_reader.specs.Drafts.{barriers_at, begun, changed_at, client_at, has_script, scriptless, with_barrier, with_command};
 
 use crate::draft::Draft;
 use crate::names::Names;
 use base::NoMemory;
-use filter_text::Command;
-use filter_values::Name;
+use filter_text::{Command, known_name};
 use net_model::Client;
 use std::alloc::Global;
 use std::marker::Model;
@@ -33,20 +33,18 @@ impl Model for Clients {
 
 // A client without a script.
 fn scriptless(alloc: Global, name: &[u8], home: u32) -> Result<Draft, NoMemory>
+    requires { IsName name.now }
     ensures { IfOk result (λ d. d ≡ scriptless name.now home) }
 {
-    match Name::read(alloc, name) {
-        Ok(name) => Ok(Draft {
-            client: Client {
-                name,
-                home,
-                barriers: 0,
-                script: Vec::new(alloc),
-            },
-            has_script: false,
-        }),
-        Err(_) => Err(NoMemory),
-    }
+    Ok(Draft {
+        client: Client {
+            name: known_name(alloc, name)?,
+            home,
+            barriers: 0,
+            script: Vec::new(alloc),
+        },
+        has_script: false,
+    })
 }
 
 // One barrier more.
@@ -106,6 +104,7 @@ impl Clients {
 
     /// One client more, without a script.
     pub fn add(&mut self, alloc: Global, name: &[u8], home: u32) -> Result<(), NoMemory>
+        requires name { IsName name.now }
         requires new { client_at self.old name.now ≡ None }
         requires room { length self.old < 1024 }
         ensures { OnOk result (self.new ≡ self.old ++ scriptless name.now home ∷ []) }

@@ -63,10 +63,7 @@ fn read_lines(alloc: Global, bytes: &[u8]) -> Result<Net, InputFault>
             kind: missing.kind()?,
         }),
     }
-    match net(alloc, state) {
-        Ok(net) => Ok(net),
-        Err(_) => Err(InputFault::NoMemory),
-    }
+    Ok(net(alloc, state)?)
 }
 
 #[tactic(auto, unfolding(crate::specs::Places::document_of))]

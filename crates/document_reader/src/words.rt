@@ -1,5 +1,6 @@
 //! Reads the words and numbers of which a line is made.
-ghost use Rattle.std.specs.Prelude.{◌≡◌, None, Some, MatchOption};
+ghost use Rattle.std.specs.Prelude.{◌≡◌, None, Some, IfSome, MatchOption};
+ghost use Rattle.filter_values.specs.Name.{IsName};
 ghost use Rattle.document_reader.specs.Lines.{words};
 ghost use Rattle.document_reader.specs.Words.{name_and_number, number, one, one_name, one_number, two, two_numbers};
 
@@ -78,7 +79,8 @@ pub fn two_numbers(rest: &[u8]) -> Option<(u64, u64)>
 /// The name and the number of the rest of a line.
 #[tactic(auto, unfolding(crate::specs::Words::name_and_number))]
 pub fn name_and_number(rest: &[u8]) -> Option<(&[u8], u64)>
-    ensures { MatchOption result (name_and_number (words rest.now) ≡ None) (λ r. name_and_number (words rest.now) ≡ Some (r.0.now, r.1)) }
+    ensures value { MatchOption result (name_and_number (words rest.now) ≡ None) (λ r. name_and_number (words rest.now) ≡ Some (r.0.now, r.1)) }
+    ensures name { IfSome result (λ r. IsName r.0.now) }
 {
     let Some((name, n)) = two(rest) else {
         return None;

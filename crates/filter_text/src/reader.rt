@@ -6,6 +6,7 @@ ghost use Rattle.filter_text.specs.Items.{more_at};
 
 use crate::fault::WireFault;
 use crate::int::int_of;
+use crate::names::known_name;
 use filter_values::{Kind, Name, is_name};
 use std::alloc::Global;
 
@@ -116,10 +117,7 @@ impl<'a> Reader<'a> {
         if !is_name(word) {
             return Err(WireFault::Outside);
         }
-        match Name::read(alloc, word) {
-            Ok(name) => Ok(name),
-            Err(_) => Err(WireFault::NoMemory),
-        }
+        Ok(known_name(alloc, word)?)
     }
 
     /// A kind.

@@ -7,12 +7,11 @@ use Rattle.std.proofs.lemmas.Option.{same_Some}
 use Rattle.base.proofs.Lists.{map-get}
 use Rattle.filter_types.specs.Notice.{Attribute}
 use Rattle.filter_text.specs.declared.command.Command.{Command as WireCommand}
-use Rattle.filter_text.specs.declared.command.Command.TheVariants as commands
 use Rattle.filter_text.specs.declared.id.Id.{Id}
 use Rattle.law_routing.specs.Clients.{ordinal}
 use Rattle.law_routing.specs.Net.{PhasedCommand, Publish}
 use Rattle.net_model.specs.Real.{real}
-use Rattle.net_model.specs.Meaning.{command_of, phased_command}
+use Rattle.net_model.specs.Meaning.{phased_command}
 use Rattle.net_model.specs.Parts.{NetParts}
 use Rattle.net_model.specs.Sound.{IsSound}
 use Rattle.output_explain.specs.declared.answer.Explanation.{Explanation}
@@ -24,7 +23,6 @@ use Rattle.output_explain.specs.Explained.{IsAnswer, IsExplained}
 use Rattle.output_explain.proofs.Finding.{unfound}
 use Rattle.output_explain.proofs.Explained.{publish_found}
 use Rattle.output_explain.proofs.Naming.{named_is, nobody_is, same_number}
-use Rattle.output_explain.proofs.Promised.{notice_in}
 use Rattle.output_explain.proofs.Telling.{script_is}
 
 abbrev id_of : ℕ → ℕ → Id

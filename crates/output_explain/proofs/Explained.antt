@@ -1,5 +1,5 @@
 -- What the code gathers of a publish that it found is its explanation.
-use Rattle.std.proofs.Common.{◌≡◌, ℕ, zero, suc, ◌+◌, ◌≤◌, ◌<◌, true, List, [], ◌∷◌, map, take, length, slice_get, Some, Result, Ok, Err, sym, ap, subst, ◌∙◌, arith}
+use Rattle.std.proofs.Common.{◌≡◌, ℕ, zero, suc, ◌≤◌, ◌<◌, true, List, [], ◌∷◌, map, take, length, slice_get, Some, Result, Ok, Err, sym, ap, subst, ◌∙◌, arith}
 use Rattle.base.proofs.Numbers.{zero-add}
 use Rattle.output_flood.specs.Held.{Script}
 use Rattle.std.specs.Prelude.{IfOk}

@@ -14,7 +14,7 @@ use Rattle.filter_text.specs.declared.id.Id.{Id}
 use Rattle.law_routing.specs.Net.{PhasedCommand, NeverFalls, Publish}
 use Rattle.law_routing.specs.Clients.{is_publish, some_pass, commands_below}
 use Rattle.law_routing.specs.Owed.{IsMomentOfPhase, IsAdvertisedThroughout, IsOwed, IsAllowed}
-use Rattle.law_routing.proofs.Listing.{pass-by, by-pass, some_pass-any}
+use Rattle.law_routing.proofs.Listing.{pass-by, by-pass}
 use Rattle.law_routing.proofs.Scripts.{through-count, upto-count, below-rises, one-index}
 use Rattle.net_model.specs.Real.{real}
 use Rattle.net_model.specs.Parts.{NetParts}

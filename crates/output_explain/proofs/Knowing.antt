@@ -1,8 +1,8 @@
 -- All filters and advertisements of a client are among those that its net names.
-use Rattle.std.proofs.Common.{◌≡◌, ℕ, zero, suc, ◌≤◌, inl, inr, List, [], ◌∷◌, take, length, slice_get, Option, Some, None, refl, subst}
+use Rattle.std.proofs.Common.{◌≡◌, ℕ, zero, suc, ◌≤◌, List, [], take, length, slice_get, Option, Some, None, refl, subst}
 use Rattle.std.specs.List.{flat_map}
 use Rattle.base.specs.Sets.{Has, set_of}
-use Rattle.base.proofs.Sets.{get-has, has-append-left, has-append-right, has-set_of, rising-set_of, flat_map-has}
+use Rattle.base.proofs.Sets.{get-has, has-set_of, rising-set_of, flat_map-has}
 use Rattle.filter_constraints.specs.Constraint.{ConstraintParts}
 use Rattle.filter_covering.specs.Laws.{sub_laws, ad_laws}
 use Rattle.filter_types.specs.Before.{list_before}

@@ -13,3 +13,7 @@ pub mod Promised
 pub mod Flooded
 pub mod Running
 pub mod Answered
+pub mod Looking
+pub mod Prospecting
+pub mod Chances
+pub mod Agreeing

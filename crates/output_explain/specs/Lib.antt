@@ -5,3 +5,5 @@ pub mod Verdicts
 pub mod Asked
 pub mod Explained
 pub mod Text
+pub mod Prospects
+pub mod Sought

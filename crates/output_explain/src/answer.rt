@@ -45,7 +45,7 @@ pub struct Explanation {
 }
 
 // The client of a number.
-fn client_of(net: &Net, number: u32) -> &Client
+pub(crate) fn client_of(net: &Net, number: u32) -> &Client
     requires { IsAmong (length net.now.clients) number }
     ensures { client_at net.now.clients number ≡ Some result.now }
 {

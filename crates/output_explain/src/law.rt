@@ -1,4 +1,4 @@
-//! A verdict is that of the promise, and what flooding tells.
+//! A verdict is that of the promise, and what flooding tells; so is what is listed of a client.
 ghost use Rattle.std.specs.Prelude.{◌≡◌, ◌↔◌, ℕ, suc, true, false, List, slice_get, Some};
 ghost use Rattle.base.specs.Sets.{Has};
 ghost use Rattle.law_phases.specs.Runs.{PhasedRun};
@@ -11,9 +11,13 @@ ghost use Rattle.net_model.specs.Nets.{home_of, phased_net};
 ghost use Rattle.output_flood.specs.declared.owed.OwedRow.{OwedRow};
 ghost use Rattle.output_flood.specs.Flooding.{row_of, IsFlooding};
 ghost use Rattle.output_explain.specs.declared.answer.Explanation.{Explanation};
+ghost use Rattle.output_explain.specs.declared.prospect.Prospect.{Prospect};
 ghost use Rattle.output_explain.specs.declared.verdict.Verdict.TheVariants as verdicts;
 ghost use Rattle.output_explain.specs.Explained.{IsExplanation, IsAnswer, publication_of};
+ghost use Rattle.output_explain.specs.Prospects.{AreProspects, IsListed};
 ghost use Rattle.output_explain.specs.Verdicts.{is_given, is_may};
+
+use crate::prospect::Chance;
 
 /// A publication is owed by its explanation exactly where it is owed by the scripts, and given exactly where it is allowed.
 pub fn as_promised()
@@ -43,4 +47,25 @@ pub fn as_flooded()
     ensures may { (net : NetParts) (rows : List (List OwedRow)) (refused : List (List ℕ)) → IsFlooding net rows refused
         → (e : Explanation) → IsExplanation net e → (place : ℕ) (list : List OwedRow) → e.client ≡ suc place → slice_get rows place ≡ Some list
         → (is_may e.verdict ≡ true) ↔ Has (row_of e.id.publisher e.id.ordinal false) list }
+{}
+
+/// What is listed of a client as owed is what flooding owes it, and what is listed as what may come is what flooding allows
+/// besides: `explain` of a client alone and `flood` agree.
+pub fn listed_as_flooded()
+    ensures owed { (net : NetParts) (rows : List (List OwedRow)) (refused : List (List ℕ)) → IsFlooding net rows refused
+        → (place : ℕ) (list : List OwedRow) → slice_get rows place ≡ Some list → (prospects : List Prospect) → AreProspects net (suc place) prospects
+        → (publisher ordinal : ℕ) → IsListed publisher ordinal Chance.Owed prospects ↔ Has (row_of publisher ordinal true) list }
+    ensures may { (net : NetParts) (rows : List (List OwedRow)) (refused : List (List ℕ)) → IsFlooding net rows refused
+        → (place : ℕ) (list : List OwedRow) → slice_get rows place ≡ Some list → (prospects : List Prospect) → AreProspects net (suc place) prospects
+        → (publisher ordinal : ℕ) → IsListed publisher ordinal Chance.May prospects ↔ Has (row_of publisher ordinal false) list }
+{}
+
+/// What is listed of a publication is the verdict of its explanation, and what is near is never given.
+pub fn listed_as_explained()
+    ensures owed { (net : NetParts) (e : Explanation) → IsExplanation net e → (prospects : List Prospect) → AreProspects net e.client prospects
+        → IsListed e.id.publisher e.id.ordinal Chance.Owed prospects ↔ (e.verdict ≡ verdicts.Owed) }
+    ensures may { (net : NetParts) (e : Explanation) → IsExplanation net e → (prospects : List Prospect) → AreProspects net e.client prospects
+        → IsListed e.id.publisher e.id.ordinal Chance.May prospects ↔ (is_may e.verdict ≡ true) }
+    ensures near { (net : NetParts) (e : Explanation) → IsExplanation net e → (prospects : List Prospect) → AreProspects net e.client prospects
+        → IsListed e.id.publisher e.id.ordinal Chance.Near prospects → is_given e.verdict ≡ false }
 {}

@@ -95,7 +95,7 @@ fn push_advert(alloc: Global, out: &mut Vec<u8>, advert: &Advert) -> Result<(), 
 }
 
 // The text of a notification.
-fn push_notice(alloc: Global, out: &mut Vec<u8>, notice: &Notice) -> Result<(), NoMemory>
+pub(crate) fn push_notice(alloc: Global, out: &mut Vec<u8>, notice: &Notice) -> Result<(), NoMemory>
     ensures { OnOk result (out.new.items ≡ out.old.items ++ notice_text notice.now) }
 {
     let text = write_notice(alloc, notice)?;
@@ -283,7 +283,7 @@ fn verdict_line(verdict: Verdict) -> &'static [u8]
 
 // The publisher's name, and the ordinal.
 #[tactic(auto, unfolding(crate::specs::Text::id_text))]
-fn push_id(out: &mut Vec<u8>, clients: &[Client], id: Id) -> Result<(), NoMemory>
+pub(crate) fn push_id(out: &mut Vec<u8>, clients: &[Client], id: Id) -> Result<(), NoMemory>
     ensures { OnOk result (out.new.items ≡ out.old.items ++ id_text clients.now id) }
 {
     out.extend_from_slice(name_of(clients, id.publisher))?;

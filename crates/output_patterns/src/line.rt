@@ -1,5 +1,5 @@
 //! Reads the lines behind the line `patterns`.
-ghost use Rattle.std.specs.Prelude.{◌≡◌, ◌≤◌, IfOk, length};
+ghost use Rattle.std.specs.Prelude.{◌≡◌, ◌≤◌, length};
 ghost use Rattle.std.specs.Option.{option_copied};
 ghost use Rattle.document_script.specs.Command.{IsVersion};
 ghost use Rattle.document_script.specs.Tokens.{first_word, tokens};
@@ -13,22 +13,11 @@ use crate::pattern::Pattern;
 use crate::step::step_filter;
 use crate::watching::Watching;
 use crate::words::{client_named, two_names};
-use base::NoMemory;
 use document_reader::{LineFault, need, next_word, want};
 use document_script::Line;
-use filter_values::Name;
+use filter_text::known_name;
 use net_model::Client;
 use std::alloc::Global;
-
-// The name of these bytes.
-fn name_of(alloc: Global, bytes: &[u8]) -> Result<Name, NoMemory>
-    ensures { IfOk result (λ name. name ≡ bytes.now) }
-{
-    match Name::read(alloc, bytes) {
-        Ok(name) => Ok(name),
-        Err(_) => Err(NoMemory),
-    }
-}
 
 /// `pattern CLIENT LABEL`.
 #[tactic(auto, unfolding(crate::specs::Rules::pattern_rule))]
@@ -49,7 +38,7 @@ fn pattern(
     need(state.count() < 1024, PatternKind::Count)?;
     state.begin(Pattern {
         client,
-        label: name_of(alloc, label)?,
+        label: known_name(alloc, label)?,
         steps: Vec::new(alloc),
     })?;
     Ok(())

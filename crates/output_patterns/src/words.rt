@@ -1,6 +1,7 @@
 //! Reads the words of a line `pattern`.
 ghost use Rattle.std.specs.Prelude.{◌≡◌, ◌≤◌, ◌<◌, None, Some, MatchOption, IfSome, length};
 ghost use Rattle.std.specs.List.{position};
+ghost use Rattle.filter_values.specs.Name.{IsName};
 ghost use Rattle.document_reader.specs.Lines.{words};
 ghost use Rattle.output_patterns.specs.Parts.{client_named, has_name};
 ghost use Rattle.output_patterns.specs.Rules.{two_names};
@@ -12,7 +13,8 @@ use net_model::Client;
 /// The two names of the rest of a line.
 #[tactic(auto, unfolding(crate::specs::Rules::two_names))]
 pub fn two_names(rest: &[u8]) -> Option<(&[u8], &[u8])>
-    ensures { MatchOption result (two_names (words rest.now) ≡ None) (λ r. two_names (words rest.now) ≡ Some (r.0.now, r.1.now)) }
+    ensures two { MatchOption result (two_names (words rest.now) ≡ None) (λ r. two_names (words rest.now) ≡ Some (r.0.now, r.1.now)) }
+    ensures names { IfSome result (λ r. IsName r.0.now × IsName r.1.now) }
 {
     let Some((a, b)) = two(rest) else {
         return None;

@@ -31,11 +31,14 @@ help_text =
     ++ codes "patterns\n"
     ++ codes "    where the patterns behind a line `patterns` occur in what the clients receive\n"
     ++ codes "        siena patterns < examples/alarm.patterns\n"
+    ++ codes "explain CLIENT\n"
+    ++ codes "    each publication that the client is owed, that may come to it, or that is near: a filter of it matches, but not in time\n"
+    ++ codes "        siena explain brigade < examples/alarm.siena\n"
     ++ codes "explain CLIENT PUBLISHER NUMBER\n"
     ++ codes "    why the client gets that publication, may get it or never gets it: one fact a line, and whether the walk delivers it\n"
     ++ codes "        siena explain brigade attic 2 < examples/alarm.siena\n"
-    ++ codes "audit\n"
-    ++ codes "    whether the output behind a document and a line `output` is that of a whole run, with its trace\n"
+    ++ codes "audit [--hier]\n"
+    ++ codes "    whether the output behind a document and a line `output` is that of a whole run, with its trace; of its hierarchy\n"
     ++ codes "        (cat D; echo output; siena run --trace < D) | siena audit\n"
     ++ codes "check\n"
     ++ codes "    how much the document has\n"
@@ -66,4 +69,4 @@ page_text Version = version_text
 unfoldable pub usage_text : List ℕ
 usage_text =
     codes "siena: usage: walk, run, replay or hier [--sorted] [--trace]; flood; traffic [--dot]; patterns; "
-    ++ codes "explain CLIENT PUBLISHER NUMBER; audit; check; format; gen --seed N [--summary]; help; version\n"
+    ++ codes "explain CLIENT [PUBLISHER NUMBER]; audit [--hier]; check; format; gen --seed N [--summary]; help; version\n"

@@ -37,11 +37,14 @@ traffic [--dot]
 patterns
     where the patterns behind a line `patterns` occur in what the clients receive
         siena patterns < examples/alarm.patterns
+explain CLIENT
+    each publication that the client is owed, that may come to it, or that is near: a filter of it matches, but not in time
+        siena explain brigade < examples/alarm.siena
 explain CLIENT PUBLISHER NUMBER
     why the client gets that publication, may get it or never gets it: one fact a line, and whether the walk delivers it
         siena explain brigade attic 2 < examples/alarm.siena
-audit
-    whether the output behind a document and a line `output` is that of a whole run, with its trace
+audit [--hier]
+    whether the output behind a document and a line `output` is that of a whole run, with its trace; of its hierarchy
         (cat D; echo output; siena run --trace < D) | siena audit
 check
     how much the document has
@@ -66,7 +69,7 @@ rattle-kit-13f logic dac8208d650f15bf
 
 const USAGE: &[u8] =
     b"siena: usage: walk, run, replay or hier [--sorted] [--trace]; flood; traffic [--dot]; patterns; \
-    explain CLIENT PUBLISHER NUMBER; audit; check; format; gen --seed N [--summary]; help; version\n";
+    explain CLIENT [PUBLISHER NUMBER]; audit [--hier]; check; format; gen --seed N [--summary]; help; version\n";
 
 // What each word does.
 #[tactic(auto, unfolding(crate::specs::Pages::help_text))]

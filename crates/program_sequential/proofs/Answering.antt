@@ -12,7 +12,7 @@ use Rattle.program_sequential.specs.declared.unanswered.Unanswered.TheVariants a
 use Rattle.program_sequential.specs.declared.words.Query.{Query}
 use Rattle.program_sequential.specs.declared.words.Wanted.{Wanted}
 use Rattle.program_sequential.specs.declared.words.Wanted.TheVariants.{About, Audit, Document, Explain, Generate, Patterns}
-use Rattle.output_explain.specs.Asked.{Question}
+use Rattle.program_sequential.specs.declared.subject.Subject.{Subject}
 use Rattle.program_sequential.specs.Explaining.{ExplainsSource}
 use Rattle.program_sequential.specs.Faults.{IsAtFault, MustBeRefused, CanBeDone}
 use Rattle.program_sequential.specs.Answers.{IsPrintedOf, most_for, reads_document}
@@ -112,28 +112,28 @@ pattern-answer a b ended r h = record {
 
 -- Answers to audits.
 
-audit-says : (a b : List ℕ) (ended : Bool) (r : Result PrintedParts Unanswered) → AuditsSource a b ended r → Says Audit a b ended r
-audit-says a b ended (Ok p) h = h
-audit-says a b ended (Err (whys.BadInput line kind)) h = h
-audit-says a b ended (Err (whys.BadPattern line kind)) h = absurd h
-audit-says a b ended (Err (whys.Refuted line kind)) h = h
-audit-says a b ended (Err (whys.Unknown kind)) h = absurd h
-audit-says a b ended (Err whys.ReadFault) h = tt
-audit-says a b ended (Err whys.NoMemory) h = tt
+audit-says : (hierarchy : Bool) (a b : List ℕ) (ended : Bool) (r : Result PrintedParts Unanswered) → AuditsSource hierarchy a b ended r → Says (Audit hierarchy) a b ended r
+audit-says hierarchy a b ended (Ok p) h = h
+audit-says hierarchy a b ended (Err (whys.BadInput line kind)) h = h
+audit-says hierarchy a b ended (Err (whys.BadPattern line kind)) h = absurd h
+audit-says hierarchy a b ended (Err (whys.Refuted line kind)) h = h
+audit-says hierarchy a b ended (Err (whys.Unknown kind)) h = absurd h
+audit-says hierarchy a b ended (Err whys.ReadFault) h = tt
+audit-says hierarchy a b ended (Err whys.NoMemory) h = tt
 
-pub claim-answer : (a b : List ℕ) (ended : Bool) (r : Result PrintedParts Unanswered) → AuditsSource a b ended r → IsAnswer Audit a b ended r
-claim-answer a b ended r h = record {
-  says = audit-says a b ended r h;
-  refused = λ line kind t. audit-refused a b ended r line kind h t;
+pub claim-answer : (hierarchy : Bool) (a b : List ℕ) (ended : Bool) (r : Result PrintedParts Unanswered) → AuditsSource hierarchy a b ended r → IsAnswer (Audit hierarchy) a b ended r
+claim-answer hierarchy a b ended r h = record {
+  says = audit-says hierarchy a b ended r h;
+  refused = λ line kind t. audit-refused hierarchy a b ended r line kind h t;
   refused_pattern = λ line kind t. absurd t;
-  wrong = λ line kind t. audit-wrong a b ended r line kind h t;
+  wrong = λ line kind t. audit-wrong hierarchy a b ended r line kind h t;
   unknown = λ kind t. absurd t;
-  done = λ t. audit-done a b ended r h t;
+  done = λ t. audit-done hierarchy a b ended r h t;
 }
 
 -- Answers to questions.
 
-question-says : (q : Question) (a b : List ℕ) (ended : Bool) (r : Result PrintedParts Unanswered) → ExplainsSource q a b ended r → Says (Explain q) a b ended r
+question-says : (q : Subject) (a b : List ℕ) (ended : Bool) (r : Result PrintedParts Unanswered) → ExplainsSource q a b ended r → Says (Explain q) a b ended r
 question-says q a b ended (Ok p) h = h
 question-says q a b ended (Err (whys.BadInput line kind)) h = h
 question-says q a b ended (Err (whys.BadPattern line kind)) h = absurd h
@@ -142,7 +142,7 @@ question-says q a b ended (Err (whys.Unknown kind)) h = h
 question-says q a b ended (Err whys.ReadFault) h = tt
 question-says q a b ended (Err whys.NoMemory) h = tt
 
-pub question-answer : (q : Question) (a b : List ℕ) (ended : Bool) (r : Result PrintedParts Unanswered) → ExplainsSource q a b ended r → IsAnswer (Explain q) a b ended r
+pub question-answer : (q : Subject) (a b : List ℕ) (ended : Bool) (r : Result PrintedParts Unanswered) → ExplainsSource q a b ended r → IsAnswer (Explain q) a b ended r
 question-answer q a b ended r h = record {
   says = question-says q a b ended r h;
   refused = λ line kind t. explain-refused q a b ended r line kind h t;
@@ -170,9 +170,9 @@ unread-wanted (Explain q) a b ended limit e is most long within never =
     let s : limit ≡ 4194304 = omega (arith, most) in
     question-answer q a b ended _ (unread-explained q a b ended e (subst (λ (k : ℕ). e ≡ reads.TooLong → Gave a b (λ given. length given ≡ k + 1)) s long)
     (subst (λ (k : ℕ). e ≡ reads.Failed → Gave a b (λ given. length given ≤ k)) s within) never)
-unread-wanted Audit a b ended limit e is most long within never =
+unread-wanted (Audit hierarchy) a b ended limit e is most long within never =
     let s : limit ≡ 268435456 = omega (arith, most) in
-    claim-answer a b ended _ (unread-audit a b ended e (subst (λ (k : ℕ). e ≡ reads.TooLong → Gave a b (λ given. length given ≡ k + 1)) s long)
+    claim-answer hierarchy a b ended _ (unread-audit hierarchy a b ended e (subst (λ (k : ℕ). e ≡ reads.TooLong → Gave a b (λ given. length given ≡ k + 1)) s long)
     (subst (λ (k : ℕ). e ≡ reads.Failed → Gave a b (λ given. length given ≤ k)) s within) never)
 unread-wanted (About page) a b ended limit e is most long within never = absurd cc
 
@@ -180,8 +180,8 @@ unread-wanted (About page) a b ended limit e is most long within never = absurd 
 pub searched-read : (input : List ℕ) (r : Result PrintedParts Unanswered) → SearchesInput input r → IsErrOf r whys.ReadFault → ⊥
 searched-read input r h e = subst (SearchesInput input) e h
 
-pub audited-read : (input : List ℕ) (r : Result PrintedParts Unanswered) → AuditsInput input r → IsErrOf r whys.ReadFault → ⊥
-audited-read input r h e = subst (AuditsInput input) e h
+pub audited-read : (hierarchy : Bool) (input : List ℕ) (r : Result PrintedParts Unanswered) → AuditsInput hierarchy input r → IsErrOf r whys.ReadFault → ⊥
+audited-read hierarchy input r h e = subst (AuditsInput hierarchy input) e h
 
 -- what is answered of a source that was not read out, where it did not fail and memory was not refused
 pub only-long : (e : ReadAll) (why : Unanswered) (F : Type 0) → why ≡ of_unread e → (e ≡ reads.TooLong → F) → (why ≡ whys.ReadFault → ⊥)

@@ -1,5 +1,5 @@
 -- The answer to `audit`, and what it tells of the input.
-use Rattle.std.proofs.Common.{◌≡◌, ◌⊎◌, inl, inr, ℕ, ◌<◌, ◌≤◌, Bool, true, List, ◌++◌, length, Result, Ok, Err, refl, sym, ◌∙◌, subst, arith}
+use Rattle.std.proofs.Common.{◌≡◌, ◌⊎◌, inl, inr, ℕ, ◌<◌, ◌≤◌, Bool, true, false, List, ◌++◌, length, Result, Ok, Err, refl, sym, ◌∙◌, subst, arith}
 use Rattle.std.specs.Result.{IsOk}
 use Rattle.base_devices.specs.Whole.{Gave}
 use Rattle.net_model.specs.Parts.{NetParts, EntryParts}
@@ -7,11 +7,17 @@ use Rattle.net_model.specs.Sound.{IsSound}
 use Rattle.document_reader.specs.declared.fault.Fault.{Fault}
 use Rattle.audit_claim.specs.Claim.{IsBadDocument}
 use Rattle.audit_claim.proofs.Claiming.{one_bad}
+use Rattle.audit_verdict.specs.Kinds.{peers}
+use Rattle.audit_verdict.specs.Laws.{VerdictLaws}
 use Rattle.audit_verdict.specs.Verdict.{IsAudited, IsRefuted}
 use Rattle.audit_verdict.specs.declared.fault.AuditFault.{AuditFault}
 use Rattle.audit_verdict.specs.declared.fault.AuditFault.TheVariants as faults
 use Rattle.audit_verdict.specs.declared.fault.AuditKind.{AuditKind}
 use Rattle.audit_verdict.proofs.Verdicts.{audited_or_bad, audited_or_must, can_or_bad, can_or_refuted, must_or_bad, refuted_once, refuted_or_bad}
+use Rattle.audit_verdict.proofs.PeersLaws.{peers-verdict}
+use Rattle.audit_hierarchy.specs.Runs.{hierarchies}
+use Rattle.audit_hierarchy.proofs.Laws.{hierarchies-verdict}
+use Rattle.hierarchy_turns.specs.Promise.{HierarchyPromise, IsWholeRun as IsWholeHierarchy}
 use Rattle.program_sequential.specs.declared.unanswered.Unanswered.{Unanswered}
 use Rattle.program_sequential.specs.declared.unanswered.Unanswered.TheVariants as whys
 use Rattle.base_devices.specs.declared.whole.ReadAll.{ReadAll}
@@ -20,7 +26,8 @@ use Rattle.program_sequential.specs.declared.words.Wanted.TheVariants.{Audit}
 use Rattle.program_sequential.specs.Printed.{run_text, trace_of}
 use Rattle.program_sequential.specs.Promise.{ClientPromise, AreOfNotices}
 use Rattle.program_sequential.specs.Network.{lists_by, RunPromise, IsWholeRun}
-use Rattle.program_sequential.specs.Audits.{IsAuditOf, IsAuditAtFault, IsAuditRefuted, MustRefute, CanConfirm, audit_text, traced}
+use Rattle.program_sequential.specs.Hierarchy.{hierarchy_lists, hierarchy_text, hierarchy_trace}
+use Rattle.program_sequential.specs.Audits.{IsAuditBy, IsAuditOf, IsAuditAtFault, IsAuditRefuted, IsHierarchyAuditOf, MustRefute, CanConfirm, audit_text, audited_kind, traced}
 use Rattle.program_sequential.specs.Answers.{GaveOutput, GaveRefusedFor, GaveWrongFor, CanAnswerFor}
 use Rattle.program_sequential.specs.Showing.{PrintedParts}
 use Rattle.program_sequential.specs.Answering.{of_audit_fault, of_unread}
@@ -28,7 +35,7 @@ use Rattle.program_sequential.specs.Auditing.{AuditsInput, AuditsSource}
 use Rattle.program_sequential.proofs.Sources.{same-given}
 
 -- what is printed of a confirmed run
-pub confirmed-of : (input text : List ℕ) (net : NetParts) (journal : List EntryParts) (owed deliveries : ℕ) → length input ≤ 268435456 → (a : IsAudited input net journal owed deliveries)
+pub confirmed-of : (input text : List ℕ) (net : NetParts) (journal : List EntryParts) (owed deliveries : ℕ) → length input ≤ 268435456 → (a : IsAudited peers input net journal owed deliveries)
     → IsSound net → AreOfNotices net.clients
     → (IsWholeRun net journal → ClientPromise traced a.document (run_text traced net journal) net (lists_by net journal) (trace_of true net journal))
     → (IsWholeRun net journal → RunPromise traced net journal (lists_by net journal) (trace_of true net journal))
@@ -45,11 +52,47 @@ confirmed-of input text net journal owed deliveries few a sound notices clients 
       printed = printed;
     }
 
+-- and of one of a hierarchy
+pub confirmed-below : (input text : List ℕ) (net : NetParts) (journal : List EntryParts) (owed deliveries : ℕ) → length input ≤ 268435456 → (a : IsAudited hierarchies input net journal owed deliveries)
+    → IsSound net → AreOfNotices net.clients
+    → (IsWholeHierarchy net journal → AreOfNotices net.clients → ClientPromise traced a.document (hierarchy_text traced net journal) net (hierarchy_lists net journal) (hierarchy_trace true net journal))
+    → (IsWholeHierarchy net journal → HierarchyPromise net journal)
+    → text ≡ audit_text (length journal) owed deliveries → IsHierarchyAuditOf input text journal
+confirmed-below input text net journal owed deliveries few a sound notices clients run printed =
+    let whole : IsWholeHierarchy net journal = record { sound = sound; legal = a.run.legal; drained = a.run.drained } in record {
+      few = few;
+      owed = owed;
+      deliveries = deliveries;
+      net = net;
+      audited = a;
+      clients = subst (λ z. ClientPromise traced a.document z net (hierarchy_lists net journal) (hierarchy_trace true net journal)) (sym a.run.text) (clients whole notices);
+      network = run whole;
+      printed = printed;
+    }
+
+-- Each kind has one verdict.
+
+one-verdict : (hierarchy : Bool) → VerdictLaws (audited_kind hierarchy)
+one-verdict false = peers-verdict
+one-verdict true = hierarchies-verdict
+
+-- what an answer says was audited
+audited-by : (hierarchy : Bool) (input text : List ℕ) (journal : List EntryParts) → IsAuditBy hierarchy input text journal
+    → (net : NetParts) × (owed : ℕ) × (deliveries : ℕ) × IsAudited (audited_kind hierarchy) input net journal owed deliveries
+audited-by false input text journal p = (p.net, p.owed, p.deliveries, p.audited)
+audited-by true input text journal p = (p.net, p.owed, p.deliveries, p.audited)
+
+few-by : (hierarchy : Bool) (input text : List ℕ) (journal : List EntryParts) → IsAuditBy hierarchy input text journal → length input ≤ 268435456
+few-by false input text journal p = p.few
+few-by true input text journal p = p.few
+
 -- An input says one thing.
 
-said-refused : (input text : List ℕ) (journal : List EntryParts) (line : ℕ) (kind : Fault) → IsAuditOf input text journal → IsAuditAtFault input line kind → ⊥
-said-refused input text journal line kind p (inl long) = omega (arith, p.few, long.0)
-said-refused input text journal line kind p (inr bad) = audited_or_bad input p.net journal p.owed p.deliveries line kind p.audited bad.1
+said-refused : (hierarchy : Bool) (input text : List ℕ) (journal : List EntryParts) (line : ℕ) (kind : Fault) → IsAuditBy hierarchy input text journal → IsAuditAtFault input line kind → ⊥
+said-refused hierarchy input text journal line kind p (inl long) = omega (arith, few-by hierarchy input text journal p, long.0)
+said-refused hierarchy input text journal line kind p (inr bad) =
+    let (net, owed, deliveries, audited) = audited-by hierarchy input text journal p in
+    audited_or_bad (audited_kind hierarchy) input net journal owed deliveries line kind audited bad.1
 
 one-refused : (input : List ℕ) (l line : ℕ) (k kind : Fault) → IsAuditAtFault input l k → IsAuditAtFault input line kind → (l ≡ line) × (k ≡ kind)
 one-refused input l line k kind (inl a) (inl b) = (a.1 ∙ sym b.1, a.2 ∙ sym b.2)
@@ -57,21 +100,21 @@ one-refused input l line k kind (inl a) (inr b) = absurd (omega (arith, a.0, b.0
 one-refused input l line k kind (inr a) (inl b) = absurd (omega (arith, a.0, b.0))
 one-refused input l line k kind (inr a) (inr b) = one_bad input l line k kind a.1 b.1
 
-refused-refuted : (input : List ℕ) (line n : ℕ) (kind : Fault) (k : AuditKind) → IsAuditAtFault input line kind → IsAuditRefuted input n k → ⊥
-refused-refuted input line n kind k (inl long) bad = omega (arith, long.0, bad.0)
-refused-refuted input line n kind k (inr r) bad = refuted_or_bad input n k line kind bad.1 r.1
+refused-refuted : (hierarchy : Bool) (input : List ℕ) (line n : ℕ) (kind : Fault) (k : AuditKind) → IsAuditAtFault input line kind → IsAuditRefuted hierarchy input n k → ⊥
+refused-refuted hierarchy input line n kind k (inl long) bad = omega (arith, long.0, bad.0)
+refused-refuted hierarchy input line n kind k (inr r) bad = refuted_or_bad (audited_kind hierarchy) input n k line kind bad.1 r.1
 
-refused-wrong : (input : List ℕ) (line n : ℕ) (kind : Fault) (k : AuditKind) → IsAuditAtFault input line kind → MustRefute input n k → ⊥
-refused-wrong input line n kind k (inl long) bad = omega (arith, long.0, bad.0)
-refused-wrong input line n kind k (inr r) bad = must_or_bad input line kind n k r.1 bad.1
+refused-wrong : (hierarchy : Bool) (input : List ℕ) (line n : ℕ) (kind : Fault) (k : AuditKind) → IsAuditAtFault input line kind → MustRefute hierarchy input n k → ⊥
+refused-wrong hierarchy input line n kind k (inl long) bad = omega (arith, long.0, bad.0)
+refused-wrong hierarchy input line n kind k (inr r) bad = must_or_bad (audited_kind hierarchy) input line kind n k r.1 bad.1
 
-has-refused : (input : List ℕ) (line : ℕ) (kind : Fault) → CanConfirm input → IsAuditAtFault input line kind → ⊥
-has-refused input line kind h (inl long) = omega (arith, h.0, long.0)
-has-refused input line kind h (inr bad) = can_or_bad input line kind h.1 bad.1
+has-refused : (hierarchy : Bool) (input : List ℕ) (line : ℕ) (kind : Fault) → CanConfirm hierarchy input → IsAuditAtFault input line kind → ⊥
+has-refused hierarchy input line kind h (inl long) = omega (arith, h.0, long.0)
+has-refused hierarchy input line kind h (inr bad) = can_or_bad (audited_kind hierarchy) input line kind h.1 bad.1
 
 -- A source gave one input.
 
-module _ (a b : List ℕ) (ended : Bool) where
+module _ (hierarchy : Bool) (a b : List ℕ) (ended : Bool) where
   same : (x y : List ℕ) → b ≡ a ++ x → b ≡ a ++ y → x ≡ y
   same x y p q = same-given a b x y p q
 
@@ -79,42 +122,42 @@ module _ (a b : List ℕ) (ended : Bool) where
   unread x (is, inl e) h = h.0 e
   unread x (is, inr big) h = omega (arith, big, subst (λ (z : List ℕ). length z ≤ 268435456) (same h.1.0 x h.1.1 is) h.1.2)
 
-  pub audit-refused : (r : Result PrintedParts Unanswered) (line : ℕ) (kind : Fault) → AuditsSource a b ended r → GaveRefusedFor Audit a b ended line kind
+  pub audit-refused : (r : Result PrintedParts Unanswered) (line : ℕ) (kind : Fault) → AuditsSource hierarchy a b ended r → GaveRefusedFor (Audit hierarchy) a b ended line kind
       → (r ≡ Err (whys.BadInput line kind)) ⊎ (r ≡ Err whys.NoMemory)
-  audit-refused (Ok p) line kind h t = absurd (said-refused t.0 p.text p.journal line kind (subst (λ z. IsAuditOf z p.text p.journal) (same h.0 t.0 h.1 t.1.0) h.3) t.2)
+  audit-refused (Ok p) line kind h t = absurd (said-refused hierarchy t.0 p.text p.journal line kind (subst (λ z. IsAuditBy hierarchy z p.text p.journal) (same h.0 t.0 h.1 t.1.0) h.3) t.2)
   audit-refused (Err (whys.BadInput l k)) line kind h t =
       let w = one-refused t.0 l line k kind (subst (λ z. IsAuditAtFault z l k) (same h.0 t.0 h.1.0 t.1.0) h.2) t.2 in
       inl (rw (w.0, w.1) refl)
   audit-refused (Err (whys.BadPattern l k)) line kind h t = absurd h
-  audit-refused (Err (whys.Refuted l k)) line kind h t = absurd (refused-refuted t.0 line l kind k t.2 (subst (λ z. IsAuditRefuted z l k) (same h.0 t.0 h.1.0 t.1.0) h.2))
+  audit-refused (Err (whys.Refuted l k)) line kind h t = absurd (refused-refuted hierarchy t.0 line l kind k t.2 (subst (λ z. IsAuditRefuted hierarchy z l k) (same h.0 t.0 h.1.0 t.1.0) h.2))
   audit-refused (Err (whys.Unknown k)) line kind h t = absurd h
   audit-refused (Err whys.ReadFault) line kind h t = absurd (unread t.0 t.1 h)
   audit-refused (Err whys.NoMemory) line kind h t = inr refl
 
-  pub audit-wrong : (r : Result PrintedParts Unanswered) (line : ℕ) (kind : AuditKind) → AuditsSource a b ended r → GaveWrongFor Audit a b ended line kind
+  pub audit-wrong : (r : Result PrintedParts Unanswered) (line : ℕ) (kind : AuditKind) → AuditsSource hierarchy a b ended r → GaveWrongFor (Audit hierarchy) a b ended line kind
       → (r ≡ Err (whys.Refuted line kind)) ⊎ (r ≡ Err whys.NoMemory)
   audit-wrong (Ok p) line kind h t =
-      let is : IsAuditOf t.0 p.text p.journal = subst (λ z. IsAuditOf z p.text p.journal) (same h.0 t.0 h.1 t.1.0) h.3 in
-      absurd (audited_or_must t.0 is.net p.journal is.owed is.deliveries line kind is.audited t.2.1)
-  audit-wrong (Err (whys.BadInput l k)) line kind h t = absurd (refused-wrong t.0 l line k kind (subst (λ z. IsAuditAtFault z l k) (same h.0 t.0 h.1.0 t.1.0) h.2) t.2)
+      let (net, owed, deliveries, audited) = audited-by hierarchy t.0 p.text p.journal (subst (λ z. IsAuditBy hierarchy z p.text p.journal) (same h.0 t.0 h.1 t.1.0) h.3) in
+      absurd (audited_or_must (audited_kind hierarchy) (one-verdict hierarchy) t.0 net p.journal owed deliveries line kind audited t.2.1)
+  audit-wrong (Err (whys.BadInput l k)) line kind h t = absurd (refused-wrong hierarchy t.0 l line k kind (subst (λ z. IsAuditAtFault z l k) (same h.0 t.0 h.1.0 t.1.0) h.2) t.2)
   audit-wrong (Err (whys.BadPattern l k)) line kind h t = absurd h
   audit-wrong (Err (whys.Refuted l k)) line kind h t =
-      let w = refuted_once t.0 l line k kind (subst (λ z. IsAuditRefuted z l k) (same h.0 t.0 h.1.0 t.1.0) h.2).1 t.2.1 in
+      let w = refuted_once (audited_kind hierarchy) (one-verdict hierarchy) t.0 l line k kind (subst (λ z. IsAuditRefuted hierarchy z l k) (same h.0 t.0 h.1.0 t.1.0) h.2).1 t.2.1 in
       inl (rw (w.0, w.1) refl)
   audit-wrong (Err (whys.Unknown k)) line kind h t = absurd h
   audit-wrong (Err whys.ReadFault) line kind h t = absurd (unread t.0 t.1 h)
   audit-wrong (Err whys.NoMemory) line kind h t = inr refl
 
-  pub audit-done : (r : Result PrintedParts Unanswered) → AuditsSource a b ended r → CanAnswerFor Audit a b ended → IsOk r ⊎ (r ≡ Err whys.NoMemory)
+  pub audit-done : (r : Result PrintedParts Unanswered) → AuditsSource hierarchy a b ended r → CanAnswerFor (Audit hierarchy) a b ended → IsOk r ⊎ (r ≡ Err whys.NoMemory)
   audit-done (Ok p) h t = inl refl
-  audit-done (Err (whys.BadInput l k)) h t = absurd (has-refused t.0 l k t.2 (subst (λ z. IsAuditAtFault z l k) (same h.0 t.0 h.1.0 t.1.0) h.2))
+  audit-done (Err (whys.BadInput l k)) h t = absurd (has-refused hierarchy t.0 l k t.2 (subst (λ z. IsAuditAtFault z l k) (same h.0 t.0 h.1.0 t.1.0) h.2))
   audit-done (Err (whys.BadPattern l k)) h t = absurd h
-  audit-done (Err (whys.Refuted l k)) h t = absurd (can_or_refuted t.0 l k t.2.1 (subst (λ z. IsAuditRefuted z l k) (same h.0 t.0 h.1.0 t.1.0) h.2).1)
+  audit-done (Err (whys.Refuted l k)) h t = absurd (can_or_refuted (audited_kind hierarchy) (one-verdict hierarchy) t.0 l k t.2.1 (subst (λ z. IsAuditRefuted hierarchy z l k) (same h.0 t.0 h.1.0 t.1.0) h.2).1)
   audit-done (Err (whys.Unknown k)) h t = absurd h
   audit-done (Err whys.ReadFault) h t = absurd (unread t.0 t.1 h)
   audit-done (Err whys.NoMemory) h t = inr refl
 
-  pub audit-answer : (input : List ℕ) (r : Result PrintedParts Unanswered) → b ≡ a ++ input → ended ≡ true → AuditsInput input r → AuditsSource a b ended r
+  pub audit-answer : (input : List ℕ) (r : Result PrintedParts Unanswered) → b ≡ a ++ input → ended ≡ true → AuditsInput hierarchy input r → AuditsSource hierarchy a b ended r
   audit-answer input (Ok p) is e h = (input, is, e, h)
   audit-answer input (Err (whys.BadInput l k)) is e h = (input, (is, inl e), h)
   audit-answer input (Err (whys.BadPattern l k)) is e h = absurd h
@@ -124,7 +167,7 @@ module _ (a b : List ℕ) (ended : Bool) where
   audit-answer input (Err whys.NoMemory) is e h = tt
 
   pub unread-audit : (e : ReadAll) → (e ≡ reads.TooLong → Gave a b (λ given. length given ≡ 268435457)) → (e ≡ reads.Failed → Gave a b (λ given. length given ≤ 268435456)) → (ended ≡ true → ⊥)
-      → AuditsSource a b ended (Err (of_unread e))
+      → AuditsSource hierarchy a b ended (Err (of_unread e))
   unread-audit reads.TooLong long within never =
       let t = long refl in
       let big : 268435456 < length t.0 = omega (arith, t.2) in
@@ -133,8 +176,8 @@ module _ (a b : List ℕ) (ended : Bool) where
   unread-audit reads.NoMemory long within never = tt
 
 -- what is not confirmed
-pub not-confirmed : (input : List ℕ) → length input ≤ 268435456 → (fault : AuditFault) → ((line : ℕ) (kind : Fault) → fault ≡ faults.Document line kind → IsBadDocument input line kind)
-    → ((line : ℕ) (kind : AuditKind) → fault ≡ faults.Refuted line kind → IsRefuted input line kind) → AuditsInput input (Err (of_audit_fault fault))
-not-confirmed input few (faults.Document line kind) bad refuted = inr (few, bad line kind refl)
-not-confirmed input few (faults.Refuted line kind) bad refuted = (few, refuted line kind refl)
-not-confirmed input few faults.NoMemory bad refuted = tt
+pub not-confirmed : (hierarchy : Bool) (input : List ℕ) → length input ≤ 268435456 → (fault : AuditFault) → ((line : ℕ) (kind : Fault) → fault ≡ faults.Document line kind → IsBadDocument input line kind)
+    → ((line : ℕ) (kind : AuditKind) → fault ≡ faults.Refuted line kind → IsRefuted (audited_kind hierarchy) input line kind) → AuditsInput hierarchy input (Err (of_audit_fault fault))
+not-confirmed hierarchy input few (faults.Document line kind) bad refuted = inr (few, bad line kind refl)
+not-confirmed hierarchy input few (faults.Refuted line kind) bad refuted = (few, refuted line kind refl)
+not-confirmed hierarchy input few faults.NoMemory bad refuted = tt

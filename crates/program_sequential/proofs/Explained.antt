@@ -1,5 +1,5 @@
 -- The answer to `explain`, and what it tells of the input.
-use Rattle.std.proofs.Common.{◌≡◌, ◌⊎◌, inl, inr, ℕ, suc, ◌<◌, ◌≤◌, Bool, true, List, ◌++◌, length, slice_get, take, Some, Result, Ok, Err, refl, sym, ap, ◌∙◌, subst, arith}
+use Rattle.std.proofs.Common.{◌≡◌, ◌⊎◌, inl, inr, ℕ, suc, ◌<◌, ◌≤◌, Bool, true, List, [], ◌++◌, length, slice_get, take, Some, Result, Ok, Err, refl, sym, ap, ◌∙◌, subst, arith}
 use Rattle.std.specs.Result.{IsOk, IsErrOf}
 use Rattle.base_devices.specs.Whole.{Gave}
 use Rattle.filter_types.specs.Notice.{Attribute}
@@ -21,7 +21,9 @@ use Rattle.output_explain.specs.declared.answer.Explanation.{Explanation}
 use Rattle.output_explain.specs.declared.fault.ExplainFault.{ExplainFault}
 use Rattle.output_explain.specs.declared.fault.ExplainFault.TheVariants as explains
 use Rattle.output_explain.specs.Asked.{Question, IsNamed, IsPublish, IsNobody, IsSomebody, HasNoPublish}
+use Rattle.output_explain.specs.declared.prospect.Prospect.{Prospect}
 use Rattle.output_explain.specs.Explained.{IsAnswer}
+use Rattle.output_explain.specs.Prospects.{AreProspects, prospects_text}
 use Rattle.program_sequential.specs.declared.unanswered.Unanswered.{Unanswered}
 use Rattle.program_sequential.specs.declared.unanswered.Unanswered.TheVariants as whys
 use Rattle.program_sequential.specs.declared.unknown.Unknown.{Unknown}
@@ -35,12 +37,15 @@ use Rattle.program_sequential.specs.Runs.{GoesBy, received_in}
 use Rattle.program_sequential.specs.Printed.{run_text, trace_of}
 use Rattle.program_sequential.specs.Promise.{ClientPromise, AreOfNotices}
 use Rattle.program_sequential.specs.Network.{lists_by, NetworkPromise, IsWholeRun}
-use Rattle.program_sequential.specs.Explanations.{IsExplanationOf, IsUnknown, IsUnknownIn, CanExplain, is_received, received_at, walk_line}
+use Rattle.program_sequential.specs.declared.subject.Subject.{Subject}
+use Rattle.program_sequential.specs.declared.subject.Subject.TheVariants.{Client, Publication}
+use Rattle.program_sequential.specs.Explanations.{IsUnknownIn, is_received, received_at, walk_line}
+use Rattle.program_sequential.specs.Outlooks.{IsExplainedOf, IsNotThere, HasSubject}
 use Rattle.program_sequential.specs.Answers.{GaveDocument, GaveRefusedFor, GaveUnknownFor, CanAnswerFor}
 use Rattle.program_sequential.specs.Showing.{PrintedParts}
 use Rattle.program_sequential.specs.Asking.{question_of}
 use Rattle.program_sequential.specs.Answering.{of_explain_fault, of_input_fault, of_unread}
-use Rattle.program_sequential.specs.Explaining.{IsTold, ExplainsNet, ExplainsInput, ExplainsSource}
+use Rattle.program_sequential.specs.Explaining.{IsTold, ExplainsNet, ListsNet, ExplainsInput, ExplainsSource}
 use Rattle.program_sequential.proofs.Documents.{net-or-bad, same-bad, same-clients}
 use Rattle.program_sequential.proofs.Sources.{same-given, too-long}
 
@@ -111,25 +116,39 @@ answered-or-unknown net q e kind a h =
 
 -- An input says one thing.
 
-said-bad : (q : Question) (input text : List ℕ) (journal : List EntryParts) (line : ℕ) (kind : Fault) → IsExplanationOf q input text journal → IsBadAt input line kind → ⊥
-said-bad q input text journal line kind p bad = net-or-bad input p.walk.net line kind p.walk.well_formed bad
+said-bad : (s : Subject) (input text : List ℕ) (journal : List EntryParts) (line : ℕ) (kind : Fault) → IsExplainedOf s input text journal → IsBadAt input line kind → ⊥
+said-bad (Publication q) input text journal line kind p bad = net-or-bad input p.walk.net line kind p.walk.well_formed bad
+said-bad (Client name) input text journal line kind p bad = net-or-bad input p.0.net line kind p.0.well_formed bad
 
-said-unknown : (q : Question) (input text : List ℕ) (journal : List EntryParts) (kind : Unknown) → IsExplanationOf q input text journal → IsUnknown q input kind → ⊥
-said-unknown q input text journal kind p u =
+said-unknown : (s : Subject) (input text : List ℕ) (journal : List EntryParts) (kind : Unknown) → IsExplainedOf s input text journal → IsNotThere s input kind → ⊥
+said-unknown (Publication q) input text journal kind p u =
     answered-or-unknown p.walk.net q p.explanation kind p.answer
     (unknown-over u.0 p.walk.net (same-clients input u.0 p.walk.net u.1 p.walk.well_formed) q kind u.2)
+said-unknown (Client name) input text journal kind p u =
+    apart p.0.net name (nobody-over u.0 p.0.net (same-clients input u.0 p.0.net u.1 p.0.well_formed) name u.3) (p.0.list.number, p.0.list.named)
 
-unknown-once : (q : Question) (input : List ℕ) (k l : Unknown) → IsUnknown q input k → IsUnknown q input l → k ≡ l
-unknown-once q input k l u v = one-unknown v.0 q k l (unknown-over u.0 v.0 (same-clients input u.0 v.0 u.1 v.1) q k u.2) v.2
+unknown-once : (s : Subject) (input : List ℕ) (k l : Unknown) → IsNotThere s input k → IsNotThere s input l → k ≡ l
+unknown-once (Publication q) input k l u v = one-unknown v.0 q k l (unknown-over u.0 v.0 (same-clients input u.0 v.0 u.1 v.1) q k u.2) v.2
+unknown-once (Client name) input k l u v = u.2 ∙ sym v.2
 
-can-or-unknown : (q : Question) (input : List ℕ) (kind : Unknown) → CanExplain q input → IsUnknown q input kind → ⊥
-can-or-unknown q input kind can u =
+can-or-unknown : (s : Subject) (input : List ℕ) (kind : Unknown) → HasSubject s input → IsNotThere s input kind → ⊥
+can-or-unknown (Publication q) input kind can u =
     known-or-unknown can.0 q kind can.2 can.3 can.4 (unknown-over u.0 can.0 (same-clients input u.0 can.0 u.1 can.1) q kind u.2)
+can-or-unknown (Client name) input kind can u = apart can.0 name (nobody-over u.0 can.0 (same-clients input u.0 can.0 u.1 can.1) name u.3) can.2
+
+-- there is a net
+net-without : (s : Subject) (input : List ℕ) (kind : Unknown) → IsNotThere s input kind → (net : NetParts) × IsNetOf input net
+net-without (Publication q) input kind u = (u.0, u.1)
+net-without (Client name) input kind u = (u.0, u.1)
+
+net-with : (s : Subject) (input : List ℕ) → HasSubject s input → (net : NetParts) × IsNetOf input net
+net-with (Publication q) input can = (can.0, can.1)
+net-with (Client name) input can = (can.0, can.1)
 
 -- The answer of the code.
 
 -- what is answered where the document is refused
-pub refused-input : (q : Question) (input : List ℕ) (e : InputFault) (r : Result PrintedParts Unanswered) → r ≡ Err (of_input_fault e)
+pub refused-input : (q : Subject) (input : List ℕ) (e : InputFault) (r : Result PrintedParts Unanswered) → r ≡ Err (of_input_fault e)
     → ((line : ℕ) (kind : Fault) → e ≡ inputs.Bad line kind → IsBadAt input line kind) → ExplainsInput q input r
 refused-input q input (inputs.Bad line kind) r s bad = subst (ExplainsInput q input) (sym s) (bad line kind refl)
 refused-input q input inputs.NoMemory r s bad = subst (ExplainsInput q input) (sym s) tt
@@ -171,7 +190,7 @@ pub by-net : (q : Question) (input : List ℕ) (net : NetParts) (r : Result Prin
     → ((journal : List EntryParts) → IsWholeRun net journal → ClientPromise plain input (run_text plain net journal) net (lists_by net journal) (trace_of plain.trace net journal))
     → ((journal : List EntryParts) → IsWholeRun net journal → GoesBy Walk net journal
     → NetworkPromise Walk plain net journal (lists_by net journal) (trace_of plain.trace net journal))
-    → ExplainsNet q net r → ExplainsInput q input r
+    → ExplainsNet q net r → ExplainsInput (Publication q) input r
 by-net q input net (Ok p) of sound notices clients network h =
     let whole : IsWholeRun net p.journal = record { sound = sound; notices = notices; legal = h.2.legal; drained = h.2.drained } in record {
       walked = run_text plain net p.journal;
@@ -194,13 +213,30 @@ by-net q input net (Err (whys.Unknown kind)) of sound notices clients network h 
 by-net q input net (Err whys.ReadFault) of sound notices clients network h = absurd h
 by-net q input net (Err whys.NoMemory) of sound notices clients network h = tt
 
+-- the list of what comes to a client, by a net of the input
+pub listed-by : (name input : List ℕ) (net : NetParts) (r : Result PrintedParts Unanswered) → IsNetOf input net → ListsNet name net r → ExplainsInput (Client name) input r
+listed-by name input net (Ok p) of h = (record { net = net; well_formed = of; list = h.0 }, h.1)
+listed-by name input net (Err (whys.BadInput line kind)) of h = absurd h
+listed-by name input net (Err (whys.BadPattern line kind)) of h = absurd h
+listed-by name input net (Err (whys.Refuted line kind)) of h = absurd h
+listed-by name input net (Err (whys.Unknown kind)) of h = (net, of, h.0, h.1)
+listed-by name input net (Err whys.ReadFault) of h = absurd h
+listed-by name input net (Err whys.NoMemory) of h = tt
+
+-- what is printed of the list, and where there is none
+pub listed-of : (name : List ℕ) (net : NetParts) (p : PrintedParts) (number : ℕ) (list : List Prospect) → IsNamed net name number → AreProspects net number list
+    → p ≡ record { text = prospects_text net.clients list; journal = [] } → ListsNet name net (Ok p)
+listed-of name net p number list named exactly is =
+    subst (λ (z : PrintedParts). ListsNet name net (Ok z)) (sym is)
+    (record { number = number; named = named; prospects = list; exactly = exactly; printed = refl }, refl)
+
 -- what is answered of an input is no fault of reading it
-pub explained-read : (q : Question) (input : List ℕ) (r : Result PrintedParts Unanswered) → ExplainsInput q input r → IsErrOf r whys.ReadFault → ⊥
+pub explained-read : (q : Subject) (input : List ℕ) (r : Result PrintedParts Unanswered) → ExplainsInput q input r → IsErrOf r whys.ReadFault → ⊥
 explained-read q input r h e = subst (ExplainsInput q input) e h
 
 -- A source gave one input.
 
-module _ (q : Question) (a b : List ℕ) (ended : Bool) where
+module _ (q : Subject) (a b : List ℕ) (ended : Bool) where
   same : (x y : List ℕ) → b ≡ a ++ x → b ≡ a ++ y → x ≡ y
   same x y p q = same-given a b x y p q
 
@@ -211,38 +247,38 @@ module _ (q : Question) (a b : List ℕ) (ended : Bool) where
   pub explain-refused : (r : Result PrintedParts Unanswered) (line : ℕ) (kind : Fault) → ExplainsSource q a b ended r → GaveRefusedFor (Explain q) a b ended line kind
       → (r ≡ Err (whys.BadInput line kind)) ⊎ (r ≡ Err whys.NoMemory)
   explain-refused (Ok p) line kind h t =
-      absurd (said-bad q t.0 p.text p.journal line kind (subst (λ z. IsExplanationOf q z p.text p.journal) (same h.0 t.0 h.1 t.1.0) h.3) t.2)
+      absurd (said-bad q t.0 p.text p.journal line kind (subst (λ z. IsExplainedOf q z p.text p.journal) (same h.0 t.0 h.1 t.1.0) h.3) t.2)
   explain-refused (Err (whys.BadInput l k)) line kind h t =
       let w = same-bad t.0 l line k kind (subst (λ z. IsBadAt z l k) (same h.0 t.0 h.1.0 t.1.0) h.2) t.2 in
       inl (rw (w.0, w.1) refl)
   explain-refused (Err (whys.BadPattern l k)) line kind h t = absurd h
   explain-refused (Err (whys.Refuted l k)) line kind h t = absurd h
   explain-refused (Err (whys.Unknown k)) line kind h t =
-      let u = subst (λ z. IsUnknown q z k) (same h.0 t.0 h.1.0 t.1.0) h.2 in
-      absurd (net-or-bad t.0 u.0 line kind u.1 t.2)
+      let u = subst (λ z. IsNotThere q z k) (same h.0 t.0 h.1.0 t.1.0) h.2 in
+      absurd (net-or-bad t.0 (net-without q t.0 k u).0 line kind (net-without q t.0 k u).1 t.2)
   explain-refused (Err whys.ReadFault) line kind h t = absurd (unread t.0 t.1 h)
   explain-refused (Err whys.NoMemory) line kind h t = inr refl
 
   pub explain-unknown : (r : Result PrintedParts Unanswered) (kind : Unknown) → ExplainsSource q a b ended r → GaveUnknownFor (Explain q) a b ended kind
       → (r ≡ Err (whys.Unknown kind)) ⊎ (r ≡ Err whys.NoMemory)
   explain-unknown (Ok p) kind h t =
-      absurd (said-unknown q t.0 p.text p.journal kind (subst (λ z. IsExplanationOf q z p.text p.journal) (same h.0 t.0 h.1 t.1.0) h.3) t.2)
+      absurd (said-unknown q t.0 p.text p.journal kind (subst (λ z. IsExplainedOf q z p.text p.journal) (same h.0 t.0 h.1 t.1.0) h.3) t.2)
   explain-unknown (Err (whys.BadInput l k)) kind h t =
-      absurd (net-or-bad t.0 t.2.0 l k t.2.1 (subst (λ z. IsBadAt z l k) (same h.0 t.0 h.1.0 t.1.0) h.2))
+      absurd (net-or-bad t.0 (net-without q t.0 kind t.2).0 l k (net-without q t.0 kind t.2).1 (subst (λ z. IsBadAt z l k) (same h.0 t.0 h.1.0 t.1.0) h.2))
   explain-unknown (Err (whys.BadPattern l k)) kind h t = absurd h
   explain-unknown (Err (whys.Refuted l k)) kind h t = absurd h
   explain-unknown (Err (whys.Unknown k)) kind h t =
-      inl (ap (λ z. Err (whys.Unknown z)) (unknown-once q t.0 k kind (subst (λ z. IsUnknown q z k) (same h.0 t.0 h.1.0 t.1.0) h.2) t.2))
+      inl (ap (λ z. Err (whys.Unknown z)) (unknown-once q t.0 k kind (subst (λ z. IsNotThere q z k) (same h.0 t.0 h.1.0 t.1.0) h.2) t.2))
   explain-unknown (Err whys.ReadFault) kind h t = absurd (unread t.0 t.1 h)
   explain-unknown (Err whys.NoMemory) kind h t = inr refl
 
   pub explain-done : (r : Result PrintedParts Unanswered) → ExplainsSource q a b ended r → CanAnswerFor (Explain q) a b ended → IsOk r ⊎ (r ≡ Err whys.NoMemory)
   explain-done (Ok p) h t = inl refl
   explain-done (Err (whys.BadInput l k)) h t =
-      absurd (net-or-bad t.0 t.2.0 l k t.2.1 (subst (λ z. IsBadAt z l k) (same h.0 t.0 h.1.0 t.1.0) h.2))
+      absurd (net-or-bad t.0 (net-with q t.0 t.2).0 l k (net-with q t.0 t.2).1 (subst (λ z. IsBadAt z l k) (same h.0 t.0 h.1.0 t.1.0) h.2))
   explain-done (Err (whys.BadPattern l k)) h t = absurd h
   explain-done (Err (whys.Refuted l k)) h t = absurd h
-  explain-done (Err (whys.Unknown k)) h t = absurd (can-or-unknown q t.0 k t.2 (subst (λ z. IsUnknown q z k) (same h.0 t.0 h.1.0 t.1.0) h.2))
+  explain-done (Err (whys.Unknown k)) h t = absurd (can-or-unknown q t.0 k t.2 (subst (λ z. IsNotThere q z k) (same h.0 t.0 h.1.0 t.1.0) h.2))
   explain-done (Err whys.ReadFault) h t = absurd (unread t.0 t.1 h)
   explain-done (Err whys.NoMemory) h t = inr refl
 

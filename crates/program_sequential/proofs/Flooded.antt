@@ -1,12 +1,10 @@
 -- Two nets of one document have the same clients, so its flood text is that of each.
-use Rattle.std.proofs.Common.{◌≡◌, ℕ, zero, suc, ◌+◌, ◌≤◌, true, List, [], ◌∷◌, map, length, slice_get, Some, Result, Ok, refl, sym, ap, ◌∙◌, subst, arith}
+use Rattle.std.proofs.Common.{◌≡◌, ℕ, suc, ◌+◌, ◌≤◌, true, List, [], ◌∷◌, map, length, slice_get, Some, refl, sym, ap, ◌∙◌, subst, arith}
 use Rattle.std.specs.List.{range_with_len}
 use Rattle.filter_text.specs.declared.delivery.Delivery.{Delivery}
 use Rattle.net_model.specs.Parts.{ClientParts, NetParts}
 use Rattle.net_model.specs.Nets.{of_clients}
-use Rattle.document_reader.specs.declared.fault.Fault.{Fault}
-use Rattle.document_reader.specs.declared.state.State.{State}
-use Rattle.document_reader.specs.Net.{IsNetOf, client_of}
+use Rattle.document_reader.specs.Net.{IsNetOf}
 use Rattle.output_flood.specs.declared.owed.OwedRow.{OwedRow}
 use Rattle.output_flood.specs.Flooding.{IsFlooding}
 use Rattle.output_report.specs.Deliveries.{deliveries_text}
@@ -15,21 +13,11 @@ use Rattle.output_report.specs.Flood.{flood_sections, flood_text}
 use Rattle.output_report.specs.Published.{texts_in}
 use Rattle.program_sequential.specs.Printed.{IsFloodOf}
 use Rattle.program_sequential.specs.Promise.{ClientLists, RefusesByScripts, lists_text}
+use Rattle.program_sequential.proofs.Documents.{same-clients, same-semantics}
 use Rattle.program_sequential.proofs.Inboxes.{listed}
 use Rattle.program_sequential.proofs.SameNets.{same-flooding}
 use Rattle.std.proofs.lemmas.Option.{slice_get_within}
 use Rattle.base.proofs.Numbers.{suc-one-add}
-
-same-state : (s t : State) → ◌≡◌ {A = Result State (ℕ × Fault)} (Ok s) (Ok t) → s ≡ t
-same-state s t e = cc
-
-pub same-clients : (input : List ℕ) (one other : NetParts) → IsNetOf input one → IsNetOf input other → one.clients ≡ other.clients
-same-clients input one other a b =
-    a.holds.clients ∙ ap (λ (s : State). map client_of s.clients) (same-state a.state b.state (sym a.read ∙ b.read)) ∙ sym b.holds.clients
-
-pub same-semantics : (input : List ℕ) (one other : NetParts) → IsNetOf input one → IsNetOf input other → one.semantics ≡ other.semantics
-same-semantics input one other a b =
-    a.holds.semantics ∙ ap (λ (s : State). s.semantics) (same-state a.state b.state (sym a.read ∙ b.read)) ∙ sym b.holds.semantics
 
 -- what flooding's text is made of
 abbrev sections : List ClientParts → List (List ℕ) → List (List OwedRow) → List ℕ

@@ -17,3 +17,4 @@ pub mod Confirmed
 pub mod Explained
 pub mod Carrying
 pub mod Answering
+pub mod Pieces

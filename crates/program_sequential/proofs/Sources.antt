@@ -19,6 +19,7 @@ use Rattle.program_sequential.specs.declared.words.Wanted.TheVariants.{Document}
 use Rattle.program_sequential.specs.Faults.{HasNet, IsAtFault, MustBeRefused, CanBeDone}
 use Rattle.program_sequential.specs.Answers.{HasFaultFor}
 use Rattle.program_sequential.proofs.Documents.{net-or-bad, same-bad}
+use Rattle.program_sequential.proofs.Ended.{net-at-fault}
 
 -- a document that is too long
 pub too-long : (input : List ℕ) → 4194304 < length input → IsBadAt input 0 TooLong
@@ -29,14 +30,6 @@ too-long input h = go (nat_lt 4194304 (length input)) (grind (arith, nat_tests, 
     go true e = refl
     go false e = absurd cc
 
-by-bytes : (query : Query) (input : List ℕ) (line : ℕ) (kind : Fault) → IsBadAt input line kind → IsAtFault query input line kind
-by-bytes (Run schedule shown) input line kind b = inl b
-by-bytes (Hierarchy shown) input line kind b = b
-by-bytes Flood input line kind b = b
-by-bytes Check input line kind b = b
-by-bytes Format input line kind b = b
-by-bytes (Traffic graph) input line kind b = b
-
 -- a call gave one list of bytes
 pub same-given : (a b x y : List ℕ) → b ≡ a ++ x → b ≡ a ++ y → x ≡ y
 same-given a b x y p q = append_cancel_left a x y (sym p ∙ q)
@@ -46,7 +39,7 @@ pub long-fault : (query : Query) (a b : List ℕ) (ended : Bool) → Gave a b (�
 long-fault query a b ended t =
     let input = t.0 in
     let big : 4194304 < length input = omega (arith, t.2) in
-    (input, (t.1, inr big), by-bytes query input 0 TooLong (too-long input big))
+    (input, (t.1, inr big), net-at-fault query input 0 TooLong (too-long input big))
 
 one-fault : (input : List ℕ) (line : ℕ) (kind : Fault) → IsBadAt input 0 TooLong → IsBadAt input line kind → (0 ≡ line) × (TooLong ≡ kind)
 one-fault input line kind a b = same-bad input 0 line TooLong kind a b

@@ -16,10 +16,10 @@ use Rattle.program_sequential.specs.Traffic.{IsTrafficOf}
 use Rattle.output_patterns.specs.declared.fault.PatternKind.{PatternKind}
 use Rattle.program_sequential.specs.Faults.{IsAtFault, MustBeRefused, CanBeDone}
 use Rattle.audit_verdict.specs.declared.fault.AuditKind.{AuditKind}
-use Rattle.program_sequential.specs.Audits.{CanConfirm, IsAuditOf, IsAuditAtFault, IsAuditRefuted, MustRefute}
+use Rattle.program_sequential.specs.Audits.{CanConfirm, IsAuditBy, IsAuditAtFault, IsAuditRefuted, MustRefute}
 use Rattle.document_reader.specs.Net.{IsBadAt}
 use Rattle.program_sequential.specs.declared.unknown.Unknown.{Unknown}
-use Rattle.program_sequential.specs.Explanations.{IsExplanationOf, IsUnknown, CanExplain}
+use Rattle.program_sequential.specs.Outlooks.{IsExplainedOf, IsNotThere, HasSubject}
 use Rattle.program_sequential.specs.Patterns.{IsPatternsOf, IsInputAtFault, IsPatternAtFault, HasPatterns}
 
 -- the text and the journal that a document gives
@@ -50,7 +50,7 @@ most_for (Document query) = 4194305
 most_for (Generate seed summary) = 4194305
 most_for Patterns = 4194305
 most_for (Explain question) = 4194305
-most_for Audit = 268435457
+most_for (Audit hierarchy) = 268435457
 most_for (About page) = 4194305
 
 abbrev pub most_read : Option Wanted → ℕ
@@ -69,9 +69,9 @@ IsPrintedBy (Generate seed summary) given now ended text journal = IsGenerated s
 IsPrintedBy Patterns given now ended text journal =
     (input : List ℕ) × (now ≡ given ++ input) × (ended ≡ true) × IsPatternsOf input text journal
 IsPrintedBy (Explain question) given now ended text journal =
-    (input : List ℕ) × (now ≡ given ++ input) × (ended ≡ true) × IsExplanationOf question input text journal
-IsPrintedBy Audit given now ended text journal =
-    (input : List ℕ) × (now ≡ given ++ input) × (ended ≡ true) × IsAuditOf input text journal
+    (input : List ℕ) × (now ≡ given ++ input) × (ended ≡ true) × IsExplainedOf question input text journal
+IsPrintedBy (Audit hierarchy) given now ended text journal =
+    (input : List ℕ) × (now ≡ given ++ input) × (ended ≡ true) × IsAuditBy hierarchy input text journal
 IsPrintedBy (About page) given now ended text journal = (text ≡ page_text page) × (journal ≡ [])
 
 -- what words ask for
@@ -94,7 +94,7 @@ reads_document (Document query) = true
 reads_document (Generate seed summary) = false
 reads_document Patterns = true
 reads_document (Explain question) = true
-reads_document Audit = true
+reads_document (Audit hierarchy) = true
 reads_document (About page) = false
 
 abbrev pub reads : Option Wanted → Bool
@@ -107,7 +107,7 @@ HasFaultFor (Document query) given now ended line kind = (input : List ℕ) × G
 HasFaultFor (Generate seed summary) given now ended line kind = ⊥
 HasFaultFor Patterns given now ended line kind = (input : List ℕ) × GaveDocument given now ended input × IsInputAtFault input line kind
 HasFaultFor (Explain question) given now ended line kind = (input : List ℕ) × GaveDocument given now ended input × IsBadAt input line kind
-HasFaultFor Audit given now ended line kind = (input : List ℕ) × GaveOutput given now ended input × IsAuditAtFault input line kind
+HasFaultFor (Audit hierarchy) given now ended line kind = (input : List ℕ) × GaveOutput given now ended input × IsAuditAtFault input line kind
 HasFaultFor (About page) given now ended line kind = ⊥
 
 abbrev pub HasFault : Option Wanted → List ℕ → List ℕ → Bool → ℕ → Fault → Type 0
@@ -120,7 +120,7 @@ GaveRefusedFor (Document query) given now ended line kind = (input : List ℕ) �
 GaveRefusedFor (Generate seed summary) given now ended line kind = ⊥
 GaveRefusedFor Patterns given now ended line kind = (input : List ℕ) × GaveDocument given now ended input × IsInputAtFault input line kind
 GaveRefusedFor (Explain question) given now ended line kind = (input : List ℕ) × GaveDocument given now ended input × IsBadAt input line kind
-GaveRefusedFor Audit given now ended line kind = (input : List ℕ) × GaveOutput given now ended input × IsAuditAtFault input line kind
+GaveRefusedFor (Audit hierarchy) given now ended line kind = (input : List ℕ) × GaveOutput given now ended input × IsAuditAtFault input line kind
 GaveRefusedFor (About page) given now ended line kind = ⊥
 
 abbrev pub GaveRefused : Option Wanted → List ℕ → List ℕ → Bool → ℕ → Fault → Type 0
@@ -133,7 +133,7 @@ GaveBadPatternFor (Document query) given now ended line kind = ⊥
 GaveBadPatternFor (Generate seed summary) given now ended line kind = ⊥
 GaveBadPatternFor Patterns given now ended line kind = (input : List ℕ) × GaveDocument given now ended input × IsPatternAtFault input line kind
 GaveBadPatternFor (Explain question) given now ended line kind = ⊥
-GaveBadPatternFor Audit given now ended line kind = ⊥
+GaveBadPatternFor (Audit hierarchy) given now ended line kind = ⊥
 GaveBadPatternFor (About page) given now ended line kind = ⊥
 
 abbrev pub GaveBadPattern : Option Wanted → List ℕ → List ℕ → Bool → ℕ → PatternKind → Type 0
@@ -142,7 +142,7 @@ GaveBadPattern (Some wanted) given now ended line kind = GaveBadPatternFor wante
 
 -- an audit is asked for, and what the source gave is refuted
 abbrev pub GaveRefutedFor : Wanted → List ℕ → List ℕ → Bool → ℕ → AuditKind → Type 0
-GaveRefutedFor Audit given now ended line kind = (input : List ℕ) × GaveOutput given now ended input × IsAuditRefuted input line kind
+GaveRefutedFor (Audit hierarchy) given now ended line kind = (input : List ℕ) × GaveOutput given now ended input × IsAuditRefuted hierarchy input line kind
 GaveRefutedFor (Document query) given now ended line kind = ⊥
 GaveRefutedFor (Generate seed summary) given now ended line kind = ⊥
 GaveRefutedFor Patterns given now ended line kind = ⊥
@@ -155,7 +155,7 @@ GaveRefuted (Some wanted) given now ended line kind = GaveRefutedFor wanted give
 
 -- and it must be refuted
 abbrev pub GaveWrongFor : Wanted → List ℕ → List ℕ → Bool → ℕ → AuditKind → Type 0
-GaveWrongFor Audit given now ended line kind = (input : List ℕ) × GaveOutput given now ended input × MustRefute input line kind
+GaveWrongFor (Audit hierarchy) given now ended line kind = (input : List ℕ) × GaveOutput given now ended input × MustRefute hierarchy input line kind
 GaveWrongFor (Document query) given now ended line kind = ⊥
 GaveWrongFor (Generate seed summary) given now ended line kind = ⊥
 GaveWrongFor Patterns given now ended line kind = ⊥
@@ -168,11 +168,11 @@ GaveWrong (Some wanted) given now ended line kind = GaveWrongFor wanted given no
 
 -- an explanation is asked for, and the document that the source gave doesn't have what the question names
 abbrev pub GaveUnknownFor : Wanted → List ℕ → List ℕ → Bool → Unknown → Type 0
-GaveUnknownFor (Explain question) given now ended kind = (input : List ℕ) × GaveDocument given now ended input × IsUnknown question input kind
+GaveUnknownFor (Explain question) given now ended kind = (input : List ℕ) × GaveDocument given now ended input × IsNotThere question input kind
 GaveUnknownFor (Document query) given now ended kind = ⊥
 GaveUnknownFor (Generate seed summary) given now ended kind = ⊥
 GaveUnknownFor Patterns given now ended kind = ⊥
-GaveUnknownFor Audit given now ended kind = ⊥
+GaveUnknownFor (Audit hierarchy) given now ended kind = ⊥
 GaveUnknownFor (About page) given now ended kind = ⊥
 
 abbrev pub GaveUnknown : Option Wanted → List ℕ → List ℕ → Bool → Unknown → Type 0
@@ -184,8 +184,8 @@ abbrev pub CanAnswerFor : Wanted → List ℕ → List ℕ → Bool → Type 0
 CanAnswerFor (Document query) given now ended = (input : List ℕ) × GaveDocument given now ended input × CanBeDone query input
 CanAnswerFor (Generate seed summary) given now ended = Unit {0}
 CanAnswerFor Patterns given now ended = (input : List ℕ) × GaveDocument given now ended input × HasPatterns input
-CanAnswerFor (Explain question) given now ended = (input : List ℕ) × GaveDocument given now ended input × CanExplain question input
-CanAnswerFor Audit given now ended = (input : List ℕ) × GaveOutput given now ended input × CanConfirm input
+CanAnswerFor (Explain question) given now ended = (input : List ℕ) × GaveDocument given now ended input × HasSubject question input
+CanAnswerFor (Audit hierarchy) given now ended = (input : List ℕ) × GaveOutput given now ended input × CanConfirm hierarchy input
 CanAnswerFor (About page) given now ended = Unit {0}
 
 abbrev pub CanAnswer : Option Wanted → List ℕ → List ℕ → Bool → Type 0

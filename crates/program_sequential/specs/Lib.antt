@@ -1,6 +1,7 @@
 pub mod Words
 pub mod Sentences
 pub mod Status
+pub mod Pieces
 pub mod Runs
 pub mod Printed
 pub mod Promise
@@ -16,6 +17,7 @@ pub mod Patterns
 pub mod Audits
 pub mod Asking
 pub mod Explanations
+pub mod Outlooks
 pub mod Answers
 pub mod Outcomes
 pub mod Showing

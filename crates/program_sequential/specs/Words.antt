@@ -6,6 +6,7 @@ use Rattle.std.specs.Str.{bytes_eq}
 use Rattle.document_script.specs.Form.{in_64_bits, number_of_digits}
 use Rattle.program_help.specs.declared.page.Page.TheVariants.{Help, Version}
 use Rattle.output_explain.specs.Asked.{Question}
+use Rattle.program_sequential.specs.declared.subject.Subject.TheVariants.{Client, Publication}
 use Rattle.program_sequential.specs.Asking.{question_of}
 use Rattle.program_sequential.specs.declared.words.Schedule.{Schedule}
 use Rattle.program_sequential.specs.declared.words.Schedule.TheVariants.{Walk, Replay, Threads}
@@ -49,6 +50,12 @@ abbrev pub traffic_by : List (List ℕ) → Option Wanted
 traffic_by [] = Some (Document (Traffic false))
 traffic_by (word ∷ []) = if bytes_eq word (codes "--dot") then Some (Document (Traffic true)) else None
 traffic_by (word ∷ other ∷ words) = None
+
+-- the audit of a run, or of one of a hierarchy
+abbrev pub audit_by : List (List ℕ) → Option Wanted
+audit_by [] = Some (Audit false)
+audit_by (one ∷ []) = if bytes_eq one (codes "--hier") then Some (Audit true) else None
+audit_by (one ∷ two ∷ words) = None
 
 -- a seed: 1 to 20 decimal digits of a value below 2^64
 unfoldable pub seed_number : List ℕ → Option ℕ
@@ -95,12 +102,12 @@ ordinal_number word = if nat_lt 0 (length word) && nat_le (length word) 10 then 
 abbrev pub question_by : List ℕ → List ℕ → List ℕ → Option Question
 question_by client publisher number = option_map (question_of client publisher) (ordinal_number number)
 
--- by the words behind `explain`: the names of a client and of a publisher, and a number
+-- by the words behind `explain`: the name of a client, alone or with the name of a publisher and a number
 abbrev pub explain_by : List (List ℕ) → Option Wanted
 explain_by [] = None
-explain_by (client ∷ []) = None
+explain_by (client ∷ []) = Some (Explain (Client client))
 explain_by (client ∷ publisher ∷ []) = None
-explain_by (client ∷ publisher ∷ number ∷ []) = option_map (λ question. Explain question) (question_by client publisher number)
+explain_by (client ∷ publisher ∷ number ∷ []) = option_map (λ question. Explain (Publication question)) (question_by client publisher number)
 explain_by (client ∷ publisher ∷ number ∷ word ∷ words) = None
 
 -- WHAT THE WORDS ASK FOR, where they ask for something
@@ -118,7 +125,7 @@ wanted_by (word ∷ words) =
     else if bytes_eq word (codes "gen") then generate_by words
     else if bytes_eq word (codes "patterns") then alone Patterns words
     else if bytes_eq word (codes "explain") then explain_by words
-    else if bytes_eq word (codes "audit") then alone Audit words
+    else if bytes_eq word (codes "audit") then audit_by words
     else if bytes_eq word (codes "help") || bytes_eq word (codes "--help") then alone (About Help) words
     else if bytes_eq word (codes "version") || bytes_eq word (codes "--version") then alone (About Version) words
     else None
@@ -143,7 +150,7 @@ IsQuietWish (Document query) = IsQuietQuery query
 IsQuietWish (Generate seed summary) = Unit {0}
 IsQuietWish Patterns = Unit {0}
 IsQuietWish (Explain question) = Unit {0}
-IsQuietWish Audit = Unit {0}
+IsQuietWish (Audit hierarchy) = Unit {0}
 IsQuietWish (About page) = Unit {0}
 
 abbrev pub AreNoneOfRun : Option Wanted → Type 0

@@ -8,8 +8,8 @@ ghost use Rattle.program_sequential.specs.Answers.{IsPrintedBy, IsReadOut, reads
 ghost use Rattle.program_sequential.specs.Answering.{IsAnswer};
 
 use crate::audits::of_audit;
-use crate::explanation::of_question;
 use crate::generated::of_seed;
+use crate::outlook::of_subject;
 use crate::page::of_page;
 use crate::patterns::of_patterns;
 use crate::printed::{Printed, of_document};
@@ -24,7 +24,7 @@ fn reads_document(wanted: &Wanted<'_>) -> bool
     ensures { result ≡ reads_document wanted.now }
 {
     match wanted {
-        Wanted::Document(_) | Wanted::Patterns | Wanted::Explain(_) | Wanted::Audit => true,
+        Wanted::Document(_) | Wanted::Patterns | Wanted::Explain(_) | Wanted::Audit { .. } => true,
         _ => false,
     }
 }
@@ -34,7 +34,7 @@ fn most_bytes(wanted: &Wanted<'_>) -> usize
     ensures { result + 1 ≡ most_for wanted.now }
 {
     match wanted {
-        Wanted::Audit => 268_435_456,
+        Wanted::Audit { .. } => 268_435_456,
         _ => 4_194_304,
     }
 }
@@ -63,8 +63,8 @@ fn of_bytes(alloc: Global, wanted: Wanted<'_>, bytes: &[u8]) -> Result<Printed, 
         Wanted::Document(query) => widened(of_document(alloc, query, bytes)),
         Wanted::Generate { seed, summary } => unasked(of_seed(alloc, seed, summary)),
         Wanted::Patterns => of_patterns(alloc, bytes),
-        Wanted::Explain(question) => of_question(alloc, bytes, &question),
-        Wanted::Audit => of_audit(alloc, bytes),
+        Wanted::Explain(subject) => of_subject(alloc, bytes, &subject),
+        Wanted::Audit { hierarchy } => of_audit(alloc, hierarchy, bytes),
         Wanted::About(page) => unasked(of_page(alloc, page)),
     }
 }

@@ -1,18 +1,21 @@
 //! Whether the output of an input is that of a whole run.
-ghost use Rattle.std.specs.Prelude.{◌≡◌, ◌≤◌, ℕ, List, length, IfOk};
+ghost use Rattle.std.specs.Prelude.{◌≡◌, ◌≤◌, ℕ, List, true, false, length, IfOk};
 ghost use Rattle.net_model.specs.Parts.{EntryParts};
 ghost use Rattle.audit_claim.specs.Claim.{EndsLine, with_output};
 ghost use Rattle.program_sequential.specs.declared.words.Schedule.{Schedule};
 ghost use Rattle.program_sequential.specs.Headline.{Headline};
+ghost use Rattle.program_sequential.specs.Hierarchy.{IsHierarchyOf};
 ghost use Rattle.program_sequential.specs.Audits.{CanConfirm, audit_text, traced};
 ghost use Rattle.program_sequential.specs.Auditing.{AuditsInput};
 
 use crate::body::Body;
+use crate::hierarchy_law::lemma_hierarchy_promise;
 use crate::law::lemma_promise;
 use crate::notices::lemma_notices;
 use crate::printed::Printed;
 use crate::unanswered::Unanswered;
-use audit_verdict::{Audited, audit};
+use audit_hierarchy::Hierarchies;
+use audit_verdict::{Audited, Peers, audit};
 use base::{NoMemory, push_number};
 use document_reader::law::lemma_net_sound;
 use net_journal::{Journal, Record};
@@ -48,14 +51,14 @@ fn confirmed(alloc: Global, audited: Audited) -> Result<Printed, NoMemory>
     Printed::make(alloc, Body::Nothing, text, Record::of(Journal::of(journal)))
 }
 
-/// Whether the output is that of a whole run, by an input of at most 268,435,456 bytes, or why nothing is written.
-pub fn of_audit(alloc: Global, bytes: &[u8]) -> Result<Printed, Unanswered>
+// Whether the output is that of a whole run of peers.
+fn of_peers(alloc: Global, bytes: &[u8]) -> Result<Printed, Unanswered>
     requires { length bytes.now ≤ 268435456 }
-    ensures { AuditsInput bytes.now result }
+    ensures { AuditsInput false bytes.now result }
 {
     lemma_promise();
     lemma_net_sound();
-    let audited = match audit(alloc, bytes) {
+    let audited = match audit::<Peers>(alloc, bytes) {
         Ok(audited) => audited,
         Err(fault) => return Err(Unanswered::from(fault)),
     };
@@ -66,9 +69,42 @@ pub fn of_audit(alloc: Global, bytes: &[u8]) -> Result<Printed, Unanswered>
     }
 }
 
+// Whether it is that of a whole run of a hierarchy.
+fn of_hierarchy(alloc: Global, bytes: &[u8]) -> Result<Printed, Unanswered>
+    requires { length bytes.now ≤ 268435456 }
+    ensures { AuditsInput true bytes.now result }
+{
+    lemma_hierarchy_promise();
+    hierarchy_turns::law::promise();
+    lemma_net_sound();
+    let audited = match audit::<Hierarchies>(alloc, bytes) {
+        Ok(audited) => audited,
+        Err(fault) => return Err(Unanswered::from(fault)),
+    };
+    lemma_notices(&audited.net);
+    match confirmed(alloc, audited) {
+        Ok(printed) => Ok(printed),
+        Err(NoMemory) => Err(Unanswered::NoMemory),
+    }
+}
+
+/// Whether the output is that of a whole run, of a hierarchy where one is asked for, by an input of at most 268,435,456 bytes, or why nothing is written.
+pub fn of_audit(alloc: Global, hierarchy: bool, bytes: &[u8]) -> Result<Printed, Unanswered>
+    requires { length bytes.now ≤ 268435456 }
+    ensures { AuditsInput hierarchy bytes.now result }
+{
+    if hierarchy {
+        of_hierarchy(alloc, bytes)
+    } else {
+        of_peers(alloc, bytes)
+    }
+}
+
 /// What is printed of a document in the order received with its trace is confirmed, whatever the schedule: put behind its document, whose last line is ended,
-/// and the line `output`, where all that is not too long.
+/// and the line `output`, where all that is not too long. What is printed of its hierarchy is confirmed as that of one.
 pub fn printed_is_confirmed()
-    ensures { (schedule : Schedule) (input text : List ℕ) (journal : List EntryParts) → Headline schedule traced input text journal → EndsLine input
-        → length (with_output input text) ≤ 268435456 → CanConfirm (with_output input text) }
+    ensures peers { (schedule : Schedule) (input text : List ℕ) (journal : List EntryParts) → Headline schedule traced input text journal → EndsLine input
+        → length (with_output input text) ≤ 268435456 → CanConfirm false (with_output input text) }
+    ensures hierarchies { (input text : List ℕ) (journal : List EntryParts) → IsHierarchyOf traced input text journal → EndsLine input
+        → length (with_output input text) ≤ 268435456 → CanConfirm true (with_output input text) }
 {}

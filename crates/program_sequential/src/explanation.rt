@@ -4,6 +4,7 @@ ghost use Rattle.net_model.specs.Sound.{IsSound};
 ghost use Rattle.output_explain.specs.Text.{explanation_text};
 ghost use Rattle.program_sequential.specs.Explanations.{is_received, received_at, walk_line};
 ghost use Rattle.program_sequential.specs.Explaining.{ExplainsInput, ExplainsNet, IsTold};
+ghost use Rattle.program_sequential.specs.declared.subject.Subject.TheVariants.{Publication};
 
 use crate::body::Body;
 use crate::law::lemma_promise;
@@ -114,7 +115,7 @@ pub fn of_question(
     bytes: &[u8],
     question: &Question<'_>,
 ) -> Result<Printed, Unanswered>
-    ensures { ExplainsInput question.now bytes.now result }
+    ensures { ExplainsInput (Publication question.now) bytes.now result }
 {
     lemma_promise();
     let net = match net(alloc, bytes) {

@@ -18,7 +18,7 @@ use net_journal::Record;
 use std::alloc::Global;
 
 /// How a run ended, and its journal in the order of the turns: that of the run for `walk`, `hier`, `replay`, `traffic`,
-/// `patterns`, `explain`, `audit` and a summary, and empty for all else and where it is not done.
+/// `patterns`, `explain` of one publication, `audit` and a summary, and empty for all else and where it is not done.
 #[derive(Drop)]
 pub struct Outcome {
     /// How it ended.

@@ -1,11 +1,12 @@
 //! Reads what the words of the command line ask for.
 ghost use Rattle.std.specs.Prelude.{◌≡◌, ◌↔◌, IsTrue};
 ghost use Rattle.std.specs.Str.{bytes_eq};
-ghost use Rattle.program_sequential.specs.Words.{AreNoneOfRun, alone, asked, explain_by, generate_by, hierarchy_by, is_summary, joined_seed, options};
+ghost use Rattle.program_sequential.specs.Words.{AreNoneOfRun, alone, asked, audit_by, explain_by, generate_by, hierarchy_by, is_summary, joined_seed, options};
 ghost use Rattle.program_sequential.specs.Words.{parted_seed, plain, run_by, traffic_by, wanted_by, with_option};
 
-use crate::question::{Question, read_question};
+use crate::question::read_question;
 use crate::seed::seed;
+use crate::subject::{ClientName, Subject};
 use filter_text::Bytes;
 use program_help::Page;
 
@@ -63,10 +64,13 @@ pub enum Wanted<'w> {
     },
     /// Where the patterns behind the document that the source gives occur in what its walk brings.
     Patterns,
-    /// Why a client gets a publication of the document that the source gives, or doesn't.
-    Explain(Question<'w>),
+    /// Why a client gets a publication of the document that the source gives, or doesn't; or what comes to it of all.
+    Explain(Subject<'w>),
     /// Whether the output behind the document that the source gives is that of a whole run.
-    Audit,
+    Audit {
+        /// Whether the run is that of a hierarchy.
+        hierarchy: bool,
+    },
     /// What the program says of itself.
     About(Page),
 }
@@ -155,6 +159,17 @@ fn traffic(words: &[Word]) -> Option<Wanted<'_>>
     }
 }
 
+// Which audit is wanted, by the words behind `audit`.
+fn audit(words: &[Word]) -> Option<Wanted<'_>>
+    ensures { result ≡ audit_by words.now }
+{
+    match words {
+        [] => Some(Wanted::Audit { hierarchy: false }),
+        [one] if is_word(one, b"--hier") => Some(Wanted::Audit { hierarchy: true }),
+        _ => None,
+    }
+}
+
 // Whether it is `--summary`.
 fn is_summary(word: &Word) -> bool
     ensures { result ≡ is_summary word.now }
@@ -213,8 +228,9 @@ fn explain(words: &[Word]) -> Option<Wanted<'_>>
     ensures { result ≡ explain_by words.now }
 {
     match words {
+        [client] => Some(Wanted::Explain(Subject::Client(ClientName::of(client.as_slice())))),
         [client, publisher, number] => match read_question(client, publisher, number) {
-            Some(question) => Some(Wanted::Explain(question)),
+            Some(question) => Some(Wanted::Explain(Subject::Publication(question))),
             None => None,
         },
         _ => None,
@@ -251,7 +267,7 @@ pub fn read_words(words: &[Word]) -> Option<Wanted<'_>>
     } else if is_word(word, b"explain") {
         explain(rest)
     } else if is_word(word, b"audit") {
-        alone(Wanted::Audit, rest)
+        audit(rest)
     } else if is_word(word, b"help") || is_word(word, b"--help") {
         alone(Wanted::About(Page::Help), rest)
     } else if is_word(word, b"version") || is_word(word, b"--version") {

@@ -39,8 +39,8 @@ abbrev pub IsUnread : {Z : Type 0} → Result (IntoIter (String Z) Z) Error → 
 IsUnread (Ok arguments) status = status ≡ statuses.NoMemory
 IsUnread (Err error) status = status ≡ unread_status (error_kind error)
 
--- HOW A CALL ENDS over a reader and a writer: what it prints and tells by what the reader gave and the writer took, and that a fault of either is told and none is
--- invented; `before` and `after` are what the reader has left, where it knows that, and `held` and `holds` what the writer holds
+-- HOW A CALL ENDS over a reader and a writer: what it prints and tells by what the reader gave and the writer took, and that a fault of either is told
+-- and none is invented; `before` and `after` are what the reader has left, where it knows that, and `held` and `holds` what the writer holds
 pub record IsCall {D V : Type 0} (wanted : Option Wanted) (input read : D) (answers : AnswersParts) (ended : Bool) (before after : Option (List ℕ))
     (output written : V) (taken : AnswersParts) (held holds : Option (List ℕ)) (status : Status) (journal : List EntryParts) : Type 0 where
   pub outcome : IsOutcome wanted [] answers.bytes ended [] taken.bytes status journal
@@ -70,6 +70,6 @@ IsDone arguments input read answers ended before after output written taken held
     × IsCall (wanted_by words) input read answers ended before after output written taken held holds status journal)
     ⊎ (IsUnread arguments status × IsUncalled input read answers output written taken)
 
--- STANDARD ERROR TOOK A TEXT; or nothing, as memory was refused for it; or a proper front of it, as a write failed
+-- STANDARD ERROR TOOK A TEXT; or a proper front of it, as a write failed
 abbrev pub Tells : List ℕ → AnswersParts → Type 0
-Tells text told = (told.bytes ≡ text) ⊎ (told.bytes ≡ []) ⊎ ((0 < write_faults told) × TookPart [] told.bytes text)
+Tells text told = (told.bytes ≡ text) ⊎ ((0 < write_faults told) × TookPart [] told.bytes text)

@@ -8,9 +8,8 @@ ghost use Rattle.program_threaded.specs.Processes.{IsCall, IsDone, Tells, words_
 
 use crate::arguments::words_of;
 use crate::standard::with_devices;
-use base::NoMemory;
-use base_devices::{NoGate, StdSink, StdSource, write_all};
-use program_sequential::{Outcome, Over, Status, Word, fault_text, is_quiet, quiet_with_devices};
+use base_devices::{NoGate, StdSink, StdSource};
+use program_sequential::{Outcome, Over, Status, Word, is_quiet, quiet_with_devices, tell};
 use std::alloc::Global;
 use std::env::Args;
 use std::io;
@@ -71,26 +70,15 @@ fn uncalled<R: Read, W: Write>(alloc: Global, status: Status, input: R, output: 
     }
 }
 
-// Writes a text to standard error. Nobody is told where that fails.
-fn written<E: Write>(errors: E, text: &[u8]) -> StdSink<E>
-    ensures told { Tells text.now result.output.answers }
-    ensures held { Appends (E.contents errors) (E.contents result.output.device) result.output.answers.bytes }
-{
-    let mut sink = StdSink::make(errors);
-    match write_all(&mut sink, text) {
-        Ok(()) => sink,
-        Err(_) => sink,
-    }
-}
-
-// Writes the text of a fault to standard error; nothing, where memory for it is refused.
-fn told<E: Write>(alloc: Global, status: Status, errors: E) -> StdSink<E>
+// Writes the text of a fault to standard error, which takes no memory. Nobody is told where that fails.
+fn told<E: Write>(status: Status, errors: E) -> StdSink<E>
     ensures told { Tells (status_text status) result.output.answers }
     ensures held { Appends (E.contents errors) (E.contents result.output.device) result.output.answers.bytes }
 {
-    match fault_text(alloc, &status) {
-        Ok(text) => written(errors, &text),
-        Err(NoMemory) => written(errors, &[]),
+    let mut sink = StdSink::make(errors);
+    match tell(&mut sink, status) {
+        Ok(()) => sink,
+        Err(_) => sink,
     }
 }
 
@@ -134,7 +122,7 @@ pub fn program<T: Threads + Wait + Sync, R: Read, W: Write, E: Write>(
 {
     let over = done(alloc, rt, arguments, input, output);
     let status = over.outcome.status;
-    let errors = told(alloc, status, errors);
+    let errors = told(status, errors);
     Ended {
         over,
         errors,

@@ -1,24 +1,26 @@
 //! Why clients get the publications of some documents, or don't: each line of an explanation, each verdict and each refusal.
+//! And what comes to clients of all publications: each chance.
 ghost use Rattle.net_model.specs.Sound.{IsSound};
 
 use crate::nets::shown;
 use crate::sound::net;
 use net_model::Net;
-use output_explain::{ExplainFault, explain, explanation_text};
+use output_explain::{ExplainFault, explain, explanation_text, prospects, prospects_text};
 use std::alloc::Global;
 use test_support::Failure;
 
 /// A question: a client, a publisher, and the number of a publication among the publisher's.
 type Question = (&'static str, &'static str, u32);
 
-/// A document with what it is for, and questions about it.
+/// A document with what it is for, questions about it, and the names of those of whom all is told.
 struct Row {
     purpose: &'static str,
     document: &'static str,
     questions: &'static [Question],
+    clients: &'static [&'static str],
 }
 
-const ROWS: [Row; 3] = [
+const ROWS: [Row; 4] = [
     Row {
         purpose: "Filters in force throughout, over two links",
         document: "siena 1\nsemantics subscription\nservers 3\nedge 1 2\nedge 2 3\nclient brigade 1\nclient room 2\nclient attic 3\n\
@@ -34,6 +36,7 @@ const ROWS: [Row; 3] = [
             ("brigade", "attic", 3),
             ("brigade", "room", 1),
         ],
+        clients: &["brigade", "attic", "cellar"],
     },
     Row {
         purpose: "Filters that come and go in the phase of the publication",
@@ -42,12 +45,22 @@ const ROWS: [Row; 3] = [
             script both\nbarrier\nsubscribe x int < 9\nunsubscribe x int < 9\nbarrier\nsubscribe x int any\n\
             script p\nbarrier\npublish x int 7\n",
         questions: &[("early", "p", 1), ("late", "p", 1), ("both", "p", 1)],
+        clients: &["early", "late", "p"],
     },
     Row {
         purpose: "Advertisements: refused, in force throughout, and only when it is published",
         document: "siena 1\nsemantics advertisement\nservers 1\nclient s 1\nclient p 1\nscript s\nsubscribe x int any\nscript p\n\
             advertise x int < 5; y int any\nbarrier\npublish x int 4\npublish x int 9\nadvertise x int any\npublish x int 9\n",
         questions: &[("s", "p", 1), ("s", "p", 2), ("s", "p", 3)],
+        clients: &["s"],
+    },
+    Row {
+        purpose: "A filter in the phase of a publication, in a part of it, and in other phases alone",
+        document: "siena 1\nsemantics subscription\nservers 2\nedge 1 2\nclient q 1\nclient s 1\nclient p 2\n\
+            script q\npublish x int 8\nscript s\nsubscribe x int > 3\nbarrier\nbarrier\nunsubscribe x int > 3\nscript p\n\
+            barrier\npublish x int 7\nbarrier\npublish x int 7\nbarrier\npublish x int 7\npublish x int 3\n",
+        questions: &[],
+        clients: &["s"],
     },
 ];
 
@@ -73,12 +86,35 @@ fn print_answer(
     Ok(())
 }
 
+/// Prints what comes to a client, or that there is none.
+fn print_prospects(
+    rt: &impl Print,
+    alloc: Global,
+    net: &Net,
+    client: &'static str,
+) -> Result<(), Failure>
+    requires { IsSound net.now }
+{
+    println!(rt; "{client}")?;
+    match prospects(alloc, net, client.as_bytes())? {
+        Some(list) => {
+            let text = prospects_text(alloc, &net.clients, &list)?;
+            print!(rt; "{}", shown(&text))?;
+        }
+        None => println!(rt; "nobody")?,
+    }
+    Ok(())
+}
+
 /// Prints the answers to the questions about a document.
 fn print_row(rt: &impl Print, alloc: Global, row: &Row) -> Result<(), Failure> {
     println!(rt; "{}", row.purpose)?;
     let net = net(alloc, row.document.as_bytes())?;
     for question in row.questions {
         print_answer(rt, alloc, &net, *question)?;
+    }
+    for client in row.clients {
+        print_prospects(rt, alloc, &net, client)?;
     }
     println!(rt)?;
     Ok(())

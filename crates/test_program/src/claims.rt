@@ -21,9 +21,9 @@ fn says_yes(came: &Tried) -> bool {
 }
 
 /// What an audit says of the output of the words, behind the document.
-fn audited(alloc: Global, words: &str, document: &[u8]) -> Result<Tried, Failure> {
+fn audited(alloc: Global, audit: &str, words: &str, document: &[u8]) -> Result<Tried, Failure> {
     let output = at_once(alloc, words, document)?.text;
-    at_once(alloc, "audit", &claim(alloc, document, &output)?)
+    at_once(alloc, audit, &claim(alloc, document, &output)?)
 }
 
 /// Prints what an audit said.
@@ -102,11 +102,15 @@ fn confirmed_cut(alloc: Global, document: &[u8]) -> Result<u32, Failure> {
     Ok(confirmed)
 }
 
-/// Prints what audits say of walks and replays of the examples.
+/// Prints what audits say of walks and replays of the examples, and of their hierarchies.
 pub fn print_whole(rt: &impl Print, alloc: Global) -> Result<(), Failure> {
     for document in &EXAMPLES {
-        for words in ["walk --trace", "replay --trace"] {
-            let came = audited(alloc, words, document.text.as_bytes())?;
+        for (audit, words) in [
+            ("audit", "walk --trace"),
+            ("audit", "replay --trace"),
+            ("audit --hier", "hier --trace"),
+        ] {
+            let came = audited(alloc, audit, words, document.text.as_bytes())?;
             print_audit(rt, document.name, words, &came)?;
         }
     }
@@ -116,7 +120,7 @@ pub fn print_whole(rt: &impl Print, alloc: Global) -> Result<(), Failure> {
 /// Prints what an audit says of the walk of a generated document.
 pub fn print_generated(rt: &impl Print, alloc: Global) -> Result<(), Failure> {
     let generated = at_once(alloc, "gen --seed 1", b"")?.text;
-    let came = audited(alloc, "walk --trace", &generated)?;
+    let came = audited(alloc, "audit", "walk --trace", &generated)?;
     print_audit(rt, "A generated document", "walk --trace", &came)
 }
 
@@ -126,7 +130,7 @@ pub fn print_made(rt: &impl Print, alloc: Global) -> Result<(), Failure> {
         "confirmed with the output of another document: {}",
         confirmed_for_others(alloc, &EXAMPLES)?
     )?;
-    let came = audited(alloc, "walk --trace", SMALL)?;
+    let came = audited(alloc, "audit", "walk --trace", SMALL)?;
     print_audit(rt, "A small document", "walk --trace", &came)?;
     println!(rt;
         "confirmed with another byte at one of {PLACES} places: {}",

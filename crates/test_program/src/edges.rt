@@ -2,8 +2,8 @@
 ghost use Rattle.program_sequential.specs.Words.{wanted_by, AreNoneOfRun};
 
 use crate::answers::{Manner, Reader, Stop, Writer};
-use crate::tried::{Tried, print_verdict, words};
-use program_sequential::{Word, fault_text, is_quiet, quiet_with_devices};
+use crate::tried::{Tried, print_verdict, told, words};
+use program_sequential::{Word, is_quiet, quiet_with_devices};
 use std::alloc::Global;
 use std::io::ErrorKind;
 use test_support::Failure;
@@ -129,7 +129,7 @@ fn fault(
     let over = quiet_with_devices(alloc, words, reader, writer);
     let status = over.outcome.status;
     drop(over);
-    Ok(fault_text(alloc, &status)?)
+    Ok(told(alloc, status)?)
 }
 
 /// The walk of the document over a reader and a writer.

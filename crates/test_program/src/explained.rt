@@ -22,8 +22,14 @@ const ADVERTISED: &str =
     subscribe x int any\nscript p\nadvertise x int < 5; y int any\nbarrier\npublish x int 4\npublish x int 9\n\
     advertise x int any\npublish x int 9\n";
 
+/// A filter in the phase of a publication, in a part of it, and in other phases alone.
+const PASSING: &str =
+    "siena 1\nsemantics subscription\nservers 2\nedge 1 2\nclient q 1\nclient s 1\nclient p 2\nscript q\npublish x int 8\n\
+    script s\nsubscribe x int > 3\nbarrier\nbarrier\nunsubscribe x int > 3\nscript p\nbarrier\npublish x int 7\nbarrier\n\
+    publish x int 7\nbarrier\npublish x int 7\npublish x int 3\n";
+
 /// Explanations.
-pub const EXPLAINED: [Row; 30] = [
+pub const EXPLAINED: [Row; 37] = [
     Row {
         name: "A filter that matches throughout the phase",
         words: "explain brigade attic 2",
@@ -234,10 +240,61 @@ pub const EXPLAINED: [Row; 30] = [
         text: "",
     },
     Row {
-        name: "A client to explain, alone",
-        words: "explain brigade",
+        name: "All publications: one that may come, of an earlier publisher, and then each chance",
+        words: "explain s",
+        document: PASSING,
+        fault: "",
+        text: "may q 1 x int 8\nowed p 1 x int 7\nmay p 2 x int 7\nnear p 3 x int 7\n",
+    },
+    Row {
+        name: "All publications, under advertisement semantics: one that is refused is near",
+        words: "explain s",
+        document: ADVERTISED,
+        fault: "",
+        text: "owed p 1 x int 4\nnear p 2 x int 9\nmay p 3 x int 9\n",
+    },
+    Row {
+        name: "All publications, for a client without filters",
+        words: "explain attic",
         document: SMOKE,
-        fault: USAGE_LINE,
+        fault: "",
+        text: "",
+    },
+    Row {
+        name: "All alarms of the brigade",
+        words: "explain brigade",
+        document: ALARMS,
+        fault: "",
+        text: "owed attic 2 floor int 4; kind str \"smoke\"; level int 5\n",
+    },
+    Row {
+        name: "All prices of the trader: one is refused, and one comes after its filter is withdrawn",
+        words: "explain trader",
+        document: MARKET,
+        fault: "",
+        text: "owed feed 1 price int 4250; symbol str \"ACME\"\nnear feed 3 price int 0; symbol str \"ACME\"\n\
+            near feed 5 price int 4000; symbol str \"ACME\"\n",
+    },
+    Row {
+        name: "All that the machines tell who is on duty",
+        words: "explain duty",
+        document: MACHINES,
+        fault: "",
+        text: "may web 1 host str \"web-1\"; load int 97\nowed web 2 host str \"web-1\"; load int 95\n\
+            owed web 4 down bool true; host str \"web-2\"; since time 1700000300\n",
+    },
+    Row {
+        name: "A client alone that is not there",
+        words: "explain cellar",
+        document: SMOKE,
+        fault: "siena: explain: client: no client of the document has the first name\n",
+        text: "",
+    },
+    Row {
+        name: "A document at fault, of which all is asked",
+        words: "explain brigade",
+        document: "siena 3\n",
+        fault: "siena: line 1: header: the first line is `siena 1` or `siena 2`\n",
         text: "",
     },
     Row {

@@ -38,6 +38,7 @@ mod faults;
 mod formats;
 mod generated;
 mod hierarchies;
+mod hierarchy_audits;
 mod large;
 mod pages;
 mod patterns;
@@ -55,7 +56,7 @@ use std::alloc::Global;
 use test_support::Failure;
 
 /// All rows.
-const TABLES: [&[Row]; 13] = [
+const TABLES: [&[Row]; 14] = [
     &runs::RUNS,
     &replays::REPLAYS,
     &steps::STEPS,
@@ -66,6 +67,7 @@ const TABLES: [&[Row]; 13] = [
     &patterns::PATTERNS,
     &explained::EXPLAINED,
     &audits::AUDITS,
+    &hierarchy_audits::HIERARCHY_AUDITS,
     &formats::FORMATS,
     &traffic::TRAFFIC,
     &usage::USAGE,

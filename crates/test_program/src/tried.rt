@@ -2,7 +2,7 @@
 ghost use Rattle.std.specs.Prelude.{◌<◌};
 
 use crate::row::Row;
-use program_sequential::{Word, fault_text, is_quiet, quiet};
+use program_sequential::{Status, Word, is_quiet, quiet, tell};
 use std::alloc::Global;
 use test_support::{Failure, MemorySink, MemorySource};
 
@@ -30,6 +30,16 @@ pub fn words(alloc: Global, line: &str) -> Result<Vec<Word>, Failure> {
     Ok(words)
 }
 
+/// Room for a line to standard error.
+const LINE: usize = 4_096;
+
+/// What standard error takes, where a call ended so.
+pub fn told(alloc: Global, status: Status) -> Result<Vec<u8>, Failure> {
+    let mut sink = MemorySink::make(alloc, PIECE, Vec::new(alloc), LINE)?;
+    let _ = tell(&mut sink, status);
+    Ok(sink.bytes().to_vec(alloc)?)
+}
+
 /// A device: the bytes that it gives or takes at a call, and the calls at which it fails.
 type Device<'a> = (usize, &'a [u64]);
 
@@ -51,7 +61,7 @@ fn called(
     let mut source = MemorySource::make(document.to_vec(alloc)?, read.0, read.1.to_vec(alloc)?);
     let mut sink = MemorySink::make(alloc, write.0, write.1.to_vec(alloc)?, ROOM)?;
     let ended = quiet(alloc, &words, &mut source, &mut sink);
-    let fault = fault_text(alloc, &ended.status)?;
+    let fault = told(alloc, ended.status)?;
     let text = sink.bytes().to_vec(alloc)?;
     Ok(Tried { fault, text })
 }

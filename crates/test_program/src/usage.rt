@@ -4,7 +4,7 @@ use crate::row::Row;
 /// The line that names the words.
 pub const USAGE_LINE: &str =
     "siena: usage: walk, run, replay or hier [--sorted] [--trace]; flood; traffic [--dot]; patterns; \
-    explain CLIENT PUBLISHER NUMBER; audit; check; format; gen --seed N [--summary]; help; version\n";
+    explain CLIENT [PUBLISHER NUMBER]; audit [--hier]; check; format; gen --seed N [--summary]; help; version\n";
 
 /// Words over a document that is good, or over none.
 pub const USAGE: [Row; 14] = [

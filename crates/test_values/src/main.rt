@@ -17,6 +17,7 @@ mod lines;
 mod long;
 mod made;
 mod pooled;
+mod refused;
 mod spelled;
 mod texts;
 mod values;

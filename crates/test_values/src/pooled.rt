@@ -7,7 +7,7 @@ use std::alloc::Global;
 use test_support::{RowFault, advert, filter, first_word, number, put, put_number};
 
 /// An item that rows keep in a pool.
-trait Kept: Cover + Drop {
+pub trait Kept: Cover + Drop {
     /// The item of a text.
     fn read(alloc: Global, text: &str) -> Result<Self, RowFault>;
 
@@ -96,7 +96,7 @@ fn place<T: Kept>(alloc: Global, pool: &Pool<T>, text: &str) -> Result<Vec<u8>, 
 }
 
 /// All live items in their order.
-fn listed<T: Kept>(alloc: Global, pool: &Pool<T>) -> Result<Vec<u8>, RowFault> {
+pub fn listed<T: Kept>(alloc: Global, pool: &Pool<T>) -> Result<Vec<u8>, RowFault> {
     let mut answer = Vec::new(alloc);
     for place in 0..pool.live() {
         put(&mut answer, &pool.nth(place).text(alloc)?)?;
@@ -108,6 +108,14 @@ fn listed<T: Kept>(alloc: Global, pool: &Pool<T>) -> Result<Vec<u8>, RowFault> {
 fn reserve<T: Kept>(alloc: Global, pool: &mut Pool<T>, text: &str) -> Result<Vec<u8>, RowFault> {
     pool.reserve(number(text)? as usize)?;
     listed(alloc, pool)
+}
+
+/// Asks for more room than there can be, and says which items are live then.
+fn overfill<T: Kept>(alloc: Global, pool: &mut Pool<T>) -> Result<Vec<u8>, RowFault> {
+    match pool.reserve(usize::MAX) {
+        Ok(()) => Err(RowFault::Form),
+        Err(_) => listed(alloc, pool),
+    }
 }
 
 /// The answer to a question of a pool.
@@ -123,6 +131,7 @@ fn answer<T: Kept>(
         "give_back" => give_back(alloc, pool, text),
         "place" => place(alloc, pool, text),
         "reserve" => reserve(alloc, pool, text),
+        "overfill" => overfill(alloc, pool),
         "list" => listed(alloc, pool),
         _ => Err(RowFault::Form),
     }

@@ -1,5 +1,5 @@
 -- A cell that is set on other links keeps what its type says.
-use Rattle.std.proofs.Common.{◌≡◌, ℕ, ◌≤◌, ◌<◌, ◌^◌, List, [], ◌++◌, length, map, drop, Some, slice_get, refl, sym, ap, subst, ◌∙◌, arith, Result, Ok, Err, OnErr, ◌⊎◌, inl, inr}
+use Rattle.std.proofs.Common.{◌≡◌, ℕ, ◌≤◌, ◌<◌, ◌^◌, List, [], ◌++◌, length, map, drop, Some, slice_get, refl, sym, ap, subst, ◌∙◌, arith, Result, Ok, Err, OnErr, ◌⊎◌, inl, inr, append_assoc}
 use Rattle.std.proofs.lemmas.List.{append-nil}
 use Rattle.base.specs.Sets.{Has}
 use Rattle.law_machine.specs.Journals.{Cell, IsReplay}
@@ -38,6 +38,8 @@ use Rattle.server_core.proofs.AnyClock.{any-clock}
 use Rattle.thread_cell.proofs.Entering.{all-same, raised}
 use Rattle.thread_cell.proofs.Fresh.{new-put, new-taken, new-few}
 use Rattle.thread_cell.proofs.Unmoved.{all-unmoved}
+use Rattle.thread_cell.specs.Versions.{AreMended}
+use Rattle.thread_cell.proofs.HandOver.{mended-calm}
 use Rattle.thread_cell.proofs.Turnover.{shown-on}
 use Rattle.thread_cell.proofs.Shown.{installed-still, viewer-later, wide-later, wide-stays}
 use Rattle.std.proofs.Math.Seq.{drop-length}
@@ -70,19 +72,21 @@ pub reached-wide : (core : CoreParts) (f : Installed) (interfaces : List ℕ) �
 reached-wide core f interfaces wide reached i h = elim (reached i h) [ inl low ↦ wide.links i low | inr m ↦ wide.reaches i m ]
 
 -- on other links it holds too
-pub put-held : (old new : ServerInHand) (given : List HeldLink) (ledger : LedgerParts) (gone : List TableChange) → IsServerInHand old → IsSomeServer old.core → old.core.pending ≡ [] → neighbours_in new.links.items ≡ map (λ (h : HeldLink). h.link) given → Each IsNew new.links.items
-    → IsPending (known_filters old.core.net.clients) old.core.interfaces (installed_from old.core) (subs old.core.control) old.core.pending → IsLinked given old.core.control ledger.control → SuitsCore old.core ledger → IsOnLinks ledger old.core new.core
+pub put-held : (old new : ServerInHand) (given : List HeldLink) (ledger : LedgerParts) (handed gone : List TableChange) → IsServerInHand old → IsSomeServer old.core → old.core.pending ≡ [] → neighbours_in new.links.items ≡ map (λ (h : HeldLink). h.link) given → Each IsNew new.links.items
+    → IsPending (known_filters old.core.net.clients) old.core.interfaces (installed_from old.core) (subs old.core.control) old.core.pending → AreMended old.core handed → IsLinked given old.core.control ledger.control → SuitsCore old.core ledger → IsOnLinks ledger old.core new.core
     → AreTaken (known_filters old.core.net.clients) old.core.control (neighbours_in old.links.items) gone
     → IsPending (known_filters ledger.net.clients) ledger.interfaces (λ i. held_from real.before i ledger.installed) (subs ledger.control) ledger.pending → ledger.installed ≡ []
     → ((i : ℕ) (f : List ConstraintParts) → Has f (subs ledger.control i) → Has f (known_filters ledger.net.clients)) → ((i : ℕ) → Has i ledger.interfaces → Has i (forwarding_of old.publisher).interfaces) → IsSamePublisher old.publisher new.publisher
-    → installed new.publisher ≡ installed old.publisher ++ (gone ++ ledger.pending) → pending new.publisher ≡ installed new.publisher → new.handed.items ≡ [] → IsServerInHand new
-put-held old new given ledger gone held some calm names fresh turns linked suits on taken added bare known reaches same shown all none = record {
+    → installed new.publisher ≡ installed old.publisher ++ ((handed ++ gone) ++ ledger.pending) → pending new.publisher ≡ installed new.publisher → new.handed.items ≡ [] → IsServerInHand new
+put-held old new given ledger handed gone held some calm names fresh turns mends linked suits on taken added bare known reaches same shown all none = record {
   low = subst (λ n. n < 2 ^ 62) (sym on.clock) held.low;
   neighbours = names ∙ sym linked.links ∙ sym (ap (λ (c : Controlled). c.links) on.control_is);
   few = new-few new.core.clock new.links.items fresh;
   shown = record {
     wide = wide-later old.publisher new.publisher new.core same (wide-stays old.core new.core on.net (forwarding_of old.publisher) (λ i h. reaches i (subst (Has i) on.interfaces h)) held.shown.wide);
-    pairs = shown-on old.core new.core given ledger gone (neighbours_in old.links.items) (installed old.publisher) (installed new.publisher) some held.neighbours calm turns linked suits on taken added bare known held.shown.pairs shown;
+    pairs = shown-on old.core new.core given ledger gone (neighbours_in old.links.items) (installed old.publisher ++ handed) (installed new.publisher) some held.neighbours calm turns linked suits on taken added bare known
+        (mended-calm old.core turns (installed old.publisher) handed mends held.shown.pairs calm)
+        (shown ∙ ap (λ l. installed old.publisher ++ l) (append_assoc handed gone ledger.pending) ∙ sym (append_assoc (installed old.publisher) handed (gone ++ ledger.pending)));
   };
   handed = all ∙ sym (append-nil (installed new.publisher)) ∙ ap (λ l. installed new.publisher ++ l) (sym none);
 }

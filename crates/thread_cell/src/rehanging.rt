@@ -18,7 +18,7 @@ ghost use Rattle.thread_cell.specs.Relinking.{AreTaken, IsPutOn, takes};
 
 use crate::held::ServerInHand;
 use crate::link::Link;
-use crate::table_update::{hand, hand_over};
+use crate::table_update::{hand, hand_over, mend};
 use base::NoMemory;
 use law_routing::is_link;
 use match_routes::TableChange;
@@ -158,15 +158,13 @@ pub(crate) fn put_on<'a, R: Wait>(
     ensures put { OnOk result (IsPutOn (held_in given.now) links.items held.old held.new) }
     ensures still { OnErr result ((journal : List EntryParts) → IsStill held.old held.new journal journal) }
 {
-    if !held.handed.is_empty() {
-        return Err(NoMemory);
-    }
     let relinked = held.core.relinked(given)?;
     if !are_reached(held.core.interfaces(), relinked.interfaces()) {
         return Err(NoMemory);
     }
     let _calm = held.core.pending();
     relinked.lemma_sound();
+    mend(alloc, &mut held.publisher, &mut held.handed, &held.core)?;
     republish(
         rt,
         alloc,

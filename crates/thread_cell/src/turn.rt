@@ -20,7 +20,7 @@ use crate::held::ServerInHand;
 use crate::reception::{look_at, next_at, receive_at};
 use crate::routing::{receive_load, take_command};
 use crate::step::{enter, make_room};
-use crate::table_update::{are_touched, hand_over};
+use crate::table_update::{hand_over, mend};
 use crate::turned::Turned;
 use base::NoMemory;
 use match_routes::Route;
@@ -163,7 +163,7 @@ pub(crate) fn turn_update<R: Wait>(
         return Err(StepFault::StampsExhausted(LAST_STAMP));
     }
     let outs = make_room(alloc, &mut held.links, journal)?;
-    let stamp = publish(rt, held)?;
+    let stamp = publish(rt, alloc, held)?;
     let step = silent(alloc, stamp);
     enter(
         &mut held.links,
@@ -177,7 +177,7 @@ pub(crate) fn turn_update<R: Wait>(
 }
 
 /// Hands what is pending to the publisher, which installs it, and has the core install it.
-fn publish<R: Wait>(rt: &R, held: &mut ServerInHand<'_>) -> Result<u64, NoMemory>
+fn publish<R: Wait>(rt: &R, alloc: Global, held: &mut ServerInHand<'_>) -> Result<u64, NoMemory>
     requires handed { pending held.old.publisher ≡ installed held.old.publisher ++ held.old.handed.items }
     requires shown { IsInstalledBy held.old.publisher held.old.core }
     requires stands { IsSomeServer held.old.core }
@@ -191,10 +191,8 @@ fn publish<R: Wait>(rt: &R, held: &mut ServerInHand<'_>) -> Result<u64, NoMemory
     ensures shown { IsInstalledBy held.new.publisher held.new.core }
     ensures err { OnErr result ((held.new.core ≡ held.old.core) × (installed held.new.publisher ≡ installed held.old.publisher)) }
 {
-    if !are_touched(&held.handed, held.core.pending()) {
-        return Err(NoMemory);
-    }
     held.core.lemma_sound();
+    mend(alloc, &mut held.publisher, &mut held.handed, &held.core)?;
     hand_over(&mut held.publisher, &mut held.handed, held.core.pending())?;
     held.publisher.publish(rt)?;
     held.handed.clear();

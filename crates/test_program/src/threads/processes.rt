@@ -25,7 +25,7 @@ const FAULTY: &str =
 type Call = (&'static str, &'static str, u8);
 
 /// Each word, and each number that a document or words lead to.
-const CALLS: [Call; 24] = [
+const CALLS: [Call; 27] = [
     ("walk", GOOD, 0),
     ("run", GOOD, 0),
     ("run --trace --sorted", GOOD, 0),
@@ -34,6 +34,7 @@ const CALLS: [Call; 24] = [
     ("flood", GOOD, 0),
     ("traffic --dot", GOOD, 0),
     ("explain a p 1", GOOD, 0),
+    ("explain a", GOOD, 0),
     ("check", GOOD, 0),
     ("format", GOOD, 0),
     ("gen --seed 1", "", 0),
@@ -45,10 +46,12 @@ const CALLS: [Call; 24] = [
     ("check", "siena 3\n", 3),
     ("run", "siena 3\n", 3),
     ("explain a p 1", "siena 3\n", 3),
+    ("explain a", "siena 3\n", 3),
     ("replay", EARLY, 3),
     ("patterns", FAULTY, 8),
     ("audit", GOOD, 9),
     ("explain b p 1", GOOD, 10),
+    ("explain b", GOOD, 10),
     ("explain a p 2", GOOD, 10),
 ];
 

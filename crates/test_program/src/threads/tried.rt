@@ -1,8 +1,8 @@
 //! One call of the program with threads, over devices in memory.
 use crate::row::Row;
-use crate::tried::{Tried, print_verdict, words};
+use crate::tried::{Tried, print_verdict, told, words};
 use base_devices::{Gate, NoGate};
-use program_sequential::{Shown, fault_text, net, printed_run};
+use program_sequential::{Shown, net, printed_run};
 use program_threaded::{run_net, siena};
 use std::alloc::Global;
 use std::sync::Wait;
@@ -30,7 +30,7 @@ pub fn held<R: Threads + Wait + Sync, G: Gate + Sync>(
     let mut source = MemorySource::make(document.to_vec(alloc)?, 4096, Vec::new(alloc));
     let mut sink = MemorySink::make(alloc, 4096, Vec::new(alloc), ROOM)?;
     let ended = siena(alloc, rt, &words, &mut source, &mut sink, gate);
-    let fault = fault_text(alloc, &ended.status)?;
+    let fault = told(alloc, ended.status)?;
     let text = sink.bytes().to_vec(alloc)?;
     Ok(Tried { fault, text })
 }

@@ -1,10 +1,7 @@
-use Rattle.std.proofs.Common.{◌≡◌, ◌++◌, ◌∷◌, [], List, take, get_or, length, refl, ap, subst, ◌∙◌, arith}
+use Rattle.std.proofs.Common.{◌≡◌, ◌++◌, ◌∷◌, [], List, take, get_or, length, refl, ap, subst, ◌∙◌, arith, ◌+◌, length-append}
 use Rattle.std.proofs.Math.Seq.{take-length}
 use Rattle.filter_text.specs.declared.sent.Sent.{Sent}
-use Rattle.net_turns.specs.Turns.{IsTurn}
 use Rattle.net_turns.specs.Retold.{turn_of_entry}
-use Rattle.net_turns.specs.Told.{told_by}
-use Rattle.net_turns.proofs.Again.{retold-all, retold-more, retold-none}
 use Rattle.output_report.specs.Trace.{entries_text, entry_text, trace_head}
 use Rattle.audit_verdict.specs.Comparing.{GoesOn}
 use Rattle.audit_verdict.proofs.Pieces.{goes_nowhere, goes_then}
@@ -12,11 +9,11 @@ use Rattle.audit_verdict.proofs.Runs.{entries_more}
 use Rattle.audit_verdict.proofs.traced.compare_trace.Goals as goal
 
 pub loop-entry-init : goal.loop-entry-init
-loop-entry-init c = ([], retold-none c.args.tables.now c.args.journal.now c.in_ok-network.network [] c.in_ok-network.ensures refl, goes_nowhere c.compare_head.new.text)
+loop-entry-init g c = ([], g.P.Ruled.telling.retold_none c.args.tables.now c.args.journal.now c.in_ok-network.network [] c.in_ok-network.ensures refl, refl, goes_nowhere c.compare_head.new.text)
 
 pub loop-entry-preserved : goal.loop-entry-preserved
-loop-entry-preserved c =
-    let (told, again, went) = c.loop-entry.invariant in
+loop-entry-preserved g c =
+    let (told, again, many, went) = c.loop-entry.invariant in
     let i = c.loop-entry.entry-index in
     let net = c.args.tables.now in
     let journal = c.args.journal.now in
@@ -28,19 +25,20 @@ loop-entry-preserved c =
     subst (λ z. GoesOn c.loop-entry.text c.compare_entry.new.text (entry_text net.clients z last)) c.entry-item.is
     (rw (clients-are, c.as_slice.ensures) at c.in_ok-compare_entry.ensures) in (
       told ++ last ∷ [],
-      retold-more net journal c.requires.legal i entry c.loop-entry-test.true c.in_ok-turn.field-0 c.loop-entry.network c.turn.new.self told last (told ++ last ∷ [])
-          again (subst (λ z. IsTurn c.in_ok-turn.field-0 z c.loop-entry.network c.turn.new.self) turn-is c.in_ok-turn.ensures.turn) c.in_ok-told.ensures refl,
+      g.P.Ruled.telling.retold_more net journal c.requires.legal i entry c.loop-entry-test.true c.in_ok-turn.field-0 c.loop-entry.network c.turn.new.self told last (told ++ last ∷ [])
+          again (subst (λ z. g.P.Ruled.trying.IsTurn c.in_ok-turn.field-0 z c.loop-entry.network c.turn.new.self) turn-is c.in_ok-turn.ensures.turn) c.in_ok-told.ensures refl,
+      length-append told (last ∷ []) ∙ ap (λ n. n + 1) many,
       subst (GoesOn c.compare_head.new.text c.compare_entry.new.text)
-          (entries_more net journal i entry told last c.loop-entry.network c.loop-entry-test.true again)
+          (entries_more net.clients journal i entry told last c.loop-entry-test.true many)
           (goes_then c.compare_head.new.text c.loop-entry.text c.compare_entry.new.text (entries_text net.clients (take i journal) told) (entry_text net.clients (get_or journal i entry) last) went text),
     )
 
 pub returns : goal.returns
-returns c =
+returns g c =
     let whole : c.loop-entry.entry-index ≡ length c.args.journal.now = omega (arith, c.loop-entry-test.false, c.loop-entry.auto.entry-index-end) in
-    let (told, again, went) = c.loop-entry.invariant in
-    let all : told ≡ told_by c.args.tables.now c.args.journal.now = retold-all c.args.tables.now c.args.journal.now c.loop-entry.entry-index c.loop-entry.network told whole again in
-    goes_then c.args.text.now c.compare_head.new.text c.loop-entry.text (trace_head (length c.args.journal.now)) (entries_text c.args.tables.now.clients c.args.journal.now (told_by c.args.tables.now c.args.journal.now)) c.in_ok-compare_head.ensures
+    let (told, again, many, went) = c.loop-entry.invariant in
+    let all : told ≡ g.P.Ruled.telling.told_by c.args.tables.now c.args.journal.now = g.P.Ruled.telling.retold_all c.args.tables.now c.args.journal.now c.loop-entry.entry-index c.loop-entry.network told whole again in
+    goes_then c.args.text.now c.compare_head.new.text c.loop-entry.text (trace_head (length c.args.journal.now)) (entries_text c.args.tables.now.clients c.args.journal.now (g.P.Ruled.telling.told_by c.args.tables.now c.args.journal.now)) c.in_ok-compare_head.ensures
     (subst (GoesOn c.compare_head.new.text c.loop-entry.text)
     (ap (λ z. entries_text c.args.tables.now.clients z told) (ap (λ n. take n c.args.journal.now) whole ∙ take-length c.args.journal.now)
     ∙ ap (entries_text c.args.tables.now.clients c.args.journal.now) all) went)

@@ -37,10 +37,10 @@ pub returns-in-Audit-clause-read : goal.returns-in-Audit-clause-read
 returns-in-Audit-clause-read c = λ reads given.
     let now = given ++ c.args.bytes.now in
     subst (λ (w : Wanted). IsAnswer w given now true c.of_audit.result) (sym c.in-Audit.is)
-    (claim-answer given now true c.of_audit.result (audit-answer given now true c.args.bytes.now c.of_audit.result refl refl c.of_audit.ensures))
+    (claim-answer c.in-Audit.hierarchy given now true c.of_audit.result (audit-answer c.in-Audit.hierarchy given now true c.args.bytes.now c.of_audit.result refl refl c.of_audit.ensures))
 
 pub returns-in-Audit-clause-at_hand : goal.returns-in-Audit-clause-at_hand
-returns-in-Audit-clause-at_hand c = λ e. audited-read c.args.bytes.now c.of_audit.result c.of_audit.ensures e
+returns-in-Audit-clause-at_hand c = λ e. audited-read c.in-Audit.hierarchy c.args.bytes.now c.of_audit.result c.of_audit.ensures e
 
 pub returns-in-About-clause-unread : goal.returns-in-About-clause-unread
 returns-in-About-clause-unread c = λ reads given ended.
@@ -50,10 +50,10 @@ returns-in-About-clause-unread c = λ reads given ended.
 pub returns-in-Explain-clause-read : goal.returns-in-Explain-clause-read
 returns-in-Explain-clause-read c = λ reads given.
     let now = given ++ c.args.bytes.now in
-    let q = c.in-Explain.question in
-    subst (λ (w : Wanted). IsAnswer w given now true c.of_question.result) (sym c.in-Explain.is)
-    (question-answer q given now true c.of_question.result
-    (explained-source q given now true c.args.bytes.now c.of_question.result refl refl c.of_question.ensures))
+    let q = c.in-Explain.subject in
+    subst (λ (w : Wanted). IsAnswer w given now true c.of_subject.result) (sym c.in-Explain.is)
+    (question-answer q given now true c.of_subject.result
+    (explained-source q given now true c.args.bytes.now c.of_subject.result refl refl c.of_subject.ensures))
 
 pub returns-in-Explain-clause-at_hand : goal.returns-in-Explain-clause-at_hand
-returns-in-Explain-clause-at_hand c = λ e. explained-read c.in-Explain.question c.args.bytes.now c.of_question.result c.of_question.ensures e
+returns-in-Explain-clause-at_hand c = λ e. explained-read c.in-Explain.subject c.args.bytes.now c.of_subject.result c.of_subject.ensures e

@@ -1,5 +1,6 @@
 use Rattle.std.proofs.Common.{◌∙◌}
 use Rattle.audit_verdict.proofs.SameOutputs.{same-output, same-walk}
+use Rattle.audit_hierarchy.proofs.SameOutputs.{same-output as same-below}
 use Rattle.document_format.proofs.SameText.{one_text}
 use Rattle.program_sequential.proofs.Documents.{net-or-bad, same-bad, same-clients, same-semantics}
 use Rattle.program_sequential.proofs.SameNets.{same-flooding}
@@ -7,6 +8,9 @@ use Rattle.program_sequential.proofs.document_law.lemma_one_document.Goals as go
 
 pub returns-clause-runs : goal.returns-clause-runs
 returns-clause-runs c = λ input one two journal output a b h. same-output input one two journal output a b h
+
+pub returns-clause-hierarchies : goal.returns-clause-hierarchies
+returns-clause-hierarchies c = λ input one two journal output a b h. same-below input one two journal output a b h
 
 pub returns-clause-walk : goal.returns-clause-walk
 returns-clause-walk c = λ input one two journal a b h. h ∙ same-walk input one two a b

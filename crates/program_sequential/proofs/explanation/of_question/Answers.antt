@@ -1,4 +1,5 @@
 use Rattle.std.proofs.Common.{ap, Err}
+use Rattle.program_sequential.specs.declared.subject.Subject.TheVariants.{Publication}
 use Rattle.program_sequential.specs.declared.words.Schedule.TheVariants.{Walk}
 use Rattle.program_sequential.specs.Words.{plain}
 use Rattle.program_sequential.proofs.Explained.{by-net, refused-input}
@@ -6,7 +7,7 @@ use Rattle.program_sequential.proofs.explanation.of_question.Goals as goal
 
 pub returns-in-Err : goal.returns-in-Err
 returns-in-Err c =
-    refused-input c.args.question.now c.args.bytes.now c.in-Err.fault _ (ap Err c.from.ensures) (λ line kind e. c.in-Err.ensures.bad line kind (ap Err e))
+    refused-input (Publication c.args.question.now) c.args.bytes.now c.in-Err.fault _ (ap Err c.from.ensures) (λ line kind e. c.in-Err.ensures.bad line kind (ap Err e))
 
 pub returns : goal.returns
 returns c =
