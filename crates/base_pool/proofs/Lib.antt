@@ -1,3 +1,4 @@
 pub mod Order
 pub mod Listed
 pub mod Crossing
+pub mod Keys

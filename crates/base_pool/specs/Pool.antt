@@ -1,5 +1,5 @@
 -- Defines a pool as a finite map from keys to items with their numbers of holders.
-use Rattle.std.specs.Prelude.{◌≡◌, ◌≢◌, ◌⊎◌, ◌↔◌, ◌^◌, ◌-◌, ℕ, ◌+◌, ◌<◌, Bool, List, filter_map, Option, Some, None, IsSome, slice_index_or, refl}
+use Rattle.std.specs.Prelude.{◌≡◌, ◌≢◌, ◌⊎◌, ◌↔◌, ◌^◌, ◌-◌, ℕ, ◌+◌, ◌<◌, Bool, List, map, filter_map, Option, Some, None, IsSome, slice_index_or, refl}
 use Rattle.std.specs.Coded.{Coded, code_by, coded×, coded_ℕ, coded_list, coded_option}
 use Rattle.std.specs.Option.{option_map}
 use Rattle.base_pool.specs.declared.pool.Counted.{Counted}
@@ -44,6 +44,10 @@ module _ {T : Type 0} where
   -- the items of the live ones of some keys
   unfoldable pub items_of : List (Option (Counted T)) → List ℕ → List T
   items_of slots keys = filter_map (item_at slots) keys
+
+  -- each key is live, with the item that stands beside it
+  abbrev pub AreKeysOf : List (Option (Counted T)) → List ℕ → List T → Type 0
+  AreKeysOf slots keys items = map (item_at slots) keys ≡ map (λ x. Some x) items
 
   -- no two live keys have one item
   abbrev pub HasDistinctItems : List (Option (Counted T)) → Type 0

@@ -26,8 +26,8 @@ impl<T: Cover> Model for Items<T> {
 }
 
 impl<T: Cover> Items<T> {
-    ghost use Rattle.std.specs.Prelude.{◌≡◌, ◌<◌, length, slice_get, Some, IfSome, IfNone};
-    ghost use Rattle.base.specs.Sets.{Has, IsRising};
+    ghost use Rattle.std.specs.Prelude.{◌≡◌, ◌<◌, length, slice_get, Some};
+    ghost use Rattle.base.specs.Sets.{IsRising};
 
     /// The items of a pool by their numbers. The pool keeps its holders.
     pub fn of(pool: Pool<T>) -> Self
@@ -56,13 +56,5 @@ impl<T: Cover> Items<T> {
         ensures { slice_get self.now number ≡ Some result.now }
     {
         self.pool.nth(number)
-    }
-
-    /// The number of an equal item.
-    pub fn number_of(&self, item: &T) -> Option<usize>
-        ensures some { IfSome result (λ number. slice_get self.now number ≡ Some item.now) }
-        ensures none { IfNone result (Has item.now self.now → ⊥) }
-    {
-        self.pool.number_of(item)
     }
 }

@@ -1,8 +1,8 @@
 //! The type of a pool: distinct items in a slab, each with the number of its holders, and their keys sorted by the items.
-ghost use Rattle.std.specs.Prelude.{◌≡◌, ◌≢◌, ◌+◌, ◌^◌, ◌-◌, ◌<◌, ◌≤◌, ◌∷◌, [], ℕ, min, length, slice_get, Some, None, IsNone, IfSome, IfNone, IfOk, IfErr};
+ghost use Rattle.std.specs.Prelude.{◌≡◌, ◌≢◌, ◌+◌, ◌^◌, ◌-◌, ◌<◌, ◌≤◌, ◌∷◌, [], ℕ, min, length, map, get_or, slice_get, Some, None, IsNone, IfSome, IfNone, IfOk, IfErr};
 ghost use Rattle.std.specs.Prelude.{OnOk, OnErr, true, false};
 ghost use Rattle.base.specs.Sets.{Has, put_in, minus};
-ghost use Rattle.base_pool.specs.Pool.{slot, IsLive, IsAt, SameElsewhere, IsKeptAt, HasDistinctItems, HasHolders, IsSetOfItems, IsCountable};
+ghost use Rattle.base_pool.specs.Pool.{slot, item_at, IsLive, IsAt, SameElsewhere, IsKeptAt, HasDistinctItems, HasHolders, IsSetOfItems, IsCountable};
 ghost use Rattle.base_pool.specs.Sorted.{place_of, IsIndex, IsGap};
 
 use base::{Cover, NoMemory};
@@ -90,6 +90,24 @@ fn seek<T: Cover>(slab: &Slab<Counted<T>>, sorted: &[Key], item: &T) -> Result<u
     }
 }
 
+// The number of each item, by the item's key.
+fn places<T: Cover>(
+    alloc: Global,
+    slab: &Slab<Counted<T>>,
+    sorted: &[Key],
+) -> Result<Vec<u32>, NoMemory>
+    requires index { IsIndex T.order slab.now.slots sorted.now }
+    requires few { length sorted.now ≤ 2 ^ 32 }
+    ensures { IfOk result (λ places. (k : ℕ) → k < length sorted.now
+        → (place_of sorted.now k < length places.items) × (get_or places.items (place_of sorted.now k) 0 ≡ k)) }
+{
+    let mut places = vec![in alloc; 0; slab.capacity()]?;
+    for (number, key) in sorted.iter().enumerate() {
+        places[*key] = number as u32;
+    }
+    Ok(places)
+}
+
 impl<T: Cover> Pool<T> {
     /// A pool of no items. It takes no memory; the pool grows by the allocator that it is given.
     pub fn new(alloc: Global) -> Self
@@ -152,6 +170,20 @@ impl<T: Cover> Pool<T> {
             Ok(number) => Some(number),
             Err(_) => None,
         }
+    }
+
+    /// The numbers of the items of these live keys.
+    pub fn numbers(&self, alloc: Global, keys: &[Key]) -> Result<Vec<u32>, NoMemory>
+        requires live { (key : ℕ) → Has key keys.now → IsLive self.now.slots key }
+        requires few { length self.now.items ≤ 2 ^ 32 }
+        ensures { IfOk result (λ numbers. map (slice_get self.now.items) numbers.items ≡ map (item_at self.now.slots) keys.now) }
+    {
+        let places = places(alloc, &self.slab, &self.sorted)?;
+        let mut numbers = Vec::with_capacity(alloc, keys.len())?;
+        for key in keys {
+            numbers.push(places[*key])?;
+        }
+        Ok(numbers)
     }
 
     /// The live key of an equal item.
