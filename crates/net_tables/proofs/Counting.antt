@@ -14,7 +14,6 @@ use Rattle.net_model.specs.Meaning.{command_of}
 use Rattle.net_model.specs.Parts.{ClientParts}
 use Rattle.net_model.specs.Sound.{publishes, controls}
 use Rattle.net_tables.specs.Known.{publishes_after, published_by, script_publications, known_publications, filters_in, adverts_in, script_filters, script_adverts, known_filters, known_adverts}
-use Rattle.net_tables.specs.Numbering.{IsList, HaveNamed}
 
 module _ {T : Type 0} (before : T → T → Bool) where
   length_put : (x : T) (ys : List T) → length (put_in before x ys) ≤ suc (length ys)
@@ -72,20 +71,6 @@ known_filters_rise clients = rising-union sub_laws (flat_map (λ client. script_
 pub known_adverts_rise : (clients : List ClientParts) → IsRising list_before (known_adverts clients)
 unfolding known_adverts
 known_adverts_rise clients = rising-union sub_laws (flat_map (λ client. script_adverts client.script) clients) [] tt
-
-pub filters_listed : (clients : List ClientParts) → sum_over controls clients ≤ 4096 → IsList (known_filters clients)
-filters_listed clients l = record { rising = known_filters_rise clients; few = omega (arith, known_filters_few clients l) }
-
-pub adverts_listed : (clients : List ClientParts) → sum_over controls clients ≤ 4096 → IsList (known_adverts clients)
-adverts_listed clients l = record { rising = known_adverts_rise clients; few = omega (arith, known_adverts_few clients l) }
-
-pub all_named : (clients : List ClientParts)
-    → HaveNamed (known_filters clients) (known_adverts clients) (flat_map (λ client. script_filters client.script) clients) (flat_map (λ client. script_adverts client.script) clients)
-unfolding known_filters known_adverts
-all_named clients = record {
-  filter = λ f h. (has-union sub_laws f (flat_map (λ client. script_filters client.script) clients) []).1 (inl h);
-  advert = λ a h. (has-union sub_laws a (flat_map (λ client. script_adverts client.script) clients) []).1 (inl h);
-}
 
 script_count : (client done : ℕ) (script : List (ℕ × Command)) → length (script_publications client done script) ≡ sum_over (λ step. count (is_publish real (command_of step.1))) script
 script_count client done [] = refl

@@ -1,5 +1,5 @@
 -- Lemmas on the numbering of scripts, step by step.
-use Rattle.std.proofs.Common.{◌≡◌, ℕ, suc, ◌+◌, ◌<◌, ◌≤◌, List, [], ◌∷◌, ◌++◌, length, drop, get_or, slice_get, Some, refl, sym, ap, subst, ◌∙◌, append_assoc, length-append, arith}
+use Rattle.std.proofs.Common.{◌≡◌, ◌≢◌, ℕ, suc, ◌+◌, ◌<◌, ◌≤◌, List, [], ◌∷◌, ◌++◌, length, drop, get_or, slice_get, Some, refl, sym, ap, subst, ◌∙◌, append_assoc, length-append, arith}
 use Rattle.std.proofs.lemmas.List.{drop_more, drop_all, append-nil}
 use Rattle.filter_text.specs.declared.command.Command.{Command}
 use Rattle.filter_text.specs.declared.command.Command.TheVariants as commands
@@ -8,8 +8,7 @@ use Rattle.net_model.specs.Parts.{ClientParts}
 use Rattle.net_tables.specs.declared.numbered.NumberedCommand.{NumberedCommand}
 use Rattle.net_tables.specs.Known.{PublicationParts, publication, publishes_after, published_by, script_publications, known_publications}
 use Rattle.net_tables.specs.Numbered.{RepresentsCommand, AreNumbered, AllNumbered}
-use Rattle.net_tables.specs.Numbering.{HaveNamed, catalogue_of}
-use Rattle.base.proofs.Sets.{has-append-left, has-append-right}
+use Rattle.net_tables.specs.Numbering.{AreNumbersOf, AreNumbers, catalogue_of}
 
 pub published_last : (old new later : List PublicationParts) (p : PublicationParts) (i : ℕ) → new ≡ old ++ p ∷ [] → i ≡ length old → slice_get (new ++ later) i ≡ Some p
 published_last old new later p i e f = rw (e, f) (at old)
@@ -22,17 +21,35 @@ published_last old new later p i e f = rw (e, f) (at old)
 pub next_left : {T : Type 0} (xs : List T) (i : ℕ) (x : T) → i < length xs → x ≡ get_or xs i x → drop i xs ≡ x ∷ drop (i + 1) xs
 next_left xs i x l e = subst (λ y. drop i xs ≡ y ∷ drop (i + 1) xs) (sym e) (drop_more xs i x l)
 
-pub named_first : (filters adverts fs gs cs ds : Lists) → HaveNamed filters adverts (fs ++ gs) (cs ++ ds) → HaveNamed filters adverts fs cs
-named_first filters adverts fs gs cs ds named = record {
-  filter = λ f h. named.filter f (has-append-left f fs gs h);
-  advert = λ a h. named.advert a (has-append-left a cs ds h);
+-- the numbers of a list in two parts
+front : {T : Type 0} (known : List T) (numbers : List ℕ) (xs ys : List T) → AreNumbersOf known numbers (xs ++ ys) → AreNumbersOf known numbers xs
+front known numbers [] ys a = tt
+front known [] (x ∷ xs) ys a = absurd a
+front known (n ∷ ns) (x ∷ xs) ys a = (a.0, front known ns xs ys a.1)
+
+pub numbers_first : (filters adverts : Lists) (ns ms : List ℕ) (fs gs cs ds : Lists) → AreNumbers filters adverts ns ms (fs ++ gs) (cs ++ ds) → AreNumbers filters adverts ns ms fs cs
+numbers_first filters adverts ns ms fs gs cs ds a = record { filter = front filters ns fs gs a.filter; advert = front adverts ms cs ds a.advert }
+
+pub numbers_apart : (filters adverts : Lists) (ns ms : List ℕ) (fs gs hs cs ds es : Lists) → AreNumbers filters adverts ns ms ((fs ++ gs) ++ hs) ((cs ++ ds) ++ es)
+    → AreNumbers filters adverts ns ms (fs ++ (gs ++ hs)) (cs ++ (ds ++ es))
+numbers_apart filters adverts ns ms fs gs hs cs ds es a = record {
+  filter = subst (AreNumbersOf filters ns) (append_assoc fs gs hs) a.filter;
+  advert = subst (AreNumbersOf adverts ms) (append_assoc cs ds es) a.advert;
 }
 
-pub named_rest : (filters adverts fs gs cs ds : Lists) → HaveNamed filters adverts (fs ++ gs) (cs ++ ds) → HaveNamed filters adverts gs ds
-named_rest filters adverts fs gs cs ds named = record {
-  filter = λ f h. named.filter f (has-append-right f fs gs h);
-  advert = λ a h. named.advert a (has-append-right a cs ds h);
+pub numbers_all : (filters adverts : Lists) (ns ms : List ℕ) (fs cs : Lists) → AreNumbers filters adverts ns ms fs cs → AreNumbers filters adverts ns ms (fs ++ []) (cs ++ [])
+numbers_all filters adverts ns ms fs cs a = record {
+  filter = subst (AreNumbersOf filters ns) (sym (append-nil fs)) a.filter;
+  advert = subst (AreNumbersOf adverts ms) (sym (append-nil cs)) a.advert;
 }
+
+-- the first number, and those behind it
+pub some_number : {T : Type 0} (known : List T) (numbers : List ℕ) (x : T) (xs : List T) → AreNumbersOf known numbers (x ∷ xs) → numbers ≢ []
+some_number known numbers x xs a e = subst (λ z. AreNumbersOf known z (x ∷ xs)) e a
+
+pub first_number : {T : Type 0} (known : List T) (numbers rest : List ℕ) (n : ℕ) (x : T) (xs : List T) → numbers ≡ n ∷ rest → AreNumbersOf known numbers (x ∷ xs)
+    → (slice_get known n ≡ Some x) × AreNumbersOf known rest xs
+first_number known numbers rest n x xs e a = subst (λ z. AreNumbersOf known z (x ∷ xs)) e a
 
 -- the publications of a step and of those behind it
 pub publications_next : (old new here rest final : List PublicationParts) → new ≡ old ++ here → old ++ (here ++ rest) ≡ final → new ++ rest ≡ final

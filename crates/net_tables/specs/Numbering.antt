@@ -1,21 +1,26 @@
 -- How the code numbers scripts; no promise to a caller speaks of it.
-use Rattle.std.specs.Prelude.{◌^◌, ◌<◌, List, length}
-use Rattle.base.specs.Sets.{Has, IsRising}
-use Rattle.filter_constraints.specs.Constraint.{ConstraintParts}
-use Rattle.filter_types.specs.Before.{list_before}
+use Rattle.std.specs.Prelude.{◌≡◌, ℕ, Bool, List, [], ◌∷◌, slice_get, Some}
+use Rattle.base.specs.Sets.{set_of}
+use Rattle.base_pool.specs.Pool.{Pooled, AreKeysOf}
 use Rattle.filter_text.specs.Messages.{Lists}
 use Rattle.net_tables.specs.Known.{PublicationParts}
 use Rattle.net_tables.specs.Numbered.{Catalogued}
 
--- lists that rise, not too many to be numbered
-pub record IsList (items : Lists) : Type 0 where
-  pub rising : IsRising list_before items
-  pub few : length items < 2 ^ 32
+-- the first of the numbers are the places of these items, one after the other
+abbrev pub AreNumbersOf : {T : Type 0} → List T → List ℕ → List T → Type 0
+AreNumbersOf known numbers [] = Unit {0}
+AreNumbersOf known [] (x ∷ xs) = ⊥
+AreNumbersOf known (n ∷ ns) (x ∷ xs) = (slice_get known n ≡ Some x) × AreNumbersOf known ns xs
 
--- all that commands name is there
-pub record HaveNamed (filters adverts named_filters named_adverts : Lists) : Type 0 where
-  pub filter : (f : List ConstraintParts) → Has f named_filters → Has f filters
-  pub advert : (a : List ConstraintParts) → Has a named_adverts → Has a adverts
+-- likewise, of the filters and of the advertisements that commands name
+pub record AreNumbers (filters adverts : Lists) (filter_numbers advert_numbers : List ℕ) (named_filters named_adverts : Lists) : Type 0 where
+  pub filter : AreNumbersOf filters filter_numbers named_filters
+  pub advert : AreNumbersOf adverts advert_numbers named_adverts
+
+-- a pool has exactly the items that are named, and the keys are theirs, in the order in which they are named
+pub record AreKept {T : Type 0} (before : T → T → Bool) (pool : Pooled T) (keys : List ℕ) (named : List T) : Type 0 where
+  pub items : pool.items ≡ set_of before named
+  pub at : AreKeysOf pool.slots keys named
 
 abbrev pub catalogue_of : Lists → Lists → List PublicationParts → Catalogued
 catalogue_of filters adverts publications = record { filters = filters; adverts = adverts; publications = publications }

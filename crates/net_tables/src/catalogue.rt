@@ -6,7 +6,7 @@ ghost use Rattle.net_tables.specs.Known.{known_filters};
 use crate::named;
 use crate::numbered::NumberedCommand;
 use crate::publication::Publication;
-use crate::scripts::number_all;
+use crate::scripts::{Numbers, number_all};
 use base::NoMemory;
 use base_bits::Row;
 use base_pool::Items;
@@ -85,14 +85,18 @@ impl<'a> Catalogue<'a> {
         ensures { IfOk result (λ catalogue. catalogue ≡ net.now) }
     {
         let filters = named::filters(alloc, &net.clients)?;
-        let matcher = matcher_of(alloc, net, &filters)?;
         let adverts = named::adverts(alloc, &net.clients)?;
+        let mut numbers = Numbers {
+            filters: &filters.numbers,
+            adverts: &adverts.numbers,
+        };
         let mut publications = Vec::new(alloc);
-        let scripts = number_all(alloc, &filters, &adverts, &mut publications, &net.clients)?;
+        let scripts = number_all(alloc, &mut numbers, &mut publications, &net.clients)?;
+        let matcher = matcher_of(alloc, net, &filters.items)?;
         Ok(Catalogue {
             net,
-            filters,
-            adverts,
+            filters: filters.items,
+            adverts: adverts.items,
             publications,
             scripts,
             matcher,

@@ -1,9 +1,9 @@
-use Rattle.std.proofs.Common.{◌≡◌, ◌++◌, [], take, ap, subst, ◌∙◌}
+use Rattle.std.proofs.Common.{◌≡◌, ◌++◌, ◌≤◌, ◌^◌, [], IfOk, take, length, sym, ap, subst, ◌∙◌}
 use Rattle.std.specs.List.{flat_map}
-use Rattle.base.specs.Sets.{set_of}
 use Rattle.filter_types.specs.Before.{list_before}
 use Rattle.net_tables.specs.Known.{script_adverts}
-use Rattle.net_tables.proofs.Kept.{named_next}
+use Rattle.net_tables.specs.Numbering.{AreKept, AreNumbersOf}
+use Rattle.net_tables.proofs.Kept.{named_next, all_kept, adverts_kept}
 use Rattle.net_tables.proofs.named.adverts.Goals as goal
 
 pub loop-client-preserved : goal.loop-client-preserved
@@ -11,7 +11,33 @@ loop-client-preserved c =
     let clients = c.args.clients.now in
     let i = c.loop-client.client-index in
     let client = c.client-item.result in
+    let kept = AreKept list_before c.keep_adverts.new.kept.pool c.keep_adverts.new.kept.keys.items in
     let script : c.deref.result.now ≡ client.script = c.deref.ensures.value ∙ ap (λ z. z.script) c.client.view_is in
     let done = flat_map (λ z. script_adverts z.script) (take i clients) in
-    named_next (λ z. script_adverts z.script) clients i client [] c.keep_adverts.new.pool.items c.loop-client-test.true c.client-item.is
-    (subst (λ z. c.keep_adverts.new.pool.items ≡ set_of list_before (done ++ script_adverts z)) script (c.in_ok-keep_adverts.ensures done c.loop-client.invariant))
+    named_next (λ z. script_adverts z.script) kept clients i client [] c.loop-client-test.true c.client-item.is
+    (subst (λ z. kept (done ++ script_adverts z)) script (c.in_ok-keep_adverts.ensures done c.loop-client.invariant))
+
+pub numbered-requires-clause-few : goal.numbered-requires-clause-few
+numbered-requires-clause-few c =
+    let pool = c.loop-client.kept.pool in
+    let keys = c.loop-client.kept.keys.items in
+    let clients = c.args.clients.now in
+    let are = all_kept (λ client. script_adverts client.script) clients c.loop-client.client-index pool keys c.loop-client-test.false c.loop-client.invariant in
+    subst (λ z. length z ≤ 2 ^ 32) (sym (adverts_kept clients pool keys are)) c.requires
+
+pub returns-clause-items : goal.returns-clause-items
+returns-clause-items c =
+    let pool = c.loop-client.kept.pool in
+    let keys = c.loop-client.kept.keys.items in
+    let clients = c.args.clients.now in
+    let are = all_kept (λ client. script_adverts client.script) clients c.loop-client.client-index pool keys c.loop-client-test.false c.loop-client.invariant in
+    subst (λ z. IfOk c.numbered.result (λ named. named.items ≡ z)) (adverts_kept clients pool keys are) c.numbered.ensures.items
+
+pub returns-clause-numbers : goal.returns-clause-numbers
+returns-clause-numbers c =
+    let pool = c.loop-client.kept.pool in
+    let keys = c.loop-client.kept.keys.items in
+    let clients = c.args.clients.now in
+    let named = flat_map (λ client. script_adverts client.script) clients in
+    let are = all_kept (λ client. script_adverts client.script) clients c.loop-client.client-index pool keys c.loop-client-test.false c.loop-client.invariant in
+    subst (λ z. IfOk c.numbered.result (λ r. AreNumbersOf z r.numbers.items named)) (adverts_kept clients pool keys are) (c.numbered.ensures.numbers named are)

@@ -1,12 +1,15 @@
 use Rattle.std.proofs.Common.{◌++◌, take}
+use Rattle.filter_types.specs.Before.{list_before}
 use Rattle.net_tables.specs.Known.{filters_in, script_filters}
-use Rattle.net_tables.proofs.Kept.{none_named, named_next}
+use Rattle.net_tables.specs.Numbering.{AreKept}
+use Rattle.net_tables.proofs.Kept.{none_kept, named_next}
 use Rattle.net_tables.proofs.named.keep_filters.Goals as goal
 
 pub loop-command-init : goal.loop-command-init
-loop-command-init c = λ named e. none_named named c.args.pool.now.items e
+loop-command-init c = λ named e. none_kept c.args.kept.now.pool c.args.kept.now.keys.items named e
 
 pub loop-command-preserved : goal.loop-command-preserved
 loop-command-preserved c = λ named e.
-    named_next (λ step. filters_in step.1) c.args.script.now c.loop-command.command-index c.loop-command-item.result named c.keep_filter.new.pool.items c.loop-command-test.true c.loop-command-item.is
+    named_next (λ step. filters_in step.1) (AreKept list_before c.keep_filter.new.kept.pool c.keep_filter.new.kept.keys.items) c.args.script.now c.loop-command.command-index c.loop-command-item.result named
+    c.loop-command-test.true c.loop-command-item.is
     (c.in_ok-keep_filter.ensures (named ++ script_filters (take c.loop-command.command-index c.args.script.now)) (c.loop-command.invariant named e))
