@@ -155,6 +155,13 @@ links-first (x ∷ xs) ys = let l = links-first xs ys in omega (arith, l)
 pub range-of : (core : CoreParts) → IsCore core → (n : ℕ) → Has n (client_numbers core.clients) → (1 ≤ n) × (n ≤ 1024)
 range-of core kept n m = let r = has-map (λ (s : SessionParts). s.client) core.clients n m in let w = kept.ids r.0 r.1 in let e = r.2 in (omega (arith, w.0, e), omega (arith, w.1, e))
 
+-- the interfaces' numbers
+pub interfaces-low : (core : CoreParts) → IsCore core → (i : ℕ) → Has i (interfaces_on core.control.links (client_numbers core.clients)) → i ≤ 64 + 1024
+interfaces-low core kept i m = elim (has-append i core.control.links (map (λ n. 64 + n) (client_numbers core.clients)) m) [
+  | inl l ↦ (let b = kept.links_small i l in omega (arith, b))
+  | inr a ↦ (let r = has-map (λ n. 64 + n) (client_numbers core.clients) i a in let b = (range-of core kept r.0 r.1).1 in let e = r.2 in omega (arith, b, e))
+]
+
 -- a ledger that was made on other links
 module _ (core : CoreParts) (held : List HeldLink) (first mid new : LedgerParts) (ok : AreHeldLinks held) (kept : IsCore core)
     (known-filters : (i : ℕ) (x : List ConstraintParts) → Has x (subs core.control i) → Has i (interfaces_on core.control.links (client_numbers core.clients)))

@@ -16,6 +16,7 @@ ghost use Rattle.server_message.specs.Message.{IsLoad, represented};
 ghost use Rattle.server_core.specs.Clients.{bare, client_numbers};
 ghost use Rattle.server_core.specs.Core.{core_parts, installed_from, without_inbox};
 ghost use Rattle.server_core.specs.Kept.{IsKept};
+ghost use Rattle.server_core.specs.Linked.{interfaces_on};
 ghost use Rattle.server_core.specs.Next.{GoesOut};
 ghost use Rattle.server_core.specs.Step.{MakesStep, last_stamp};
 ghost use Rattle.server_core.specs.Pending.{IsPending};
@@ -256,7 +257,9 @@ impl<'a> Core<'a> {
     /// The interfaces, rising: the neighbours, and 64 and the number of each client that lives here.
     pub fn interfaces(&self) -> &[u32]
         ensures interfaces { result.now ≡ self.now.interfaces }
+        ensures whole { self.now.interfaces ≡ interfaces_on self.now.control.links (client_numbers self.now.clients) }
         ensures rising { IsRising nat_lt self.now.interfaces }
+        ensures low { (i : ℕ) → Has i self.now.interfaces → i ≤ 64 + 1024 }
         ensures few { length self.now.interfaces < 2 ^ 32 }
     {
         self.ledger.interfaces()

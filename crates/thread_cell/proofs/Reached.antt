@@ -8,6 +8,7 @@ use Rattle.std.specs.Prelude.{Result, Ok, Err, IfOk}
 use Rattle.net_tables.specs.Known.{known_filters}
 use Rattle.match_routes.specs.Installed.{Installed}
 use Rattle.server_core.specs.Core.{CoreParts}
+use Rattle.server_core.proofs.Starting.{rising-few}
 use Rattle.thread_cell.specs.Kept.{AreReachable, IsWideFor, clients_among}
 use Rattle.base.proofs.Lists.{take-suc-some}
 use Rattle.base.proofs.Sets.{has-append, has-append-left, has-append-right, range-has, has-range, range-rises}
@@ -74,11 +75,11 @@ taken-client xs n x at b e =
     let more : take (n + 1) xs ≡ take n xs ++ x ∷ [] = rw add-one (take-suc-some xs n x at) in
     ap clients_among more ∙ among-more (take n xs) x ∙ ap (λ l. clients_among (take n xs) ++ l) (λ i. cond (e i) (x ∷ []) [])
 
--- all numbers of links, and then those of clients
-pub reachable : (interfaces all : List ℕ) → IsRising nat_lt interfaces → length all < 2 ^ 32 → all ≡ range_with_len 0 65 ++ clients_among interfaces → AreReachable interfaces all
-reachable interfaces all rising few e = record {
-  rising = subst (IsRising nat_lt) (sym e) (rising-joined (range_with_len 0 65) (clients_among interfaces) (range-rises 0 65) (among-rises interfaces rising) apart);
-  few = few;
+-- all numbers of links, and then those of clients, which are at most 1,024
+pub reachable : (interfaces all : List ℕ) → IsRising nat_lt interfaces → ((i : ℕ) → Has i interfaces → i ≤ 64 + 1024) → all ≡ range_with_len 0 65 ++ clients_among interfaces → AreReachable interfaces all
+reachable interfaces all rising low e = record {
+  rising = subst (IsRising nat_lt) (sym e) rises;
+  few = subst (λ l. length l < 2 ^ 32) (sym e) (let r = rising-few 0 1088 (range_with_len 0 65 ++ clients_among interfaces) rises (omega arith) (λ x m. omega arith) high in omega (arith, r));
   links = λ i le. subst (Has i) (sym e) (has-append-left i (range_with_len 0 65) (clients_among interfaces) (range-has 0 65 i (omega arith) (omega (arith, le))));
   reaches = λ i h. subst (Has i) (sym e) (elim (cases_lt 64 i) [
     | inl lt ↦ has-append-right i (range_with_len 0 65) (clients_among interfaces) (has-among i interfaces h (grind (arith, nat_tests, lt)))
@@ -91,6 +92,15 @@ reachable interfaces all rising few e = record {
       where
         less : (x y : ℕ) → x < 0 + 65 → 64 < y → nat_lt x y ≡ true
         less x y a b = grind (arith, nat_tests, a, b)
+
+    rises : IsRising nat_lt (range_with_len 0 65 ++ clients_among interfaces)
+    rises = rising-joined (range_with_len 0 65) (clients_among interfaces) (range-rises 0 65) (among-rises interfaces rising) apart
+
+    high : (i : ℕ) → Has i (range_with_len 0 65 ++ clients_among interfaces) → i ≤ 1088
+    high i m = elim (has-append i (range_with_len 0 65) (clients_among interfaces) m) [
+      | inl h ↦ (let l = (has-range 0 65 i h).1 in omega (arith, l))
+      | inr h ↦ (let l = low i (among-has i interfaces h).0 in omega (arith, l))
+    ]
 
 -- a forwarding of these interfaces is wide enough
 pub wide-of : (core : CoreParts) (width : ℕ) (all : List ℕ) (f : Installed) → f ≡ record { width = width; interfaces = all; pairs = [] } → width ≡ length (known_filters core.net.clients) → AreReachable core.interfaces all → IsWideFor core f

@@ -1,7 +1,8 @@
 -- A cell that is set on other links keeps what its type says.
-use Rattle.std.proofs.Common.{◌≡◌, ℕ, ◌≤◌, ◌<◌, ◌^◌, List, [], ◌++◌, length, map, drop, Some, slice_get, refl, sym, ap, subst, ◌∙◌, arith, Result, Ok, Err, OnErr, ◌⊎◌, inl, inr, append_assoc}
+use Rattle.std.proofs.Common.{◌≡◌, ℕ, ◌+◌, ◌≤◌, ◌<◌, ◌^◌, List, [], ◌++◌, length, map, drop, Some, slice_get, refl, sym, ap, subst, ◌∙◌, arith, Result, Ok, Err, OnErr, inl, inr, append_assoc}
 use Rattle.std.proofs.lemmas.List.{append-nil}
 use Rattle.base.specs.Sets.{Has}
+use Rattle.base.proofs.Sets.{has-append, has-append-right}
 use Rattle.law_machine.specs.Journals.{Cell, IsReplay}
 use Rattle.std.proofs.lemmas.List.{take_all}
 use Rattle.law_phases.specs.Trees.{net_at, entries_on}
@@ -15,7 +16,8 @@ use Rattle.server_spec.specs.declared.control.HeldLink.{HeldLink}
 use Rattle.server_spec.specs.Control.{Controlled, subs}
 use Rattle.server_core.specs.Core.{CoreParts, RepresentsServer, installed_from}
 use Rattle.server_core.specs.Ledger.{LedgerParts}
-use Rattle.server_core.specs.Linked.{SuitsCore, IsLinked, IsOnLinks}
+use Rattle.server_core.specs.Clients.{client_numbers}
+use Rattle.server_core.specs.Linked.{SuitsCore, IsLinked, IsOnLinks, interfaces_on}
 use Rattle.filter_constraints.specs.Constraint.{ConstraintParts}
 use Rattle.net_tables.specs.Known.{known_filters}
 use Rattle.server_spec.specs.Holdings.{held_from}
@@ -67,9 +69,12 @@ stays old new core links same shown journal = record {
   installed = shown;
 }
 
--- interfaces that are those of links, or a core's, are a forwarding's that is wide enough for the core
-pub reached-wide : (core : CoreParts) (f : Installed) (interfaces : List ℕ) → IsWideFor core f → ((i : ℕ) → Has i interfaces → (i ≤ 64) ⊎ Has i core.interfaces) → (i : ℕ) → Has i interfaces → Has i f.interfaces
-reached-wide core f interfaces wide reached i h = elim (reached i h) [ inl low ↦ wide.links i low | inr m ↦ wide.reaches i m ]
+-- the interfaces of a ledger that suits a core are a forwarding's that is wide enough for the core
+pub suits-wide : (core : CoreParts) (f : Installed) (ledger : LedgerParts) → core.interfaces ≡ interfaces_on core.control.links (client_numbers core.clients) → SuitsCore core ledger → IsWideFor core f → (i : ℕ) → Has i ledger.interfaces → Has i f.interfaces
+suits-wide core f ledger whole suits wide i h = elim (has-append i ledger.control.links (map (λ n. 64 + n) (client_numbers core.clients)) (subst (Has i) suits.interfaces h)) [
+  | inl m ↦ wide.links i (suits.small i m)
+  | inr m ↦ wide.reaches i (subst (Has i) (sym whole) (has-append-right i core.control.links (map (λ n. 64 + n) (client_numbers core.clients)) m))
+]
 
 -- on other links it holds too
 pub put-held : (old new : ServerInHand) (given : List HeldLink) (ledger : LedgerParts) (handed gone : List TableChange) → IsServerInHand old → IsSomeServer old.core → old.core.pending ≡ [] → neighbours_in new.links.items ≡ map (λ (h : HeldLink). h.link) given → Each IsNew new.links.items

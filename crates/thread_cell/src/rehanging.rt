@@ -1,6 +1,6 @@
 //! One server is set on other links: its publisher takes away what it holds from the old ones and puts what is held then, and
 //! installs that in one table update.
-ghost use Rattle.std.specs.Prelude.{◌≡◌, ◌≤◌, ◌⊎◌, ◌++◌, ◌∷◌, [], ℕ, List, map, OnOk, OnErr, IsTrue};
+ghost use Rattle.std.specs.Prelude.{◌≡◌, ◌≤◌, ◌++◌, ◌∷◌, [], ℕ, List, map, OnOk, OnErr};
 ghost use Rattle.base.specs.Sets.{Has};
 ghost use Rattle.match_routes.specs.declared.table_change.TableChange.{TableChange as ChangeParts};
 ghost use Rattle.match_routes.specs.Installed.{IsKnown, pair_in};
@@ -20,7 +20,6 @@ use crate::held::ServerInHand;
 use crate::link::Link;
 use crate::table_update::{hand, hand_over, mend};
 use base::NoMemory;
-use law_routing::is_link;
 use match_routes::TableChange;
 use server_control::HeldLink;
 use server_core::Core;
@@ -96,18 +95,6 @@ fn withdraw_all(
     Ok(())
 }
 
-/// Whether all of these interfaces that aren't links' are among those that are reached.
-fn are_reached(reached: &[u32], interfaces: &[u32]) -> bool
-    ensures { IsTrue result → (i : ℕ) → Has i interfaces.now → (i ≤ 64) ⊎ Has i reached.now }
-{
-    for interface in interfaces {
-        if !is_link(*interface) && !reached.contains(interface) {
-            return false;
-        }
-    }
-    true
-}
-
 /// Takes away what is held from links, puts these changes, and installs that.
 fn republish<R: Wait>(
     rt: &R,
@@ -138,8 +125,7 @@ fn republish<R: Wait>(
 
 /// Sets a server on other links, of which this is given, over these lanes. It receives no message and makes no entry; what is
 /// held is installed. After a fault all is as before, but that some changes may have been handed to the publisher, which
-/// has installed none of them. Where the server's clients had other interfaces then, which no change of tree gives them, the
-/// answer is out of memory.
+/// has installed none of them.
 pub(crate) fn put_on<'a, R: Wait>(
     rt: &R,
     alloc: Global,
@@ -159,9 +145,7 @@ pub(crate) fn put_on<'a, R: Wait>(
     ensures still { OnErr result ((journal : List EntryParts) → IsStill held.old held.new journal journal) }
 {
     let relinked = held.core.relinked(given)?;
-    if !are_reached(held.core.interfaces(), relinked.interfaces()) {
-        return Err(NoMemory);
-    }
+    let _whole = held.core.interfaces();
     let _calm = held.core.pending();
     relinked.lemma_sound();
     mend(alloc, &mut held.publisher, &mut held.handed, &held.core)?;

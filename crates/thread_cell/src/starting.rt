@@ -121,9 +121,6 @@ fn reachable(alloc: Global, core: &Core<'_>) -> Result<Vec<u32>, NoMemory>
         all.push(link)?;
     }
     put_above(&mut all, core.interfaces())?;
-    if all.len() > u32::MAX as usize {
-        return Err(NoMemory);
-    }
     Ok(all)
 }
 

@@ -1,4 +1,4 @@
-use Rattle.std.proofs.Common.{◌≡◌, ◌++◌, [], ◌≤◌, ◌⊎◌, refl, sym, ap, subst, ◌∙◌}
+use Rattle.std.proofs.Common.{◌≡◌, ◌++◌, [], refl, sym, ap, subst, ◌∙◌}
 use Rattle.base.specs.Sets.{Has}
 use Rattle.thread_versions.specs.Ends.{installed, forwarding_of}
 use Rattle.net_model.specs.Parts.{NetParts}
@@ -9,14 +9,11 @@ use Rattle.thread_cell.specs.Relinking.{AreTaken}
 use Rattle.thread_cell.proofs.HandOver.{pending-known, known-later}
 use Rattle.thread_cell.proofs.Turnover.{small-links}
 use Rattle.thread_cell.proofs.Shown.{same-one, same-on, wide-later}
-use Rattle.thread_cell.proofs.Rehung.{still-held, put-held, stays, on-err, reached-wide}
+use Rattle.thread_cell.proofs.Rehung.{still-held, put-held, stays, on-err, suits-wide}
 use Rattle.thread_cell.proofs.rehanging.put_on.Goals as goal
 
 pub returns-in_err-relinked-clause-still : goal.returns-in_err-relinked-clause-still
 returns-in_err-relinked-clause-still g c = on-err _ (stays c.args.held.now _ refl refl (same-one _) refl)
-
-pub returns-then-not-are_reached-clause-still : goal.returns-then-not-are_reached-clause-still
-returns-then-not-are_reached-clause-still g c = stays c.args.held.now _ refl refl (same-one _) refl
 
 pub mend-requires-clause-handed : goal.mend-requires-clause-handed
 mend-requires-clause-handed g c = c.requires.held.handed
@@ -39,8 +36,7 @@ republish-requires-clause-small g c link h =
 
 pub republish-requires-clause-known : goal.republish-requires-clause-known
 republish-requires-clause-known g c change h =
-    let reaches = reached-wide c.args.held.now.core (forwarding_of c.args.held.now.publisher) c.in_ok-relinked.relinked.interfaces c.requires.held.shown.wide
-    (λ i m. subst (λ l. (i ≤ 64) ⊎ Has i l) c.interfaces.ensures.interfaces (c.are_reached.ensures c.if-not-are_reached.false i (subst (Has i) (sym c.interfaces-2.ensures.interfaces) m))) in
+    let reaches = suits-wide c.args.held.now.core (forwarding_of c.args.held.now.publisher) c.in_ok-relinked.relinked c.interfaces-whole.ensures.whole c.in_ok-relinked.ensures.suits c.requires.held.shown.wide in
     known-later c.args.held.now.publisher c.mend.new.publisher change c.mend.ensures.same.0
     (pending-known c.args.held.now.core (forwarding_of c.args.held.now.publisher) _ _ _ _ c.in_ok-relinked.relinked.pending c.requires.held.shown.wide (ap (λ (n : NetParts). known_filters n.clients) c.in_ok-relinked.ensures.suits.net) reaches c.pending.ensures.pending change (subst (Has change) c.pending.ensures.changes h))
 
@@ -56,8 +52,7 @@ pub returns-clause-held : goal.returns-clause-held
 returns-clause-held g c =
     let w = c.in_ok-republish.ensures.all in
     let taken = subst (λ l. AreTaken (known_filters c.args.held.now.core.net.clients) c.args.held.now.core.control (neighbours_in l) w.0) c.deref.ensures.value w.2 in
-    let reaches = reached-wide c.args.held.now.core (forwarding_of c.args.held.now.publisher) c.in_ok-relinked.relinked.interfaces c.requires.held.shown.wide
-    (λ i m. subst (λ l. (i ≤ 64) ⊎ Has i l) c.interfaces.ensures.interfaces (c.are_reached.ensures c.if-not-are_reached.false i (subst (Has i) (sym c.interfaces-2.ensures.interfaces) m))) in
+    let reaches = suits-wide c.args.held.now.core (forwarding_of c.args.held.now.publisher) c.in_ok-relinked.relinked c.interfaces-whole.ensures.whole c.in_ok-relinked.ensures.suits c.requires.held.shown.wide in
     put-held c.args.held.now _ (held_in c.args.given.now) c.in_ok-relinked.relinked c.mend.new.handed.items w.0 c.requires.held c.requires.stands c.requires.calm c.requires.names c.requires.new
     c.pending-calm.ensures.pending c.in_ok-mend.ensures.mended c.in_ok-relinked.ensures.linked c.in_ok-relinked.ensures.suits c.relink-before.ensures.core taken c.pending.ensures.pending c.in_ok-relinked.ensures.installed c.lemma_sound.ensures.known reaches
     (same-on c.args.held.now.publisher c.mend.new.publisher _ c.mend.ensures.same.0 c.republish.ensures.same)

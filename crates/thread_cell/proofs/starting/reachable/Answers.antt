@@ -10,5 +10,5 @@ loop-link-preserved c = c.in_ok-push.ensures.items ∙ ap (λ l. l ++ c.loop-lin
 pub returns : goal.returns
 returns c =
     let end : c.loop-link.link ≡ 65 = omega (arith, c.loop-link-test.false) in
-    reachable c.args.core.now.interfaces c.put_above.new.all.items c.interfaces.ensures.rising (omega (arith, c.if-len.false, c.len.ensures))
+    reachable c.args.core.now.interfaces c.put_above.new.all.items c.interfaces.ensures.rising c.interfaces.ensures.low
     (c.in_ok-put_above.ensures ∙ ap (λ l. l ++ clients_among c.interfaces.result.now) (c.loop-link.invariant ∙ ap (range_with_len 0) end) ∙ ap (λ l. range_with_len 0 65 ++ clients_among l) c.interfaces.ensures.interfaces)
