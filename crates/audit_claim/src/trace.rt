@@ -9,7 +9,7 @@ use crate::fault::ClaimFault;
 use crate::line::{TraceLine, begins_trace, is_trace_head, trace_line};
 use crate::output::next_line;
 use net_model::{Net, Turn};
-use std::alloc::Global;
+use std::alloc::{AllocFailed, Global};
 
 // The lines behind the first of the trace, with the number of the first of them, in an output whose first line has this number.
 fn behind_head(first: u32, output: &[u8]) -> Result<(u32, &[u8]), ClaimFault>
@@ -46,7 +46,7 @@ fn take_line(
         Some(TraceLine::Message) => Ok(()),
         Some(TraceLine::Entry(turn)) => match turns.push((n, turn)) {
             Ok(()) => Ok(()),
-            Err(_) => Err(ClaimFault::NoMemory),
+            Err(AllocFailed { value: _ }) => Err(ClaimFault::NoMemory),
         },
     }
 }

@@ -7,3 +7,4 @@ pub mod Chain
 pub mod Same
 pub mod Telling
 pub mod Tallies
+pub mod Few

@@ -30,7 +30,7 @@ text-notice (Subs out add) = refl
 text-notice (Advs out add) = refl
 text-notice (Noticed p o n) = refl
 
-sum-append : {X : Type 0} (f : X → ℕ) (xs ys : List X) → sum_over f (xs ++ ys) ≡ sum_over f xs + sum_over f ys
+pub sum-append : {X : Type 0} (f : X → ℕ) (xs ys : List X) → sum_over f (xs ++ ys) ≡ sum_over f xs + sum_over f ys
 sum-append f [] ys = omega arith
 sum-append f (x ∷ xs) ys = omega (arith, sum-append f xs ys)
 
@@ -42,21 +42,21 @@ to-one to link (m ∷ ms) e =
     omega (arith, first, to-one to link ms e)
 
 -- and to another
-to-other : (to link : ℕ) (ms : List (Message real)) → (link ≡ to → ⊥) → sent_to is_notice to (map (text_to link) ms) ≡ 0
-to-other to link [] n = refl
-to-other to link (m ∷ ms) n =
-    let first : count ((link == to) && is_notice (message_text (wired m))) ≡ 0 = rw (ne_eqb link to n) refl in
-    omega (arith, first, to-other to link ms n)
+pub to-other : (test : List ℕ → Bool) (to link : ℕ) (ms : List (Message real)) → (link ≡ to → ⊥) → sent_to test to (map (text_to link) ms) ≡ 0
+to-other test to link [] n = refl
+to-other test to link (m ∷ ms) n =
+    let first : count ((link == to) && test (message_text (wired m))) ≡ 0 = rw (ne_eqb link to n) refl in
+    omega (arith, first, to-other test to link ms n)
 
 module _ (messages : ℕ → List (Message real)) (to : ℕ) where
-  none-to : (links : List ℕ) → (Has to links → ⊥) → sent_to is_notice to (texts messages links) ≡ 0
-  none-to [] n = refl
-  none-to (link ∷ links) n =
+  pub none-to : (test : List ℕ → Bool) (links : List ℕ) → (Has to links → ⊥) → sent_to test to (texts messages links) ≡ 0
+  none-to test [] n = refl
+  none-to test (link ∷ links) n =
       omega (
         arith,
-        sum-append (λ (m : Sent). count ((m.to == to) && is_notice m.bytes)) (map (text_to link) (messages link)) (texts messages links),
-        to-other to link (messages link) (λ e. n (inl (sym e))),
-        none-to links (λ h. n (inr h)),
+        sum-append (λ (m : Sent). count ((m.to == to) && test m.bytes)) (map (text_to link) (messages link)) (texts messages links),
+        to-other test to link (messages link) (λ e. n (inl (sym e))),
+        none-to test links (λ h. n (inr h)),
       )
 
   all-to : (links : List ℕ) → Has to links → IsDistinct links → sent_to is_notice to (texts messages links) ≡ notices real (messages to)
@@ -67,9 +67,9 @@ module _ (messages : ℕ → List (Message real)) (to : ℕ) where
       whole = sum-append (λ (m : Sent). count ((m.to == to) && is_notice m.bytes)) (map (text_to link) (messages link)) (texts messages links)
 
       go : Same link to → Has to (link ∷ links) → (Has to links → sent_to is_notice to (texts messages links) ≡ notices real (messages to)) → sent_to is_notice to (texts messages (link ∷ links)) ≡ notices real (messages to)
-      go (Is p v) h ih = omega (arith, whole, to-one to link (messages link) p, none-to links (λ i. d.0 (subst (λ z. Has z links) (sym p) i)), ap (λ z. notices real (messages z)) p)
+      go (Is p v) h ih = omega (arith, whole, to-one to link (messages link) p, none-to is_notice links (λ i. d.0 (subst (λ z. Has z links) (sym p) i)), ap (λ z. notices real (messages z)) p)
       go (Not m v) (inl e) ih = absurd (m (sym e))
-      go (Not m v) (inr i) ih = omega (arith, whole, to-other to link (messages link) m, ih i)
+      go (Not m v) (inr i) ih = omega (arith, whole, to-other is_notice to link (messages link) m, ih i)
 
 module _ (run : PhasedRun real) where
   -- an entry's texts for a link tell as many notifications as it puts there
@@ -85,7 +85,7 @@ module _ (run : PhasedRun real) where
       here v p true e =
           all-to (messages_at real run n (entry_of entry)) to ((net_seen real run n).links entry.server) (one-has to ((net_seen real run n).links entry.server) e) ((net-laws real run.net run.laws (phase_seen real run n)).tree.single entry.server)
           ∙ rw v refl
-      here v p false e = none-to (messages_at real run n (entry_of entry)) to ((net_seen real run n).links entry.server) (λ h. (let x = has-one to ((net_seen real run n).links entry.server) h in let y : true ≡ false = sym x ∙ e in absurd cc)) ∙ elim (puts-one real real_laws run n (entry_of entry) is from to) [
+      here v p false e = none-to (messages_at real run n (entry_of entry)) to is_notice ((net_seen real run n).links entry.server) (λ h. (let x = has-one to ((net_seen real run n).links entry.server) h in let y : true ≡ false = sym x ∙ e in absurd cc)) ∙ elim (puts-one real real_laws run n (entry_of entry) is from to) [
         | inl s ↦ sym s.none
         | inr s ↦ absurd (let x = has-one to ((net_seen real run n).links entry.server) (subst (λ z. Has to ((net_seen real run n).links z)) (sym s.server) s.near) in let y : true ≡ false = sym x ∙ e in cc)
       ]

@@ -22,12 +22,12 @@ fn is_notice(text: &[u8]) -> bool
 }
 
 impl Carried {
-    ghost use Rattle.std.specs.Prelude.{◌≡◌, ◌+◌, ◌≤◌, ◌&&◌, ◌++◌, ◌∷◌, [], ℕ, List, length, IfOk, OnOk};
+    ghost use Rattle.std.specs.Prelude.{◌≡◌, ◌&&◌, ◌++◌, ◌∷◌, [], ℕ, List, length, IfOk, OnOk};
     ghost use Rattle.base.specs.Numbers.{count};
     ghost use Rattle.filter_text.specs.declared.sent.Sent.{Sent as SentParts};
     ghost use Rattle.net_model.specs.Parts.{EntryParts};
     ghost use Rattle.output_traffic.specs.Carried.{is_change, is_notice, put_on};
-    ghost use Rattle.output_traffic.specs.Counts.{count_at, is_direction};
+    ghost use Rattle.output_traffic.specs.Counts.{IsRaised, is_direction};
     ghost use Rattle.output_traffic.specs.Tallied.{Carries};
 
     /// Nothing is carried.
@@ -41,11 +41,9 @@ impl Carried {
     }
 
     // One message more, by its text.
-    fn add_text(&mut self, server: u32, to: u32, text: &[u8]) -> Result<(), NoMemory>
-        ensures notices { OnOk result ((a b : ℕ) → a ≤ 64 → b ≤ 64 → count_at self.new.notices a b
-            ≡ count_at self.old.notices a b + count (is_direction server to a b && is_notice text.now)) }
-        ensures changes { OnOk result ((a b : ℕ) → a ≤ 64 → b ≤ 64 → count_at self.new.changes a b
-            ≡ count_at self.old.changes a b + count (is_direction server to a b && is_change text.now)) }
+    fn add_text(&mut self, server: u32, to: u32, text: &[u8])
+        ensures notices { (a b : ℕ) → IsRaised self.old.notices self.new.notices a b (count (is_direction server to a b && is_notice text.now)) }
+        ensures changes { (a b : ℕ) → IsRaised self.old.changes self.new.changes a b (count (is_direction server to a b && is_change text.now)) }
     {
         if is_notice(text) {
             self.notices.add(server, to)
@@ -56,22 +54,21 @@ impl Carried {
 
     // One message more.
     fn add_message(&mut self, alloc: Global, server: u32, message: &Sent) -> Result<(), NoMemory>
-        ensures notices { OnOk result ((a b : ℕ) → a ≤ 64 → b ≤ 64 → count_at self.new.notices a b
-            ≡ count_at self.old.notices a b + count (is_direction server message.now.to a b && is_notice message.now.bytes)) }
-        ensures changes { OnOk result ((a b : ℕ) → a ≤ 64 → b ≤ 64 → count_at self.new.changes a b
-            ≡ count_at self.old.changes a b + count (is_direction server message.now.to a b && is_change message.now.bytes)) }
+        ensures notices { OnOk result ((a b : ℕ)
+            → IsRaised self.old.notices self.new.notices a b (count (is_direction server message.now.to a b && is_notice message.now.bytes))) }
+        ensures changes { OnOk result ((a b : ℕ)
+            → IsRaised self.old.changes self.new.changes a b (count (is_direction server message.now.to a b && is_change message.now.bytes))) }
     {
         let mut text = Vec::new(alloc);
         message.bytes.push(&mut text)?;
-        self.add_text(server, message.to, &text)
+        self.add_text(server, message.to, &text);
+        Ok(())
     }
 
     // The messages of one step more of a server.
     fn add_messages(&mut self, alloc: Global, server: u32, sent: &[Sent]) -> Result<(), NoMemory>
-        ensures notices { OnOk result ((a b : ℕ) → a ≤ 64 → b ≤ 64 → count_at self.new.notices a b
-            ≡ count_at self.old.notices a b + put_on is_notice server sent.now a b) }
-        ensures changes { OnOk result ((a b : ℕ) → a ≤ 64 → b ≤ 64 → count_at self.new.changes a b
-            ≡ count_at self.old.changes a b + put_on is_change server sent.now a b) }
+        ensures notices { OnOk result ((a b : ℕ) → IsRaised self.old.notices self.new.notices a b (put_on is_notice server sent.now a b)) }
+        ensures changes { OnOk result ((a b : ℕ) → IsRaised self.old.changes self.new.changes a b (put_on is_change server sent.now a b)) }
     {
         for message in sent {
             self.add_message(alloc, server, message)?;

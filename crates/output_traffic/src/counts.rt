@@ -6,7 +6,7 @@ use std::marker::Model;
 /// How many directions there are between numbers up to 64.
 const PLACES: usize = 4225;
 
-/// Counts of the directions between servers, which are numbered up to 64. Contracts see the list of them.
+/// Counts of the directions between servers, which are numbered up to 64. A count stops at 2^32 - 1. Contracts see the list of them.
 #[derive(Drop)]
 pub(crate) struct Counts {
     cells: Vec<u32>,
@@ -24,9 +24,9 @@ impl Model for Counts {
 }
 
 impl Counts {
-    ghost use Rattle.std.specs.Prelude.{◌≡◌, ◌+◌, ◌≤◌, ◌<◌, ℕ, IfOk, OnOk, length, slice_set, slice_index};
+    ghost use Rattle.std.specs.Prelude.{◌≡◌, ◌+◌, ◌≤◌, ◌<◌, ◌^◌, ℕ, IfOk, length, slice_set, slice_index};
     ghost use Rattle.base.specs.Numbers.{count};
-    ghost use Rattle.output_traffic.specs.Counts.{AreCounts, count_at, is_direction};
+    ghost use Rattle.output_traffic.specs.Counts.{AreCounts, IsRaised, count_at, is_direction};
 
     /// Nothing is counted.
     pub(crate) fn none(alloc: Global) -> Result<Counts, NoMemory>
@@ -37,30 +37,24 @@ impl Counts {
         })
     }
 
-    // One more at a place. No memory holds a run that has more than a cell does.
-    fn raise(&mut self, place: usize) -> Result<(), NoMemory>
+    // One more at a place, as far as a cell counts.
+    fn raise(&mut self, place: usize)
         requires { place < 4225 }
-        ensures more { OnOk result (self.new ≡ slice_set self.old place (slice_index self.old place + 1)) }
+        ensures more { slice_index self.old place + 1 < 2 ^ 32 → self.new ≡ slice_set self.old place (slice_index self.old place + 1) }
+        ensures full { 2 ^ 32 ≤ slice_index self.old place + 1 → self.new ≡ slice_set self.old place (slice_index self.old place) }
         ensures places { length self.old ≡ 4225 }
     {
-        match self.cells[place].checked_add(1) {
-            Some(more) => {
-                self.cells[place] = more;
-                Ok(())
-            }
-            None => Err(NoMemory),
-        }
+        self.cells[place] = self.cells[place].saturating_add(1);
     }
 
-    /// One more on the direction between two servers; what is no server's number is not counted.
-    pub(crate) fn add(&mut self, a: u32, b: u32) -> Result<(), NoMemory>
-        ensures { OnOk result ((from to : ℕ) → from ≤ 64 → to ≤ 64
-            → count_at self.new from to ≡ count_at self.old from to + count (is_direction a b from to)) }
+    /// One more on the direction between two servers, as far as it is counted; what is no server's number is not counted.
+    pub(crate) fn add(&mut self, a: u32, b: u32)
+        ensures { (from to : ℕ) → IsRaised self.old self.new from to (count (is_direction a b from to)) }
     {
         if a > 64 || b > 64 {
-            return Ok(());
+            return;
         }
-        self.raise((a * 65 + b) as usize)
+        self.raise((a * 65 + b) as usize);
     }
 
     /// The count of a direction.

@@ -9,7 +9,7 @@ ghost use Rattle.net_model.specs.Real.{real};
 ghost use Rattle.net_model.specs.Meaning.{command_of, phased_command};
 ghost use Rattle.net_model.specs.Nets.{first_tree, of_clients, phased_net};
 ghost use Rattle.net_model.specs.Sound.{IsAmong, IsSound};
-ghost use Rattle.output_traffic.specs.Counts.{AreCounts, count_at};
+ghost use Rattle.output_traffic.specs.Counts.{AreCounts, IsRaised};
 ghost use Rattle.output_traffic.specs.Flood.{accepted_phases, flood_on, is_accepted, is_flooded, refused_of};
 ghost use Rattle.output_traffic.specs.Going.{client_flood, is_first, phases_flood};
 
@@ -87,31 +87,27 @@ fn accepted(alloc: Global, script: &[(u32, Command)], refused: &[u32]) -> Result
 }
 
 // A publication of a server: once over each link of its tree, away from there.
-fn add_publication(counts: &mut Counts, tree: &Tree, home: u32) -> Result<(), NoMemory>
+fn add_publication(counts: &mut Counts, tree: &Tree, home: u32)
     requires { IsServer tree.now home }
-    ensures { OnOk result ((from to : ℕ) → from ≤ 64 → to ≤ 64
-        → count_at counts.new from to ≡ count_at counts.old from to + count (is_flooded tree.now home from to)) }
+    ensures { (from to : ℕ) → IsRaised counts.old counts.new from to (count (is_flooded tree.now home from to)) }
 {
     tree.lemma_laws();
     for b in 1..tree.servers() + 1 {
         if b != home {
-            counts.add(tree.next_hop(b, home), b)?;
+            counts.add(tree.next_hop(b, home), b);
         }
     }
-    Ok(())
 }
 
 // The publications of these phases, of a server.
-fn add_phases(counts: &mut Counts, net: &Net, home: u32, phases: &[u32]) -> Result<(), NoMemory>
+fn add_phases(counts: &mut Counts, net: &Net, home: u32, phases: &[u32])
     requires sound { IsSound net.now }
     requires home { IsAmong (first_tree net.now.trees).count home }
-    ensures { OnOk result ((from to : ℕ) → from ≤ 64 → to ≤ 64
-        → count_at counts.new from to ≡ count_at counts.old from to + phases_flood net.now home phases.now from to) }
+    ensures { (from to : ℕ) → IsRaised counts.old counts.new from to (phases_flood net.now home phases.now from to) }
 {
     for phase in phases {
-        add_publication(counts, net.tree(*phase), home)?;
+        add_publication(counts, net.tree(*phase), home);
     }
-    Ok(())
 }
 
 // The publications of a client, by the ordinals of those that are refused.
@@ -125,11 +121,11 @@ fn add_client(
     requires sound { IsSound net.now }
     requires home { IsAmong (first_tree net.now.trees).count client.now.home }
     requires refused { refused.now ≡ refused_from real (net_at real (phased_net net.now) 0) [] 0 (map phased_command client.now.script) }
-    ensures { OnOk result ((from to : ℕ) → from ≤ 64 → to ≤ 64
-        → count_at counts.new from to ≡ count_at counts.old from to + client_flood net.now client.now from to) }
+    ensures { OnOk result ((from to : ℕ) → IsRaised counts.old counts.new from to (client_flood net.now client.now from to)) }
 {
     let phases = accepted(alloc, &client.script, refused)?;
-    add_phases(counts, net, client.home, &phases)
+    add_phases(counts, net, client.home, &phases);
+    Ok(())
 }
 
 /// What plain flooding puts on each link of a net, by the ordinals of each client's refused publishes.

@@ -1,5 +1,5 @@
 //! Lists the links of a net.
-ghost use Rattle.std.specs.Prelude.{◌≡◌, ◌≤◌, ◌++◌, ◌&&◌, ℕ, nat_lt, IfOk, OnOk};
+ghost use Rattle.std.specs.Prelude.{◌≡◌, ◌≤◌, ◌+◌, ◌++◌, ◌&&◌, ℕ, nat_lt, length, IfOk, OnOk};
 ghost use Rattle.base.specs.Sets.{Has};
 ghost use Rattle.base_tree.specs.Graph.{servers_to};
 ghost use Rattle.base_tree.specs.Tree.{IsServer, Topology};
@@ -55,7 +55,8 @@ fn push_links(
 ) -> Result<(), NoMemory>
     requires server { (tree : ℕ × Topology) → Has tree trees.now → IsServer tree.1 a }
     requires few { count ≤ 64 }
-    ensures { OnOk result (links.new.items ≡ links.old.items ++ links_from trees.now (servers_to count) a) }
+    ensures links { OnOk result (links.new.items ≡ links.old.items ++ links_from trees.now (servers_to count) a) }
+    ensures most { OnOk result (length links.new.items ≤ length links.old.items + 64) }
 {
     for b in 1..count + 1 {
         if is_link_up(trees, a, b) {
@@ -77,7 +78,8 @@ pub(crate) fn servers(net: &Net) -> u32
 /// The links of a net: those of all its trees, each once from its lesser end, by rising ends.
 pub(crate) fn links(alloc: Global, net: &Net) -> Result<Vec<(u32, u32)>, NoMemory>
     requires { IsSound net.now }
-    ensures { IfOk result (λ links. links.items ≡ links_in net.now) }
+    ensures links { IfOk result (λ links. links.items ≡ links_in net.now) }
+    ensures few { IfOk result (λ links. length links.items ≤ 4096) }
 {
     let mut links = Vec::new(alloc);
     let count = servers(net);

@@ -1,10 +1,9 @@
 //! Counts what each link carried, beside what flooding puts there.
-ghost use Rattle.std.specs.Prelude.{◌≡◌, ◌+◌, IfOk};
+ghost use Rattle.std.specs.Prelude.{◌≡◌, ◌≤◌, length};
 ghost use Rattle.output_traffic.specs.Counts.{count_at};
 ghost use Rattle.output_traffic.specs.Text.{in_all};
 
 use crate::counts::Counts;
-use base::NoMemory;
 
 /// What the link from one server to another carried: notifications, those that plain flooding puts there, and messages on
 /// filters and advertisements.
@@ -45,24 +44,15 @@ impl LoadCounts {
     }
 }
 
-// A sum with one more; no memory holds a run whose counts are past it.
-fn plus(sum: u64, more: u32) -> Result<u64, NoMemory>
-    ensures { IfOk result (λ total. total ≡ sum + more) }
-{
-    match sum.checked_add(u64::from(more)) {
-        Some(total) => Ok(total),
-        None => Err(NoMemory),
-    }
-}
-
 /// The sum of counts over both directions of each link.
-pub(crate) fn total(counts: &Counts, links: &[(u32, u32)]) -> Result<u64, NoMemory>
-    ensures { IfOk result (λ total. total ≡ in_all (count_at counts.now) links.now) }
+pub(crate) fn total(counts: &Counts, links: &[(u32, u32)]) -> u64
+    requires { length links.now ≤ 4096 }
+    ensures { result ≡ in_all (count_at counts.now) links.now }
 {
     let mut total = 0;
     for (a, b) in links {
-        total = plus(total, counts.get(*a, *b))?;
-        total = plus(total, counts.get(*b, *a))?;
+        total += u64::from(counts.get(*a, *b));
+        total += u64::from(counts.get(*b, *a));
     }
-    Ok(total)
+    total
 }

@@ -1,6 +1,5 @@
 //! The type of the traffic of a run, kept until it is written.
-ghost use Rattle.std.specs.Prelude.{◌≡◌, ℕ, List, IfOk};
-ghost use Rattle.base_devices.specs.Pending.{outlet, Went};
+ghost use Rattle.std.specs.Prelude.{◌≡◌, ◌≤◌, length};
 ghost use Rattle.output_traffic.specs.Printed.{totals_of};
 
 use crate::carried::Carried;
@@ -25,14 +24,15 @@ pub(crate) struct Totals {
 }
 
 // The sums of counts over links.
-fn sums(loads: &LoadCounts, links: &[(u32, u32)]) -> Result<Totals, NoMemory>
-    ensures { IfOk result (λ totals. totals ≡ totals_of loads.now links.now) }
+fn sums(loads: &LoadCounts, links: &[(u32, u32)]) -> Totals
+    requires { length links.now ≤ 4096 }
+    ensures { result ≡ totals_of loads.now links.now }
 {
-    Ok(Totals {
-        notices: total(&loads.notices, links)?,
-        flood: total(&loads.flood, links)?,
-        messages: total(&loads.messages, links)?,
-    })
+    Totals {
+        notices: total(&loads.notices, links),
+        flood: total(&loads.flood, links),
+        messages: total(&loads.messages, links),
+    }
 }
 
 /// What each link of a net carried in a run, beside what plain flooding puts there, kept until it is written as a text or as a
@@ -70,7 +70,7 @@ impl Traffic {
     ghost use Rattle.net_model.specs.Parts.{EntryParts};
     ghost use Rattle.net_model.specs.Sound.{IsSound};
     ghost use Rattle.output_traffic.specs.Flood.{refused_of};
-    ghost use Rattle.output_traffic.specs.Tallied.{Carries};
+    ghost use Rattle.output_traffic.specs.Tallied.{AreFew, Carries};
     ghost use Rattle.output_traffic.specs.Text.{loads_of, traffic_printed};
 
     /// The traffic of a run of a net, by what its entries put on each link and by the ordinals of each client's refused
@@ -85,7 +85,7 @@ impl Traffic {
         requires sound { IsSound net }
         requires refused { refused.now ≡ of_clients net (refused_of net) }
         ensures { IfOk result (λ traffic. (journal : List EntryParts) (outs : List (List Sent))
-            → Carries carried journal outs → traffic ≡ traffic_printed graph net (loads_of net journal outs)) }
+            → Carries carried journal outs → AreFew journal outs → traffic ≡ traffic_printed graph net (loads_of net journal outs)) }
     {
         let flood = flooding(alloc, &net, refused)?;
         let links = links(alloc, &net)?;
@@ -95,7 +95,7 @@ impl Traffic {
             flood,
             messages: carried.changes,
         };
-        let totals = sums(&loads, &links)?;
+        let totals = sums(&loads, &links);
         Ok(Traffic {
             net,
             servers,

@@ -12,11 +12,8 @@ add_publication-requires c =
     (c.requires.home.0, omega (arith, c.requires.home.1, ap (λ t. t.count) c.tree.ensures, count-at c.args.net.now c.requires.sound phase))
 
 pub loop-phase-preserved : goal.loop-phase-preserved
-loop-phase-preserved c from to lf lt =
-    omega (
-      arith,
-      c.loop-phase.invariant from to lf lt,
-      c.in_ok-add_publication.ensures from to lf lt,
-      ap (λ t. count (is_flooded t c.args.home from to)) c.tree.ensures,
-      sum-next (λ phase. count (is_flooded (topology_at c.args.net.now phase) c.args.home from to)) c.args.phases.now c.loop-phase.phase-index 0 c.loop-phase-test.true,
-    )
+loop-phase-preserved c from to lf lt small =
+    let kept = c.loop-phase.invariant from to lf lt small in
+    let tree = ap (λ t. count (is_flooded t c.args.home from to)) c.tree.ensures in
+    let next = sum-next (λ phase. count (is_flooded (topology_at c.args.net.now phase) c.args.home from to)) c.args.phases.now c.loop-phase.phase-index 0 c.loop-phase-test.true in
+    omega (arith, kept, tree, next, c.add_publication.ensures from to lf lt (omega (arith, small, kept, tree, next)))

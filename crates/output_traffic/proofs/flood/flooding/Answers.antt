@@ -3,7 +3,7 @@ use Rattle.output_traffic.proofs.Clients.{flood-is, lives, refused-at, refused-l
 use Rattle.output_traffic.proofs.flood.flooding.Goals as goal
 
 pub loop-i-init : goal.loop-i-init
-loop-i-init c from to lf lt = omega (arith, c.in_ok-counts.ensures from to lf lt, flood-is c.args.net.now from to)
+loop-i-init c from to lf lt small = omega (arith, c.in_ok-counts.ensures from to lf lt (omega arith), flood-is c.args.net.now from to)
 
 pub bounds-refused-i : goal.bounds-refused-i
 bounds-refused-i c =

@@ -10,6 +10,7 @@ use Rattle.law_phases.proofs.Equalling.{all-due, as-flooding}
 use Rattle.law_phases.proofs.Saved.{never-more}
 use Rattle.law_phases.proofs.Sums.{sum-le}
 use Rattle.net_model.proofs.ClientsInNet.{are-clients}
+use Rattle.output_traffic.proofs.Few.{are-few}
 use Rattle.output_traffic.proofs.Telling.{all-told}
 use Rattle.output_traffic.proofs.law.lemma_beside_flooding.Goals as goal
 use Rattle.base.proofs.Numbers.{sum_over-same}
@@ -40,3 +41,6 @@ returns-clause-as_many c = λ net sound run same drained journal outs told.
           sum_over-same (λ (link : ℕ × ℕ). notices_on journal outs link.0 link.1 + notices_on journal outs link.1 link.0) (λ (link : ℕ × ℕ). flood_on net link.0 link.1 + flood_on net link.1 link.0) (links_in net)
           (λ link h. omega (arith, each link.0 link.1 (owed link.0 link.1), each link.1 link.0 (owed link.1 link.0)));
     }
+
+pub returns-clause-few : goal.returns-clause-few
+returns-clause-few c = λ net sound run same journal outs told. are-few run net sound same journal outs told
