@@ -82,12 +82,27 @@ fn give_back<T: Kept>(alloc: Global, pool: &mut Pool<T>, text: &str) -> Result<V
     }
 }
 
-/// The number of an item, and the item that has it.
+/// The number of a live item by its key.
+fn number_by_key<T: Kept>(alloc: Global, pool: &Pool<T>, item: &T) -> Result<usize, RowFault> {
+    if pool.live() > u32::MAX as usize {
+        return Err(RowFault::Form);
+    }
+    let Some(key) = pool.find(item) else {
+        return Err(RowFault::Form);
+    };
+    match pool.numbers(alloc, &[key])?.first() {
+        Some(number) => Ok(*number as usize),
+        None => Err(RowFault::Form),
+    }
+}
+
+/// The number of an item, by a search and by its key, and the item that has it.
 fn place<T: Kept>(alloc: Global, pool: &Pool<T>, text: &str) -> Result<Vec<u8>, RowFault> {
     let item = T::read(alloc, text)?;
     let mut answer = Vec::new(alloc);
     if let Some(place) = pool.number_of(&item) {
         put_number(alloc, &mut answer, place)?;
+        put_number(alloc, &mut answer, number_by_key(alloc, pool, &item)?)?;
     }
     if let Some(key) = pool.find(&item) {
         put(&mut answer, &pool.at(key).text(alloc)?)?;
