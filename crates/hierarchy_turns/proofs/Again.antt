@@ -33,7 +33,7 @@ use Rattle.net_turns.proofs.ToldAgain.{MessageTexts, IsToldTo, told-next}
 use Rattle.base.proofs.Lists.{get-map}
 
 -- an entry is known by what it represents
-entry-same-in : (net : NetParts) (a b : EntryParts) → entry_in net a ≡ entry_in net b → a ≡ b
+pub entry-same-in : (net : NetParts) (a b : EntryParts) → entry_in net a ≡ entry_in net b → a ≡ b
 entry-same-in net a b e = entry-same a b (λ i. record {
   stamp = ap (λ (z : HierarchyEntry real (net_of net)). z.stamp) e i;
   server = ap (λ (z : HierarchyEntry real (net_of net)). z.server) e i;

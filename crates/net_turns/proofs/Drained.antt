@@ -20,8 +20,9 @@ use Rattle.net_turns.proofs.Again.{begin-is, permitted-there}
 use Rattle.net_turns.proofs.Barred.{Needs, permits}
 use Rattle.std.proofs.lemmas.Bool.{both_ways}
 
-not-both : {A : Type 0} (o : Option A) (x : A) → o ≡ Some x → o ≡ None → ⊥
-not-both o x p q = cc
+-- what is there isn't missing
+pub none-and-some : {A : Type 0} (o : Option A) (x : A) → o ≡ Some x → o ≡ None → ⊥
+none-and-some o x p q = cc
 
 module _ (net : NetParts) (journal : List EntryParts) (drained : IsDrainedBy net journal) where
   abbrev now : Moment real (phased_net net)
@@ -35,7 +36,7 @@ module _ (net : NetParts) (journal : List EntryParts) (drained : IsDrainedBy net
       go (Received from) (here, near, (m, next)) = get-end (now.state.put from server) m (subst (λ z. slice_get (now.state.put from server) z ≡ Some m) (drained.quiet.empty from server) next)
       go (Did TableUpdate) (here, pending) = both_ways (now.state.state server).pending (drained.quiet.calm server here) pending
       go (Did (NextCommand client)) (here, lives, (x, next)) =
-          not-both (slice_get ((phased_net net).script client) ((now.state.state server).done client)) x next
+          none-and-some (slice_get ((phased_net net).script client) ((now.state.state server).done client)) x next
           (slice_get_past ((phased_net net).script client) ((now.state.state server).done client) (omega (arith, drained.taken server client lives)))
 
   -- so does a command that is not there

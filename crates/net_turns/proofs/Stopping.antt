@@ -10,7 +10,7 @@ use Rattle.net_turns.specs.Stopping.{StopsAtLine}
 use Rattle.net_turns.proofs.Again.{entry-same, permitted-once}
 
 -- a turn has one entry
-same-entry : (net : NetParts) (journal : List EntryParts) (turn : Turn) (a b : EntryParts) → IsEntryOf net journal turn a → IsEntryOf net journal turn b → a ≡ b
+pub same-entry : (net : NetParts) (journal : List EntryParts) (turn : Turn) (a b : EntryParts) → IsEntryOf net journal turn a → IsEntryOf net journal turn b → a ≡ b
 same-entry net journal turn a b p q =
     entry-same a b (permitted-once net (moment_by net journal) (turn_of net turn) (entry_of a) (entry_of b) (moment_by net (journal ++ a ∷ [])) (moment_by net (journal ++ b ∷ [])) p q)
 
