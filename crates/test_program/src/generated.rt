@@ -1,4 +1,5 @@
 //! Tries a generated document on one thread.
+use crate::outlooks::print_told;
 use crate::tried::{outcome, print_verdict, shown};
 use md5::{Digest, Md5};
 use std::alloc::Global;
@@ -70,7 +71,7 @@ fn print_flooded(rt: &impl Print, alloc: Global, document: &[u8]) -> Result<(), 
         print_same(rt, alloc, name, words, document, &flood)?;
     }
     println!(rt; "deliveries: {}", lines_with(&flood, b"deliver "))?;
-    Ok(())
+    print_told(rt, alloc, document, &flood)
 }
 
 /// Prints whether a document of 2,466 lines is generated, and what `check`, `walk`, `replay`, `hier`, `flood` and the

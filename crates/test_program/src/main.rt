@@ -9,7 +9,8 @@
 //! program gives them. The document of seed 1 is compared by its MD5 digest and that of its flood; its sorted walk,
 //! sorted replay, sorted walk of its hierarchy and flood are one text. Audits confirm what the program itself writes.
 //! They never confirm the output of another document, an output with a byte changed at 500 places, or a claim cut at a
-//! line. Explanations have a row for each of their lines, verdicts and reasons, and for each name that isn't there.
+//! line. Explanations have a row for each of their lines, verdicts and reasons, and for each name that isn't there; what each
+//! client of the generated document is told is what its flood says.
 //!
 //! The whole program is called with each word, for each number with which it ends, over readers and writers that fail,
 //! and with arguments that can't be read.
@@ -40,6 +41,7 @@ mod generated;
 mod hierarchies;
 mod hierarchy_audits;
 mod large;
+mod outlooks;
 mod pages;
 mod patterns;
 mod replays;
