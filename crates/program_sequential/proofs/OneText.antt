@@ -152,11 +152,11 @@ later-ones x y xs ys e = cc
 
 at-place : {A B : Type 0} (h : A → B) (f g : ℕ → A) (m n c : ℕ) → map h (map f (range_with_len m n)) ≡ map h (map g (range_with_len m n)) → m ≤ c → c < m + n → h (f c) ≡ h (g c)
 at-place h f g m zero c e low high = absurd (omega (arith, low, high))
-at-place h f g m (suc n) c e low high = go (le-or-gt c m)
+at-place h f g m (suc n) c e low high = go (le-or-gt c m) (λ l. at-place h f g (m + 1) n c (later-ones _ _ _ _ e) (omega (arith, l)) (omega (arith, high)))
   where
-    go : (c ≤ m) ⊎ (m < c) → h (f c) ≡ h (g c)
-    go (inl l) = let here : m ≡ c = omega (arith, low, l) in subst (λ z. h (f z) ≡ h (g z)) here (first-one _ _ _ _ e)
-    go (inr l) = at-place h f g (m + 1) n c (later-ones _ _ _ _ e) (omega (arith, l)) (omega (arith, high))
+    go : (c ≤ m) ⊎ (m < c) → (m < c → h (f c) ≡ h (g c)) → h (f c) ≡ h (g c)
+    go (inl l) later = let here : m ≡ c = omega (arith, low, l) in subst (λ z. h (f z) ≡ h (g z)) here (first-one _ _ _ _ e)
+    go (inr l) later = later l
 
 -- the text of lists, by the clients of a net
 abbrev text_by : Bool → ClientLists → List ClientParts → List ℕ
