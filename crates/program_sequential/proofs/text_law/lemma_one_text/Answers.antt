@@ -1,7 +1,6 @@
 use Rattle.std.proofs.Common.{Bool, true, false, List, subst, sym}
 use Rattle.net_model.specs.Parts.{NetParts, EntryParts}
 use Rattle.output_report.specs.Plain.{MayFollow}
-use Rattle.output_report.specs.Trace.{trace_text}
 use Rattle.net_turns.specs.Told.{told_by}
 use Rattle.program_sequential.specs.Printed.{trace_of}
 use Rattle.program_sequential.proofs.OneText.{same-lists}
