@@ -104,7 +104,7 @@ attributes_later : (n : List Attribute) → AreNames n → AreValues n → are_s
 attributes_later [] a b = refl
 attributes_later (x ∷ n) a b = list_all-append (nat_le 32) (codes "; " ++ attribute_text x) (later attribute_text n) (attribute_shown x a.0 b.0) (attributes_later n a.1 b.1)
 
-notice_shown : (n : List Attribute) → AreNames n → AreValues n → are_shown (notice_text n) ≡ true
+pub notice_shown : (n : List Attribute) → AreNames n → AreValues n → are_shown (notice_text n) ≡ true
 unfolding notice_text
 notice_shown [] a b = refl
 notice_shown (x ∷ n) a b = list_all-append (nat_le 32) (attribute_text x) (later attribute_text n) (attribute_shown x a.0 b.0) (attributes_later n a.1 b.1)

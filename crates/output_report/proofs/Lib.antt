@@ -6,3 +6,4 @@ pub mod Given
 pub mod AsDelivered
 pub mod Sections
 pub mod SortedTexts
+pub mod OneText

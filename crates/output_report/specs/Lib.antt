@@ -3,6 +3,7 @@ pub mod Published
 pub mod Flood
 pub mod Deliveries
 pub mod Trace
+pub mod Plain
 pub mod Summary
 pub mod Drained
 pub mod Counts

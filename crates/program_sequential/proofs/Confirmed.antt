@@ -3,11 +3,11 @@ use Rattle.std.proofs.Common.{◌≡◌, ◌⊎◌, inl, inr, ℕ, ◌<◌, ◌�
 use Rattle.std.specs.Result.{IsOk}
 use Rattle.base_devices.specs.Whole.{Gave}
 use Rattle.net_model.specs.Parts.{NetParts, EntryParts}
-use Rattle.net_model.specs.Sound.{IsSound}
 use Rattle.document_reader.specs.declared.fault.Fault.{Fault}
 use Rattle.audit_claim.specs.Claim.{IsBadDocument}
 use Rattle.audit_claim.proofs.Claiming.{one_bad}
-use Rattle.audit_verdict.specs.Kinds.{peers}
+use Rattle.document_reader.specs.Net.{IsNetOf}
+use Rattle.audit_verdict.specs.Kinds.{RunKind, peers}
 use Rattle.audit_verdict.specs.Laws.{VerdictLaws}
 use Rattle.audit_verdict.specs.Verdict.{IsAudited, IsRefuted}
 use Rattle.audit_verdict.specs.declared.fault.AuditFault.{AuditFault}
@@ -27,48 +27,74 @@ use Rattle.program_sequential.specs.Printed.{run_text, trace_of}
 use Rattle.program_sequential.specs.Promise.{ClientPromise, AreOfNotices}
 use Rattle.program_sequential.specs.Network.{lists_by, RunPromise, IsWholeRun}
 use Rattle.program_sequential.specs.Hierarchy.{hierarchy_lists, hierarchy_text, hierarchy_trace}
-use Rattle.program_sequential.specs.Audits.{IsAuditBy, IsAuditOf, IsAuditAtFault, IsAuditRefuted, IsHierarchyAuditOf, MustRefute, CanConfirm, audit_text, audited_kind, traced}
+use Rattle.program_sequential.specs.Audits.{IsAuditBy, IsAuditOf, IsAuditAtFault, IsAuditRefuted, IsHierarchyAuditOf, MustRefute, CanConfirm, audited_kind, traced}
 use Rattle.program_sequential.specs.Answers.{GaveOutput, GaveRefusedFor, GaveWrongFor, CanAnswerFor}
 use Rattle.program_sequential.specs.Showing.{PrintedParts}
 use Rattle.program_sequential.specs.Answering.{of_audit_fault, of_unread}
-use Rattle.program_sequential.specs.Auditing.{AuditsInput, AuditsSource}
+use Rattle.program_sequential.specs.Auditing.{AuditsInput, AuditsKind, AuditsSource, IsConfirmed}
 use Rattle.program_sequential.proofs.Sources.{same-given}
 
 -- what is printed of a confirmed run
-pub confirmed-of : (input text : List ℕ) (net : NetParts) (journal : List EntryParts) (owed deliveries : ℕ) → length input ≤ 268435456 → (a : IsAudited peers input net journal owed deliveries)
-    → IsSound net → AreOfNotices net.clients
-    → (IsWholeRun net journal → ClientPromise traced a.document (run_text traced net journal) net (lists_by net journal) (trace_of true net journal))
-    → (IsWholeRun net journal → RunPromise traced net journal (lists_by net journal) (trace_of true net journal))
-    → text ≡ audit_text (length journal) owed deliveries → IsAuditOf input text journal
-confirmed-of input text net journal owed deliveries few a sound notices clients run printed =
-    let whole : IsWholeRun net journal = record { sound = sound; notices = notices; legal = a.run.legal; drained = a.run.drained } in record {
+confirmed-of : (input text : List ℕ) (journal : List EntryParts) → length input ≤ 268435456 → (a : IsConfirmed peers input text journal)
+    → (IsWholeRun a.net journal → ClientPromise traced a.audited.document (run_text traced a.net journal) a.net (lists_by a.net journal) (trace_of true a.net journal))
+    → (IsWholeRun a.net journal → RunPromise traced a.net journal (lists_by a.net journal) (trace_of true a.net journal)) → IsAuditOf input text journal
+confirmed-of input text journal few a clients run =
+    let whole : IsWholeRun a.net journal = record { sound = a.sound; notices = a.notices; legal = a.audited.run.legal; drained = a.audited.run.drained } in record {
       few = few;
-      owed = owed;
-      deliveries = deliveries;
-      net = net;
-      audited = a;
-      clients = subst (λ z. ClientPromise traced a.document z net (lists_by net journal) (trace_of true net journal)) (sym a.run.text) (clients whole);
+      owed = a.owed;
+      deliveries = a.deliveries;
+      net = a.net;
+      audited = a.audited;
+      clients = subst (λ z. ClientPromise traced a.audited.document z a.net (lists_by a.net journal) (trace_of true a.net journal)) (sym a.audited.run.text) (clients whole);
       network = run whole;
-      printed = printed;
+      printed = a.printed;
     }
 
 -- and of one of a hierarchy
-pub confirmed-below : (input text : List ℕ) (net : NetParts) (journal : List EntryParts) (owed deliveries : ℕ) → length input ≤ 268435456 → (a : IsAudited hierarchies input net journal owed deliveries)
-    → IsSound net → AreOfNotices net.clients
-    → (IsWholeHierarchy net journal → AreOfNotices net.clients → ClientPromise traced a.document (hierarchy_text traced net journal) net (hierarchy_lists net journal) (hierarchy_trace true net journal))
-    → (IsWholeHierarchy net journal → HierarchyPromise net journal)
-    → text ≡ audit_text (length journal) owed deliveries → IsHierarchyAuditOf input text journal
-confirmed-below input text net journal owed deliveries few a sound notices clients run printed =
-    let whole : IsWholeHierarchy net journal = record { sound = sound; legal = a.run.legal; drained = a.run.drained } in record {
+confirmed-below : (input text : List ℕ) (journal : List EntryParts) → length input ≤ 268435456 → (a : IsConfirmed hierarchies input text journal)
+    → (IsWholeHierarchy a.net journal → AreOfNotices a.net.clients → ClientPromise traced a.audited.document (hierarchy_text traced a.net journal) a.net (hierarchy_lists a.net journal) (hierarchy_trace true a.net journal))
+    → (IsWholeHierarchy a.net journal → HierarchyPromise a.net journal) → IsHierarchyAuditOf input text journal
+confirmed-below input text journal few a clients run =
+    let whole : IsWholeHierarchy a.net journal = record { sound = a.sound; legal = a.audited.run.legal; drained = a.audited.run.drained } in record {
       few = few;
-      owed = owed;
-      deliveries = deliveries;
-      net = net;
-      audited = a;
-      clients = subst (λ z. ClientPromise traced a.document z net (hierarchy_lists net journal) (hierarchy_trace true net journal)) (sym a.run.text) (clients whole notices);
+      owed = a.owed;
+      deliveries = a.deliveries;
+      net = a.net;
+      audited = a.audited;
+      clients = subst (λ z. ClientPromise traced a.audited.document z a.net (hierarchy_lists a.net journal) (hierarchy_trace true a.net journal)) (sym a.audited.run.text) (clients whole a.notices);
       network = run whole;
-      printed = printed;
+      printed = a.printed;
     }
+
+-- the answer about runs of peers
+pub audits-peers : (input : List ℕ) (r : Result PrintedParts Unanswered) → length input ≤ 268435456
+    → ((document : List ℕ) (net : NetParts) (journal : List EntryParts) → IsNetOf document net → IsWholeRun net journal
+    → ClientPromise traced document (run_text traced net journal) net (lists_by net journal) (trace_of true net journal))
+    → ((net : NetParts) (journal : List EntryParts) → IsWholeRun net journal → RunPromise traced net journal (lists_by net journal) (trace_of true net journal))
+    → AuditsKind peers input r → AuditsInput false input r
+audits-peers input (Ok p) few clients run a =
+    confirmed-of input p.text p.journal few a (clients a.audited.document a.net p.journal a.audited.input.well_formed) (run a.net p.journal)
+audits-peers input (Err (whys.BadInput line kind)) few clients run a = a
+audits-peers input (Err (whys.BadPattern line kind)) few clients run a = a
+audits-peers input (Err (whys.Refuted line kind)) few clients run a = a
+audits-peers input (Err (whys.Unknown kind)) few clients run a = a
+audits-peers input (Err whys.ReadFault) few clients run a = a
+audits-peers input (Err whys.NoMemory) few clients run a = tt
+
+-- and about those of hierarchies
+pub audits-below : (input : List ℕ) (r : Result PrintedParts Unanswered) → length input ≤ 268435456
+    → ((document : List ℕ) (net : NetParts) (journal : List EntryParts) → IsNetOf document net → IsWholeHierarchy net journal → AreOfNotices net.clients
+    → ClientPromise traced document (hierarchy_text traced net journal) net (hierarchy_lists net journal) (hierarchy_trace true net journal))
+    → ((net : NetParts) (journal : List EntryParts) → IsWholeHierarchy net journal → HierarchyPromise net journal)
+    → AuditsKind hierarchies input r → AuditsInput true input r
+audits-below input (Ok p) few clients run a =
+    confirmed-below input p.text p.journal few a (clients a.audited.document a.net p.journal a.audited.input.well_formed) (run a.net p.journal)
+audits-below input (Err (whys.BadInput line kind)) few clients run a = a
+audits-below input (Err (whys.BadPattern line kind)) few clients run a = a
+audits-below input (Err (whys.Refuted line kind)) few clients run a = a
+audits-below input (Err (whys.Unknown kind)) few clients run a = a
+audits-below input (Err whys.ReadFault) few clients run a = a
+audits-below input (Err whys.NoMemory) few clients run a = tt
 
 -- Each kind has one verdict.
 
@@ -176,8 +202,8 @@ module _ (hierarchy : Bool) (a b : List ℕ) (ended : Bool) where
   unread-audit reads.NoMemory long within never = tt
 
 -- what is not confirmed
-pub not-confirmed : (hierarchy : Bool) (input : List ℕ) → length input ≤ 268435456 → (fault : AuditFault) → ((line : ℕ) (kind : Fault) → fault ≡ faults.Document line kind → IsBadDocument input line kind)
-    → ((line : ℕ) (kind : AuditKind) → fault ≡ faults.Refuted line kind → IsRefuted (audited_kind hierarchy) input line kind) → AuditsInput hierarchy input (Err (of_audit_fault fault))
-not-confirmed hierarchy input few (faults.Document line kind) bad refuted = inr (few, bad line kind refl)
-not-confirmed hierarchy input few (faults.Refuted line kind) bad refuted = (few, refuted line kind refl)
-not-confirmed hierarchy input few faults.NoMemory bad refuted = tt
+pub not-confirmed : (kind : RunKind) (input : List ℕ) → length input ≤ 268435456 → (fault : AuditFault) → ((line : ℕ) (why : Fault) → fault ≡ faults.Document line why → IsBadDocument input line why)
+    → ((line : ℕ) (why : AuditKind) → fault ≡ faults.Refuted line why → IsRefuted kind input line why) → AuditsKind kind input (Err (of_audit_fault fault))
+not-confirmed kind input few (faults.Document line why) bad refuted = inr (few, bad line why refl)
+not-confirmed kind input few (faults.Refuted line why) bad refuted = (few, refuted line why refl)
+not-confirmed kind input few faults.NoMemory bad refuted = tt

@@ -1,6 +1,7 @@
 pub mod Inboxes
 pub mod SameNets
 pub mod Documents
+pub mod OneText
 pub mod Flooded
 pub mod Settled
 pub mod Phased

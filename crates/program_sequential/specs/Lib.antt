@@ -5,6 +5,7 @@ pub mod Pieces
 pub mod Runs
 pub mod Printed
 pub mod Promise
+pub mod SameLists
 pub mod Network
 pub mod Headline
 pub mod Traffic

@@ -6,7 +6,7 @@ ghost use Rattle.program_sequential.specs.declared.words.Schedule.{Schedule};
 ghost use Rattle.program_sequential.specs.Headline.{Headline};
 ghost use Rattle.program_sequential.specs.Hierarchy.{IsHierarchyOf};
 ghost use Rattle.program_sequential.specs.Audits.{CanConfirm, audit_text, traced};
-ghost use Rattle.program_sequential.specs.Auditing.{AuditsInput};
+ghost use Rattle.program_sequential.specs.Auditing.{AuditsInput, AuditsKind};
 
 use crate::body::Body;
 use crate::hierarchy_law::lemma_hierarchy_promise;
@@ -15,7 +15,7 @@ use crate::notices::lemma_notices;
 use crate::printed::Printed;
 use crate::unanswered::Unanswered;
 use audit_hierarchy::Hierarchies;
-use audit_verdict::{Audited, Peers, audit};
+use audit_verdict::{Audited, AuditedKind, Peers, audit};
 use base::{NoMemory, push_number};
 use document_reader::law::lemma_net_sound;
 use net_journal::{Journal, Record};
@@ -51,33 +51,13 @@ fn confirmed(alloc: Global, audited: Audited) -> Result<Printed, NoMemory>
     Printed::make(alloc, Body::Nothing, text, Record::of(Journal::of(journal)))
 }
 
-// Whether the output is that of a whole run of peers.
-fn of_peers(alloc: Global, bytes: &[u8]) -> Result<Printed, Unanswered>
+// Whether the output is that of a whole run of networks of a kind.
+fn of_kind<K: AuditedKind>(alloc: Global, bytes: &[u8]) -> Result<Printed, Unanswered>
     requires { length bytes.now ≤ 268435456 }
-    ensures { AuditsInput false bytes.now result }
+    ensures { AuditsKind K.kind bytes.now result }
 {
-    lemma_promise();
     lemma_net_sound();
-    let audited = match audit::<Peers>(alloc, bytes) {
-        Ok(audited) => audited,
-        Err(fault) => return Err(Unanswered::from(fault)),
-    };
-    lemma_notices(&audited.net);
-    match confirmed(alloc, audited) {
-        Ok(printed) => Ok(printed),
-        Err(NoMemory) => Err(Unanswered::NoMemory),
-    }
-}
-
-// Whether it is that of a whole run of a hierarchy.
-fn of_hierarchy(alloc: Global, bytes: &[u8]) -> Result<Printed, Unanswered>
-    requires { length bytes.now ≤ 268435456 }
-    ensures { AuditsInput true bytes.now result }
-{
-    lemma_hierarchy_promise();
-    hierarchy_turns::law::promise();
-    lemma_net_sound();
-    let audited = match audit::<Hierarchies>(alloc, bytes) {
+    let audited = match audit::<K>(alloc, bytes) {
         Ok(audited) => audited,
         Err(fault) => return Err(Unanswered::from(fault)),
     };
@@ -94,9 +74,12 @@ pub fn of_audit(alloc: Global, hierarchy: bool, bytes: &[u8]) -> Result<Printed,
     ensures { AuditsInput hierarchy bytes.now result }
 {
     if hierarchy {
-        of_hierarchy(alloc, bytes)
+        lemma_hierarchy_promise();
+        hierarchy_turns::law::promise();
+        of_kind::<Hierarchies>(alloc, bytes)
     } else {
-        of_peers(alloc, bytes)
+        lemma_promise();
+        of_kind::<Peers>(alloc, bytes)
     }
 }
 

@@ -13,8 +13,9 @@ ghost use Rattle.program_sequential.specs.Runs.{GoesBy};
 use crate::words::Schedule;
 use document_reader::Fault;
 
-/// Two nets of one document have the same whole runs, of peers and as hierarchies, with the same texts, the same walk, the same flooding and the same canonical text. A document
-/// has one first line at fault, with one fault, and none where it has a net.
+/// Two nets of one document have the same whole runs, of peers and as hierarchies, with the same texts, the same walk, the
+/// same flooding and the same canonical text. A document has one first line at fault, with one fault, and none where it has
+/// a net.
 pub fn lemma_one_document()
     ensures runs { (input : List ℕ) (one two : NetParts) (journal : List EntryParts) (output : List ℕ) → IsNetOf input one → IsNetOf input two
         → IsOutputOf peers one journal output → IsOutputOf peers two journal output }

@@ -10,6 +10,7 @@ use crate::reading::net;
 use crate::summary::run_summary;
 use base::NoMemory;
 use document_generate::generate;
+use document_reader::InputFault;
 use sequential_network::Kept;
 use std::alloc::Global;
 
@@ -18,8 +19,9 @@ use std::alloc::Global;
 fn summary(alloc: Global, bytes: &[u8]) -> Result<Printed, NoMemory>
     ensures { IfOk result (λ p. IsSummaryOf bytes.now p.text p.journal) }
 {
-    let Ok(net) = net(alloc, bytes) else {
-        return Err(NoMemory);
+    let net = match net(alloc, bytes) {
+        Ok(net) => net,
+        Err(InputFault::NoMemory | InputFault::Bad { .. }) => return Err(NoMemory),
     };
     let ran = walked::<Kept>(alloc, &net)?;
     let text = run_summary(alloc, &net, &ran)?;

@@ -8,8 +8,9 @@
 //!
 //! Several nets may be those of one document. They differ only in tables inside the trees, which no definition of a run
 //! mentions: `lemma_one_document` says that they have the same runs, walk, flooding and texts. `printed` and `bad_input`
-//! speak of one of them, `refused` and `complete` of each. The summary of a seed whose document had no net would be
-//! answered as out of memory; that each has one is not proved.
+//! speak of one of them, `refused` and `complete` of each. `lemma_one_text` says that a text tells each client's lists.
+//!
+//! The summary of a seed whose document had no net would be answered as out of memory; that each has one is not proved.
 //!
 //! The text of a run isn't made in memory as a whole, except a trace: the lists of deliveries are written one after the
 //! other, in great pieces. `Printed` holds all memory that this needs. So all memory is taken before the first write,
@@ -43,6 +44,7 @@ mod subject;
 mod summary;
 mod telling;
 mod text;
+mod text_law;
 mod top;
 mod traffic;
 mod unanswered;
@@ -60,6 +62,7 @@ pub use standard::{Over, quiet_with_devices};
 pub use status::Status;
 pub use subject::{ClientName, Subject};
 pub use text::printed_run;
+pub use text_law::lemma_one_text;
 pub use top::{Outcome, quiet};
 pub use unanswered::{Unanswered, widened};
 pub use unknown::Unknown;

@@ -97,7 +97,9 @@ pub fn walked<K: Keeping>(alloc: Global, net: &Net) -> Result<Ran, NoMemory>
 {
     match make_run::<K>(alloc, net, Schedule::Walk) {
         Ok(ran) => Ok(ran),
-        Err(_) => Err(NoMemory),
+        Err(InputFault::NoMemory) => Err(NoMemory),
+        // The walk has no turn of a schedule that could be barred.
+        Err(InputFault::Bad { .. }) => unreachable!(),
     }
 }
 

@@ -13,7 +13,7 @@ use crate::printed::Printed;
 use crate::status::Status;
 use crate::unanswered::Unanswered;
 use crate::words::{Wanted, Word, read_words};
-use base_devices::{Sink, Source};
+use base_devices::{Failed, Sink, Source};
 use net_journal::Record;
 use std::alloc::Global;
 
@@ -62,7 +62,7 @@ impl Outcome {
                 status: Status::Done,
                 journal,
             },
-            Err(_) => Outcome::ended(alloc, Status::WriteFault),
+            Err(Failed) => Outcome::ended(alloc, Status::WriteFault),
         }
     }
 

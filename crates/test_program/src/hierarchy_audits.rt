@@ -2,14 +2,17 @@
 use crate::row::Row;
 use crate::usage::USAGE_LINE;
 
-/// Inputs that are audited as those of hierarchies, and two that are of the other kind of network.
+/// The document in front of each output.
+pub const DOCUMENT: &str =
+    "siena 1\nsemantics subscription\nservers 2\nedge 1 2\nclient a 2\nclient p 2\n\
+    script a\nsubscribe x int > 5\nscript p\nbarrier\npublish x int 9\n";
+
+/// What is audited behind the document: outputs of its hierarchy, and two with the other kind of network.
 pub const HIERARCHY_AUDITS: [Row; 8] = [
     Row {
         name: "The output of a hierarchy",
         words: "audit --hier",
-        document: "siena 1\nsemantics subscription\nservers 2\nedge 1 2\nclient a 2\nclient p 2\nscript a\nsubscribe x int > 5\n\
-            script p\nbarrier\npublish x int 9\n\
-            output\nclient a\ndeliver p 1 x int 9\nclient p\ntrace 6\nentry 1 2 command a\nout 1 subs +{x int > 5}\nentry 2 1 take 2\n\
+        document: "output\nclient a\ndeliver p 1 x int 9\nclient p\ntrace 6\nentry 1 2 command a\nout 1 subs +{x int > 5}\nentry 2 1 take 2\n\
             entry 3 1 version\nentry 2 2 version\nentry 4 2 command p\nout 1 notice 2 1 x int 9\nentry 5 1 take 2\n",
         fault: "",
         text: "audit yes entries 6 owed 1 deliveries 1\n",
@@ -17,9 +20,7 @@ pub const HIERARCHY_AUDITS: [Row; 8] = [
     Row {
         name: "An output of a hierarchy without its delivery",
         words: "audit --hier",
-        document: "siena 1\nsemantics subscription\nservers 2\nedge 1 2\nclient a 2\nclient p 2\nscript a\nsubscribe x int > 5\n\
-            script p\nbarrier\npublish x int 9\n\
-            output\nclient a\nclient p\ntrace 6\nentry 1 2 command a\nout 1 subs +{x int > 5}\nentry 2 1 take 2\n\
+        document: "output\nclient a\nclient p\ntrace 6\nentry 1 2 command a\nout 1 subs +{x int > 5}\nentry 2 1 take 2\n\
             entry 3 1 version\nentry 2 2 version\nentry 4 2 command p\nout 1 notice 2 1 x int 9\nentry 5 1 take 2\n",
         fault: "siena: audit: line 14: differs\n",
         text: "",
@@ -27,9 +28,7 @@ pub const HIERARCHY_AUDITS: [Row; 8] = [
     Row {
         name: "Another message in a hierarchy",
         words: "audit --hier",
-        document: "siena 1\nsemantics subscription\nservers 2\nedge 1 2\nclient a 2\nclient p 2\nscript a\nsubscribe x int > 5\n\
-            script p\nbarrier\npublish x int 9\n\
-            output\nclient a\ndeliver p 1 x int 9\nclient p\ntrace 6\nentry 1 2 command a\nout 1 subs +{x int > 6}\nentry 2 1 take 2\n\
+        document: "output\nclient a\ndeliver p 1 x int 9\nclient p\ntrace 6\nentry 1 2 command a\nout 1 subs +{x int > 6}\nentry 2 1 take 2\n\
             entry 3 1 version\nentry 2 2 version\nentry 4 2 command p\nout 1 notice 2 1 x int 9\nentry 5 1 take 2\n",
         fault: "siena: audit: line 18: differs\n",
         text: "",
@@ -37,9 +36,7 @@ pub const HIERARCHY_AUDITS: [Row; 8] = [
     Row {
         name: "A hierarchy that is not at its end",
         words: "audit --hier",
-        document: "siena 1\nsemantics subscription\nservers 2\nedge 1 2\nclient a 2\nclient p 2\nscript a\nsubscribe x int > 5\n\
-            script p\nbarrier\npublish x int 9\n\
-            output\nclient a\ndeliver p 1 x int 9\nclient p\ntrace 5\nentry 1 2 command a\nout 1 subs +{x int > 5}\nentry 2 1 take 2\n\
+        document: "output\nclient a\ndeliver p 1 x int 9\nclient p\ntrace 5\nentry 1 2 command a\nout 1 subs +{x int > 5}\nentry 2 1 take 2\n\
             entry 3 1 version\nentry 2 2 version\nentry 4 2 command p\nout 1 notice 2 1 x int 9\n",
         fault: "siena: audit: line 24: open\n",
         text: "",
@@ -47,9 +44,7 @@ pub const HIERARCHY_AUDITS: [Row; 8] = [
     Row {
         name: "A reception twice in a hierarchy",
         words: "audit --hier",
-        document: "siena 1\nsemantics subscription\nservers 2\nedge 1 2\nclient a 2\nclient p 2\nscript a\nsubscribe x int > 5\n\
-            script p\nbarrier\npublish x int 9\n\
-            output\nclient a\ndeliver p 1 x int 9\nclient p\ntrace 7\nentry 1 2 command a\nout 1 subs +{x int > 5}\nentry 2 1 take 2\n\
+        document: "output\nclient a\ndeliver p 1 x int 9\nclient p\ntrace 7\nentry 1 2 command a\nout 1 subs +{x int > 5}\nentry 2 1 take 2\n\
             entry 3 1 version\nentry 2 2 version\nentry 4 2 command p\nout 1 notice 2 1 x int 9\nentry 5 1 take 2\nentry 6 1 take 2\n",
         fault: "siena: audit: line 25: badturn\n",
         text: "",
@@ -57,9 +52,7 @@ pub const HIERARCHY_AUDITS: [Row; 8] = [
     Row {
         name: "The output of a hierarchy as that of a walk",
         words: "audit",
-        document: "siena 1\nsemantics subscription\nservers 2\nedge 1 2\nclient a 2\nclient p 2\nscript a\nsubscribe x int > 5\n\
-            script p\nbarrier\npublish x int 9\n\
-            output\nclient a\ndeliver p 1 x int 9\nclient p\ntrace 6\nentry 1 2 command a\nout 1 subs +{x int > 5}\nentry 2 1 take 2\n\
+        document: "output\nclient a\ndeliver p 1 x int 9\nclient p\ntrace 6\nentry 1 2 command a\nout 1 subs +{x int > 5}\nentry 2 1 take 2\n\
             entry 3 1 version\nentry 2 2 version\nentry 4 2 command p\nout 1 notice 2 1 x int 9\nentry 5 1 take 2\n",
         fault: "siena: audit: line 24: badturn\n",
         text: "",
@@ -67,9 +60,7 @@ pub const HIERARCHY_AUDITS: [Row; 8] = [
     Row {
         name: "The output of a walk as that of a hierarchy",
         words: "audit --hier",
-        document: "siena 1\nsemantics subscription\nservers 2\nedge 1 2\nclient a 2\nclient p 2\nscript a\nsubscribe x int > 5\n\
-            script p\nbarrier\npublish x int 9\n\
-            output\nclient a\ndeliver p 1 x int 9\nclient p\ntrace 5\nentry 1 2 command a\nout 1 subs +{x int > 5}\nentry 2 1 take 2\n\
+        document: "output\nclient a\ndeliver p 1 x int 9\nclient p\ntrace 5\nentry 1 2 command a\nout 1 subs +{x int > 5}\nentry 2 1 take 2\n\
             entry 3 1 version\nentry 2 2 version\nentry 4 2 command p\n",
         fault: "siena: audit: line 23: differs\n",
         text: "",
@@ -77,7 +68,7 @@ pub const HIERARCHY_AUDITS: [Row; 8] = [
     Row {
         name: "An audit of a hierarchy with a further word",
         words: "audit --hier --hier",
-        document: "siena 1\nsemantics subscription\nservers 1\n",
+        document: "",
         fault: USAGE_LINE,
         text: "",
     },

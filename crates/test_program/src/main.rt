@@ -57,28 +57,31 @@ use row::Row;
 use std::alloc::Global;
 use test_support::Failure;
 
-/// All rows.
-const TABLES: [&[Row]; 14] = [
-    &runs::RUNS,
-    &replays::REPLAYS,
-    &steps::STEPS,
-    &replays::FLOODS,
-    &replays::CHECKS,
-    &hierarchies::HIERARCHIES,
-    &faults::FAULTS,
-    &patterns::PATTERNS,
-    &explained::EXPLAINED,
-    &audits::AUDITS,
-    &hierarchy_audits::HIERARCHY_AUDITS,
-    &formats::FORMATS,
-    &traffic::TRAFFIC,
-    &usage::USAGE,
+/// All rows. In front of the documents of a table stands a text that they share.
+const TABLES: [(&str, &[Row]); 14] = [
+    ("", &runs::RUNS),
+    ("", &replays::REPLAYS),
+    ("", &steps::STEPS),
+    ("", &replays::FLOODS),
+    ("", &replays::CHECKS),
+    ("", &hierarchies::HIERARCHIES),
+    ("", &faults::FAULTS),
+    ("", &patterns::PATTERNS),
+    ("", &explained::EXPLAINED),
+    ("", &audits::AUDITS),
+    (
+        hierarchy_audits::DOCUMENT,
+        &hierarchy_audits::HIERARCHY_AUDITS,
+    ),
+    ("", &formats::FORMATS),
+    ("", &traffic::TRAFFIC),
+    ("", &usage::USAGE),
 ];
 
 /// Runs all rows.
 fn print_tables(rt: &impl Print, alloc: Global) -> Result<(), Failure> {
-    for rows in TABLES {
-        tried::print_rows(rt, alloc, rows)?;
+    for (front, rows) in TABLES {
+        tried::print_rows(rt, alloc, front, rows)?;
     }
     Ok(())
 }

@@ -6,7 +6,7 @@ pub struct Row {
     pub name: &'static str,
     /// The words, with spaces between them.
     pub words: &'static str,
-    /// The document.
+    /// The document, or what stands behind the front of its table.
     pub document: &'static str,
     /// The line to standard error, or nothing.
     pub fault: &'static str,

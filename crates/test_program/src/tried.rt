@@ -112,10 +112,17 @@ pub fn print_verdict(
     Ok(())
 }
 
-/// Runs rows, and prints of each whether it came as wanted.
-pub fn print_rows(rt: &impl Print, alloc: Global, rows: &[Row]) -> Result<(), Failure> {
+/// Runs rows, with this text in front of each document, and prints of each whether it came as wanted.
+pub fn print_rows(
+    rt: &impl Print,
+    alloc: Global,
+    front: &str,
+    rows: &[Row],
+) -> Result<(), Failure> {
     for row in rows {
-        let came = outcome(alloc, row.words, row.document.as_bytes())?;
+        let mut document = front.as_bytes().to_vec(alloc)?;
+        document.extend_from_slice(row.document.as_bytes())?;
+        let came = outcome(alloc, row.words, &document)?;
         print_verdict(
             rt,
             row.name,
