@@ -18,22 +18,13 @@ use Rattle.net_model.specs.declared.turn.Turn.{Turn}
 use Rattle.net_model.specs.Parts.{NetParts, EntryParts}
 use Rattle.net_model.specs.Meaning.{act_of}
 use Rattle.net_model.specs.Nets.{turn_of}
-use Rattle.net_turns.proofs.Again.{entry-same}
+use Rattle.net_turns.proofs.Drained.{none-and-some}
 use Rattle.hierarchy_turns.specs.Network.{NetworkParts, net_of, servers_of, entry_in, journal_in, opening_of, moment_by, IsLegal, IsDrainedBy}
 use Rattle.hierarchy_turns.specs.Told.{found_by, found_of, told_of, told_from, told_by}
 use Rattle.hierarchy_turns.specs.Turns.{IsEntryOf, IsBarred}
 use Rattle.hierarchy_turns.specs.Walked.{IsPhaseWalked}
-use Rattle.hierarchy_turns.proofs.Again.{permitted-there}
+use Rattle.hierarchy_turns.proofs.Again.{entry-same-in, permitted-there}
 use Rattle.hierarchy_turns.proofs.Barred.{Needs, permits}
-
--- an entry is known by what it represents
-same-in : (net : NetParts) (a b : EntryParts) → entry_in net a ≡ entry_in net b → a ≡ b
-same-in net a b e = entry-same a b (λ i. record {
-  stamp = ap (λ (z : HierarchyEntry real (net_of net)). z.stamp) e i;
-  server = ap (λ (z : HierarchyEntry real (net_of net)). z.server) e i;
-  act = ap (λ (z : HierarchyEntry real (net_of net)). z.act) e i;
-  outs = ap (λ (z : HierarchyEntry real (net_of net)). z.outs) e i;
-})
 
 -- a turn has one entry
 pub one-entry : (net : NetParts) (journal : List EntryParts) (turn : Turn) (a b : EntryParts) → IsEntryOf net journal turn a → IsEntryOf net journal turn b → a ≡ b
@@ -42,15 +33,12 @@ one-entry net journal turn a b x y =
     let t = turn_of net turn in
     let o = ready-once (servers_of net) m.network m.phase (act_phase (servers_of net) t.0 (m.network.state t.0) t.1) x.found y.found
     (moment_by net (journal ++ a ∷ [])).phase (moment_by net (journal ++ b ∷ [])).phase x.ready y.ready in
-    same-in net a b (same_Some _ _ (sym x.possible ∙ (ap (λ z. entry_at (servers_of net) z t.0 t.1) o.0 ∙ y.possible)))
+    entry-same-in net a b (same_Some _ _ (sym x.possible ∙ (ap (λ z. entry_at (servers_of net) z t.0 t.1) o.0 ∙ y.possible)))
 
 -- and then it is not barred
 pub not-both : (net : NetParts) (journal : List EntryParts) (turn : Turn) (entry : EntryParts) → IsEntryOf net journal turn entry → IsBarred net journal turn → ⊥
 not-both net journal turn entry x barred =
     barred (entry_in net entry) (moment_by net (journal ++ entry ∷ [])).network (moment_by net (journal ++ entry ∷ [])).phase x
-
-none-and-some : {A : Type 0} (o : Option A) (x : A) → o ≡ Some x → o ≡ None → ⊥
-none-and-some o x p q = cc
 
 module _ (net : NetParts) (journal : List EntryParts) (drained : IsDrainedBy net journal) where
   abbrev now : Moment (servers_of net)

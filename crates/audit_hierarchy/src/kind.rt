@@ -24,7 +24,7 @@ impl AuditedKind for Hierarchies {
         first: u32,
         end: u32,
         output: &[u8],
-    ) -> Result<(Vec<Entry>, u64), AuditFault> {
+    ) -> Result<(Vec<Entry>, u128), AuditFault> {
         make_run::<ForwardingServer<'_>, Hierarchies>(alloc, tables, turns, first, end, output)
     }
 }

@@ -6,9 +6,9 @@ use Rattle.net_model.specs.Nets.{turn_of}
 use Rattle.net_model.specs.Parts.{NetParts, EntryParts}
 use Rattle.net_turns.specs.Network.{moment_by}
 use Rattle.net_turns.specs.Turns.{IsEntryOf}
-use Rattle.net_turns.proofs.Again.{entry-same, permitted-once}
 use Rattle.net_turns.proofs.Drained.{walked-open}
 use Rattle.net_turns.proofs.Peers.{peers_telling, peers_trying, peers_walking}
+use Rattle.net_turns.proofs.Stopping.{same-entry}
 use Rattle.sequential_network.specs.PeersRuling.{peers_ruling}
 use Rattle.audit_verdict.specs.Kinds.{peers}
 use Rattle.audit_verdict.specs.Laws.{MakesRuns, VerdictLaws}
@@ -30,11 +30,6 @@ peers-make = record {
   told_length = λ net journal. told-length net journal 0 journal;
   told_more = told-one-more;
 }
-
--- a turn has one entry
-same-entry : (net : NetParts) (journal : List EntryParts) (turn : Turn) (a b : EntryParts) → IsEntryOf net journal turn a → IsEntryOf net journal turn b → a ≡ b
-same-entry net journal turn a b p q =
-    entry-same a b (permitted-once net (moment_by net journal) (turn_of net turn) (entry_of a) (entry_of b) (moment_by net (journal ++ a ∷ [])) (moment_by net (journal ++ b ∷ [])) p q)
 
 pub peers-verdict : VerdictLaws peers
 peers-verdict = record {

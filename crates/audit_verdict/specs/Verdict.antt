@@ -36,7 +36,8 @@ line_at first end output place = if nat_eq place (length output) then end else f
 
 -- the end of a run whose text is the output: it is drained, or all is refuted at the end
 abbrev pub EndsRun : RunKind → NetParts → ℕ → List EntryParts → Result (List EntryParts) (ℕ × AuditKind) → Type 0
-EndsRun kind net end journal verdict = (kind.IsDrainedBy net journal × (verdict ≡ Ok journal)) ⊎ ((kind.IsDrainedBy net journal → ⊥) × (verdict ≡ Err (end, is.Open)))
+EndsRun kind net end journal verdict =
+    (kind.IsDrainedBy net journal × (verdict ≡ Ok journal)) ⊎ ((kind.IsDrainedBy net journal → ⊥) × (verdict ≡ Err (end, is.Open)))
 
 -- a run beside the output, by the place at which that is not its text
 abbrev pub ComparesRun : RunKind → NetParts → ℕ → ℕ → List ℕ → List EntryParts → Result (List EntryParts) (ℕ × AuditKind) → Option ℕ → Type 0

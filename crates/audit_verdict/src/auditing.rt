@@ -26,9 +26,9 @@ pub struct Audited {
     /// Its journal, in the order of the turns.
     pub journal: Vec<Entry>,
     /// How many publications flooding owes, over all clients.
-    pub owed: u64,
+    pub owed: u128,
     /// How many deliveries there were, over all clients.
-    pub deliveries: u64,
+    pub deliveries: u128,
 }
 
 // The answer to what is claimed.
@@ -80,11 +80,11 @@ fn answered<K: AuditedKind>(alloc: Global, bytes: &[u8]) -> Result<Audited, Audi
     of_claim::<K>(alloc, claim, output)
 }
 
-/// Audits an input of at most 268,435,456 bytes: a document, a line that is exactly `output`, and the bytes that a run of the document is said to have written,
-/// with its trace and in the order received, in a network of a kind. It makes the turns that the trace shows itself, and compares the text of that run with the output, piece by
-/// piece: the text is never whole in memory. It says yes exactly where the document has a net and the output is the text of a legal and drained run of it,
-/// out of memory aside; there is one such run, whose journal it gives. It takes the time of a walk, and of flooding; where the deliveries are not those of
-/// the run, that of two walks.
+/// Audits an input of at most 268,435,456 bytes: a document, a line that is exactly `output`, and the bytes that a run of the document is said
+/// to have written, with its trace and in the order received, in a network of a kind. It makes the turns that the trace shows itself, and compares
+/// the text of that run with the output, piece by piece: the text is never whole in memory. It says yes exactly where the document has a net and the
+/// output is the text of a legal and drained run of it, out of memory aside; there is one such run, whose journal it gives. It takes the time of a
+/// walk, and of flooding; where the deliveries are not those of the run, that of two walks.
 pub fn audit<K: AuditedKind>(alloc: Global, bytes: &[u8]) -> Result<Audited, AuditFault>
     requires { length bytes.now ≤ 268435456 }
     ensures audited { IfOk result (λ a. IsAudited K.kind bytes.now a.net a.journal.items a.owed a.deliveries) }

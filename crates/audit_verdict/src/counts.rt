@@ -23,25 +23,22 @@ fn owed_of(rows: &[OwedRow]) -> u64
     owed
 }
 
-// How many rows of these lists are owed; no memory holds lists that are past what counts.
-fn owed_in(lists: &[Lists<OwedRow>]) -> Result<u64, NoMemory>
-    ensures { IfOk result (λ owed. owed ≡ owed_in lists.now) }
+// How many rows of these lists are owed.
+fn owed_in(lists: &[Lists<OwedRow>]) -> u128
+    ensures { result ≡ owed_in lists.now }
 {
-    let mut owed: u64 = 0;
+    let mut owed = 0;
     for list in lists {
-        match owed.checked_add(owed_of(list.as_slice())) {
-            Some(sum) => owed = sum,
-            None => return Err(NoMemory),
-        }
+        owed += u128::from(owed_of(list.as_slice()));
     }
-    Ok(owed)
+    owed
 }
 
 /// How many publications flooding owes to the clients of a net.
-pub fn owed(alloc: Global, net: &Net) -> Result<u64, NoMemory>
+pub fn owed(alloc: Global, net: &Net) -> Result<u128, NoMemory>
     requires { IsSound net.now }
     ensures { IfOk result (λ owed. Owes net.now owed) }
 {
     let rows = must_may(alloc, net)?.rows;
-    owed_in(&rows)
+    Ok(owed_in(&rows))
 }

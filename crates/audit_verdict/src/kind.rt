@@ -34,7 +34,7 @@ pub trait AuditedKind: NetworkKind {
         first: u32,
         end: u32,
         output: &[u8],
-    ) -> Result<(Vec<Entry>, u64), AuditFault>
+    ) -> Result<(Vec<Entry>, u128), AuditFault>
         requires sound { IsSound tables.now }
         requires first { first ≤ 268435458 }
         requires short { length output.now ≤ 268435456 }
@@ -60,7 +60,7 @@ impl AuditedKind for Peers {
         first: u32,
         end: u32,
         output: &[u8],
-    ) -> Result<(Vec<Entry>, u64), AuditFault> {
+    ) -> Result<(Vec<Entry>, u128), AuditFault> {
         make_run::<ForwardingServer<'_>, Peers>(alloc, tables, turns, first, end, output)
     }
 }

@@ -27,12 +27,12 @@ use std::alloc::Global;
 // The journal of a network, and how many deliveries there were.
 fn left<'a, P: Networked<'a>>(
     network: RuledNetwork<'a, P, Kept>,
-) -> Result<(Vec<Entry>, u64), NoMemory>
+) -> Result<(Vec<Entry>, u128), NoMemory>
     ensures journal { IfOk result (λ p. p.0.items ≡ network.entry.journal) }
     ensures deliveries { IfOk result (λ p. p.1 ≡ total (of_clients network.entry.net (P.ruling.received_by network.entry.net network.entry.journal))) }
 {
     let (journal, received) = network.into_parts()?;
-    Ok((journal.into_entries(), total(&received)?))
+    Ok((journal.into_entries(), total(&received)))
 }
 
 // Compares the text of the run of a network with an output, whose trace was compared with what stands behind a place of it. Where the deliveries do not end
@@ -125,7 +125,7 @@ pub fn make_run<'a, P: Networked<'a>, K: NetworkKind>(
     first: u32,
     end: u32,
     output: &[u8],
-) -> Result<(Vec<Entry>, u64), AuditFault>
+) -> Result<(Vec<Entry>, u128), AuditFault>
     requires laws { MakesRuns K.kind P.trying P.walking P.telling P.ruling }
     requires sound { IsSound tables.now }
     requires first { first ≤ 268435458 }

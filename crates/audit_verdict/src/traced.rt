@@ -63,7 +63,7 @@ pub fn is_drained<'a, P: Networked<'a>, K: NetworkKind>(
             network.journal();
             Ok(!more)
         }
-        Err(_) => Err(NoMemory),
+        Err(NoMemory) => Err(NoMemory),
     }
 }
 
@@ -126,7 +126,8 @@ fn make_turn<'a, P: Networked<'a>>(
     Ok(true)
 }
 
-/// The network after turns, each with its line, whose run is compared as it is made: the trace of the run, or the first turn that is not permitted.
+/// The network after turns, each with its line, whose run is compared as it is made: the trace of the run, or the first turn that is not
+/// permitted.
 pub fn make_compared<'a, P: Networked<'a>, K: NetworkKind>(
     alloc: Global,
     text: &mut Comparing<'_>,

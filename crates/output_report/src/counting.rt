@@ -1,27 +1,42 @@
-//! Counts the members of lists.
-ghost use Rattle.std.specs.Prelude.{◌≡◌, ◌+◌, IfOk};
+//! Counts the members of lists, and writes such counts.
+ghost use Rattle.std.specs.Prelude.{◌≡◌, ◌++◌, OnOk};
+ghost use Rattle.std.specs.Fmt.{decimal};
+ghost use Rattle.base.specs.Text.{labelled};
 ghost use Rattle.output_report.specs.Counts.{total};
 
 use base::NoMemory;
 use filter_text::Lists;
-
-// A count with more; no memory holds lists that are past it.
-fn plus(count: u64, more: usize) -> Result<u64, NoMemory>
-    ensures { IfOk result (λ sum. sum ≡ count + more) }
-{
-    match count.checked_add(more as u64) {
-        Some(sum) => Ok(sum),
-        None => Err(NoMemory),
-    }
-}
+use itoa::Buffer;
 
 /// How many members lists have.
-pub fn total<L>(lists: &[Lists<L>]) -> Result<u64, NoMemory>
-    ensures { IfOk result (λ count. count ≡ total lists.now) }
+pub fn total<L>(lists: &[Lists<L>]) -> u128
+    ensures { result ≡ total lists.now }
 {
     let mut count = 0;
     for list in lists {
-        count = plus(count, list.as_slice().len())?;
+        count += list.as_slice().len() as u128;
     }
-    Ok(count)
+    count
+}
+
+/// Puts such a count in decimal at the end.
+pub fn push_total(out: &mut Vec<u8>, total: u128) -> Result<(), NoMemory>
+    ensures { OnOk result (out.new.items ≡ out.old.items ++ decimal total) }
+{
+    let mut buffer = Buffer::new();
+    out.extend_from_slice(buffer.format(total).as_bytes())?;
+    Ok(())
+}
+
+/// Puts a label with such a count behind it at the end.
+#[tactic(auto, unfolding(base::specs::Text::labelled))]
+pub(crate) fn push_labelled_total(
+    out: &mut Vec<u8>,
+    label: &[u8],
+    total: u128,
+) -> Result<(), NoMemory>
+    ensures { OnOk result (out.new.items ≡ out.old.items ++ labelled label.now total) }
+{
+    out.extend_from_slice(label)?;
+    push_total(out, total)
 }

@@ -5,6 +5,7 @@ ghost use Rattle.net_model.specs.Sound.{IsSound};
 ghost use Rattle.output_report.specs.Summary.{counts_text, check_text, summary_text};
 
 use crate::commands::count_commands;
+use crate::counting::push_labelled_total;
 use base::{NoMemory, push_labelled};
 use net_model::Net;
 use std::alloc::Global;
@@ -13,18 +14,18 @@ use std::alloc::Global;
 /// messages that were put on links.
 pub fn summary_text(
     alloc: Global,
-    publications: u64,
-    deliveries: u64,
+    publications: u128,
+    deliveries: u128,
     entries: u64,
-    messages: u64,
+    messages: u128,
 ) -> Result<Vec<u8>, NoMemory>
     ensures { IfOk result (λ text. text.items ≡ summary_text publications deliveries entries messages) }
 {
     let mut out = Vec::new(alloc);
-    push_labelled(&mut out, b"publications ", publications)?;
-    push_labelled(&mut out, b" deliveries ", deliveries)?;
+    push_labelled_total(&mut out, b"publications ", publications)?;
+    push_labelled_total(&mut out, b" deliveries ", deliveries)?;
     push_labelled(&mut out, b" entries ", entries)?;
-    push_labelled(&mut out, b" messages ", messages)?;
+    push_labelled_total(&mut out, b" messages ", messages)?;
     out.extend_from_slice(b"\n")?;
     Ok(out)
 }

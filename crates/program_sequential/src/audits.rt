@@ -19,19 +19,25 @@ use audit_verdict::{Audited, AuditedKind, Peers, audit};
 use base::{NoMemory, push_number};
 use document_reader::law::lemma_net_sound;
 use net_journal::{Journal, Record};
+use output_report::push_total;
 use std::alloc::Global;
 
 // How much a confirmed run has, as a text.
-fn counts_text(alloc: Global, entries: u64, owed: u64, deliveries: u64) -> Result<Vec<u8>, NoMemory>
+fn counts_text(
+    alloc: Global,
+    entries: u64,
+    owed: u128,
+    deliveries: u128,
+) -> Result<Vec<u8>, NoMemory>
     ensures { IfOk result (λ text. text.items ≡ audit_text entries owed deliveries) }
 {
     let mut out = Vec::new(alloc);
     out.extend_from_slice(b"audit yes entries ")?;
     push_number(&mut out, entries)?;
     out.extend_from_slice(b" owed ")?;
-    push_number(&mut out, owed)?;
+    push_total(&mut out, owed)?;
     out.extend_from_slice(b" deliveries ")?;
-    push_number(&mut out, deliveries)?;
+    push_total(&mut out, deliveries)?;
     out.extend_from_slice(b"\n")?;
     Ok(out)
 }

@@ -6,4 +6,7 @@ use Rattle.audit_verdict.proofs.counts.owed_in.Goals as goal
 pub loop-list-preserved : goal.loop-list-preserved
 loop-list-preserved c =
     let one : c.owed_of.result ≡ owed_of c.list-item.result = c.owed_of.ensures.value ∙ ap owed_of c.as_slice.ensures in
-    omega (arith, c.in-Some.ensures, one, c.loop-list.invariant, sum_next owed_of c.args.lists.now c.loop-list.list-index c.list-item.result c.loop-list-test.true c.list-item.is)
+    record {
+      sum = omega (arith, one, c.from.ensures, c.loop-list.invariant.sum, sum_next owed_of c.args.lists.now c.loop-list.list-index c.list-item.result c.loop-list-test.true c.list-item.is);
+      most = omega (arith, c.from.ensures, c.loop-list.invariant.most);
+    }

@@ -9,6 +9,6 @@ returns c =
     subst (λ z. c.extend_from_slice.new.self.items ≡ z ++ summary_text c.args.publications c.args.deliveries c.args.entries c.args.messages) c.new-out.ensures.items
     (append-chain _ _ _ _ _
     (append-chain _ _ _ _ _
-    (append-chain _ _ _ _ _ (append-chain _ _ _ _ _ c.in_ok-push_labelled.ensures c.in_ok-push_labelled-2.ensures) c.in_ok-push_labelled-3.ensures)
-    c.in_ok-push_labelled-4.ensures)
+    (append-chain _ _ _ _ _ (append-chain _ _ _ _ _ c.in_ok-push_labelled_total.ensures c.in_ok-push_labelled_total-2.ensures) c.in_ok-push_labelled.ensures)
+    c.in_ok-push_labelled_total-3.ensures)
     c.in_ok-extend_from_slice.ensures.items)

@@ -22,7 +22,8 @@ returns c =
     let laws = c.lemma_lawful_net.ensures.laws net c.requires in
     let run = run_of net laws journal r.collected.legal in
     let told = is-told net laws journal r.collected.legal in
+    let few = c.lemma_beside_flooding.ensures.few net c.requires run refl journal (told_by net journal) told in
     if-ok c.make-2.result _ (λ p. (input : _) → _ → IsTrafficOf c.args.graph input p.text p.journal)
-    (λ p e. traffic-of c.args.graph net p c.in_ok-traffic.traffic c.new.result.items journal e c.new.ensures.items (c.in_ok-traffic.ensures journal (told_by net journal) counted) r.collected.legal r.drained r.goes_by
+    (λ p e. traffic-of c.args.graph net p c.in_ok-traffic.traffic c.new.result.items journal e c.new.ensures.items (c.in_ok-traffic.ensures journal (told_by net journal) counted few) r.collected.legal r.drained r.goes_by
     (c.lemma_beside_flooding.ensures.never_more net c.requires run refl journal (told_by net journal) told) (c.lemma_beside_flooding.ensures.as_many net c.requires run refl r.drained journal (told_by net journal) told))
     c.make-2.ensures
