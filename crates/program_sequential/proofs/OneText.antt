@@ -183,8 +183,7 @@ same-lists read lawful shown input text one two lists others trace more a b firs
     let clients : two.clients ≡ one.clients = same-clients input two one b a in
     let plain : ArePlain others one.clients = subst (ArePlain others) clients (plain-lists shown input text two others more other (lawful two other) q) in
     let same : lists_text one lists shown.sorted ++ trace ≡ lists_text one others shown.sorted ++ more = sym p.printed ∙ q.printed ∙ ap (λ (cs : List ClientParts). text_by shown.sorted others cs ++ more) clients in
-    let w = read one shown.sorted (plain-names input one a) _ _ _ _ trace more (plain-lists shown input text one lists trace sound (lawful one sound) p) plain first second same in
-    (
+    let w = read one shown.sorted (plain-names input one a) _ _ _ _ trace more (plain-lists shown input text one lists trace sound (lawful one sound) p) plain first second same in (
       (λ client is. (
         at-place (λ (l : List ℕ). l) lists.refused others.refused 1 (length one.clients) client (ap (map (λ (l : List ℕ). l)) w.0) is.0 (omega (arith, is.1)),
         at-place (ordered shown.sorted) lists.received others.received 1 (length one.clients) client w.1 is.0 (omega (arith, is.1)),
