@@ -137,8 +137,8 @@ pub fn make_compared<'a, P: Networked<'a>, K: NetworkKind>(
     requires laws { MakesRuns K.kind P.trying P.walking P.telling P.ruling }
     requires sound { IsSound tables.now }
     ensures made { TellsMade K.kind (λ network. network) tables.now turns.now result }
-    ensures compared { IfOk result (λ network.
-        GoesOn text.old text.new (trace_text tables.now network.journal (P.telling.told_by tables.now network.journal))) }
+    ensures compared { IfOk result (λ network. GoesOn text.old text.new
+        (trace_text tables.now network.journal (P.telling.told_by tables.now network.journal))) }
 {
     compare_head(alloc, text, turns.len())?;
     let mut lines = Vec::new(alloc);

@@ -7,6 +7,6 @@ pub loop-list-preserved : goal.loop-list-preserved
 loop-list-preserved c =
     let one : c.owed_of.result ≡ owed_of c.list-item.result = c.owed_of.ensures.value ∙ ap owed_of c.as_slice.ensures in
     record {
-      sum = omega (arith, one, c.from.ensures, c.loop-list.invariant.sum, sum_next owed_of c.args.lists.now c.loop-list.list-index c.list-item.result c.loop-list-test.true c.list-item.is);
-      most = omega (arith, c.from.ensures, c.loop-list.invariant.most);
+      sum = omega (arith, one, c.from-owed.ensures, c.loop-list.invariant.sum, sum_next owed_of c.args.lists.now c.loop-list.list-index c.list-item.result c.loop-list-test.true c.list-item.is);
+      most = search (arith, c.from-owed.ensures, c.loop-list.invariant.most);
     }
