@@ -53,37 +53,61 @@ mod traffic;
 mod tried;
 mod usage;
 
-use row::Row;
 use std::alloc::Global;
 use test_support::Failure;
+use tried::print_rows;
 
-/// All rows. In front of the documents of a table stands a text that they share.
-const TABLES: [(&str, &[Row]); 14] = [
-    ("", &runs::RUNS),
-    ("", &replays::REPLAYS),
-    ("", &steps::STEPS),
-    ("", &replays::FLOODS),
-    ("", &replays::CHECKS),
-    ("", &hierarchies::HIERARCHIES),
-    ("", &faults::FAULTS),
-    ("", &patterns::PATTERNS),
-    ("", &explained::EXPLAINED),
-    ("", &audits::AUDITS),
-    (
+/// Runs the rows of runs and of replays.
+fn print_runs(rt: &impl Print, alloc: Global) -> Result<(), Failure> {
+    print_rows(rt, alloc, "", &runs::RUNS)?;
+    print_rows(rt, alloc, "", &replays::REPLAYS)
+}
+
+/// Runs the rows of single steps, of floods and of checks.
+fn print_steps(rt: &impl Print, alloc: Global) -> Result<(), Failure> {
+    print_rows(rt, alloc, "", &steps::STEPS)?;
+    print_rows(rt, alloc, "", &replays::FLOODS)?;
+    print_rows(rt, alloc, "", &replays::CHECKS)
+}
+
+/// Runs the rows of hierarchies and of faults.
+fn print_faults(rt: &impl Print, alloc: Global) -> Result<(), Failure> {
+    print_rows(rt, alloc, "", &hierarchies::HIERARCHIES)?;
+    print_rows(rt, alloc, "", &faults::FAULTS)
+}
+
+/// Runs the rows of patterns and of explanations.
+fn print_questions(rt: &impl Print, alloc: Global) -> Result<(), Failure> {
+    print_rows(rt, alloc, "", &patterns::PATTERNS)?;
+    print_rows(rt, alloc, "", &explained::EXPLAINED)
+}
+
+/// Runs the rows of audits.
+fn print_audits(rt: &impl Print, alloc: Global) -> Result<(), Failure> {
+    print_rows(rt, alloc, "", &audits::AUDITS)?;
+    print_rows(
+        rt,
+        alloc,
         hierarchy_audits::DOCUMENT,
         &hierarchy_audits::HIERARCHY_AUDITS,
-    ),
-    ("", &formats::FORMATS),
-    ("", &traffic::TRAFFIC),
-    ("", &usage::USAGE),
-];
+    )
+}
 
-/// Runs all rows.
+/// Runs the rows of formats, of traffic and of wrong words.
+fn print_words(rt: &impl Print, alloc: Global) -> Result<(), Failure> {
+    print_rows(rt, alloc, "", &formats::FORMATS)?;
+    print_rows(rt, alloc, "", &traffic::TRAFFIC)?;
+    print_rows(rt, alloc, "", &usage::USAGE)
+}
+
+/// Runs all rows. Each function has a few tables, since the check of a function that has them all would not end.
 fn print_tables(rt: &impl Print, alloc: Global) -> Result<(), Failure> {
-    for (front, rows) in TABLES {
-        tried::print_rows(rt, alloc, front, rows)?;
-    }
-    Ok(())
+    print_runs(rt, alloc)?;
+    print_steps(rt, alloc)?;
+    print_faults(rt, alloc)?;
+    print_questions(rt, alloc)?;
+    print_audits(rt, alloc)?;
+    print_words(rt, alloc)
 }
 
 /// Tries what is more than a row.
