@@ -28,8 +28,8 @@ const PASSING: &str =
     script s\nsubscribe x int > 3\nbarrier\nbarrier\nunsubscribe x int > 3\nscript p\nbarrier\npublish x int 7\nbarrier\n\
     publish x int 7\nbarrier\npublish x int 7\npublish x int 3\n";
 
-/// Explanations.
-pub const EXPLAINED: [Row; 37] = [
+/// Explanations of a publication for a client.
+pub const EXPLAINED: [Row; 24] = [
     Row {
         name: "A filter that matches throughout the phase",
         words: "explain brigade attic 2",
@@ -239,6 +239,10 @@ pub const EXPLAINED: [Row; 37] = [
         fault: USAGE_LINE,
         text: "",
     },
+];
+
+/// Explanations of all publications for a client, and questions that are none.
+pub const OUTLOOKS: [Row; 13] = [
     Row {
         name: "All publications: one that may come, of an earlier publisher, and then each chance",
         words: "explain s",

@@ -79,7 +79,8 @@ fn print_faults(rt: &impl Print, alloc: Global) -> Result<(), Failure> {
 /// Runs the rows of patterns and of explanations.
 fn print_questions(rt: &impl Print, alloc: Global) -> Result<(), Failure> {
     print_rows(rt, alloc, "", &patterns::PATTERNS)?;
-    print_rows(rt, alloc, "", &explained::EXPLAINED)
+    print_rows(rt, alloc, "", &explained::EXPLAINED)?;
+    print_rows(rt, alloc, "", &explained::OUTLOOKS)
 }
 
 /// Runs the rows of audits.
@@ -100,7 +101,7 @@ fn print_words(rt: &impl Print, alloc: Global) -> Result<(), Failure> {
     print_rows(rt, alloc, "", &usage::USAGE)
 }
 
-/// Runs all rows. Each function has a few tables, since the check of a function that has them all would not end.
+/// Runs all rows. A function has a few tables, and a table at most 30 rows: the checker's work grows faster than both.
 fn print_tables(rt: &impl Print, alloc: Global) -> Result<(), Failure> {
     print_runs(rt, alloc)?;
     print_steps(rt, alloc)?;
