@@ -1,6 +1,6 @@
 -- What a legal and drained run writes is confirmed, with its journal.
 use Rattle.std.proofs.Common.{◌≡◌, inl, inr, ℕ, ◌<◌, ◌^◌, List, [], length, map, Ok, None, refl, sym, ap, subst, ◌∙◌, arith}
-use Rattle.filter_text.specs.declared.delivery.Delivery.{Delivery}
+use Rattle.filter_text.specs.Deliveries.{Delivery}
 use Rattle.filter_text.specs.declared.sent.Sent.{Sent}
 use Rattle.law_routing.specs.Net.{PhasedCommand}
 use Rattle.net_model.specs.Real.{real}

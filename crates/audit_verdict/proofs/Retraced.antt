@@ -5,7 +5,7 @@ use Rattle.std.specs.Fmt.{decimal}
 use Rattle.std.specs.List.{flat_map}
 use Rattle.std.proofs.lemmas.List.{map-append}
 use Rattle.filter_text.specs.declared.sent.Sent.{Sent}
-use Rattle.filter_text.specs.declared.delivery.Delivery.{Delivery}
+use Rattle.filter_text.specs.Deliveries.{Delivery}
 use Rattle.net_model.specs.declared.turn.Act.{Act}
 use Rattle.net_model.specs.declared.turn.Act.TheVariants as acts
 use Rattle.net_model.specs.declared.turn.Turn.{Turn}

@@ -8,7 +8,7 @@ use Rattle.filter_types.specs.Notice.{Attribute}
 use Rattle.law_routing.specs.Server.{Message, Subs, Advs, Noticed, Publication}
 use Rattle.net_model.specs.Real.{real}
 use Rattle.filter_text.specs.declared.sent.Sent.{Sent}
-use Rattle.filter_text.specs.declared.delivery.Delivery.{Delivery}
+use Rattle.filter_text.specs.Deliveries.{Delivery}
 use Rattle.filter_text.specs.FilterText.{constraints_text}
 use Rattle.filter_text.specs.NoticeText.{notice_text}
 use Rattle.filter_text.specs.MessageText.{change_text, changes_text, id_text, message_text}

@@ -12,3 +12,4 @@ pub mod Filters
 pub mod Changes
 pub mod Messages
 pub mod SentText
+pub mod Deliveries

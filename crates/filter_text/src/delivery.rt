@@ -1,26 +1,21 @@
 //! The type of a notification as a client receives it.
-ghost use Rattle.std.specs.Prelude.{◌≡◌, IfOk};
-
 use crate::id::Id;
-use crate::shared_text::SharedText;
-use base::NoMemory;
-use std::alloc::Global;
+use std::marker::Model;
 
-/// The text of a notice with the id of its publication, as a client receives it.
+/// The text of a notice with the id of its publication, as a client receives it. The text lies with whoever keeps it; contracts
+/// see the id and the bytes.
 #[derive(Drop)]
-pub struct Delivery {
+pub struct Delivery<'a> {
     /// The publication.
     pub id: Id,
     /// The text of its notice.
-    pub bytes: SharedText,
+    pub bytes: &'a [u8],
 }
 
-impl Delivery {
-    /// An equal delivery.
-    pub fn copy(&self, _: Global) -> Result<Delivery, NoMemory>
-        ensures { IfOk result (λ d. d ≡ self.now) }
-    {
-        let bytes = self.bytes.share()?;
-        Ok(Delivery { id: self.id, bytes })
-    }
+impl<'a> Model for Delivery<'a> {
+    ghost use Rattle.filter_text.specs.Deliveries.{Delivery as DeliveryParts};
+
+    ghost Value = { DeliveryParts };
+
+    ghost view = { λ d. record { id = d.id; bytes = d.bytes.now } };
 }

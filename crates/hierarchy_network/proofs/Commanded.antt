@@ -15,7 +15,7 @@ use Rattle.law_routing.proofs.Laws.{cond-some}
 use Rattle.law_routing.proofs.Listing.{has-one}
 use Rattle.net_model.specs.Real.{real}
 use Rattle.filter_text.specs.declared.id.Id.{Id}
-use Rattle.filter_text.specs.declared.delivery.Delivery.{Delivery}
+use Rattle.filter_text.specs.Deliveries.{Delivery}
 use Rattle.filter_text.specs.declared.command.Command.{Command}
 use Rattle.filter_text.specs.declared.command.Command.TheVariants as commands
 use Rattle.filter_text.specs.declared.semantics.Semantics.TheVariants.{Subscription}

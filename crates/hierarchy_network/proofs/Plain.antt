@@ -7,7 +7,7 @@ use Rattle.filter_types.specs.Notice.{Attribute}
 use Rattle.net_model.specs.Parts.{NetParts}
 use Rattle.server_message.specs.Parts.{SendingParts}
 use Rattle.net_model.specs.Real.{real}
-use Rattle.filter_text.specs.declared.delivery.Delivery.{Delivery}
+use Rattle.filter_text.specs.Deliveries.{Delivery}
 use Rattle.filter_text.specs.declared.semantics.Semantics.{Semantics}
 use Rattle.net_model.specs.Meaning.{phased_command, deliveries_of}
 use Rattle.server_spec.specs.Session.{SessionParts}

@@ -10,7 +10,7 @@ use Rattle.net_model.specs.Real.{real}
 use Rattle.law_hierarchy.specs.Step.{hierarchy_machine, HierarchyEntry, opening, as_peers}
 use Rattle.law_hierarchy.specs.Masters.{HierarchyLaws}
 use Rattle.law_hierarchy.specs.HierarchyRun.{HierarchyRun}
-use Rattle.filter_text.specs.declared.delivery.Delivery.{Delivery}
+use Rattle.filter_text.specs.Deliveries.{Delivery}
 use Rattle.net_model.specs.Parts.{NetParts, EntryParts}
 use Rattle.net_model.specs.Meaning.{act_of, deliveries_of}
 use Rattle.net_model.specs.Nets.{phased_net, home_of, script_of}

@@ -9,7 +9,7 @@ use Rattle.net_model.specs.Real.{real}
 use Rattle.filter_text.specs.NoticeText.{notice_text}
 use Rattle.filter_text.specs.declared.command.Command.{Command as WireCommand}
 use Rattle.filter_text.specs.declared.command.Command.TheVariants as commands
-use Rattle.filter_text.specs.declared.delivery.Delivery.{Delivery}
+use Rattle.filter_text.specs.Deliveries.{Delivery}
 use Rattle.net_model.specs.declared.turn.Act.{Act as EntryAct}
 use Rattle.net_model.specs.declared.turn.Act.TheVariants as acts
 use Rattle.net_model.specs.Parts.{EntryParts}

@@ -6,7 +6,7 @@ use Rattle.law_phases.specs.Runs.{IsRunTo}
 use Rattle.law_routing.specs.Net.{PhasedCommand}
 use Rattle.law_routing.specs.Rest.{IsDrained}
 use Rattle.net_model.specs.Real.{real}
-use Rattle.filter_text.specs.declared.delivery.Delivery.{Delivery}
+use Rattle.filter_text.specs.Deliveries.{Delivery}
 use Rattle.net_model.specs.Parts.{NetParts, EntryParts}
 use Rattle.net_model.specs.Meaning.{journal_of, deliveries_of}
 use Rattle.net_model.specs.Nets.{phased_net, home_of, script_of}

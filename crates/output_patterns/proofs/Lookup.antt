@@ -3,7 +3,7 @@ use Rattle.std.proofs.Common.{◌≡◌, ◌≤◌, ◌-◌, ℕ, zero, suc, tru
 use Rattle.std.specs.Prelude.{None, nat_le, nat_lt, slice_get}
 use Rattle.std.proofs.lemmas.Grind.{common_steps}
 use Rattle.std.proofs.lemmas.List.{get_or_default}
-use Rattle.filter_text.specs.declared.delivery.Delivery.{Delivery}
+use Rattle.filter_text.specs.Deliveries.{Delivery}
 use Rattle.output_report.specs.Published.{by_number}
 use Rattle.output_patterns.specs.Found.{delivery_text, place_text}
 use Rattle.output_patterns.specs.Published.{at_number}

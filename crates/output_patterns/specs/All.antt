@@ -1,7 +1,7 @@
 -- Defines the text of what patterns find by the definition of all occurrences.
 use Rattle.std.specs.Prelude.{ℕ, List, [], ◌∷◌, ◌++◌}
 use Rattle.std.specs.List.{flat_map}
-use Rattle.filter_text.specs.declared.delivery.Delivery.{Delivery}
+use Rattle.filter_text.specs.Deliveries.{Delivery}
 use Rattle.net_model.specs.Parts.{ClientParts}
 use Rattle.output_report.specs.Published.{by_number}
 use Rattle.output_patterns.specs.Pattern.{AreAllOccurrences, Notices}

@@ -3,7 +3,7 @@ use Rattle.std.specs.Prelude.{ℕ, zero, suc, List, [], ◌++◌, Option, Some, 
 use Rattle.std.specs.Fmt.{decimal}
 use Rattle.std.specs.List.{flat_map}
 use Rattle.filter_types.specs.Notice.{Attribute}
-use Rattle.filter_text.specs.declared.delivery.Delivery.{Delivery}
+use Rattle.filter_text.specs.Deliveries.{Delivery}
 use Rattle.filter_text.specs.declared.id.Id.{Id}
 use Rattle.net_model.specs.Parts.{ClientParts}
 use Rattle.output_report.specs.Published.{by_number}

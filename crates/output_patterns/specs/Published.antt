@@ -3,7 +3,7 @@ use Rattle.std.specs.Prelude.{◌≡◌, true, Bool, ◌&&◌, ℕ, zero, suc, A
 use Rattle.filter_types.specs.Notice.{Attribute}
 use Rattle.filter_text.specs.declared.command.Command.{Command}
 use Rattle.filter_text.specs.declared.command.Command.TheVariants as commands
-use Rattle.filter_text.specs.declared.delivery.Delivery.{Delivery}
+use Rattle.filter_text.specs.Deliveries.{Delivery}
 use Rattle.filter_text.specs.declared.id.Id.{Id}
 use Rattle.net_model.specs.Parts.{ClientParts}
 use Rattle.output_report.specs.Published.{by_number}

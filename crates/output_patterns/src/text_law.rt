@@ -1,6 +1,6 @@
 //! States that the text of what patterns find shows all occurrences of each pattern.
 ghost use Rattle.std.specs.Prelude.{◌≡◌, ◌<◌, ℕ, All, List, length};
-ghost use Rattle.filter_text.specs.declared.delivery.Delivery.{Delivery as Delivered};
+ghost use Rattle.filter_text.specs.Deliveries.{Delivery as Delivered};
 ghost use Rattle.net_model.specs.Parts.{ClientParts};
 ghost use Rattle.output_patterns.specs.Parts.{PatternParts};
 ghost use Rattle.output_patterns.specs.All.{AreFound, occurrences_text};

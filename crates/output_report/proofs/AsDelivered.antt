@@ -10,7 +10,7 @@ use Rattle.law_routing.specs.Owed.{IsPublication, IsOwed}
 use Rattle.law_routing.proofs.Current.{one-publication}
 use Rattle.law_phases.specs.Owing.{IsOwedByScripts, IsAllowedByScripts}
 use Rattle.net_model.specs.Real.{real}
-use Rattle.filter_text.specs.declared.delivery.Delivery.{Delivery}
+use Rattle.filter_text.specs.Deliveries.{Delivery}
 use Rattle.net_model.specs.Meaning.{deliveries_of}
 use Rattle.net_model.specs.Nets.{phased_net, home_of, clients_of}
 use Rattle.net_model.specs.Parts.{ClientParts, NetParts}

@@ -16,7 +16,7 @@ use Rattle.net_model.specs.Real.{real}
 use Rattle.filter_text.specs.NoticeText.{notice_text}
 use Rattle.filter_text.specs.declared.command.Command.{Command as WireCommand}
 use Rattle.filter_text.specs.declared.command.Command.TheVariants as commands
-use Rattle.filter_text.specs.declared.delivery.Delivery.{Delivery}
+use Rattle.filter_text.specs.Deliveries.{Delivery}
 use Rattle.net_model.specs.Meaning.{command_of, phased_command, delivery_of, deliveries_of}
 use Rattle.net_model.specs.Nets.{phased_net, script_in, script_of, home_of, clients_of}
 use Rattle.net_model.specs.Parts.{ClientParts, NetParts}

@@ -4,7 +4,7 @@ use Rattle.std.specs.declared.cmp.Ordering.TheVariants.{Less, Equal, Greater}
 use Rattle.std.specs.Ordering.{ordering_then}
 use Rattle.std.proofs.lemmas.Bool.Decides.{nat_tests}
 use Rattle.filter_text.specs.declared.id.Id.{Id}
-use Rattle.filter_text.specs.declared.delivery.Delivery.{Delivery}
+use Rattle.filter_text.specs.Deliveries.{Delivery}
 use Rattle.output_flood.specs.Flooding.{id_before}
 use Rattle.output_report.specs.Deliveries.{put_by_id, by_id}
 use Rattle.output_report.proofs.Sorting.{IsWeak, put, inserted}

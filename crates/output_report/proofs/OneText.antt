@@ -8,7 +8,7 @@ use Rattle.std.specs.Str.Parse.{AllDigits}
 use Rattle.std.proofs.lemmas.Fmt.{decimal_injective, decimal_is_IsNumeral}
 use Rattle.base.specs.Sets.{Has}
 use Rattle.base.proofs.Lists.{append-cancel, get-below}
-use Rattle.filter_text.specs.declared.delivery.Delivery.{Delivery}
+use Rattle.filter_text.specs.Deliveries.{Delivery}
 use Rattle.filter_text.specs.declared.sent.Sent.{Sent}
 use Rattle.net_model.specs.Parts.{ClientParts, NetParts, EntryParts}
 use Rattle.net_model.specs.Sound.{IsAmong}

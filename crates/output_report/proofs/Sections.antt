@@ -1,6 +1,6 @@
 -- The text of the clients that are left, client by client.
 use Rattle.std.proofs.Common.{◌≡◌, ℕ, zero, suc, ◌+◌, ◌<◌, Bool, List, [], ◌∷◌, ◌++◌, length, drop, get_or, refl, ap, subst, arith}
-use Rattle.filter_text.specs.declared.delivery.Delivery.{Delivery}
+use Rattle.filter_text.specs.Deliveries.{Delivery}
 use Rattle.net_model.specs.Parts.{ClientParts}
 use Rattle.output_flood.specs.declared.owed.OwedRow.{OwedRow}
 use Rattle.output_report.specs.Deliveries.{delivery_section, delivery_sections}

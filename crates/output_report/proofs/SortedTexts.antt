@@ -1,6 +1,6 @@
 -- A text of sorted deliveries is the text of the deliveries sorted before.
 use Rattle.std.proofs.Common.{◌≡◌, Bool, false, ℕ, List, [], ◌∷◌, ◌++◌, map, refl, ap, ◌∙◌}
-use Rattle.filter_text.specs.declared.delivery.Delivery.{Delivery}
+use Rattle.filter_text.specs.Deliveries.{Delivery}
 use Rattle.net_model.specs.Parts.{ClientParts}
 use Rattle.output_report.specs.Deliveries.{ordered, delivery_section, delivery_sections}
 

@@ -3,7 +3,7 @@ use Rattle.std.proofs.Common.{◌≡◌, Bool, true, false, cond, ◌⊎◌, inl
 use Rattle.std.proofs.lemmas.Bool.Decides.{nat_tests}
 use Rattle.base.specs.Sets.{Has, IsRising}
 use Rattle.filter_text.specs.declared.id.Id.{Id}
-use Rattle.filter_text.specs.declared.delivery.Delivery.{Delivery}
+use Rattle.filter_text.specs.Deliveries.{Delivery}
 use Rattle.output_flood.specs.Flooding.{id_before}
 use Rattle.output_report.specs.Deliveries.{put_by_id, by_id}
 use Rattle.output_report.proofs.Ids.{before_self, before_one_way}

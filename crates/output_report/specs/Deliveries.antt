@@ -1,7 +1,7 @@
 -- Defines the text of what clients received.
 use Rattle.std.specs.Prelude.{ℕ, Bool, cond, List, [], ◌∷◌, ◌++◌, codes}
 use Rattle.std.specs.List.{flat_map}
-use Rattle.filter_text.specs.declared.delivery.Delivery.{Delivery}
+use Rattle.filter_text.specs.Deliveries.{Delivery}
 use Rattle.net_model.specs.Parts.{ClientParts, NetParts}
 use Rattle.output_flood.specs.Flooding.{id_before}
 use Rattle.output_report.specs.Lines.{client_line, refused_line, publication_line}

@@ -4,7 +4,7 @@ use Rattle.base.specs.Sets.{Has}
 use Rattle.law_phases.specs.Runs.{PhasedRun}
 use Rattle.law_phases.specs.AtMoments.{inbox_of}
 use Rattle.net_model.specs.Real.{real}
-use Rattle.filter_text.specs.declared.delivery.Delivery.{Delivery}
+use Rattle.filter_text.specs.Deliveries.{Delivery}
 use Rattle.net_model.specs.Parts.{ClientParts}
 use Rattle.net_model.specs.Meaning.{deliveries_of}
 use Rattle.output_flood.specs.declared.owed.OwedRow.{OwedRow}

@@ -1,7 +1,7 @@
 -- Defines which lists of clients their text tells apart.
 use Rattle.std.specs.Prelude.{◌≡◌, ◌≢◌, ◌<◌, ◌^◌, ℕ, List, [], ◌∷◌, length, AllPairs}
 use Rattle.base.specs.Sets.{Has}
-use Rattle.filter_text.specs.declared.delivery.Delivery.{Delivery}
+use Rattle.filter_text.specs.Deliveries.{Delivery}
 use Rattle.net_model.specs.Parts.{ClientParts}
 use Rattle.net_model.specs.Sound.{IsAmong}
 

@@ -1,7 +1,7 @@
 //! Says where the text of deliveries and that of flooding are the same, and that a text tells its lists.
 ghost use Rattle.std.specs.Prelude.{◌≡◌, ◌++◌, Bool, true, ℕ, suc, List, map, slice_get, Some};
 ghost use Rattle.std.specs.List.{flat_map};
-ghost use Rattle.filter_text.specs.declared.delivery.Delivery.{Delivery};
+ghost use Rattle.filter_text.specs.Deliveries.{Delivery};
 ghost use Rattle.filter_text.specs.declared.sent.Sent.{Sent};
 ghost use Rattle.law_phases.specs.AtMoments.{EndsDrained, inbox_of};
 ghost use Rattle.law_phases.specs.Runs.{PhasedRun};

@@ -4,7 +4,7 @@ use Rattle.std.specs.Result.{IsOk, IsErrOf}
 use Rattle.base_devices.specs.Whole.{Gave}
 use Rattle.filter_types.specs.Notice.{Attribute}
 use Rattle.filter_text.specs.declared.id.Id.{Id}
-use Rattle.filter_text.specs.declared.delivery.Delivery.{Delivery}
+use Rattle.filter_text.specs.Deliveries.{Delivery}
 use Rattle.net_turns.specs.Network.{IsLegal, IsDrainedBy}
 use Rattle.output_explain.specs.Text.{explanation_text}
 use Rattle.law_routing.specs.Net.{Publish}

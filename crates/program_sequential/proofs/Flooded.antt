@@ -1,7 +1,7 @@
 -- Two nets of one document have the same clients, so its flood text is that of each.
 use Rattle.std.proofs.Common.{◌≡◌, ℕ, suc, ◌+◌, ◌≤◌, true, List, [], ◌∷◌, map, length, slice_get, Some, refl, sym, ap, ◌∙◌, subst, arith}
 use Rattle.std.specs.List.{range_with_len}
-use Rattle.filter_text.specs.declared.delivery.Delivery.{Delivery}
+use Rattle.filter_text.specs.Deliveries.{Delivery}
 use Rattle.net_model.specs.Parts.{ClientParts, NetParts}
 use Rattle.net_model.specs.Nets.{of_clients}
 use Rattle.document_reader.specs.Net.{IsNetOf}

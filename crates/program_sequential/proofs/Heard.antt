@@ -12,7 +12,7 @@ use Rattle.law_routing.specs.Owed.{IsPublication}
 use Rattle.net_model.specs.Real.{real}
 use Rattle.filter_text.specs.declared.command.Command.{Command as Wired}
 use Rattle.filter_text.specs.declared.command.Command.TheVariants as commands
-use Rattle.filter_text.specs.declared.delivery.Delivery.{Delivery}
+use Rattle.filter_text.specs.Deliveries.{Delivery}
 use Rattle.filter_text.specs.declared.id.Id.{Id}
 use Rattle.net_model.specs.Parts.{ClientParts, NetParts, EntryParts}
 use Rattle.net_model.specs.Meaning.{command_of, phased_command}

@@ -12,7 +12,7 @@ use Rattle.base.proofs.Sets.{has-map, has-range}
 use Rattle.filter_types.specs.Notice.{Attribute}
 use Rattle.filter_text.specs.MessageText.{Each}
 use Rattle.filter_text.specs.NoticeText.{IsNoticeText, notice_text}
-use Rattle.filter_text.specs.declared.delivery.Delivery.{Delivery}
+use Rattle.filter_text.specs.Deliveries.{Delivery}
 use Rattle.filter_text.specs.declared.id.Id.{Id}
 use Rattle.law_machine.proofs.Bound.{sum-has}
 use Rattle.law_routing.specs.Clients.{is_publish, ordinal}

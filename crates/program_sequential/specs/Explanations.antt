@@ -1,7 +1,7 @@
 -- What is answered to `explain`, of a document.
 use Rattle.std.specs.Prelude.{◌≡◌, ℕ, zero, suc, Bool, true, false, List, [], ◌++◌, codes, Option, Some, None, slice_get}
 use Rattle.std.specs.List.{list_any}
-use Rattle.filter_text.specs.declared.delivery.Delivery.{Delivery}
+use Rattle.filter_text.specs.Deliveries.{Delivery}
 use Rattle.filter_text.specs.declared.id.Id.{Id}
 use Rattle.net_model.specs.Parts.{EntryParts, NetParts}
 use Rattle.document_reader.specs.Net.{IsNetOf}

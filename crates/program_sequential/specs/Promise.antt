@@ -11,7 +11,7 @@ use Rattle.net_model.specs.Real.{real}
 use Rattle.filter_text.specs.NoticeText.{IsNoticeText}
 use Rattle.filter_text.specs.declared.command.Command.{Command}
 use Rattle.filter_text.specs.declared.command.Command.TheVariants as commands
-use Rattle.filter_text.specs.declared.delivery.Delivery.{Delivery}
+use Rattle.filter_text.specs.Deliveries.{Delivery}
 use Rattle.filter_text.specs.declared.id.Id.{Id}
 use Rattle.net_model.specs.Parts.{ClientParts, NetParts}
 use Rattle.net_model.specs.Nets.{phased_net, of_clients}

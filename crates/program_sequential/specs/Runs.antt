@@ -1,7 +1,7 @@
 -- Defines the run that is wanted of a document: its turns, and what the clients have by its end.
 use Rattle.std.specs.Prelude.{◌≡◌, ◌⊎◌, ℕ, ◌≤◌, ◌<◌, List, [], ◌∷◌, ◌++◌, length}
 use Rattle.base.specs.Sets.{Has}
-use Rattle.filter_text.specs.declared.delivery.Delivery.{Delivery}
+use Rattle.filter_text.specs.Deliveries.{Delivery}
 use Rattle.net_model.specs.declared.turn.Turn.{Turn}
 use Rattle.net_model.specs.Parts.{NetParts, EntryParts}
 use Rattle.net_model.specs.Meaning.{journal_of}

@@ -7,7 +7,7 @@ use Rattle.net_model.specs.Parts.{NetParts}
 use Rattle.net_model.specs.Meaning.{deliveries_of}
 use Rattle.net_model.specs.Nets.{home_of}
 use Rattle.net_model.specs.Sound.{IsSound}
-use Rattle.filter_text.specs.declared.delivery.Delivery.{Delivery}
+use Rattle.filter_text.specs.Deliveries.{Delivery}
 use Rattle.server_spec.specs.Session.{SessionParts}
 use Rattle.server_core.specs.Clients.{client_numbers, at_client, emptied}
 use Rattle.server_core.specs.Core.{CoreParts, without_inbox}

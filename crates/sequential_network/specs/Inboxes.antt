@@ -1,7 +1,7 @@
 -- What clients have of which nothing is handed on yet, while a network of whatever kind is taken apart.
 use Rattle.std.specs.Prelude.{◌≡◌, ℕ, ◌-◌, ◌<◌, ◌≤◌, List, length, slice_get, Some}
 use Rattle.base.specs.Sets.{Has}
-use Rattle.filter_text.specs.declared.delivery.Delivery.{Delivery}
+use Rattle.filter_text.specs.Deliveries.{Delivery}
 use Rattle.net_model.specs.Parts.{NetParts}
 use Rattle.net_model.specs.Nets.{first_tree, home_of}
 use Rattle.server_spec.specs.Session.{SessionParts}

@@ -7,7 +7,7 @@ use Rattle.law_routing.specs.Server.{Message}
 use Rattle.law_routing.specs.Step.{NextCommand, TableUpdate}
 use Rattle.net_model.specs.Real.{real}
 use Rattle.base.specs.declared.memory.NoMemory.{NoMemory}
-use Rattle.filter_text.specs.declared.delivery.Delivery.{Delivery}
+use Rattle.filter_text.specs.Deliveries.{Delivery}
 use Rattle.filter_text.specs.declared.semantics.Semantics.{Semantics}
 use Rattle.server_message.specs.Parts.{SendingParts}
 use Rattle.net_model.specs.declared.turn.Act.TheVariants as acts

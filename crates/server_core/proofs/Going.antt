@@ -8,7 +8,7 @@ use Rattle.std.proofs.lemmas.List.{length_push}
 use Rattle.base.specs.Sets.{Has}
 use Rattle.base.proofs.Roots.{filter-Has}
 use Rattle.law_routing.specs.Server.{is_among}
-use Rattle.filter_text.specs.declared.delivery.Delivery.{Delivery}
+use Rattle.filter_text.specs.Deliveries.{Delivery}
 use Rattle.server_spec.specs.Session.{SessionParts}
 use Rattle.server_core.specs.declared.spreading.Ready.{Ready}
 use Rattle.server_core.specs.Clients.{bare, at_client, handed, HaveRoom, StayPlanned, HaveMoreRoom}

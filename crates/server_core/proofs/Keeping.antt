@@ -4,7 +4,7 @@ use Rattle.std.specs.List.Sorted.{IsStrictlyIncreasing}
 use Rattle.std.proofs.lemmas.Option.{same_Some, slice_get_within, get_or_from_slice_get}
 use Rattle.filter_types.specs.Notice.{Attribute}
 use Rattle.filter_text.specs.declared.id.Id.{Id}
-use Rattle.filter_text.specs.declared.delivery.Delivery.{Delivery}
+use Rattle.filter_text.specs.Deliveries.{Delivery}
 use Rattle.law_routing.specs.Server.{Message, Subs, Advs, Noticed, is_among}
 use Rattle.net_model.specs.Real.{real}
 use Rattle.server_spec.specs.declared.planned.Planned.{Planned}

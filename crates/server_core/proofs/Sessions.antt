@@ -8,7 +8,7 @@ use Rattle.std.proofs.lemmas.Bool.{eq-eqb}
 use Rattle.std.proofs.lemmas.Option.{same_Some}
 use Rattle.base.specs.declared.memory.NoMemory.{NoMemory}
 use Rattle.base.specs.Sets.{Has}
-use Rattle.filter_text.specs.declared.delivery.Delivery.{Delivery}
+use Rattle.filter_text.specs.Deliveries.{Delivery}
 use Rattle.net_model.specs.Parts.{NetParts}
 use Rattle.server_session.specs.declared.planned.Planned.{Planned}
 use Rattle.server_session.specs.declared.planned.Planned.TheVariants.{Filters, Adverts, Publish, Refused}

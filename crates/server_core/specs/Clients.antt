@@ -1,7 +1,7 @@
 -- Defines what contracts see of the sessions of a server's clients.
 use Rattle.std.specs.Prelude.{◌≡◌, ℕ, ◌==◌, false, cond, suc, ◌-◌, ◌≤◌, List, [], ◌∷◌, ◌++◌, map}
 use Rattle.base.specs.Sets.{Has}
-use Rattle.filter_text.specs.declared.delivery.Delivery.{Delivery}
+use Rattle.filter_text.specs.Deliveries.{Delivery}
 use Rattle.net_model.specs.Parts.{NetParts}
 use Rattle.server_spec.specs.Session.{SessionParts, session_parts}
 use Rattle.server_session.specs.Session.{NetSession}

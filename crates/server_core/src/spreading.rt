@@ -4,7 +4,7 @@ ghost use Rattle.std.specs.List.Sorted.{IsStrictlyIncreasing};
 ghost use Rattle.law_routing.specs.Server.{is_among, is_link};
 ghost use Rattle.base.specs.Sets.{Has};
 ghost use Rattle.server_spec.specs.Inbox.{IsDelivery};
-ghost use Rattle.filter_text.specs.declared.delivery.Delivery.{Delivery as DeliveryParts};
+ghost use Rattle.filter_text.specs.Deliveries.{Delivery as DeliveryParts};
 ghost use Rattle.net_tables.specs.Known.{known_publications};
 ghost use Rattle.net_tables.specs.Found.{publication_at};
 ghost use Rattle.server_message.specs.Message.{represented};

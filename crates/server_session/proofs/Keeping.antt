@@ -14,7 +14,7 @@ use Rattle.base_bits.specs.Rows.{Numbers}
 use Rattle.base_order.specs.Order.{picked}
 use Rattle.server_stock.proofs.Turns.{get-some, get-within}
 use Rattle.filter_text.specs.declared.id.Id.{Id}
-use Rattle.filter_text.specs.declared.delivery.Delivery.{Delivery}
+use Rattle.filter_text.specs.Deliveries.{Delivery}
 use Rattle.filter_text.specs.declared.command.Command.{Command}
 use Rattle.filter_text.specs.declared.command.Command.TheVariants as commands
 use Rattle.filter_text.specs.Messages.{Lists}

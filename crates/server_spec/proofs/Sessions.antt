@@ -2,7 +2,7 @@
 use Rattle.std.proofs.Common.{◌≡◌, ℕ, zero, suc, ◌≤◌, ◌<◌, Bool, true, false, cond, List, [], ◌∷◌, ◌++◌, length, map, take, slice_get, get_or, Option, Some, None, refl, sym, ap, subst, ◌∙◌, arith}
 use Rattle.std.proofs.lemmas.Option.{same_Some, slice_get_within}
 use Rattle.filter_text.specs.declared.command.Command.{Command}
-use Rattle.filter_text.specs.declared.delivery.Delivery.{Delivery}
+use Rattle.filter_text.specs.Deliveries.{Delivery}
 use Rattle.law_routing.specs.Theory.{Theory}
 use Rattle.law_routing.specs.Net.{PhasedCommand}
 use Rattle.law_routing.specs.Clients.{is_publish, ordinal, adverts_after, accepts, add_refused}

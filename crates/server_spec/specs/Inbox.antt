@@ -1,7 +1,7 @@
 -- Defines which deliveries an inbox has.
 use Rattle.std.specs.Prelude.{List, [], ◌∷◌}
 use Rattle.filter_types.specs.Notice.{Attribute}
-use Rattle.filter_text.specs.declared.delivery.Delivery.{Delivery}
+use Rattle.filter_text.specs.Deliveries.{Delivery}
 use Rattle.filter_text.specs.NoticeText.{IsNoticeText}
 
 -- the bytes are the text of a notice

@@ -3,7 +3,7 @@ use Rattle.std.specs.Prelude.{◌≡◌, ℕ, zero, ◌≤◌, Bool, List, [], l
 use Rattle.filter_constraints.specs.Constraint.{ConstraintParts}
 use Rattle.filter_text.specs.declared.command.Command.{Command}
 use Rattle.filter_text.specs.declared.semantics.Semantics.{Semantics}
-use Rattle.filter_text.specs.declared.delivery.Delivery.{Delivery}
+use Rattle.filter_text.specs.Deliveries.{Delivery}
 use Rattle.law_routing.specs.Net.{PhasedCommand, Net}
 use Rattle.law_routing.specs.Clients.{refused_from, ordinal}
 use Rattle.net_model.specs.Real.{real}

@@ -1,7 +1,7 @@
 //! What clients received, handed on by the cores of servers of which nothing else is wanted any more.
 ghost use Rattle.std.specs.Prelude.{◌≡◌, ℕ, ◌-◌, ◌≤◌, List, length, set, slice_get, Some, IfOk};
 ghost use Rattle.base.specs.Sets.{Has};
-ghost use Rattle.filter_text.specs.declared.delivery.Delivery.{Delivery as DeliveryParts};
+ghost use Rattle.filter_text.specs.Deliveries.{Delivery as DeliveryParts};
 ghost use Rattle.net_model.specs.Nets.{home_of, of_clients};
 ghost use Rattle.net_model.specs.Sound.{IsSound};
 ghost use Rattle.server_spec.specs.Session.{SessionParts};

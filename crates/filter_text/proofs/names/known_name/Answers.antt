@@ -1,4 +1,4 @@
-use Rattle.std.proofs.Common.{rules, ℕ}
+use Rattle.std.proofs.Common.{rules}
 use Rattle.filter_values.specs.Name.{IsFirstBad}
 use Rattle.filter_text.proofs.names.known_name.Goals as goal
 

@@ -1,7 +1,7 @@
 use Rattle.std.proofs.Common.{◌≡◌, ◌+◌, ◌<◌, ℕ, zero, suc, All, List, [], ◌∷◌, ◌++◌, length, refl, ap, ◌∙◌, arith}
 use Rattle.std.specs.List.{flat_map}
 use Rattle.filter_types.specs.Notice.{Attribute}
-use Rattle.filter_text.specs.declared.delivery.Delivery.{Delivery}
+use Rattle.filter_text.specs.Deliveries.{Delivery}
 use Rattle.net_model.specs.Parts.{ClientParts}
 use Rattle.output_report.specs.Published.{by_number}
 use Rattle.output_patterns.specs.Pattern.{AreAll, AreAllOccurrences, Steps, end_of}

@@ -1,6 +1,6 @@
 use Rattle.std.proofs.Common.{◌≡◌, ℕ, List, map}
 use Rattle.std.specs.List.{range_with_len}
-use Rattle.filter_text.specs.declared.delivery.Delivery.{Delivery}
+use Rattle.filter_text.specs.Deliveries.{Delivery}
 use Rattle.sequential_network.specs.Inboxes.{HaveInboxes}
 use Rattle.sequential_network.specs.Stepping.{peers}
 use Rattle.thread_outcome.proofs.inboxes.take_inboxes.Given as goal

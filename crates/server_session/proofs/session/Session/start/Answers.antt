@@ -1,7 +1,7 @@
 use Rattle.std.proofs.Common.{◌≡◌, ◌≤◌, ◌-◌, false, true, ℕ, List, length, sym, ap, subst, ◌∙◌, arith}
 use Rattle.filter_text.specs.Messages.{Lists}
 use Rattle.filter_text.specs.declared.command.Command.{Command}
-use Rattle.filter_text.specs.declared.delivery.Delivery.{Delivery}
+use Rattle.filter_text.specs.Deliveries.{Delivery}
 use Rattle.net_model.specs.Sound.{IsSound}
 use Rattle.server_spec.specs.Session.{session_parts}
 use Rattle.server_stock.proofs.Turns.{get-some}
