@@ -1,14 +1,16 @@
 //! Layer: base.
-//! Job: sets of numbers below a width, as rows of bits in words of 64.
+//! Job: sets of numbers below a width, as rows of bits in words of 64, or as lists.
 //! Users: base_order, and the layers match, net, server, sequential, thread, output and test.
 //!
 //! A `Row` is made once, with memory for its width, and no later call takes memory but `members`. A call on two rows
 //! requires that they have one width. Contracts see a row as its width and the rising list of its members, so the
 //! definitions of `base` and their laws hold of it: the order is `nat_lt`. To go over the members without memory, ask
 //! for `first_from(at)` with `at` one more than the last answer; `first_common_from` goes over what two rows have in
-//! common. A `Grid` has many rows of one width in one vector, and contracts see it as that width and the list of its
-//! rows; `joined` is the union of those whose numbers two rows have in common. Of a `Grid`, only `new` and `joined`
-//! take memory. The crates above test both types; this crate has no rows of its own.
+//! common. A `Set` is one that is lent: contracts see it as they see a row. It lies with a `Row`, with an `OwnedSet`,
+//! or with `Sets`, which have many sets of one width in vectors that they share, each as a list of 16-bit numbers or as
+//! its words, whichever takes less memory. A `Grid` has many rows of one width in one vector, and contracts see it as
+//! that width and the list of its rows; `joined` is the union of those whose numbers a set and a row have in common.
+//! Of a `Grid`, only `new` and `joined` take memory. The crates above test the types; this crate has no rows of its own.
 #![tactic(auto)]
 
 mod grid;
