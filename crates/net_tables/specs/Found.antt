@@ -1,5 +1,6 @@
 -- What the tables of a run have of its publications.
 use Rattle.std.specs.Prelude.{◌≡◌, ℕ, List, [], length, map, slice_index_or}
+use Rattle.filter_types.specs.Notice.{AreValues}
 use Rattle.base_bits.specs.Rows.{Numbers}
 use Rattle.filter_text.specs.Deliveries.{Delivery}
 use Rattle.filter_text.specs.Messages.{Lists}
@@ -24,6 +25,11 @@ known_deliveries clients = map delivery_of (known_publications 1 clients)
 -- which of these filters a publication matches, by their numbers
 abbrev pub matched_row : Lists → PublicationParts → Numbers
 matched_row filters known = record { width = length filters; members = matched known.notice filters }
+
+-- what is found of a publication of the net: its values are in range, and these are the filters that it matches
+pub record IsFound (net : NetParts) (known : PublicationParts) (row : Numbers) : Type 0 where
+  pub values : AreValues known.notice
+  pub matched : row ≡ matched_row (known_filters net.clients) known
 
 -- what is found of all publications of the net, in the order of their numbers
 pub record AreFound (net : NetParts) (deliveries : List Delivery) (rows : List Numbers) : Type 0 where

@@ -3,7 +3,7 @@ ghost use Rattle.std.specs.Prelude.{◌≡◌, ◌<◌, length, IfOk};
 ghost use Rattle.net_model.specs.Sound.{IsSound};
 ghost use Rattle.net_tables.specs.Known.{known_filters, known_adverts, known_publications};
 ghost use Rattle.net_tables.specs.Related.{overlap_rows};
-ghost use Rattle.net_tables.specs.Found.{delivery_of, known_deliveries, matched_row, publication_at};
+ghost use Rattle.net_tables.specs.Found.{IsFound, delivery_of, known_deliveries, publication_at};
 ghost use Rattle.net_inbox.specs.Inbox.{delivery_at};
 ghost use Rattle.filter_types.specs.Notice.{AreValues};
 ghost use Rattle.filter_text.specs.MessageText.{IsId};
@@ -134,8 +134,9 @@ impl<'a> Tables<'a> {
     /// The numbers of the filters that the publication with a number matches.
     pub fn matched(&self, number: u32) -> &Row
         requires { number < length (known_publications 1 self.now.clients) }
-        ensures { result.now ≡ matched_row (known_filters self.now.clients) (publication_at self.now number) }
+        ensures { IsFound self.now (publication_at self.now number) result.now }
     {
+        self.lemma_delivered(number);
         &self.matched[number as usize]
     }
 
