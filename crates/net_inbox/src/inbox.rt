@@ -32,7 +32,7 @@ impl Model for Inbox {
 }
 
 impl Inbox {
-    ghost use Rattle.std.specs.Prelude.{◌≡◌};
+    ghost use Rattle.std.specs.Prelude.{◌≡◌, length};
     ghost use Rattle.net_inbox.specs.Inbox.{at_numbers, in_order};
 
     /// The deliveries with these numbers, in this order.
@@ -43,6 +43,20 @@ impl Inbox {
             deliveries,
             numbers,
         }
+    }
+
+    /// How many they are.
+    pub fn len(&self) -> usize
+        ensures { result ≡ length self.now }
+    {
+        self.numbers.len()
+    }
+
+    /// The deliveries of the run, and the numbers of those that were received.
+    pub fn into_parts(self) -> (Deliveries, Vec<u32>)
+        ensures { at_numbers result.0 result.1.items ≡ self }
+    {
+        (self.deliveries, self.numbers)
     }
 
     /// What was received.

@@ -29,8 +29,8 @@ pub fn run_summary(alloc: Global, net: &Net, ran: &Ran) -> Result<Vec<u8>, NoMem
     requires kept { ran.now.journal.kept ≡ true }
     ensures { IfOk result (λ text. text.items ≡ summary_of net.now ran.now.journal.entries) }
 {
-    let refused = total(&ran.refused);
-    let received = total(&ran.received);
+    let refused = total_refused(&ran.refused);
+    let received = total_received(&ran.received);
     let journal = ran.journal.entries();
     let messages = messages(journal);
     let accepted = u128::from(count_commands(&net.clients).publishes).saturating_sub(refused);
