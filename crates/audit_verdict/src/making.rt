@@ -20,7 +20,7 @@ use crate::traced::{compare_trace, is_drained, make_compared};
 use base::NoMemory;
 use net_model::{Entry, Turn};
 use net_tables::Tables;
-use output_report::total;
+use output_report::total_received;
 use sequential_network::{Kept, Networked, RuledNetwork};
 use std::alloc::Global;
 

@@ -8,7 +8,7 @@ use base::NoMemory;
 use filter_text::Lists;
 use net_journal::Ran;
 use net_model::{Entry, Net};
-use output_report::{count_commands, summary_text, total};
+use output_report::{count_commands, summary_text, total_received, total_refused};
 use std::alloc::Global;
 
 // How many messages the entries of a journal put on links.

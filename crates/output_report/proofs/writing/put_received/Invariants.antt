@@ -8,4 +8,4 @@ use Rattle.output_report.proofs.writing.put_received.Given as goal
 -- the lines so far went
 abbrev pub invariant-loop-number : goal.invariant-loop-number
 invariant-loop-number g l = Went (outlet (g.K.Sink.state l.initial.sink) l.initial.out)
-    (outlet (g.K.Sink.state l.sink) l.out) (flat_map (delivery_line l.clients) (at_numbers l.received.deliveries.now (take l.number-index l.received.numbers.now)))
+    (outlet (g.K.Sink.state l.sink) l.out) (flat_map (delivery_line l.clients) (take l.number-index (at_numbers l.received.deliveries.now l.received.numbers.now)))
