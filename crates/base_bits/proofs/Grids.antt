@@ -5,8 +5,8 @@ use Rattle.std.proofs.lemmas.Bool.{cases_lt, cases_eq}
 use Rattle.std.proofs.lemmas.Nat.{mul-add-lt, same_from_place}
 use Rattle.std.proofs.lemmas.List.{same_lists, length-append, length-set, length-replicate, get_or-replicate, get_or_append_left, get_or_push, get_or-set_same, get_or-set_other}
 use Rattle.base.specs.Sets.{Has}
-use Rattle.base_bits.specs.Words.{bit, members_of}
-use Rattle.base_bits.specs.Rows.{Numbers, is_in, IsKept}
+use Rattle.base_bits.specs.Words.{bit, members_of, IsPickedOf}
+use Rattle.base_bits.specs.Rows.{Numbers, is_in, IsSet, IsKept}
 use Rattle.base_bits.specs.Grid.{row_of, with_number, without_number, Table, IsJoinedFrom, AreJoined, spot, each_below, row_at, table_of, IsGrid}
 use Rattle.base_bits.proofs.Bits.{bit-at, bit-past, zero-bits}
 use Rattle.base_bits.proofs.Passing.{has-passing, passing-has, is_in-passing, passing-same, passing-with, passing-without, passing-none}
@@ -155,12 +155,12 @@ zeros-rows n count width = each-same (row_at (replicate n 0) count width) count 
 
 -- the union of rows
 
--- a number of a row, by its bit, whose number both sets have
+-- a number of a row, by its bit, whose number both lists have
 abbrev pub IsJoinedBit : List ℕ → ℕ → List ℕ → List ℕ → ℕ → Type 0
-IsJoinedBit words count a b i = (row : ℕ) × (bit a row ≡ 1) × (bit b row ≡ 1) × (bit words (spot count row i) ≡ 1)
+IsJoinedBit words count xs ys i = (row : ℕ) × Has row xs × Has row ys × (bit words (spot count row i) ≡ 1)
 
-module _ (words : List ℕ) (count : ℕ) (a b : List ℕ) (span : ℕ) where
-  module _ (joined : List ℕ) (is : AreJoined words count a b span span joined) where
+module _ (words : List ℕ) (count : ℕ) (xs ys : List ℕ) (span : ℕ) where
+  module _ (joined : List ℕ) (is : AreJoined words count xs ys span span joined) where
     at-spot : (i : ℕ) → bit joined i ≡ bit_at (get_or joined (i / 64) 0) (i % 64)
     at-spot i =
         let e : i ≡ i / 64 * 64 + i % 64 = omega arith in
@@ -169,7 +169,7 @@ module _ (words : List ℕ) (count : ℕ) (a b : List ℕ) (span : ℕ) where
     in-row : (row i : ℕ) → bit words (spot count row i) ≡ bit_at (get_or words (i / 64 * count + row) 0) (i % 64)
     in-row row i = bit-at words (i / 64 * count + row) (i % 64) (omega arith)
 
-    pub joined-bit : (i : ℕ) → bit joined i ≡ 1 → (i < 64 * span) × IsJoinedBit words count a b i
+    pub joined-bit : (i : ℕ) → bit joined i ≡ 1 → (i < 64 * span) × IsJoinedBit words count xs ys i
     joined-bit i e = elim (cases_lt i (64 * span)) [
       | inl l ↦
           let m = (is.done (i / 64) (i % 64) (omega (arith, l))).0 (sym (at-spot i) ∙ e) in
@@ -177,51 +177,51 @@ module _ (words : List ℕ) (count : ℕ) (a b : List ℕ) (span : ℕ) where
       | inr l ↦ absurd (omega (arith, e, bit-past joined i (omega (arith, l, is.long))))
     ]
 
-    pub bit-joined : (i : ℕ) → i < 64 * span → IsJoinedBit words count a b i → bit joined i ≡ 1
+    pub bit-joined : (i : ℕ) → i < 64 * span → IsJoinedBit words count xs ys i → bit joined i ≡ 1
     bit-joined i l h = at-spot i ∙ (is.done (i / 64) (i % 64) (omega (arith, l))).1 (h.0, h.1, h.2, sym (in-row h.0 i) ∙ h.3)
 
--- a set by its words
-pub record ShowsSet (words : List ℕ) (s : Numbers) : Type 0 where
-  pub kept : IsKept words s.width
-  pub members : members_of words s.width ≡ s.members
+module _ {words : List ℕ} {span count width : ℕ} {t : Table} (is : ShowsTable words span count width t) {x : Numbers} (set : IsSet x) (wide : x.width ≡ length t.rows) where
+  pub in-rows : (row : ℕ) → Has row x.members → row < count
+  in-rows row h = let l = set.within row h in omega (arith, l, wide, count-eq is)
 
-module _ {words : List ℕ} {s : Numbers} (is : ShowsSet words s) where
-  pub set-bit : (i : ℕ) → Has i s.members → bit words i ≡ 1
-  set-bit i h = eqb-true (bit words i) 1 (has-passing (λ j. bit words j == 1) s.width i (subst (Has i) (sym is.members) h)).1
-
-  pub bit-set : (i : ℕ) → bit words i ≡ 1 → Has i s.members
-  bit-set i e = subst (Has i) is.members (passing-has (λ j. bit words j == 1) s.width i (is.kept.within i e) (eq-eqb (bit words i) 1 e))
-
-module _ {words : List ℕ} {span count width : ℕ} {t : Table} (is : ShowsTable words span count width t) {a : List ℕ} {x : Numbers} (first : ShowsSet a x) (wide : x.width ≡ length t.rows) where
-  pub in-rows : (row : ℕ) → bit a row ≡ 1 → row < count
-  in-rows row e = let l = first.kept.within row e in omega (arith, l, wide, count-eq is)
-
-module _ {words : List ℕ} {span count width : ℕ} {t : Table} (is : ShowsTable words span count width t) {a b : List ℕ} {x y : Numbers} (first : ShowsSet a x) (second : ShowsSet b y)
-    (wide : x.width ≡ length t.rows) (joined : List ℕ) (done : AreJoined words count a b span span joined) where
+module _ {words : List ℕ} {span count width : ℕ} {t : Table} (is : ShowsTable words span count width t) {x : Numbers} (ys : List ℕ) (set : IsSet x)
+    (wide : x.width ≡ length t.rows) (joined : List ℕ) (done : AreJoined words count x.members ys span span joined) where
   pub joined-kept : IsKept joined width
   joined-kept = record {
     long = done.long ∙ is.kept.spanned;
     fits = is.kept.fits;
-    within = λ i e. let h = joined-bit words count a b span joined done i e in is.kept.within h.1.0 i (in-rows is first wide h.1.0 h.1.1) h.0 h.1.3;
+    within = λ i e. let h = joined-bit words count x.members ys span joined done i e in is.kept.within h.1.0 i (in-rows is set wide h.1.0 h.1.1) h.0 h.1.3;
   }
 
-  pub joined-members : (i : ℕ) → Has i (members_of joined width) ↔ IsJoinedFrom t.rows x.members y.members i
+  pub joined-members : (i : ℕ) → Has i (members_of joined width) ↔ IsJoinedFrom t.rows x.members ys i
   joined-members i = (to, from)
     where
       row-at : (row : ℕ) → row < count → row_of t.rows row ≡ row_at words count width row
       row-at row l = ap (λ (z : List Numbers). row_of z row) (sym (rows-eq is)) ∙ row-is is.kept row l
 
-      to : Has i (members_of joined width) → IsJoinedFrom t.rows x.members y.members i
+      to : Has i (members_of joined width) → IsJoinedFrom t.rows x.members ys i
       to m =
           let p = has-passing (λ j. bit joined j == 1) width i m in
-          let h = (joined-bit words count a b span joined done i (eqb-true (bit joined i) 1 p.1)).1 in
-          let l = in-rows is first wide h.0 h.1 in
-          (h.0, bit-set first h.0 h.1, bit-set second h.0 h.2, subst (λ (z : Numbers). Has i z.members) (sym (row-at h.0 l)) (bit-has is.kept h.0 i p.0 h.3))
+          let h = (joined-bit words count x.members ys span joined done i (eqb-true (bit joined i) 1 p.1)).1 in
+          let l = in-rows is set wide h.0 h.1 in
+          (h.0, h.1, h.2, subst (λ (z : Numbers). Has i z.members) (sym (row-at h.0 l)) (bit-has is.kept h.0 i p.0 h.3))
 
-      from : IsJoinedFrom t.rows x.members y.members i → Has i (members_of joined width)
+      from : IsJoinedFrom t.rows x.members ys i → Has i (members_of joined width)
       from h =
-          let e = set-bit first h.0 h.1 in
-          let l = in-rows is first wide h.0 e in
+          let l = in-rows is set wide h.0 h.1 in
           let m = subst (λ (z : Numbers). Has i z.members) (row-at h.0 l) h.3 in
           let s = (has-passing (λ j. bit words (spot count h.0 j) == 1) width i m).0 in
-          passing-has (λ j. bit joined j == 1) width i s (eq-eqb (bit joined i) 1 (bit-joined words count a b span joined done i (in-span is.kept i s) (h.0, e, set-bit second h.0 h.2, has-bit is.kept h.0 i m)))
+          passing-has (λ j. bit joined j == 1) width i s (eq-eqb (bit joined i) 1 (bit-joined words count x.members ys span joined done i (in-span is.kept i s) (h.0, h.1, h.2, has-bit is.kept h.0 i m)))
+
+-- one word more is joined
+pub joined-more : (words : List ℕ) (count : ℕ) (xs ys : List ℕ) (span k : ℕ) (joined : List ℕ) (w : ℕ) → AreJoined words count xs ys span k joined → k < span
+    → ((q : ℕ) → (bit_at w q ≡ 1) ↔ IsPickedOf words (k * count) xs ys q) → AreJoined words count xs ys span (k + 1) (set joined k w)
+joined-more words count xs ys span k joined w is l picked = record {
+  long = length-set joined k w ∙ is.long;
+  done = λ j q m. elim (cases_eq j k) [
+    | inl e ↦
+        let same : get_or (set joined k w) j 0 ≡ w = ap (λ z. get_or (set joined k w) z 0) e ∙ get_or-set_same joined k w 0 (omega (arith, l, is.long)) in
+        subst (λ z. (bit_at z q ≡ 1) ↔ IsPickedOf words (j * count) xs ys q) (sym same) (subst (λ z. (bit_at w q ≡ 1) ↔ IsPickedOf words (z * count) xs ys q) (sym e) (picked q))
+    | inr n ↦ subst (λ z. (bit_at z q ≡ 1) ↔ IsPickedOf words (j * count) xs ys q) (sym (get_or-set_other joined k j w 0 n)) (is.done j q (omega (arith, m, n)))
+  ];
+}

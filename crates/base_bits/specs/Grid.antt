@@ -3,7 +3,7 @@ use Rattle.std.specs.Prelude.{◌≡◌, ◌↔◌, ℕ, zero, suc, ◌+◌, ◌
 use Rattle.std.specs.Int.{bit_at}
 use Rattle.std.specs.Coded.{Coded, code_by, coded×, coded_ℕ, coded_list}
 use Rattle.base.specs.Sets.{Has, put_in, minus}
-use Rattle.base_bits.specs.Words.{bit, passing, IsPickedByBoth}
+use Rattle.base_bits.specs.Words.{bit, passing, IsPickedOf}
 use Rattle.base_bits.specs.Rows.{Numbers, numbers_code}
 
 -- rows of this width
@@ -56,6 +56,6 @@ pub record IsGrid (words : List ℕ) (span count width : ℕ) : Type 0 where
   pub within : (row i : ℕ) → row < count → i < 64 * span → bit words (spot count row i) ≡ 1 → i < width
 
 -- the first k words of a union of rows are there: each picks from the words of all rows at its place
-pub record AreJoined (words : List ℕ) (count : ℕ) (a b : List ℕ) (span k : ℕ) (joined : List ℕ) : Type 0 where
+pub record AreJoined (words : List ℕ) (count : ℕ) (xs ys : List ℕ) (span k : ℕ) (joined : List ℕ) : Type 0 where
   pub long : length joined ≡ span
-  pub done : (j q : ℕ) → j < k → (bit_at (slice_index joined j) q ≡ 1) ↔ IsPickedByBoth words (j * count) a b q
+  pub done : (j q : ℕ) → j < k → (bit_at (slice_index joined j) q ≡ 1) ↔ IsPickedOf words (j * count) xs ys q

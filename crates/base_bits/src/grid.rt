@@ -1,12 +1,11 @@
 //! The type of rows of one width in one vector of words.
-ghost use Rattle.std.specs.Prelude.{◌≡◌, ◌↔◌, ℕ, ◌*◌, ◌^◌, ◌<◌, not, nat_lt, length, replicate, slice_set, [], IfOk};
+ghost use Rattle.std.specs.Prelude.{◌≡◌, ◌↔◌, ℕ, ◌*◌, ◌<◌, not, nat_lt, length, replicate, slice_set, [], IfOk};
 ghost use Rattle.base.specs.Sets.{Has};
 ghost use Rattle.base_bits.specs.Rows.{is_in};
 ghost use Rattle.base_bits.specs.Grid.{row_of, with_number, without_number, IsJoinedFrom, AreJoined, spot};
-ghost use Rattle.base_bits.specs.Words.{bit};
 
-use crate::picked::picked_by_both;
 use crate::row::Row;
+use crate::sets::Set;
 use crate::words;
 use base::NoMemory;
 use std::alloc::Global;
@@ -48,19 +47,18 @@ fn joined_words(
     alloc: Global,
     words: &[u64],
     count: u32,
-    a: &[u64],
-    b: &[u64],
+    numbers: &Set<'_>,
+    others: &Row,
     span: usize,
 ) -> Result<Vec<u64>, NoMemory>
     requires long { length words.now ≡ span * count }
-    requires same { length a.now ≡ length b.now }
-    requires within { (i : ℕ) → bit a.now i ≡ 1 → i < count }
-    requires few { length a.now < 2 ^ 32 }
-    ensures { IfOk result (λ joined. AreJoined words.now count a.now b.now span span joined.items) }
+    requires numbers { numbers.now.width ≡ count }
+    requires others { others.now.width ≡ numbers.now.width }
+    ensures { IfOk result (λ joined. AreJoined words.now count numbers.now.members others.now.members span span joined.items) }
 {
     let mut joined = vec![in alloc; 0; span]?;
     for k in 0..span {
-        joined[k] = picked_by_both(words, k * count as usize, a, b);
+        joined[k] = numbers.picked(words, k * count as usize, others);
     }
     Ok(joined)
 }
@@ -110,20 +108,14 @@ impl Grid {
     }
 
     /// The union of the rows whose numbers two sets have in common.
-    pub fn joined(&self, alloc: Global, numbers: &Row, others: &Row) -> Result<Row, NoMemory>
+    pub fn joined(&self, alloc: Global, numbers: &Set<'_>, others: &Row) -> Result<Row, NoMemory>
         requires numbers { numbers.now.width ≡ length self.now.rows }
         requires others { others.now.width ≡ numbers.now.width }
         ensures width { IfOk result (λ row. row.width ≡ self.now.width) }
         ensures members { IfOk result (λ row. (i : ℕ) → Has i row.members ↔ IsJoinedFrom self.now.rows numbers.now.members others.now.members i) }
     {
-        let words = joined_words(
-            alloc,
-            &self.words,
-            self.count,
-            numbers.words(),
-            others.words(),
-            self.span,
-        )?;
+        numbers.lemma_sorted();
+        let words = joined_words(alloc, &self.words, self.count, numbers, others, self.span)?;
         Ok(Row::of_words(words, self.width))
     }
 }

@@ -14,8 +14,11 @@
 mod grid;
 mod listing;
 mod picked;
+mod place;
 mod row;
+mod sets;
 mod words;
 
 pub use grid::Grid;
 pub use row::Row;
+pub use sets::{Set, Sets};

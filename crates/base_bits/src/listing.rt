@@ -7,7 +7,7 @@ use base::NoMemory;
 use std::alloc::Global;
 
 /// How many numbers are in the set, so that their memory is taken at once.
-fn count(words: &[u64]) -> usize {
+pub(crate) fn count(words: &[u64]) -> usize {
     let mut count = 0usize;
     for k in 0..words.len() {
         count = count.saturating_add(words[k].count_ones() as usize);

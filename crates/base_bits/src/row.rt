@@ -5,6 +5,7 @@ ghost use Rattle.base_bits.specs.Rows.{is_in, common, IsSet, IsKept};
 ghost use Rattle.base_bits.specs.Words.{members_of};
 
 use crate::listing::listed;
+use crate::sets::Set;
 use crate::words;
 use base::NoMemory;
 use std::alloc::Global;
@@ -55,6 +56,13 @@ impl Row {
         ensures members { members_of result.now self.now.width ≡ self.now.members }
     {
         &self.words
+    }
+
+    /// The set, as one that is lent.
+    pub fn as_set(&self) -> Set<'_>
+        ensures { result ≡ self.now }
+    {
+        Set::of_words(&self.words, self.width)
     }
 
     /// Below which number all members are.

@@ -4,7 +4,7 @@ use crate::places::{is_there, listed, place};
 use crate::route::Route;
 use crate::table_change::TableChange;
 use base::NoMemory;
-use base_bits::{Grid, Row};
+use base_bits::{Grid, Row, Set};
 use std::alloc::Global;
 use std::marker::Model;
 
@@ -134,7 +134,7 @@ impl Forwarding {
 
     /// The interfaces from which some of these numbers is installed. It takes memory for its answer, and for a row of
     /// places.
-    pub fn route(&self, alloc: Global, matched: &Row) -> Result<Route, NoMemory>
+    pub fn route(&self, alloc: Global, matched: &Set<'_>) -> Result<Route, NoMemory>
         requires { matched.now.width ≡ self.now.width }
         ensures { IfOk result (IsRouteBy matched.now.members self.now.pairs) }
     {

@@ -37,5 +37,5 @@ pub fn route(
 {
     forwarding.lemma_bounded();
     matcher.matched(notice, scratch, matched)?;
-    forwarding.route(alloc, matched)
+    forwarding.route(alloc, &matched.as_set())
 }

@@ -2,7 +2,7 @@
 //! Job: the forwarding table of a server: from matched filters, by their numbers, to the interfaces to which a notification goes.
 //! Users: the layers server, sequential, hierarchy, thread, output and test.
 //!
-//! All filters of a run are numbered before it begins, and what a notification matches is found once, as a row of
+//! All filters of a run are numbered before it begins, and what a notification matches is found once, as a set of
 //! numbers. A server then only looks up the interfaces that have one of these numbers installed. Contracts see a
 //! forwarding table as its width, its interfaces and the rising list of its pairs of an interface and a number, so the
 //! definitions of `base` and their laws hold of it.

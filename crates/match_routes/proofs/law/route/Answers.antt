@@ -6,7 +6,7 @@ use Rattle.match_routes.proofs.Routes.{route-of-notice}
 use Rattle.match_routes.proofs.law.route.Goals as goal
 
 pub returns : goal.returns
-returns c = go c.route.result c.route.ensures
+returns c = go c.route.result (rw c.as_set.ensures at c.route.ensures)
   where
     numbers : AreNumbers c.args.matcher.now c.args.forwarding.now.pairs
     numbers x h = (let k = (c.lemma_bounded.ensures.known x h).number in omega (arith, k, c.requires.same))
