@@ -136,17 +136,6 @@ module _ {words : List ℕ} {width : ℕ} {s : Numbers} (is : Shows words width 
           let b = has-bit is k r.0 in
           (is.kept.within k b, omega (arith, bits k, b, has-bit that k ((member-iff nat_laws k t.members).0 r.1)))
 
-  -- the same bits are the same members
-  pub same-members : ((k : ℕ) → bit words k ≡ bit others k) → s.members ≡ t.members
-  same-members bits =
-      ext nat_laws s.members t.members (is-set is).rising (is-set that).rising (λ k h. bit-has that k (sym (bits k) ∙ has-bit is k h)) (λ k h. bit-has is k (bits k ∙ has-bit that k h))
-
-  pub members-same : s.members ≡ t.members → (k : ℕ) → bit words k ≡ bit others k
-  members-same e k = elim (cases_eq (bit words k) 1) [
-    | inl b ↦ b ∙ sym (has-bit that k (subst (Has k) e (bit-has is k b)))
-    | inr n ↦ omega (arith, bit-small words k, n, no-bit that k (λ h. n (has-bit is k (subst (Has k) (sym e) h))))
-  ]
-
   -- no number that both have, but where the words share a bit
   pub apart : (k : ℕ) → min (bit words k) (bit others k) ≡ 0 → Has k s.members → Has k t.members → ⊥
   apart k e h m = absurd (omega (arith, e, has-bit is k h, has-bit that k m))
@@ -162,6 +151,18 @@ module _ {words : List ℕ} {width : ℕ} {s : Numbers} (is : Shows words width 
   pub first-none : (from : ℕ) (o : Option ℕ) → IfNone o ((k : ℕ) → from ≤ k → min (bit words k) (bit others k) ≡ 0) → IfNone o ((k : ℕ) → Has k s.members → Has k t.members → k < from)
   first-none from None h = λ k m n. elim (cases_lt k from) [ inl b ↦ b | inr b ↦ absurd (apart k (h k b) m n) ]
   first-none from (Some i) h = tt
+
+module _ {words : List ℕ} {width : ℕ} {s : Numbers} (is : Shows words width s) {others : List ℕ} {wide : ℕ} {t : Numbers} (that : Shows others wide t) where
+  -- the same bits are the same members
+  pub same-members : ((k : ℕ) → bit words k ≡ bit others k) → s.members ≡ t.members
+  same-members bits =
+      ext nat_laws s.members t.members (is-set is).rising (is-set that).rising (λ k h. bit-has that k (sym (bits k) ∙ has-bit is k h)) (λ k h. bit-has is k (bits k ∙ has-bit that k h))
+
+  pub members-same : s.members ≡ t.members → (k : ℕ) → bit words k ≡ bit others k
+  members-same e k = elim (cases_eq (bit words k) 1) [
+    | inl b ↦ b ∙ sym (has-bit that k (subst (Has k) e (bit-has is k b)))
+    | inr n ↦ omega (arith, bit-small words k, n, no-bit that k (λ h. n (has-bit is k (subst (Has k) (sym e) h))))
+  ]
 
 -- of a set and itself
 module _ (xs : List ℕ) (from : ℕ) where

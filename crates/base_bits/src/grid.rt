@@ -5,7 +5,7 @@ ghost use Rattle.base_bits.specs.Rows.{is_in};
 ghost use Rattle.base_bits.specs.Grid.{row_of, with_number, without_number, IsJoinedFrom, AreJoined, spot};
 
 use crate::row::Row;
-use crate::sets::Set;
+use crate::set::Set;
 use crate::words;
 use base::NoMemory;
 use std::alloc::Global;

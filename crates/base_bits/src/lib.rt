@@ -16,9 +16,11 @@ mod listing;
 mod picked;
 mod place;
 mod row;
+mod set;
 mod sets;
 mod words;
 
 pub use grid::Grid;
 pub use row::Row;
-pub use sets::{Set, Sets};
+pub use set::{OwnedSet, Set};
+pub use sets::Sets;

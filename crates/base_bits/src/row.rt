@@ -5,7 +5,7 @@ ghost use Rattle.base_bits.specs.Rows.{is_in, common, IsSet, IsKept};
 ghost use Rattle.base_bits.specs.Words.{members_of};
 
 use crate::listing::listed;
-use crate::sets::Set;
+use crate::set::Set;
 use crate::words;
 use base::NoMemory;
 use std::alloc::Global;

@@ -1,84 +1,16 @@
-//! The types of many sets of numbers below one width, and of one of them that is lent.
-ghost use Rattle.std.specs.Prelude.{◌≡◌, ◌↔◌, ℕ, ◌+◌, ◌*◌, ◌^◌, ◌<◌, ◌≤◌, ◌∷◌, ◌++◌, [], true, length, IfOk, OnOk, OnErr, MatchResult};
-ghost use Rattle.std.specs.Int.{bit_at};
+//! The type of many sets of numbers below one width.
+ghost use Rattle.std.specs.Prelude.{◌≡◌, ℕ, ◌+◌, ◌^◌, ◌<◌, ◌≤◌, ◌∷◌, ◌++◌, [], true, length, IfOk, OnOk, OnErr, MatchResult};
 ghost use Rattle.base.specs.Sets.{Has};
 ghost use Rattle.base_bits.specs.Grid.{row_of};
-ghost use Rattle.base_bits.specs.Rows.{IsSet, IsKept};
-ghost use Rattle.base_bits.specs.Words.{members_of, IsPickedOf};
 ghost use Rattle.base_bits.specs.Sets.{Begins, set_at, IsPlaced};
 ghost use Rattle.base_bits.specs.declared.place.Place.TheVariants.{Listed, Shown};
 
 use crate::listing::{count, listed};
-use crate::picked::{picked_by_both, picked_by_list};
 use crate::place::Place;
-use crate::row::Row;
+use crate::set::Set;
 use base::NoMemory;
 use std::alloc::Global;
 use std::marker::Model;
-
-/// A set of numbers below a width, which lies with whoever keeps it.
-#[derive(Drop)]
-pub struct Set<'a> {
-    width: u32,
-    /// The members, rising, where no words show them.
-    list: &'a [u16],
-    /// The words that show the members; none where the members are listed.
-    words: &'a [u64],
-}
-
-impl<'a> Model for Set<'a> {
-    ghost use Rattle.base_bits.specs.Rows.{Numbers, numbers_code};
-    ghost use Rattle.base_bits.specs.Sets.{set_by, IsSetBy};
-
-    ghost Value = { Numbers };
-
-    ghost coded = { numbers_code };
-
-    ghost view = { λ s. set_by s.list.now s.words.now s.width };
-
-    ghost invariant = { λ s. IsSetBy s.list.now s.words.now s.width };
-}
-
-impl<'a> Set<'a> {
-    /// The set that words show.
-    pub(crate) fn of_words(words: &'a [u64], width: u32) -> Set<'a>
-        requires { IsKept words.now width }
-        ensures { result ≡ record { width = width; members = members_of words.now width } }
-    {
-        Set {
-            width,
-            list: &[],
-            words,
-        }
-    }
-
-    /// Below which number all members are.
-    pub fn width(&self) -> u32
-        ensures { result ≡ self.now.width }
-    {
-        self.width
-    }
-
-    /// Does nothing; its contract says what each set keeps: its members rise, and are below the width.
-    pub fn lemma_sorted(&self)
-        ensures { IsSet self.now }
-    {
-        let _ = &self.words;
-    }
-
-    /// The union of those of the words from a place on whose turn is a number that another set has too.
-    pub(crate) fn picked(&self, words: &[u64], from: usize, others: &Row) -> u64
-        requires width { others.now.width ≡ self.now.width }
-        requires from { from ≤ length words.now }
-        requires within { (i : ℕ) → i < self.now.width → from + i < length words.now }
-        ensures { (q : ℕ) → (bit_at result q ≡ 1) ↔ IsPickedOf words.now from self.now.members others.now.members q }
-    {
-        if self.words.is_empty() {
-            return picked_by_list(words, from, self.list, others.words());
-        }
-        picked_by_both(words, from, self.words, others.words())
-    }
-}
 
 /// The numbers, as ones of 16 bits.
 fn shortened(alloc: Global, numbers: &[u32]) -> Result<Vec<u16>, NoMemory>

@@ -1,7 +1,7 @@
 use Rattle.std.proofs.Common.{◌≤◌, ℕ, subst, arith}
 use Rattle.base.specs.Sets.{Has}
-use Rattle.thread_versions.proofs.Alike.{next-none, next-one, next-same, ended}
-use Rattle.thread_versions.proofs.comparing.have_same_members.Goals as goal
+use Rattle.base_bits.proofs.Alike.{next-none, next-one, next-same, ended}
+use Rattle.base_bits.proofs.set.have_same_members.Goals as goal
 
 pub returns-in_default-first_from : goal.returns-in_default-first_from
 returns-in_default-first_from c =

@@ -5,7 +5,7 @@ use Rattle.base_bits.specs.Words.{IsPickedOf}
 use Rattle.base_bits.specs.Rows.{Numbers}
 use Rattle.base_bits.proofs.Rows.{Shows}
 use Rattle.base_bits.proofs.SetViews.{set-listed, seen-shown, picked-listed, picked-shown}
-use Rattle.base_bits.proofs.sets.Set.picked.Goals as goal
+use Rattle.base_bits.proofs.set.Set.picked.Goals as goal
 
 pub picked_by_list-requires-clause-within : goal.picked_by_list-requires-clause-within
 picked_by_list-requires-clause-within c i h = c.requires.within i (let w = c.self.invariant.within i h in let e = ap (λ (s : Numbers). s.width) c.self.view_is in omega (arith, w, e))

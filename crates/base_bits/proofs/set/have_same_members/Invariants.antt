@@ -1,6 +1,6 @@
 use Rattle.std.proofs.Common.{◌-◌}
-use Rattle.thread_versions.proofs.Alike.{AreSameBelow}
-use Rattle.thread_versions.proofs.comparing.have_same_members.Given as goal
+use Rattle.base_bits.proofs.Alike.{AreSameBelow}
+use Rattle.base_bits.proofs.set.have_same_members.Given as goal
 
 abbrev pub invariant-loop-number : goal.invariant-loop-number
 invariant-loop-number l = AreSameBelow l.one.members l.other.members l.at

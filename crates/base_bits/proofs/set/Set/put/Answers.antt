@@ -4,7 +4,7 @@ use Rattle.base.specs.Sets.{Has}
 use Rattle.base_bits.specs.Rows.{IsSet}
 use Rattle.base_bits.proofs.SetViews.{set-by, words-members}
 use Rattle.base_bits.proofs.SetPlaces.{put-placed, put-set}
-use Rattle.base_bits.proofs.sets.Set.put.Goals as goal
+use Rattle.base_bits.proofs.set.Set.put.Goals as goal
 
 pub shortened-requires : goal.shortened-requires
 shortened-requires c i h =
