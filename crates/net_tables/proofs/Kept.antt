@@ -1,5 +1,5 @@
 -- Items that are kept one after the other are the set of the list, and have keys and then numbers.
-use Rattle.std.proofs.Common.{◌≡◌, inl, inr, ℕ, suc, ◌+◌, ◌<◌, ◌≤◌, Bool, List, [], ◌∷◌, ◌++◌, length, map, take, get_or, slice_get, Option, option_map, Some, sym, ap, subst, ◌∙◌, arith}
+use Rattle.std.proofs.Common.{◌≡◌, inl, inr, ℕ, suc, ◌+◌, ◌<◌, ◌≤◌, Bool, List, [], ◌∷◌, ◌++◌, length, map, take, get_or, slice_get, Option, Some, sym, ap, subst, ◌∙◌, arith}
 use Rattle.std.specs.List.{flat_map}
 use Rattle.std.proofs.lemmas.List.{take_more, append_assoc, append-nil}
 use Rattle.std.proofs.lemmas.Grind.{flat_map-append}
@@ -10,9 +10,9 @@ use Rattle.filter_constraints.specs.Constraint.{ConstraintParts}
 use Rattle.filter_types.specs.Before.{list_before}
 use Rattle.filter_text.specs.Messages.{Lists}
 use Rattle.base_pool.specs.declared.pool.Counted.{Counted}
-use Rattle.base_pool.specs.Pool.{Pooled, slot, item_at, IsLive, IsAt, IsSetOfItems, IsCountable, AreKeysOf, IsKeptAt, SameElsewhere}
+use Rattle.base_pool.specs.Pool.{Pooled, slot, item_at, IsLive, AreKeysOf, IsKeptAt, SameElsewhere}
 use Rattle.base_pool.proofs.Keys.{keys-next}
-use Rattle.base_pool.proofs.Listed.{at-item, put_in-same, set_of-push}
+use Rattle.base_pool.proofs.Listed.{at-item, set_of-push}
 use Rattle.base_pool.proofs.Order.{is-some}
 use Rattle.net_model.specs.Parts.{ClientParts}
 use Rattle.net_tables.specs.Known.{script_filters, script_adverts, known_filters, known_adverts}
@@ -26,24 +26,6 @@ kept_next {T} {covers} {before} laws old new keys named item key put kept others
   items = put ∙ ap (put_in before item) are.items ∙ sym (set_of-push laws named item);
   at = keys-next old.slots new.slots item key kept others keys named are.at;
 }
-
--- an item that is kept already is named once more
-pub kept_again : {T : Type 0} {covers before : T → T → Bool} → CoverLaws covers before → (pool : Pooled T) (keys : List ℕ) (named : List T) (item : T) (key : ℕ)
-    → IsSetOfItems before pool.slots pool.items → IsAt pool.slots key item → AreKept before pool keys named → AreKept before pool (keys ++ key ∷ []) (named ++ item ∷ [])
-kept_again {T} {covers} {before} laws pool keys named item key set at are = record {
-  items = sym (put_in-same covers before laws item pool.items set.0 ((set.1 item).1 (key, at))) ∙ ap (put_in before item) are.items ∙ sym (set_of-push laws named item);
-  at = map-push (item_at pool.slots) keys key ∙ ap (λ zs. zs ++ item_at pool.slots key ∷ []) are.at
-      ∙ ap (λ z. map (λ x. Some x) named ++ option_map (λ (c : Counted T). c.item) z ∷ []) at.1 ∙ sym (map-push (λ x. Some x) named item);
-}
-
--- room for another one leaves all as it is
-pub kept_roomed : {T : Type 0} (before : T → T → Bool) (old new : Pooled T) (keys : List ℕ) (named : List T) → new.items ≡ old.items → new.slots ≡ old.slots
-    → AreKept before old keys named → AreKept before new keys named
-kept_roomed before old new keys named items slots are = record { items = items ∙ are.items; at = subst (λ s. AreKeysOf s keys named) (sym slots) are.at }
-
--- an item that isn't kept has no holder
-pub none_holds : {T : Type 0} (before : T → T → Bool) (old new : Pooled T) (item : T) → IsSetOfItems before old.slots old.items → (Has item old.items → ⊥) → new.slots ≡ old.slots → IsCountable new.slots item
-none_holds before old new item set none slots key c there same = absurd (none ((set.1 item).1 (key, (c.count, ap (λ s. slot s key) (sym slots) ∙ there ∙ ap (λ x. Some (record c { item = x })) same))))
 
 pub none_kept : (pool : Pooled (List ConstraintParts)) (keys : List ℕ) (named : Lists) → AreKept list_before pool keys named → AreKept list_before pool keys (named ++ [])
 none_kept pool keys named are = subst (AreKept list_before pool keys) (sym (append-nil named)) are

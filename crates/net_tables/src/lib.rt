@@ -3,7 +3,7 @@
 //! Users: the layers server, sequential, hierarchy, thread, output, audit, program and test.
 //!
 //! A document is read whole before its run begins, and has at most 4,096 commands on filters and advertisements. So a
-//! `Catalogue` keeps each distinct one once in a pool, where it has one holder however often it is named, and numbers it by
+//! `Catalogue` keeps each distinct one once in a pool, of which each command that names it is a holder, and numbers it by
 //! its place in the canonical order; each publication is numbered by publisher and ordinal. A net has at most 4,096
 //! filters, 4,096 advertisements and 100,000 publications (`lemma_sound`). `Tables` have, beside the catalogue, the rows
 //! that say which filter or advertisement covers which and which filter overlaps which advertisement, the text of each

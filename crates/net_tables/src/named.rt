@@ -21,26 +21,20 @@ pub(crate) struct Named<T: Cover> {
     pub numbers: Vec<u32>,
 }
 
-/// The items that the commands so far name, each with one holder, and the key of each command's, in their order.
+/// The items that the commands so far name, with a holder for each command, and the key of each, in their order.
 #[derive(Drop)]
 struct Kept<T: Cover> {
     pool: Pool<T>,
     keys: Vec<Key>,
 }
 
-// Keeps an item, if it isn't kept already. So each has one holder, and nothing is lacking but memory.
+// Keeps an item once more.
 fn keep<T: Cover + Drop>(kept: &mut Kept<T>, item: T) -> Result<(), NoMemory>
     ensures { (named : List T) → AreKept T.order kept.old.pool kept.old.keys.items named
         → OnOk result (AreKept T.order kept.new.pool kept.new.keys.items (named ++ item ∷ [])) }
 {
-    kept.pool.lemma_plain();
-    if let Some(key) = kept.pool.find(&item) {
-        kept.keys.push(key)?;
-        return Ok(());
-    }
-    kept.pool.reserve(1)?;
     let Ok(key) = kept.pool.keep(item) else {
-        unreachable!()
+        return Err(NoMemory);
     };
     kept.keys.push(key)?;
     Ok(())
@@ -88,7 +82,7 @@ fn keep_filters(
     Ok(())
 }
 
-/// The filters of all scripts, each once.
+/// The filters of all scripts, with a holder in the pool for each command that names one.
 pub(crate) fn filters(alloc: Global, clients: &[Client]) -> Result<Named<Sub>, NoMemory>
     requires { length (known_filters clients.now) ≤ 2 ^ 32 }
     ensures items { IfOk result (λ named. named.items ≡ known_filters clients.now) }
@@ -133,7 +127,7 @@ fn keep_adverts(
     Ok(())
 }
 
-/// The advertisements of all scripts, each once.
+/// The advertisements of all scripts, with a holder in the pool for each command that names one.
 pub(crate) fn adverts(alloc: Global, clients: &[Client]) -> Result<Named<Ad>, NoMemory>
     requires { length (known_adverts clients.now) ≤ 2 ^ 32 }
     ensures items { IfOk result (λ named. named.items ≡ known_adverts clients.now) }
