@@ -2,13 +2,16 @@
 ghost use Rattle.std.specs.Prelude.{◌≡◌, ◌≤◌, false, length, OnOk};
 ghost use Rattle.std.specs.List.{flat_map};
 ghost use Rattle.net_model.specs.Nets.{of_clients};
+ghost use Rattle.net_inbox.specs.Inbox.{in_order};
 ghost use Rattle.sequential_network.specs.Ruling.{refused_by};
 ghost use Rattle.output_report.specs.Deliveries.{deliveries_text, delivery_line, delivery_section};
 ghost use Rattle.audit_verdict.specs.Comparing.{GoesOn};
 
 use crate::comparing::Comparing;
 use base::NoMemory;
-use net_model::{Client, Delivery, Net};
+use filter_text::Delivery;
+use net_inbox::Received;
+use net_model::{Client, Net};
 use output_report::{push_client, push_delivery, push_refused};
 use sequential_network::{Kept, Networked, RuledNetwork};
 use std::alloc::Global;
@@ -18,7 +21,7 @@ fn compare_delivery(
     text: &mut Comparing<'_>,
     line: &mut Vec<u8>,
     clients: &[Client],
-    delivery: &Delivery,
+    delivery: &Delivery<'_>,
 ) -> Result<(), NoMemory>
     ensures { OnOk result (GoesOn text.old text.new (delivery_line clients.now delivery.now)) }
 {
@@ -33,12 +36,12 @@ fn compare_received(
     text: &mut Comparing<'_>,
     line: &mut Vec<u8>,
     clients: &[Client],
-    received: &[Delivery],
+    received: Received<'_>,
 ) -> Result<(), NoMemory>
-    ensures { OnOk result (GoesOn text.old text.new (flat_map (delivery_line clients.now) received.now)) }
+    ensures { OnOk result (GoesOn text.old text.new (flat_map (delivery_line clients.now) (in_order received.entry))) }
 {
-    for delivery in received {
-        compare_delivery(text, line, clients, delivery)?;
+    for number in received.numbers {
+        compare_delivery(text, line, clients, &received.deliveries.at(*number))?;
     }
     Ok(())
 }
@@ -51,9 +54,9 @@ fn compare_section(
     clients: &[Client],
     client: &Client,
     refused: &[u32],
-    received: &[Delivery],
+    received: Received<'_>,
 ) -> Result<(), NoMemory>
-    ensures { OnOk result (GoesOn text.old text.new (delivery_section clients.now false client.now refused.now received.now)) }
+    ensures { OnOk result (GoesOn text.old text.new (delivery_section clients.now false client.now refused.now (in_order received.entry))) }
 {
     line.clear();
     push_client(line, &client.name)?;

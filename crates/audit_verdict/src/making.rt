@@ -20,7 +20,7 @@ use crate::traced::{compare_trace, is_drained, make_compared};
 use base::NoMemory;
 use net_model::{Entry, Turn};
 use net_tables::Tables;
-use output_report::total;
+use output_report::total_received;
 use sequential_network::{Kept, Networked, RuledNetwork};
 use std::alloc::Global;
 
@@ -32,7 +32,7 @@ fn left<'a, P: Networked<'a>>(
     ensures deliveries { IfOk result (λ p. p.1 ≡ total (of_clients network.entry.net (P.ruling.received_by network.entry.net network.entry.journal))) }
 {
     let (journal, received) = network.into_parts()?;
-    Ok((journal.into_entries(), total(&received)))
+    Ok((journal.into_entries(), total_received(&received)))
 }
 
 // Compares the text of the run of a network with an output, whose trace was compared with what stands behind a place of it. Where the deliveries do not end

@@ -34,14 +34,14 @@ changed-middle (x ∷ done) rest d f = ap (λ (z : List Draft). x ∷ z) (change
 -- Names.
 
 -- no draft has the name
-abbrev IsAbsent : List ℕ → List Draft → Type 0
+abbrev pub IsAbsent : List ℕ → List Draft → Type 0
 IsAbsent name drafts = Each (λ d. bytes_eq name (name_of d) ≡ false) drafts
 
 prefix_whole : (name : List ℕ) (drafts : List Draft) → IsAbsent name drafts → prefix_len (λ x. not (bytes_eq name x)) (map name_of drafts) ≡ length (map name_of drafts)
 prefix_whole name [] h = refl
 prefix_whole name (d ∷ drafts) h = rw h.0 (omega (arith, prefix_whole name drafts h.1))
 
-absent_place : (name : List ℕ) (drafts : List Draft) → IsAbsent name drafts → client_at drafts name ≡ None
+pub absent_place : (name : List ℕ) (drafts : List Draft) → IsAbsent name drafts → client_at drafts name ≡ None
 unfolding client_at
 absent_place name drafts h =
     let e = prefix_whole name drafts h in

@@ -39,23 +39,23 @@ attributes_in : (version : ℕ) (n : List Attribute) → AreNames n → AreValue
 attributes_in version [] a b c = tt
 attributes_in version (x ∷ n) a b c = ((a.0, b.0, c.0), attributes_in version n a.1 b.1 c.1)
 
-whole_parts : (f : List ConstraintParts) → wholes (map Whole f) ≡ f
+pub whole_parts : (f : List ConstraintParts) → wholes (map Whole f) ≡ f
 whole_parts [] = refl
 whole_parts (c ∷ f) = ap (λ (z : List ConstraintParts). c ∷ z) (whole_parts f)
 
-none_beyond : (f : List ConstraintParts) → list_any is_beyond (map Whole f) ≡ false
+pub none_beyond : (f : List ConstraintParts) → list_any is_beyond (map Whole f) ≡ false
 none_beyond [] = refl
 none_beyond (c ∷ f) = none_beyond f
 
-none_empty : (f : List ConstraintParts) → list_any is_empty (map Whole f) ≡ false
+pub none_empty : (f : List ConstraintParts) → list_any is_empty (map Whole f) ≡ false
 none_empty [] = refl
 none_empty (c ∷ f) = none_empty f
 
-fit_parts : (n : List Attribute) → fits (map attribute_part n) ≡ n
+pub fit_parts : (n : List Attribute) → fits (map attribute_part n) ≡ n
 fit_parts [] = refl
 fit_parts (a ∷ n) = ap (λ (z : List Attribute). a ∷ z) (fit_parts n)
 
-none_wide : (n : List Attribute) → list_any is_wide (map attribute_part n) ≡ false
+pub none_wide : (n : List Attribute) → list_any is_wide (map attribute_part n) ≡ false
 none_wide [] = refl
 none_wide (a ∷ n) = none_wide n
 
@@ -97,7 +97,7 @@ no_publish_fault version n is =
 -- The line.
 
 -- the first word of a line and the rest of it give the form that they give
-line_form : (version : ℕ) (line : List ℕ) (w text : List ℕ) (v : Verb) (form : CommandForm) → tokens line ≡ word w ∷ tokens text → verb_in (word w ∷ tokens text) ≡ Some (v, tokens text)
+pub line_form : (version : ℕ) (line : List ℕ) (w text : List ℕ) (v : Verb) (form : CommandForm) → tokens line ≡ word w ∷ tokens text → verb_in (word w ∷ tokens text) ≡ Some (v, tokens text)
     → form_in version (length line) v (tokens text) ≡ Some form → form_of version line ≡ Some form
 unfolding form_of
 line_form version line w text v form cut verb is = rw (cut, verb, is) refl

@@ -75,7 +75,7 @@ lines-append (x ∷ xs) ys e f = let h = both (are_shown x) (list_all are_shown 
 one-line : (x : List ℕ) (xs : List (List ℕ)) → are_shown x ≡ true → list_all are_shown xs ≡ true → list_all are_shown (x ∷ xs) ≡ true
 one-line x xs e f = rw (e, f) refl
 
-number_shown : (n : ℕ) → n < 65536 → are_shown (decimal n) ≡ true
+pub number_shown : (n : ℕ) → n < 65536 → are_shown (decimal n) ≡ true
 number_shown n l = word_shown (decimal n) (decimal_word n l).bytes
 
 version_shown : (v : Version) → are_shown (decimal (version_number v)) ≡ true
@@ -167,7 +167,7 @@ open_of : (q : Place) → (q ≡ at.Edges) ⊎ (q ≡ at.Clients) → IsOpen q
 open_of q (inl e) = subst IsOpen (sym e) Edges
 open_of q (inr e) = subst IsOpen (sym e) Clients
 
-open_ends : (q : Place) → IsOpen q → has_servers q ≡ true
+pub open_ends : (q : Place) → IsOpen q → has_servers q ≡ true
 open_ends at.Edges o = refl
 open_ends at.Clients o = refl
 open_ends at.Scripts o = refl
@@ -180,7 +180,7 @@ place_ends : (q : Place) → IsOpen q ⊎ (q ≡ at.Schedule) → has_servers q 
 place_ends q (inl o) = open_ends q o
 place_ends q (inr e) = ap has_servers e
 
-ends : (s : State) → has_servers s.place ≡ true → is_apart s.trees ≡ false → end_rule s ≡ Ok s
+pub ends : (s : State) → has_servers s.place ≡ true → is_apart s.trees ≡ false → end_rule s ≡ Ok s
 unfolding end_rule
 ends s p w = rw (p, w) refl
 

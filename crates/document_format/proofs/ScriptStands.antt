@@ -79,7 +79,7 @@ barrier_stands n v sem trees clients k tally few =
 -- Commands.
 
 -- a first word of a command
-record IsVerb (w : List ℕ) : Type 0 where
+pub record IsVerb (w : List ℕ) : Type 0 where
   pub named : is_some (verb_named w) ≡ true
   pub barrier : bytes_eq w (codes "barrier") ≡ false
   pub script : bytes_eq w (codes "script") ≡ false
@@ -89,7 +89,7 @@ verb_token : (s : State) (line w v : List ℕ) (ws : List (List ℕ)) (rest : Li
 unfolding at_token
 verb_token s line w v ws rest e is = rw e (rw (is.barrier, is.script, is.schedule, is.named) refl)
 
-verb_line : (n : ℕ) (v : Version) (sem : Semantics) (trees : Drawn) (clients : List Draft) (k : ℕ) (tally : CommandCounts) (b : ℕ) (w text : List ℕ) → are_word_bytes (b ∷ w) ≡ true → nat_eq b 35 ≡ false → IsVerb (b ∷ w)
+pub verb_line : (n : ℕ) (v : Version) (sem : Semantics) (trees : Drawn) (clients : List Draft) (k : ℕ) (tally : CommandCounts) (b : ℕ) (w text : List ℕ) → are_word_bytes (b ∷ w) ≡ true → nat_eq b 35 ≡ false → IsVerb (b ∷ w)
     → line_rule (state at.Scripts v sem trees clients k tally []) n ((b ∷ w) ++ 32 ∷ text) ≡ command_rule (state at.Scripts v sem trees clients k tally []) ((b ∷ w) ++ 32 ∷ text)
 verb_line n v sem trees clients k tally b w text e c is =
     let s = state at.Scripts v sem trees clients k tally [] in

@@ -95,7 +95,7 @@ constraints_later : (f : List ConstraintParts) → AreNamed f → AreConstraints
 constraints_later [] n is = refl
 constraints_later (c ∷ f) n is = list_all-append (nat_le 32) (codes "; " ++ constraint_text c) (later constraint_text f) (constraint_shown c n.0 is.0) (constraints_later f n.1 is.1)
 
-constraints_shown : (f : List ConstraintParts) → AreNamed f → AreConstraints f → are_shown (constraints_text f) ≡ true
+pub constraints_shown : (f : List ConstraintParts) → AreNamed f → AreConstraints f → are_shown (constraints_text f) ≡ true
 unfolding constraints_text
 constraints_shown [] n is = refl
 constraints_shown (c ∷ f) n is = list_all-append (nat_le 32) (constraint_text c) (later constraint_text f) (constraint_shown c n.0 is.0) (constraints_later f n.1 is.1)

@@ -87,7 +87,7 @@ smaller t u servers clients l h = record {
   publish_bytes = omega (arith, times t.publish_bytes clients u.publish_bytes clients l.publish_bytes (omega arith), h.publish_bytes);
 }
 
-control_counts : (t : CommandCounts) (withdraws : Bool) (bytes servers clients : ℕ) → AreCounts (with_control t withdraws bytes) servers clients → control_rule t withdraws bytes servers ≡ Ok (with_control t withdraws bytes)
+pub control_counts : (t : CommandCounts) (withdraws : Bool) (bytes servers clients : ℕ) → AreCounts (with_control t withdraws bytes) servers clients → control_rule t withdraws bytes servers ≡ Ok (with_control t withdraws bytes)
 unfolding control_rule
 control_counts t withdraws bytes servers clients h =
     let l : t.controls < 4096 = omega (arith, h.controls) in
@@ -99,7 +99,7 @@ control_counts t withdraws bytes servers clients h =
     test : (x y : ℕ) → x ≤ y → nat_le x y ≡ true
     test x y l = grind (arith, common_steps)
 
-publish_counts : (t : CommandCounts) (bytes servers clients : ℕ) → AreCounts (with_publish t bytes) servers clients → publish_rule t bytes clients ≡ Ok (with_publish t bytes)
+pub publish_counts : (t : CommandCounts) (bytes servers clients : ℕ) → AreCounts (with_publish t bytes) servers clients → publish_rule t bytes clients ≡ Ok (with_publish t bytes)
 unfolding publish_rule
 publish_counts t bytes servers clients h =
     let l : t.publications < 100000 = omega (arith, h.publications) in
@@ -120,7 +120,7 @@ counts_taken t (commands.Publish n) servers clients h = publish_counts t (length
 
 -- Steps.
 
-get-middle : (done rest : List Draft) (d : Draft) → slice_get (done ++ d ∷ rest) (length done) ≡ Some d
+pub get-middle : (done rest : List Draft) (d : Draft) → slice_get (done ++ d ∷ rest) (length done) ≡ Some d
 get-middle [] rest d = refl
 get-middle (x ∷ done) rest d = get-middle done rest d
 
@@ -189,7 +189,7 @@ unwritten-length : (cs : List ClientParts) → length (map unwritten cs) ≡ len
 unwritten-length [] = refl
 unwritten-length (c ∷ cs) = ap suc (unwritten-length cs)
 
-no-scripts : (done rest : List Draft) (d : Draft) → d.has_script ≡ false → has_script (done ++ d ∷ rest) (length done) ≡ false
+pub no-scripts : (done rest : List Draft) (d : Draft) → d.has_script ≡ false → has_script (done ++ d ∷ rest) (length done) ≡ false
 no-scripts done rest d e = subst (λ (z : Option Draft). is_scripted z ≡ false) (sym (get-middle done rest d)) e
 
 -- a client without commands and barriers

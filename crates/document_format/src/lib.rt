@@ -1,6 +1,6 @@
 //! Layer: document.
 //! Job: the canonical text of a net: one way to write a document, and the proof that it is read back as the same net.
-//! Users: audit_verdict and program_sequential.
+//! Users: document_generated, audit_verdict and program_sequential.
 //!
 //! A law without code says that the wire text of a command behind its first word is the command together with that
 //! word.

@@ -15,6 +15,7 @@ use Rattle.hierarchy_network.proofs.Commanding.{lives_there, home_place}
 pub have_all : (net : NetParts) (phase : ℕ) (now : Servers HierarchyParts) → IsNetwork net phase now → HaveInboxes hierarchy net (received_by net now.journal) 0 now.cores
 have_all net phase now kept = record {
   all = kept.cores.all;
+  nets = λ client parts l m at. kept.cores.nets (home_of net client - 1) parts at;
   lives = λ client parts l m at. lives_there net kept.sound (moment_by net now.journal).network now.cores kept.cores client (omega (arith, l), m) parts at;
   inbox = λ client parts s l m at h e.
       (kept.cores.states (home_of net client - 1) parts at).stands.inboxes s h

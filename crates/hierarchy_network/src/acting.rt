@@ -65,6 +65,7 @@ fn spread_up<'a>(
     outgoing: Outgoing<'_>,
 ) -> Result<Vec<Sending<'a>>, NoMemory>
     requires rising { IsStrictlyIncreasing outgoing.route.now }
+    requires net { clients.old.net ≡ ledger.now.net }
     requires known { outgoing.number < length (known_publications 1 ledger.now.net.clients) }
     ensures spread { IfOk result (λ sent. IsSpreadUp ledger.now.net master from (publication_at ledger.now.net outgoing.entry.number).id.publisher
         (publication_at ledger.now.net outgoing.entry.number).id.ordinal (publication_at ledger.now.net outgoing.entry.number).notice outgoing.entry.route.now
@@ -93,6 +94,7 @@ pub(crate) fn act<'a>(
 ) -> Result<Vec<Sending<'a>>, NoMemory>
     requires from { Has from ledger.old.interfaces }
     requires load { IsLoad ledger.old.net load.now }
+    requires net { clients.old.net ≡ ledger.old.net }
     requires routed { IsRouted (represented ledger.old.net load.now) route.now }
     ensures acted { IfOk result (λ sent. HasActedUp master from (represented ledger.old.net load.now) route.now ledger.old ledger.new
         clients.old.sessions clients.new.sessions sent.items) }
@@ -135,6 +137,7 @@ pub(crate) fn act_next<'a>(
     plan: &Planned,
 ) -> Result<Vec<Sending<'a>>, NoMemory>
     requires from { Has from ledger.old.interfaces }
+    requires net { clients.old.net ≡ ledger.old.net }
     requires can { CanGo ledger.old.net plan.now outgoing }
     ensures gone { IfOk result (λ sent. HasGoneUp master from plan.now outgoing.entry ledger.old ledger.new
         clients.old.sessions clients.new.sessions sent.items) }

@@ -20,7 +20,6 @@ use crate::HierarchyCore;
 use crate::clocks::{raise_all, set_clocks};
 use base::NoMemory;
 use match_routes::Forwarding;
-use net_model::Delivery;
 use net_tables::Tables;
 use sequential_network::{
     Networked, Ruled, Server, Servers, StampedMessage, route, routed, unexhausted, unpublished,
@@ -196,7 +195,7 @@ impl<'a> Server<'a> for ForwardingServer<'a> {
         self.core.pending().is_empty()
     }
 
-    fn take_inbox(&mut self, client: u32) -> Vec<Delivery> {
+    fn take_inbox(&mut self, client: u32) -> Vec<u32> {
         self.core.take_inbox(client)
     }
 }

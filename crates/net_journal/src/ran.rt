@@ -1,7 +1,7 @@
 //! What a run leaves: its record, and what each client received and was refused.
 use crate::records::Record;
 use filter_text::Lists;
-use net_model::Delivery;
+use net_inbox::Inbox;
 
 /// What a run leaves.
 #[derive(Drop)]
@@ -11,5 +11,5 @@ pub struct Ran {
     /// Of each client the ordinals of its refused publishes.
     pub refused: Vec<Lists<u32>>,
     /// And what was delivered to it.
-    pub received: Vec<Lists<Delivery>>,
+    pub received: Vec<Inbox>,
 }

@@ -3,4 +3,3 @@ pub mod Stepping
 pub mod Counting
 pub mod Asked
 pub mod Ids
-pub mod Growing

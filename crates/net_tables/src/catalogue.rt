@@ -156,23 +156,4 @@ impl<'a> Catalogue<'a> {
     {
         &self.matcher
     }
-
-    /// Sets a row to the numbers of the filters that the publication with a number matches. Memory is taken only where the
-    /// scratch was never so large; after running out of it the row is as before.
-    pub fn matched(
-        &self,
-        publication: u32,
-        scratch: &mut Scratch,
-        row: &mut Row,
-    ) -> Result<(), NoMemory>
-        requires there { publication < length (known_publications 1 self.now.clients) }
-        requires width { row.old.width ≡ length (known_filters self.now.clients) }
-        ensures width { row.new.width ≡ row.old.width }
-        ensures members { (p : PublicationParts) → slice_get (known_publications 1 self.now.clients) publication ≡ Some p
-            → OnOk result (row.new.members ≡ matched p.notice (known_filters self.now.clients)) }
-        ensures err { OnErr result (row.new ≡ row.old) }
-    {
-        let notice = &self.publications[publication as usize].notice;
-        self.matcher.matched(notice, scratch, row)
-    }
 }

@@ -1,92 +1,55 @@
-//! The type of a publication of a run with its matched filters and its text, and how each is found.
-ghost use Rattle.std.specs.Prelude.{◌≡◌, ◌<◌, length, IfOk};
-ghost use Rattle.net_model.specs.Parts.{NetParts};
-ghost use Rattle.net_tables.specs.Known.{known_filters, known_publications};
-ghost use Rattle.net_tables.specs.Found.{IsFound, AreFound, publication_at};
+//! Finds what a run has of its publications: the filters that each matches, and the text of its notice.
+ghost use Rattle.std.specs.Prelude.{◌≡◌, ◌≤◌, map, length, IfOk};
+ghost use Rattle.net_tables.specs.Found.{delivery_of, matched_row};
 
-use crate::Catalogue;
+use crate::publication::Publication;
 use base::NoMemory;
 use base_bits::Row;
-use filter_text::{Id, SharedText, write_notice};
-use match_filters::Scratch;
+use filter_text::write_notice;
+use match_filters::{Matcher, Scratch};
+use net_inbox::{Deliveries, DeliveriesBuilder};
 use std::alloc::Global;
-use std::marker::Model;
 
-/// What all servers of a run have of a publication: its id, the text of its notice, which stands once in memory for all its
-/// deliveries, and the filters that it matches, by their numbers.
-#[derive(Drop)]
-pub struct Found {
-    id: Id,
-    text: SharedText,
-    matched: Row,
+/// Publications as they are delivered.
+pub(crate) fn deliveries(
+    alloc: Global,
+    publications: &[Publication],
+) -> Result<Deliveries, NoMemory>
+    ensures { IfOk result (λ deliveries. deliveries ≡ map delivery_of publications.now) }
+{
+    let mut builder = DeliveriesBuilder::new(alloc, publications.len())?;
+    for known in publications {
+        builder.push(known.id, write_notice(alloc, &known.notice)?)?;
+    }
+    builder.build(alloc)
 }
 
-impl Model for Found {
-    ghost use Rattle.net_tables.specs.Found.{FoundParts};
-
-    ghost Value = { FoundParts };
-
-    ghost view = { λ f. record { id = f.id; text = f.text; matched = f.matched } };
-}
-
-impl Found {
-    /// Its id.
-    pub fn id(&self) -> Id
-        ensures { result ≡ self.now.id }
-    {
-        self.id
-    }
-
-    /// The text of its notice.
-    pub fn text(&self) -> &SharedText
-        ensures { result.now ≡ self.now.text }
-    {
-        &self.text
-    }
-
-    /// The numbers of the filters that it matches.
-    pub fn matched(&self) -> &Row
-        ensures { result.now ≡ self.now.matched }
-    {
-        &self.matched
-    }
-}
-
-// The publication with a number.
+// The filters that a publication matches.
 fn find(
     alloc: Global,
-    catalogue: &Catalogue<'_>,
-    number: u32,
+    matcher: &Matcher,
+    known: &Publication,
     scratch: &mut Scratch,
-) -> Result<Found, NoMemory>
-    requires { number < length (known_publications 1 catalogue.now.clients) }
-    ensures { IfOk result (IsFound catalogue.now (publication_at catalogue.now number)) }
+) -> Result<Row, NoMemory>
+    ensures { IfOk result (λ row. row ≡ matched_row matcher.now known.now) }
 {
-    catalogue.lemma_sound();
-    let width = catalogue.filters().len() as u32;
-    let mut matched = Row::new(alloc, width)?;
-    catalogue.matched(number, scratch, &mut matched)?;
-    let known = &catalogue.publications()[number as usize];
-    let _ = known.notice.attributes();
-    let text = SharedText::of(alloc, write_notice(alloc, &known.notice)?)?;
-    Ok(Found {
-        id: known.id,
-        text,
-        matched,
-    })
+    let mut row = Row::new(alloc, matcher.len() as u32)?;
+    matcher.matched(&known.notice, scratch, &mut row)?;
+    Ok(row)
 }
 
-/// All publications of a catalogue in the order of their numbers.
-pub(crate) fn find_all(alloc: Global, catalogue: &Catalogue<'_>) -> Result<Vec<Found>, NoMemory>
-    ensures { IfOk result (λ found. AreFound catalogue.now found.items) }
+/// The filters that each of these publications matches.
+pub(crate) fn find_all(
+    alloc: Global,
+    matcher: &Matcher,
+    publications: &[Publication],
+) -> Result<Vec<Row>, NoMemory>
+    ensures { IfOk result (λ rows. rows.items ≡ map (matched_row matcher.now) publications.now) }
 {
-    catalogue.lemma_sound();
-    let count = catalogue.publications().len();
     let mut scratch = Scratch::new(alloc);
-    let mut all = Vec::with_capacity(alloc, count)?;
-    for number in 0..count {
-        let found = find(alloc, catalogue, number as u32, &mut scratch)?;
-        all.push(found)?;
+    let mut rows = Vec::with_capacity(alloc, publications.len())?;
+    for known in publications {
+        rows.push(find(alloc, matcher, known, &mut scratch)?)?;
     }
-    Ok(all)
+    Ok(rows)
 }

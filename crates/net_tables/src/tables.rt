@@ -3,16 +3,21 @@ ghost use Rattle.std.specs.Prelude.{◌≡◌, ◌<◌, length, IfOk};
 ghost use Rattle.net_model.specs.Sound.{IsSound};
 ghost use Rattle.net_tables.specs.Known.{known_filters, known_adverts, known_publications};
 ghost use Rattle.net_tables.specs.Related.{overlap_rows};
-ghost use Rattle.net_tables.specs.Found.{IsFound, publication_at};
+ghost use Rattle.net_tables.specs.Found.{IsFound, delivery_of, known_deliveries, publication_at};
+ghost use Rattle.net_inbox.specs.Inbox.{delivery_at};
+ghost use Rattle.filter_types.specs.Notice.{AreValues};
+ghost use Rattle.filter_text.specs.MessageText.{IsId};
+ghost use Rattle.filter_text.specs.NoticeText.{IsNoticeText};
 
 use crate::Catalogue;
-use crate::found::{Found, find_all};
+use crate::found::{deliveries, find_all};
 use base::NoMemory;
 use base_bits::Row;
 use base_order::Order;
 use base_pool::Items;
 use filter_covering::{Ad, Sub};
 use filter_text::Semantics;
+use net_inbox::Deliveries;
 use net_model::Net;
 use std::alloc::Global;
 use std::marker::Model;
@@ -25,7 +30,8 @@ pub struct Tables<'a> {
     filters: Order<Sub>,
     adverts: Order<Ad>,
     overlaps: Vec<Row>,
-    publications: Vec<Found>,
+    deliveries: Deliveries,
+    matched: Vec<Row>,
 }
 
 impl<'a> Model for Tables<'a> {
@@ -37,7 +43,7 @@ impl<'a> Model for Tables<'a> {
 
     ghost view = { λ t. t.catalogue };
 
-    ghost invariant = { λ t. AreTables t.catalogue t.filters t.adverts t.overlaps.items × AreFound t.catalogue t.publications.items };
+    ghost invariant = { λ t. AreTables t.catalogue t.filters t.adverts t.overlaps.items × AreFound t.catalogue t.deliveries t.matched.items };
 }
 
 impl<'a> Tables<'a> {
@@ -50,13 +56,15 @@ impl<'a> Tables<'a> {
         let filters = catalogue.filter_order(alloc)?;
         let adverts = catalogue.advert_order(alloc)?;
         let overlaps = catalogue.overlaps(alloc)?;
-        let publications = find_all(alloc, &catalogue)?;
+        let deliveries = deliveries(alloc, catalogue.publications())?;
+        let matched = find_all(alloc, catalogue.matcher(), catalogue.publications())?;
         Ok(Tables {
             catalogue,
             filters,
             adverts,
             overlaps,
-            publications,
+            deliveries,
+            matched,
         })
     }
 
@@ -116,11 +124,33 @@ impl<'a> Tables<'a> {
         &self.overlaps
     }
 
-    /// The publication with a number.
-    pub fn found(&self, number: u32) -> &Found
+    /// The publications as they are delivered, by their numbers.
+    pub fn deliveries(&self) -> &Deliveries
+        ensures { result.now ≡ known_deliveries self.now.clients }
+    {
+        &self.deliveries
+    }
+
+    /// The numbers of the filters that the publication with a number matches.
+    pub fn matched(&self, number: u32) -> &Row
         requires { number < length (known_publications 1 self.now.clients) }
         ensures { IsFound self.now (publication_at self.now number) result.now }
     {
-        &self.publications[number as usize]
+        self.lemma_delivered(number);
+        &self.matched[number as usize]
+    }
+
+    /// Does nothing; its contract says what is delivered of the publication with a number: its id, which is in range, and the
+    /// text of its notice.
+    pub fn lemma_delivered(&self, number: u32)
+        requires { number < length (known_publications 1 self.now.clients) }
+        ensures delivery { delivery_at (known_deliveries self.now.clients) number ≡ delivery_of (publication_at self.now number) }
+        ensures range { IsId (publication_at self.now number).id }
+        ensures values { AreValues (publication_at self.now number).notice }
+        ensures text { IsNoticeText (delivery_of (publication_at self.now number)).bytes (publication_at self.now number).notice }
+    {
+        self.catalogue.lemma_sound();
+        let known = &self.catalogue.publications()[number as usize];
+        let _ = known.notice.attributes();
     }
 }

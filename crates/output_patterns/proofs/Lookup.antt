@@ -5,7 +5,7 @@ use Rattle.std.proofs.lemmas.Grind.{common_steps}
 use Rattle.std.proofs.lemmas.List.{get_or_default}
 use Rattle.filter_text.specs.Deliveries.{Delivery}
 use Rattle.output_report.specs.Published.{by_number}
-use Rattle.output_patterns.specs.Found.{delivery_text, place_text}
+use Rattle.output_patterns.specs.Found.{delivery_text, heard_in, place_text}
 use Rattle.output_patterns.specs.Published.{at_number}
 
 -- what holds of each list holds of the one with a number, where there is none too
@@ -53,6 +53,16 @@ no-place names deliveries (suc i) at h e f = go deliveries i (behind at i (lengt
     go [] k l = refl
     go (d ∷ ds) zero l = absurd (omega (arith, l))
     go (d ∷ ds) (suc k) l = go ds k (omega (arith, l))
+
+-- what a client with a number received
+pub heard-by : (lists : List (List Delivery)) (n : ℕ) → heard_in (at_number lists n) ≡ by_number lists n
+heard-by lists zero = refl
+heard-by lists (suc i) = go lists i
+  where
+    go : (ls : List (List Delivery)) (k : ℕ) → heard_in (slice_get ls k) ≡ get_or ls k []
+    go [] k = refl
+    go (l ∷ ls) zero = refl
+    go (l ∷ ls) (suc k) = go ls k
 
 -- nothing is there, so the list is empty
 pub none_there : {A : Type 0} (lists : List (List A)) (n : ℕ) → None ≡ at_number lists n → [] ≡ by_number lists n

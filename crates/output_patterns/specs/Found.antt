@@ -32,6 +32,11 @@ found_line names deliveries places = codes "found" ++ flat_map (place_text names
 unfoldable pub pattern_line : List (List ℕ) → ℕ → List ℕ → List ℕ
 pattern_line names client label = codes "pattern " ++ by_number names client ++ codes " " ++ label ++ codes "\n"
 
+-- what a client received, where there is one
+abbrev pub heard_in : Option (List Delivery) → List Delivery
+heard_in None = []
+heard_in (Some deliveries) = deliveries
+
 -- a pattern, and a line for each of all its occurrences in the deliveries of its client
 unfoldable pub pattern_text : List (List ℕ) → List (List (List Attribute)) → List Delivery → PatternParts → List ℕ
 pattern_text names notices deliveries p =

@@ -5,12 +5,12 @@ ghost use Rattle.output_patterns.specs.Published.{ArePublished};
 ghost use Rattle.output_patterns.specs.Found.{patterns_text};
 
 use crate::Pattern;
-use crate::published::{Published, publications, received_by};
+use crate::published::{Published, at_number, publications};
 use crate::searched::{Searched, all_searched};
 use crate::writing::put_pattern;
 use base::NoMemory;
 use base_devices::{Pending, Sink};
-use filter_text::{Delivery, Lists};
+use net_inbox::Inbox;
 use net_model::Client;
 use std::alloc::Global;
 use std::marker::Model;
@@ -19,7 +19,7 @@ use std::marker::Model;
 #[derive(Drop)]
 pub struct Found {
     published: Published,
-    received: Vec<Lists<Delivery>>,
+    received: Vec<Inbox>,
     patterns: Vec<Searched>,
 }
 
@@ -40,7 +40,7 @@ fn put_patterns<K: Sink>(
     out: &mut Pending,
     sink: &mut K,
     published: &Published,
-    received: &[Lists<Delivery>],
+    received: &[Inbox],
     patterns: Vec<Searched>,
 )
     requires { All (ArePublished published.now.notices.items) received.now }
@@ -48,13 +48,13 @@ fn put_patterns<K: Sink>(
         (patterns_text published.now.names.items published.now.notices.items received.now patterns.items) }
 {
     for pattern in patterns {
-        let deliveries = received_by(received, pattern.client);
+        let inbox = at_number(received, pattern.client);
         put_pattern(
             out,
             sink,
             &published.names,
             &published.notices,
-            deliveries,
+            inbox,
             pattern,
         );
     }
@@ -71,7 +71,7 @@ impl Found {
     pub fn make(
         alloc: Global,
         clients: Vec<Client>,
-        received: Vec<Lists<Delivery>>,
+        received: Vec<Inbox>,
         patterns: Vec<Pattern>,
     ) -> Result<Found, NoMemory>
         requires published { All (ArePublished (notices_in clients.items)) received.items }

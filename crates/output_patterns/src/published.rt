@@ -5,7 +5,7 @@ ghost use Rattle.output_report.specs.Published.{by_number};
 ghost use Rattle.output_patterns.specs.Published.{at_number, is_published, names_in, notice_at, notices_in, script_notices};
 
 use base::NoMemory;
-use filter_text::{Delivery, Id, Lists};
+use filter_text::{Id, Lists};
 use filter_types::Notice;
 use filter_values::Name;
 use net_model::{Client, Command};
@@ -56,8 +56,8 @@ pub fn notice_at(notices: &[Lists<Notice>], id: Id) -> &Notice
     &of_client[(id.ordinal - 1) as usize]
 }
 
-// What stands at a number, from 1.
-fn at_number<T>(items: &[T], number: u32) -> Option<&T>
+/// What stands at a number, from 1.
+pub fn at_number<T>(items: &[T], number: u32) -> Option<&T>
     ensures { option_copied result ≡ at_number items.now number }
 {
     match number.checked_sub(1) {
@@ -72,16 +72,6 @@ pub fn name_at(names: &[Name], number: u32) -> &[u8]
 {
     match at_number(names, number) {
         Some(name) => name.bytes(),
-        None => &[],
-    }
-}
-
-/// What a client received, by its number from 1.
-pub fn received_by(received: &[Lists<Delivery>], number: u32) -> &[Delivery]
-    ensures { result.now ≡ by_number received.now number }
-{
-    match at_number(received, number) {
-        Some(list) => list.as_slice(),
         None => &[],
     }
 }

@@ -2,19 +2,22 @@
 ghost use Rattle.std.specs.Prelude.{◌≡◌, ◌<◌, ◌^◌, ◌++◌, ◌∷◌, [], ℕ, List, length, true};
 ghost use Rattle.std.specs.List.{flat_map};
 ghost use Rattle.std.specs.Fmt.{decimal};
+ghost use Rattle.std.specs.Option.{option_copied};
 ghost use Rattle.base_devices.specs.Pending.{outlet, Went};
+ghost use Rattle.net_inbox.specs.Inbox.{in_order};
 ghost use Rattle.output_patterns.specs.Scan.{all_occurrences};
 ghost use Rattle.output_patterns.specs.Published.{ArePublished, is_published, notice_at, notices_of};
-ghost use Rattle.output_patterns.specs.Found.{found_line, id_text, pattern_line, pattern_text, place_text};
+ghost use Rattle.output_patterns.specs.Found.{found_line, heard_in, id_text, pattern_line, pattern_text, place_text};
 
 use crate::Detector;
 use crate::published::{name_at, notice_at};
 use crate::searched::Searched;
 use base_devices::{Pending, Sink};
-use filter_text::{Delivery, Id, Lists};
+use filter_text::{Id, Lists};
 use filter_types::Notice;
 use filter_values::Name;
 use itoa::Buffer;
+use net_inbox::{Inbox, Received};
 
 // A number in decimal.
 fn put_number<K: Sink>(out: &mut Pending, sink: &mut K, number: u64)
@@ -38,19 +41,19 @@ fn put_id<K: Sink>(out: &mut Pending, sink: &mut K, names: &[Name], id: Id)
 #[derive(Clone, Copy)]
 struct Heard<'a> {
     names: &'a [Name],
-    deliveries: &'a [Delivery],
+    received: Received<'a>,
 }
 
 // The publication of the delivery at a place.
 fn put_place<K: Sink>(out: &mut Pending, sink: &mut K, heard: Heard<'_>, place: u64)
     ensures { Went (outlet (K.state sink.old) out.old) (outlet (K.state sink.new) out.new)
-        (place_text heard.entry.names.now heard.entry.deliveries.now place) }
+        (place_text heard.entry.names.now (in_order heard.entry.received) place) }
 {
     let Some(at) = place.checked_sub(1) else {
         return;
     };
-    match heard.deliveries.get(at as usize) {
-        Some(delivery) => put_id(out, sink, heard.names, delivery.id),
+    match heard.received.numbers.get(at as usize) {
+        Some(number) => put_id(out, sink, heard.names, heard.received.deliveries.at(*number).id),
         None => {}
     }
 }
@@ -70,7 +73,7 @@ fn put_head<K: Sink>(out: &mut Pending, sink: &mut K, names: &[Name], client: u3
 // The line of an occurrence.
 fn put_occurrence<K: Sink>(out: &mut Pending, sink: &mut K, heard: Heard<'_>, places: &[u64])
     ensures { Went (outlet (K.state sink.old) out.old) (outlet (K.state sink.new) out.new)
-        (found_line heard.entry.names.now heard.entry.deliveries.now places.now) }
+        (found_line heard.entry.names.now (in_order heard.entry.received) places.now) }
 {
     out.put(sink, b"found");
     for place in places {
@@ -93,8 +96,8 @@ fn put_next<K: Sink>(
     ensures fed { detector.new.fed ≡ detector.old.fed ++ notice.now ∷ [] }
     ensures went { (line : List ℕ)
         × Went (outlet (K.state sink.old) out.old) (outlet (K.state sink.new) out.new) line
-        × (flat_map (found_line heard.entry.names.now heard.entry.deliveries.now) (all_occurrences detector.old.steps (detector.old.fed ++ notice.now ∷ []))
-        ≡ flat_map (found_line heard.entry.names.now heard.entry.deliveries.now) (all_occurrences detector.old.steps detector.old.fed) ++ line) }
+        × (flat_map (found_line heard.entry.names.now (in_order heard.entry.received)) (all_occurrences detector.old.steps (detector.old.fed ++ notice.now ∷ []))
+        ≡ flat_map (found_line heard.entry.names.now (in_order heard.entry.received)) (all_occurrences detector.old.steps detector.old.fed) ++ line) }
 {
     if detector.feed(notice) {
         put_occurrence(out, sink, heard, detector.places());
@@ -111,34 +114,35 @@ fn put_occurrences<K: Sink>(
 )
     requires some { 0 < length detector.steps }
     requires nothing { detector.fed ≡ [] }
-    requires published { ArePublished notices.now heard.deliveries.now }
+    requires published { ArePublished notices.now (in_order heard.received) }
     ensures { Went (outlet (K.state sink.old) out.old) (outlet (K.state sink.new) out.new)
-        (flat_map (found_line heard.entry.names.now heard.entry.deliveries.now)
-        (all_occurrences detector.steps (notices_of notices.now heard.entry.deliveries.now))) }
+        (flat_map (found_line heard.entry.names.now (in_order heard.entry.received))
+        (all_occurrences detector.steps (notices_of notices.now (in_order heard.entry.received)))) }
 {
-    for delivery in heard.deliveries {
+    for number in heard.received.numbers {
+        let id = heard.received.deliveries.at(*number).id;
         put_next(
             out,
             sink,
             heard,
             &mut detector,
-            notice_at(notices, delivery.id),
+            notice_at(notices, id),
         );
     }
 }
 
-/// A pattern, and a line for each of all its occurrences in the deliveries.
+/// A pattern, and a line for each of all its occurrences in what its client received.
 pub fn put_pattern<K: Sink>(
     out: &mut Pending,
     sink: &mut K,
     names: &[Name],
     notices: &[Lists<Notice>],
-    deliveries: &[Delivery],
+    inbox: Option<&Inbox>,
     pattern: Searched,
 )
-    requires { ArePublished notices.now deliveries.now }
+    requires { ArePublished notices.now (heard_in (option_copied inbox)) }
     ensures { Went (outlet (K.state sink.old) out.old) (outlet (K.state sink.new) out.new)
-        (pattern_text names.now notices.now deliveries.now pattern) }
+        (pattern_text names.now notices.now (heard_in (option_copied inbox.entry)) pattern) }
 {
     let Searched {
         client,
@@ -146,6 +150,11 @@ pub fn put_pattern<K: Sink>(
         detector,
     } = pattern;
     put_head(out, sink, names, client, &label);
-    let heard = Heard { names, deliveries };
-    put_occurrences(out, sink, heard, notices, detector)
+    match inbox {
+        Some(inbox) => {
+            let received = inbox.received();
+            put_occurrences(out, sink, Heard { names, received }, notices, detector)
+        }
+        None => {}
+    }
 }

@@ -7,14 +7,26 @@ ghost use Rattle.output_report.specs.Counts.{total};
 use base::NoMemory;
 use filter_text::Lists;
 use itoa::Buffer;
+use net_inbox::Inbox;
 
-/// How many members lists have.
-pub fn total<L>(lists: &[Lists<L>]) -> u128
+/// How many publishes were refused.
+pub fn total_refused(lists: &[Lists<u32>]) -> u128
     ensures { result ≡ total lists.now }
 {
     let mut count = 0;
     for list in lists {
         count += list.as_slice().len() as u128;
+    }
+    count
+}
+
+/// How many deliveries there were.
+pub fn total_received(inboxes: &[Inbox]) -> u128
+    ensures { result ≡ total inboxes.now }
+{
+    let mut count = 0;
+    for inbox in inboxes {
+        count += inbox.len() as u128;
     }
     count
 }

@@ -12,7 +12,7 @@ use net_model::Client;
 pub fn push_delivery(
     out: &mut Vec<u8>,
     clients: &[Client],
-    delivery: &Delivery,
+    delivery: &Delivery<'_>,
 ) -> Result<(), NoMemory>
     ensures { OnOk result (out.new.items ≡ out.old.items ++ delivery_line clients.now delivery.now) }
 {
@@ -21,6 +21,6 @@ pub fn push_delivery(
         b"deliver ",
         clients,
         delivery.id,
-        delivery.bytes.as_slice(),
+        delivery.bytes,
     )
 }

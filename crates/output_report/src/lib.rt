@@ -20,7 +20,7 @@ mod trace;
 mod writing;
 
 pub use commands::{CommandCounts, count_commands};
-pub use counting::{push_total, total};
+pub use counting::{push_total, total_received, total_refused};
 pub use deliveries::push_delivery;
 pub use flooded::Flooded;
 pub use lines::{push_client, push_refused};

@@ -1,19 +1,15 @@
 //! Sorts deliveries by their ids.
-ghost use Rattle.std.specs.Prelude.{◌≡◌, map, IfOk};
+ghost use Rattle.std.specs.Prelude.{◌≡◌, OnOk};
+ghost use Rattle.net_inbox.specs.Inbox.{at_numbers};
 ghost use Rattle.output_report.specs.Deliveries.{by_id};
 
 use base::NoMemory;
-use filter_text::Delivery;
-use std::alloc::Global;
+use net_inbox::Deliveries;
 
-/// The deliveries by publisher and ordinal; those of one publication in their order.
-pub(crate) fn by_id(alloc: Global, received: &[Delivery]) -> Result<Vec<&Delivery>, NoMemory>
-    ensures { IfOk result (λ sorted. map (λ d. d.now) sorted.items ≡ by_id received.now) }
+/// Sorts the numbers of deliveries by publisher and ordinal; those of one publication stay in their order.
+pub(crate) fn sort_by_id(deliveries: &Deliveries, numbers: &mut Vec<u32>) -> Result<(), NoMemory>
+    ensures { OnOk result (at_numbers deliveries.now numbers.new.items ≡ by_id (at_numbers deliveries.now numbers.old.items)) }
 {
-    let mut sorted = Vec::with_capacity(alloc, received.len())?;
-    for delivery in received {
-        sorted.push(delivery)?;
-    }
-    sorted.sort_by_key(|delivery| delivery.id)?;
-    Ok(sorted)
+    numbers.sort_by_key(|number| deliveries.at(*number).id)?;
+    Ok(())
 }

@@ -3,6 +3,7 @@ ghost use Rattle.std.specs.Prelude.{◌≡◌, false, length};
 ghost use Rattle.std.specs.List.{flat_map};
 ghost use Rattle.std.specs.Fmt.{decimal};
 ghost use Rattle.base_devices.specs.Pending.{outlet, Went};
+ghost use Rattle.net_inbox.specs.Inbox.{in_order};
 ghost use Rattle.output_report.specs.Lines.{client_line, refused_line, publication_line};
 ghost use Rattle.output_report.specs.Deliveries.{delivery_line, delivery_section, deliveries_text};
 
@@ -11,6 +12,7 @@ use base_devices::{Pending, Sink};
 use filter_text::{Delivery, Id, Lists};
 use filter_values::Name;
 use itoa::Buffer;
+use net_inbox::{Inbox, Received};
 use net_model::{Client, Net};
 
 // A number in decimal.
@@ -72,7 +74,7 @@ pub(crate) fn put_publication<K: Sink>(
 
 // The line of a delivery.
 #[tactic(auto, unfolding(crate::specs::Deliveries::delivery_line))]
-fn put_delivery<K: Sink>(out: &mut Pending, sink: &mut K, clients: &[Client], delivery: &Delivery)
+fn put_delivery<K: Sink>(out: &mut Pending, sink: &mut K, clients: &[Client], delivery: &Delivery<'_>)
     ensures { Went (outlet (K.state sink.old) out.old) (outlet (K.state sink.new) out.new)
         (delivery_line clients.now delivery.now) }
 {
@@ -82,17 +84,22 @@ fn put_delivery<K: Sink>(out: &mut Pending, sink: &mut K, clients: &[Client], de
         b"deliver ",
         clients,
         delivery.id,
-        delivery.bytes.as_slice(),
+        delivery.bytes,
     )
 }
 
 // The lines of deliveries, in their order.
-fn put_received<K: Sink>(out: &mut Pending, sink: &mut K, clients: &[Client], received: &[Delivery])
+fn put_received<K: Sink>(
+    out: &mut Pending,
+    sink: &mut K,
+    clients: &[Client],
+    received: Received<'_>,
+)
     ensures { Went (outlet (K.state sink.old) out.old) (outlet (K.state sink.new) out.new)
-        (flat_map (delivery_line clients.now) received.now) }
+        (flat_map (delivery_line clients.now) (in_order received.entry)) }
 {
-    for delivery in received {
-        put_delivery(out, sink, clients, delivery);
+    for number in received.numbers {
+        put_delivery(out, sink, clients, &received.deliveries.at(*number));
     }
 }
 
@@ -103,10 +110,10 @@ fn put_section<K: Sink>(
     clients: &[Client],
     client: &Client,
     refused: &[u32],
-    received: &[Delivery],
+    received: Received<'_>,
 )
     ensures { Went (outlet (K.state sink.old) out.old) (outlet (K.state sink.new) out.new)
-        (delivery_section clients.now false client.now refused.now received.now) }
+        (delivery_section clients.now false client.now refused.now (in_order received.entry)) }
 {
     put_client(out, sink, &client.name);
     put_refused(out, sink, refused);
@@ -120,7 +127,7 @@ pub fn put_deliveries<K: Sink>(
     sink: &mut K,
     net: &Net,
     refused: &[Lists<u32>],
-    received: &[Lists<Delivery>],
+    received: &[Inbox],
 )
     requires refused { length refused.now ≡ length net.now.clients }
     requires received { length received.now ≡ length net.now.clients }
@@ -134,7 +141,7 @@ pub fn put_deliveries<K: Sink>(
             &net.clients,
             client,
             refused[i].as_slice(),
-            received[i].as_slice(),
+            received[i].received(),
         );
     }
 }

@@ -1,8 +1,10 @@
 //! Why a client gets a publication of a document, or doesn't.
 ghost use Rattle.std.specs.Prelude.{◌≡◌, ◌++◌, IfOk};
+ghost use Rattle.std.specs.Option.{option_copied};
+ghost use Rattle.net_inbox.specs.Inbox.{in_order};
 ghost use Rattle.net_model.specs.Sound.{IsSound};
 ghost use Rattle.output_explain.specs.Text.{explanation_text};
-ghost use Rattle.program_sequential.specs.Explanations.{is_received, received_at, walk_line};
+ghost use Rattle.program_sequential.specs.Explanations.{deliveries_in, is_received, received_at, walk_line};
 ghost use Rattle.program_sequential.specs.Explaining.{ExplainsInput, ExplainsNet, IsTold};
 ghost use Rattle.program_sequential.specs.declared.subject.Subject.TheVariants.{Publication};
 
@@ -14,35 +16,42 @@ use crate::ran::walked;
 use crate::reading::net;
 use crate::unanswered::Unanswered;
 use base::NoMemory;
-use filter_text::{Id, Lists};
+use filter_text::Id;
+use net_inbox::{Inbox, Received};
 use net_journal::Ran;
-use net_model::{Delivery, Net};
+use net_model::Net;
 use output_explain::{Explanation, explain, explanation_text};
 use sequential_network::Passed;
 use std::alloc::Global;
 
-// Whether a publication is among deliveries.
-fn is_received(id: Id, deliveries: &[Delivery]) -> bool
-    ensures { result ≡ is_received id deliveries.now }
+// Whether a publication is among what was received.
+fn is_received(id: Id, received: Received<'_>) -> bool
+    ensures { result ≡ is_received id (in_order received.entry) }
 {
-    for delivery in deliveries {
-        if id.publisher == delivery.id.publisher && id.ordinal == delivery.id.ordinal {
+    for number in received.numbers {
+        let delivered = received.deliveries.at(*number).id;
+        if id.publisher == delivered.publisher && id.ordinal == delivered.ordinal {
             return true;
         }
     }
     false
 }
 
-// What the client of a number, from 1, received.
-fn received_at(received: &[Lists<Delivery>], client: u32) -> &[Delivery]
-    ensures { result.now ≡ received_at received.now client }
+// What the client of a number, from 1, received, where there is one.
+fn inbox_at(received: &[Inbox], client: u32) -> Option<&Inbox>
+    ensures { deliveries_in (option_copied result) ≡ received_at received.now client }
 {
-    let Some(place) = client.checked_sub(1) else {
-        return &[];
-    };
-    match received.get(place as usize) {
-        Some(list) => list.as_slice(),
-        None => &[],
+    let place = client.checked_sub(1)?;
+    received.get(place as usize)
+}
+
+// Whether a publication is in an inbox, where there is one.
+fn is_in(id: Id, inbox: Option<&Inbox>) -> bool
+    ensures { result ≡ is_received id (deliveries_in (option_copied inbox.entry)) }
+{
+    match inbox {
+        Some(inbox) => is_received(id, inbox.received()),
+        None => false,
     }
 }
 
@@ -61,13 +70,13 @@ fn walk_line(delivered: bool) -> &'static [u8]
 fn told_text(
     alloc: Global,
     net: &Net,
-    received: &[Lists<Delivery>],
+    received: &[Inbox],
     explanation: &Explanation,
 ) -> Result<Vec<u8>, NoMemory>
     ensures { IfOk result (λ text. text.items ≡ explanation_text net.now.clients explanation.now
         ++ walk_line (is_received explanation.now.id (received_at received.now explanation.now.client))) }
 {
-    let delivered = is_received(explanation.id, received_at(received, explanation.client));
+    let delivered = is_in(explanation.id, inbox_at(received, explanation.client));
     let mut text = explanation_text(alloc, &net.clients, explanation)?;
     text.extend_from_slice(walk_line(delivered))?;
     Ok(text)

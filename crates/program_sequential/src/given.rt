@@ -6,7 +6,8 @@ ghost use Rattle.output_report.specs.Deliveries.{deliveries_text};
 use base::NoMemory;
 use base_devices::{Pending, Sink};
 use filter_text::Lists;
-use net_model::{Delivery, Net};
+use net_inbox::Inbox;
+use net_model::Net;
 use output_report::{ordered, put_deliveries};
 use std::alloc::Global;
 use std::marker::Model;
@@ -16,7 +17,7 @@ use std::marker::Model;
 pub struct Given {
     net: Net,
     refused: Vec<Lists<u32>>,
-    received: Vec<Lists<Delivery>>,
+    received: Vec<Inbox>,
 }
 
 impl Model for Given {
@@ -36,7 +37,7 @@ impl Given {
         alloc: Global,
         net: Net,
         refused: Vec<Lists<u32>>,
-        received: Vec<Lists<Delivery>>,
+        received: Vec<Inbox>,
         sorted: bool,
     ) -> Result<Given, NoMemory>
         requires refused { length refused.items ≡ length net.clients }

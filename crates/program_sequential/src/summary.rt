@@ -8,7 +8,7 @@ use base::NoMemory;
 use filter_text::Lists;
 use net_journal::Ran;
 use net_model::{Entry, Net};
-use output_report::{count_commands, summary_text, total};
+use output_report::{count_commands, summary_text, total_received, total_refused};
 use std::alloc::Global;
 
 // How many messages the entries of a journal put on links.
@@ -29,8 +29,8 @@ pub fn run_summary(alloc: Global, net: &Net, ran: &Ran) -> Result<Vec<u8>, NoMem
     requires kept { ran.now.journal.kept ≡ true }
     ensures { IfOk result (λ text. text.items ≡ summary_of net.now ran.now.journal.entries) }
 {
-    let refused = total(&ran.refused);
-    let received = total(&ran.received);
+    let refused = total_refused(&ran.refused);
+    let received = total_received(&ran.received);
     let journal = ran.journal.entries();
     let messages = messages(journal);
     let accepted = u128::from(count_commands(&net.clients).publishes).saturating_sub(refused);

@@ -28,6 +28,7 @@ use Rattle.std.proofs.lemmas.List.{length-set}
 pub have_all : (net : NetParts) (phase : ℕ) (now : Servers CoreParts) → IsNetwork net phase now → HaveInboxes peers net (received_by net now.journal) 0 now.cores
 have_all net phase now kept = record {
   all = kept.cores.all;
+  nets = λ client core l m at. kept.cores.nets (home_of net client - 1) core at;
   lives = λ client core l m at. lives_there net kept.sound phase (moment_by net now.journal).state now.cores kept.cores client (omega (arith, l), m) core at;
   inbox = λ client core s l m at h e.
       (kept.cores.states (home_of net client - 1) core at).inboxes s h
@@ -67,12 +68,17 @@ module _ {P : Type 0} (kind : Stepping P) where
       → after ≡ set before (home_of net (done + 1) - 1) next → HaveInboxes kind net delivered (done + 1) after
   have_rest net delivered done before after old next have at within given is = subst (HaveInboxes kind net delivered (done + 1)) (sym is) (record {
     all = length-set before place next ∙ have.all;
+    nets = λ client core l m e. nets client core l m (stands before place (home_of net client - 1) (done + 1) old next core given within at e);
     lives = λ client core l m e. lives client core l m (stands before place (home_of net client - 1) (done + 1) old next core given within at e);
     inbox = λ client core s l m e h c. inbox client core s l m h c (stands before place (home_of net client - 1) (done + 1) old next core given within at e);
   })
     where
       place : ℕ
       place = home_of net (done + 1) - 1
+
+      nets : (client : ℕ) (core : P) → done + 1 < client → client ≤ length net.clients → Stands before place (home_of net client - 1) (done + 1) core → (kind.core core).net ≡ net
+      nets client core l m (Elsewhere e) = have.nets client core (omega (arith, l)) m e
+      nets client core l m (Here one e c) = ap (λ (z : CoreParts). z.net) c ∙ have.nets client one (omega (arith, l)) m e
 
       lives : (client : ℕ) (core : P) → done + 1 < client → client ≤ length net.clients → Stands before place (home_of net client - 1) (done + 1) core
           → Has client (client_numbers (kind.core core).clients)

@@ -11,6 +11,8 @@ use Rattle.sequential_network.specs.Stepping.{Stepping}
 -- the clients behind the first so many live at their homes, with what was delivered to each
 pub record HaveInboxes {P : Type 0} (kind : Stepping P) (net : NetParts) (delivered : ℕ → List Delivery) (done : ℕ) (cores : List P) : Type 0 where
   pub all : length cores ≡ (first_tree net.trees).count
+  pub nets : (client : ℕ) (core : P) → done < client → client ≤ length net.clients → slice_get cores (home_of net client - 1) ≡ Some core
+      → (kind.core core).net ≡ net
   pub lives : (client : ℕ) (core : P) → done < client → client ≤ length net.clients → slice_get cores (home_of net client - 1) ≡ Some core
       → Has client (client_numbers (kind.core core).clients)
   pub inbox : (client : ℕ) (core : P) (s : SessionParts) → done < client → client ≤ length net.clients

@@ -24,7 +24,6 @@ use crate::servers::Servers;
 use crate::stamped_message::StampedMessage;
 use base::NoMemory;
 use match_routes::Forwarding;
-use net_model::Delivery;
 use net_tables::Tables;
 use server_core::{Core, Step, StepFault};
 use server_session::Session;
@@ -218,7 +217,7 @@ impl<'a> Server<'a> for ForwardingServer<'a> {
         self.core.pending().is_empty()
     }
 
-    fn take_inbox(&mut self, client: u32) -> Vec<Delivery> {
+    fn take_inbox(&mut self, client: u32) -> Vec<u32> {
         self.core.take_inbox(client)
     }
 }

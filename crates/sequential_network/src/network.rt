@@ -3,6 +3,7 @@ ghost use Rattle.std.specs.Prelude.{◌≡◌, ◌≤◌, ◌==◌, ◌++◌, �
 ghost use Rattle.net_model.specs.Parts.{EntryParts};
 ghost use Rattle.net_model.specs.Nets.{first_tree, clients_of, of_clients};
 ghost use Rattle.net_model.specs.Sound.{IsSound};
+ghost use Rattle.net_inbox.specs.Inbox.{in_order};
 ghost use Rattle.sequential_network.specs.Ruling.{refused_by};
 ghost use Rattle.sequential_network.specs.Seen.{AreClients};
 
@@ -17,7 +18,8 @@ use crate::telling::last_told;
 use base::NoMemory;
 use filter_text::Lists;
 use net_journal::Journal;
-use net_model::{Delivery, Entry, Net, Sent, Turn};
+use net_inbox::{Inbox, Received};
+use net_model::{Entry, Net, Sent, Turn};
 use net_tables::Tables;
 use std::alloc::Global;
 use std::marker::{Model, PhantomData};
@@ -144,7 +146,7 @@ impl<'a, P: Networked<'a>, K: Keeping> RuledNetwork<'a, P, K> {
     }
 
     /// What was done, and what each client received, where nothing else is wanted any more: both are handed on and not copied.
-    pub fn into_parts(self) -> Result<(Journal, Vec<Lists<Delivery>>), NoMemory>
+    pub fn into_parts(self) -> Result<(Journal, Vec<Inbox>), NoMemory>
         ensures journal { IfOk result (λ parts. parts.0.entries ≡ self.entry.journal) }
         ensures kept { IfOk result (λ parts. parts.0.kept ≡ K.keeps) }
         ensures received { IfOk result (λ parts. parts.1.items ≡ of_clients self.entry.net (P.ruling.received_by self.entry.net self.entry.journal)) }
@@ -155,14 +157,14 @@ impl<'a, P: Networked<'a>, K: Keeping> RuledNetwork<'a, P, K> {
             mut servers,
             ..
         } = self;
-        let received = take_inboxes(tables.net(), &mut servers)?;
+        let received = take_inboxes(tables.net(), tables.deliveries(), &mut servers)?;
         Ok((servers.journal, received))
     }
 
     /// What a client received, in order.
-    pub fn received(&self, client: u32) -> &[Delivery]
+    pub fn received(&self, client: u32) -> Received<'_>
         requires { (1 ≤ client) × (client ≤ length self.now.net.clients) }
-        ensures { result.now ≡ P.ruling.received_by self.now.net self.now.journal client }
+        ensures { in_order result ≡ P.ruling.received_by self.now.net self.now.journal client }
     {
         P::lemma_laws();
         session(self.tables.net(), &self.servers, client).received()

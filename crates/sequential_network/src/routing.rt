@@ -25,8 +25,7 @@ pub fn routed(
     ensures { (core : CoreParts) → core.net ≡ tables.now → IsPlace core forwarding.now
         → IfOk result (IsRoute (publication_at tables.now number).notice (installed_from core)) }
 {
-    let found = tables.found(number);
-    forwarding.route(alloc, found.matched())
+    forwarding.route(alloc, tables.matched(number))
 }
 
 /// Where a step routes what a message carries; nowhere where that is a change.

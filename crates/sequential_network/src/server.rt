@@ -4,6 +4,8 @@ ghost use Rattle.base.specs.Sets.{Has};
 ghost use Rattle.law_machine.specs.Machine.{Does, Receives};
 ghost use Rattle.law_routing.specs.Step.{NextCommand, TableUpdate};
 ghost use Rattle.server_spec.specs.Session.{SessionParts};
+ghost use Rattle.net_inbox.specs.Inbox.{at_numbers};
+ghost use Rattle.net_tables.specs.Found.{known_deliveries};
 ghost use Rattle.server_core.specs.Clients.{client_numbers};
 ghost use Rattle.server_core.specs.Core.{without_inbox};
 ghost use Rattle.server_core.specs.Pending.{is_some_there};
@@ -12,7 +14,6 @@ ghost use Rattle.sequential_network.specs.Stepping.{IsSome, GoesOn, greatest_clo
 
 use crate::stamped_message::StampedMessage;
 use base::NoMemory;
-use net_model::Delivery;
 use server_core::Step;
 use std::alloc::Global;
 
@@ -65,10 +66,11 @@ pub trait Server<'a>: Drop {
         ensures pending { IsTrue result ↔ ((stepping.core self.now).pending ≡ []) }
         ensures calm { result ≡ not (is_some_there (stepping.core self.now).pending) };
 
-    /// Hands on what was delivered to a client that lives here, whose inbox is empty then.
-    fn take_inbox(&mut self, client: u32) -> Vec<Delivery>
+    /// Hands on the numbers of what was delivered to a client that lives here, whose inbox is empty then.
+    fn take_inbox(&mut self, client: u32) -> Vec<u32>
         requires { Has client (client_numbers (stepping.core self.old).clients) }
-        ensures inbox { (s : SessionParts) → Has s (stepping.core self.old).clients → s.client ≡ client → result.items ≡ s.inbox }
+        ensures inbox { (s : SessionParts) → Has s (stepping.core self.old).clients → s.client ≡ client
+            → at_numbers (known_deliveries (stepping.core self.old).net.clients) result.items ≡ s.inbox }
         ensures emptied { stepping.core self.new ≡ without_inbox client (stepping.core self.old) };
 }
 

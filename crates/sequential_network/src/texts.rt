@@ -99,11 +99,11 @@ fn publication_text(alloc: Global, tables: &Tables<'_>, number: u32) -> Result<S
     requires { number < length (known_publications 1 tables.now.clients) }
     ensures { IfOk result (λ text. text ≡ message_text (wired (represented tables.now (Load.Publication number)))) }
 {
-    let found = tables.found(number);
+    tables.lemma_delivered(number);
     let publication = &tables.catalogue().publications()[number as usize];
     let notice = publication.notice.copy(alloc)?;
     let message = MessageText::Notice {
-        id: found.id(),
+        id: publication.id,
         notice,
     };
     Ok(SentText::of_message(message))

@@ -6,13 +6,12 @@ use Rattle.std.specs.List.Sorted.{IsStrictlyIncreasing}
 use Rattle.std.proofs.lemmas.Bool.Decides.{nat_tests}
 use Rattle.std.proofs.lemmas.List.{length_push}
 use Rattle.base.specs.Sets.{Has}
-use Rattle.base.proofs.Roots.{filter-Has}
+use Rattle.base.proofs.Roots.{filter-Has, Has-filter}
 use Rattle.law_routing.specs.Server.{is_among}
 use Rattle.filter_text.specs.Deliveries.{Delivery}
 use Rattle.server_spec.specs.Session.{SessionParts}
-use Rattle.server_core.specs.declared.spreading.Ready.{Ready}
 use Rattle.server_core.specs.Clients.{bare, at_client, handed, HaveRoom, StayPlanned, HaveMoreRoom}
-use Rattle.server_core.specs.Acting.{clients_on, delivered, ready_for}
+use Rattle.server_core.specs.Acting.{clients_on, delivered}
 use Rattle.base.proofs.Lists.{take-suc-some, get-get_or}
 use Rattle.base.proofs.Sets.{get-has, map-has, has-map, increasing-above, increasing-rest}
 use Rattle.std.proofs.lemmas.Bool.{eqb-true}
@@ -47,9 +46,6 @@ more-no-suc p (y ∷ ys) (suc n) x e t = ap (λ z. cond (p y) (y ∷ z) z) (more
 
 pub more-no : {X : Type 0} (p : X → Bool) (xs : List X) (n : ℕ) (x : X) → slice_get xs n ≡ Some x → p x ≡ false → filter p (take (n + 1) xs) ≡ filter p (take n xs)
 more-no p xs n x e t = rw add-one (more-no-suc p xs n x e t)
-
-pub prefix-more : {X : Type 0} (all seen : List X) (x : X) → seen ≡ take (length seen) all → length seen < length all → x ≡ get_or all (length seen) x → seen ++ x ∷ [] ≡ take (length (seen ++ x ∷ [])) all
-prefix-more all seen x e l q = rw (length_push seen x, add-one, take-suc-some all (length seen) x (get-get_or all (length seen) x l q)) (ap (λ z. z ++ x ∷ []) e)
 
 pub got-number : (xs : List ℕ) (i : ℕ) → i < length xs → slice_get xs i ≡ Some (get_or xs i 0)
 got-number [] i l = absurd (omega (arith, l))
@@ -98,21 +94,21 @@ clients-rise (x ∷ xs) h = go (nat_lt 64 x) refl (clients-rise xs (increasing-r
 
 -- deliveries one after another
 
-pub all_handed : List Ready → List SessionParts → List SessionParts
-all_handed [] ss = ss
-all_handed (r ∷ rs) ss = all_handed rs (at_client r.client (handed r.delivery) ss)
+pub all_handed : Delivery → List ℕ → List SessionParts → List SessionParts
+all_handed d [] ss = ss
+all_handed d (c ∷ cs) ss = all_handed d cs (at_client c (handed d) ss)
 
-pub handed-none : (ss : List SessionParts) → ss ≡ all_handed [] ss
+pub handed-none : (d : Delivery) (ss : List SessionParts) → ss ≡ all_handed d [] ss
 unfolding all_handed
-handed-none ss = refl
+handed-none d ss = refl
 
-pub handed-more : (rs : List Ready) (r : Ready) (ss : List SessionParts) → at_client r.client (handed r.delivery) (all_handed rs ss) ≡ all_handed (rs ++ r ∷ []) ss
+pub handed-more : (d : Delivery) (cs : List ℕ) (c : ℕ) (ss : List SessionParts) → at_client c (handed d) (all_handed d cs ss) ≡ all_handed d (cs ++ c ∷ []) ss
 unfolding all_handed
-handed-more [] r ss = refl
-handed-more (q ∷ rs) r ss = handed-more rs r (at_client q.client (handed q.delivery) ss)
+handed-more d [] c ss = refl
+handed-more d (b ∷ cs) c ss = handed-more d cs c (at_client b (handed d) ss)
 
 -- another client's session is as it was
-pub at-other : (c : ℕ) (d : Delivery) (ss : List SessionParts) (s : SessionParts) → Has s (at_client c (handed d) ss) → (s.client ≡ c → ⊥) → Has s ss
+at-other : (c : ℕ) (d : Delivery) (ss : List SessionParts) (s : SessionParts) → Has s (at_client c (handed d) ss) → (s.client ≡ c → ⊥) → Has s ss
 at-other c d [] s m n = absurd m
 at-other c d (t ∷ ss) s (inr m) n = inr (at-other c d ss s m n)
 at-other c d (t ∷ ss) s (inl e) n = go (t.client == c) refl e
@@ -121,43 +117,56 @@ at-other c d (t ∷ ss) s (inl e) n = go (t.client == c) refl e
     go true q e = absurd (n (ap (λ z. z.client) e ∙ eqb-true t.client c q))
     go false q e = inl e
 
-pub left-alone : (rs : List Ready) (ss : List SessionParts) (s : SessionParts) → Has s (all_handed rs ss) → (Has s.client (map (λ r. r.client) rs) → ⊥) → Has s ss
+left-alone : (d : Delivery) (cs : List ℕ) (ss : List SessionParts) (s : SessionParts) → Has s (all_handed d cs ss) → (Has s.client cs → ⊥) → Has s ss
 unfolding all_handed
-left-alone [] ss s m n = m
-left-alone (r ∷ rs) ss s m n = at-other r.client r.delivery ss s (left-alone rs (at_client r.client (handed r.delivery) ss) s m (λ k. n (inr k))) (λ e. n (inl e))
+left-alone d [] ss s m n = m
+left-alone d (c ∷ cs) ss s m n = at-other c d ss s (left-alone d cs (at_client c (handed d) ss) s m (λ k. n (inr k))) (λ e. n (inl e))
 
--- clients that rise are apart
-pub apart : (all : List Ready) (n : ℕ) (x : Ready) → IsStrictlyIncreasing (map (λ r. r.client) all) → slice_get all n ≡ Some x → Has x.client (map (λ r. r.client) (take n all)) → ⊥
+-- numbers that rise are apart
+apart : (xs : List ℕ) (n x : ℕ) → IsStrictlyIncreasing xs → slice_get xs n ≡ Some x → Has x (take n xs) → ⊥
 apart [] n x h e m = absurd cc
 apart (y ∷ ys) zero x h e m = m
 apart (y ∷ ys) (suc n) x h e (inl q) =
-    let more = increasing-above y.client (map (λ r. r.client) ys) h x.client (map-has (λ r. r.client) ys x (get-has ys n x e)) in
+    let more = increasing-above y ys h x (get-has ys n x e) in
     absurd (omega (arith, more, q))
-apart (y ∷ ys) (suc n) x h e (inr m) = apart ys n x (increasing-rest y.client (map (λ r. r.client) ys) h) e m
+apart (y ∷ ys) (suc n) x h e (inr m) = apart ys n x (increasing-rest y ys h) e m
 
--- the next one of those that are ready has room
-pub next-room : (all seen : List Ready) (ss now : List SessionParts) (x : Ready) → seen ≡ take (length seen) all → length seen < length all → x ≡ get_or all (length seen) x → IsStrictlyIncreasing (map (λ r. r.client) all) → HaveRoom (map (λ r. r.client) all) ss → now ≡ all_handed seen ss → (s : SessionParts) → Has s now → s.client ≡ x.client → 1 ≤ s.room
-next-room all seen ss now x e l q h room is s m c = room s there (subst (λ z. Has z (map (λ r. r.client) all)) (sym c) (map-has (λ r. r.client) all x (get-has all (length seen) x at)))
+-- the clients of a route are its interfaces from 65 on
+from-clients : (route : List ℕ) (x : ℕ) → 64 < x → Has (x - 64) (clients_on route) → Has x route
+from-clients route x l m =
+    let r = has-map (λ i. i - 64) (filter (λ i. nat_lt 64 i) route) (x - 64) m in
+    let k = filter-Has (λ i. nat_lt 64 i) r.0 route r.1 in
+    let t : nat_lt 64 r.0 ≡ true = k.1 in
+    let far : 64 < r.0 = grind (arith, nat_tests, t) in
+    let same : r.0 ≡ x = omega (arith, l, far, r.2) in
+    subst (λ z. Has z route) same k.0
+
+to-clients : (route : List ℕ) (x : ℕ) → 64 < x → Has x route → Has (x - 64) (clients_on route)
+to-clients route x l m = map-has (λ i. i - 64) (filter (λ i. nat_lt 64 i) route) x (Has-filter (λ i. nat_lt 64 i) x route m (grind (arith, nat_tests, l)))
+
+-- the next client of a route has room
+pub next-room : (d : Delivery) (route : List ℕ) (n x : ℕ) (ss : List SessionParts) → IsStrictlyIncreasing route → slice_get route n ≡ Some x → 64 < x → HaveRoom (clients_on route) ss
+    → (s : SessionParts) → Has s (all_handed d (clients_on (take n route)) ss) → s.client ≡ x - 64 → 1 ≤ s.room
+next-room d route n x ss rise e l room s m c = room s there (subst (λ z. Has z (clients_on route)) (sym c) (to-clients route x l (get-has route n x e)))
   where
-    at : slice_get all (length seen) ≡ Some x
-    at = get-get_or all (length seen) x l q
-
-    new : Has s.client (map (λ r. r.client) seen) → ⊥
-    new k = apart all (length seen) x h at (subst (λ z. Has z (map (λ r. r.client) (take (length seen) all))) c (subst (λ z. Has s.client (map (λ r. r.client) z)) e k))
+    new : Has s.client (clients_on (take n route)) → ⊥
+    new k = apart route n x rise e (from-clients (take n route) x l (subst (λ z. Has z (clients_on (take n route))) c k))
 
     there : Has s ss
-    there = left-alone seen ss s (subst (λ z. Has s z) is m) new
+    there = left-alone d (clients_on (take n route)) ss s m new
 
--- one delivery for each of some clients that rise
+-- the clients of a route up to an interface that is a link, and up to one that is a client
+pub clients-skip : (route : List ℕ) (n x : ℕ) → slice_get route n ≡ Some x → x ≤ 64 → clients_on (take (n + 1) route) ≡ clients_on (take n route)
+clients-skip route n x e l =
+    let low : nat_lt 64 x ≡ false = grind (arith, nat_tests) in
+    ap (map (λ i. i - 64)) (more-no (λ i. nat_lt 64 i) route n x e low)
 
-pub ready-clients : (d : Delivery) (to : List ℕ) → map (λ r. r.client) (ready_for d to) ≡ to
-ready-clients d [] = refl
-ready-clients d (c ∷ to) = ap (λ z. c ∷ z) (ready-clients d to)
+pub clients-more : (route : List ℕ) (n x : ℕ) → slice_get route n ≡ Some x → 64 < x → clients_on (take (n + 1) route) ≡ clients_on (take n route) ++ (x - 64) ∷ []
+clients-more route n x e l =
+    let high : nat_lt 64 x ≡ true = grind (arith, nat_tests) in
+    more-yes (λ i. i - 64) (λ i. nat_lt 64 i) route n x e high
 
-pub ready-one : (d : Delivery) (to : List ℕ) (r : Ready) → Has r (ready_for d to) → r.delivery ≡ d
-ready-one d [] r m = absurd m
-ready-one d (c ∷ to) r (inl e) = ap (λ z. z.delivery) e
-ready-one d (c ∷ to) r (inr m) = ready-one d to r m
+-- clients that rise are each handed one delivery
 
 map-id : (ss : List SessionParts) → ss ≡ map (λ s. s) ss
 map-id [] = refl
@@ -175,7 +184,7 @@ both c to d h (s ∷ ss) = go (s.client == c) refl (both c to d h ss)
         rw none (ap (λ z. handed d s ∷ z) ih)
     go false q ih = ap (λ z. cond (is_among s.client to) (handed d s) s ∷ z) ih
 
-pub handed-all : (d : Delivery) (to : List ℕ) (ss : List SessionParts) → IsStrictlyIncreasing to → all_handed (ready_for d to) ss ≡ delivered to d ss
+pub handed-all : (d : Delivery) (to : List ℕ) (ss : List SessionParts) → IsStrictlyIncreasing to → all_handed d to ss ≡ delivered to d ss
 unfolding all_handed
 handed-all d [] ss h = map-id ss
 handed-all d (c ∷ to) ss h = handed-all d to (at_client c (handed d) ss) (increasing-rest c to h) ∙ both c to d h ss
@@ -202,18 +211,11 @@ delivered-has to d ss s m = go (has-map (λ s. cond (is_among s.client to) (hand
         by true e = (t, k, ap (λ z. z.client) (sym e), ap (λ z. z.planned) (sym e))
         by false e = (t, k, ap (λ z. z.client) (sym e), ap (λ z. z.planned) (sym e))
 
--- what is ready so far, and has room
-pub record IsMade (delivery : Delivery) (route : List ℕ) (ready : List Ready) (old new : List SessionParts) : Type 0 where
-  pub made : ready ≡ ready_for delivery (clients_on route)
-  pub room : HaveRoom (clients_on route) new
+-- these clients have room, and else nothing changed
+pub record HaveMade (clients : List ℕ) (old new : List SessionParts) : Type 0 where
+  pub room : HaveRoom clients new
   pub from : StayPlanned old new
   pub alike : map bare new ≡ map bare old
-
-pub made-skip : (d : Delivery) (route : List ℕ) (n x : ℕ) (ready : List Ready) (old new : List SessionParts) → slice_get route n ≡ Some x → x ≤ 64 → IsMade d (take n route) ready old new → IsMade d (take (n + 1) route) ready old new
-made-skip d route n x ready old new e l h =
-    let low : nat_lt 64 x ≡ false = grind (arith, nat_tests) in
-    let same : clients_on (take (n + 1) route) ≡ clients_on (take n route) = ap (map (λ i. i - 64)) (more-no (λ i. nat_lt 64 i) route n x e low) in
-    record { made = rw same h.made; room = rw same h.room; from = h.from; alike = h.alike }
 
 pub from-more : (old mid new : List SessionParts) → StayPlanned old mid → HaveMoreRoom mid new → StayPlanned old new
 from-more old mid new from more s m =
@@ -227,26 +229,12 @@ has-end x y [] (inr r) = absurd r
 has-end x y (z ∷ xs) (inl e) = inr (inl e)
 has-end x y (z ∷ xs) (inr r) = elim (has-end x y xs r) [ inl e ↦ inl e | inr m ↦ inr (inr m) ]
 
-pub made-more : (d : Delivery) (route : List ℕ) (n x : ℕ) (ready : List Ready) (old mid new : List SessionParts) → slice_get route n ≡ Some x → 64 < x → IsMade d (take n route) ready old mid
-    → ((s : SessionParts) → Has s new → s.client ≡ x - 64 → 1 ≤ s.room) → HaveMoreRoom mid new → map bare new ≡ map bare mid
-    → IsMade d (take (n + 1) route) (ready ++ (record { client = x - 64; delivery = d }) ∷ []) old new
-made-more d route n x ready old mid new e l h room more alike = record { made = made; room = roomy; from = from-more old mid new h.from more; alike = alike ∙ h.alike }
+pub made-more : (clients : List ℕ) (c : ℕ) (old mid new : List SessionParts) → HaveMade clients old mid → ((s : SessionParts) → Has s new → s.client ≡ c → 1 ≤ s.room)
+    → HaveMoreRoom mid new → map bare new ≡ map bare mid → HaveMade (clients ++ c ∷ []) old new
+made-more clients c old mid new h room more alike = record { room = roomy; from = from-more old mid new h.from more; alike = alike ∙ h.alike }
   where
-    high : nat_lt 64 x ≡ true
-    high = grind (arith, nat_tests)
-
-    longer : clients_on (take (n + 1) route) ≡ clients_on (take n route) ++ (x - 64) ∷ []
-    longer = more-yes (λ i. i - 64) (λ i. nat_lt 64 i) route n x e high
-
-    ready-end : (to : List ℕ) (c : ℕ) → ready_for d (to ++ c ∷ []) ≡ ready_for d to ++ (record { client = c; delivery = d }) ∷ []
-    ready-end [] c = refl
-    ready-end (b ∷ to) c = ap (λ z. record { client = b; delivery = d } ∷ z) (ready-end to c)
-
-    made : ready ++ (record { client = x - 64; delivery = d }) ∷ [] ≡ ready_for d (clients_on (take (n + 1) route))
-    made = rw (longer, ready-end (clients_on (take n route)) (x - 64)) (ap (λ z. z ++ (record { client = x - 64; delivery = d }) ∷ []) h.made)
-
-    roomy : HaveRoom (clients_on (take (n + 1) route)) new
-    roomy s m k = elim (has-end (x - 64) s.client (clients_on (take n route)) (subst (λ z. Has s.client z) longer k)) [
+    roomy : HaveRoom (clients ++ c ∷ []) new
+    roomy s m k = elim (has-end c s.client clients k) [
       | inl q ↦ room s m q
-      | inr j ↦ (let a = more s m in let b = h.room a.0 a.1 (subst (λ z. Has z (clients_on (take n route))) (sym a.2) j) in omega (arith, b, a.3))
+      | inr j ↦ (let a = more s m in let b = h.room a.0 a.1 (subst (λ z. Has z clients) (sym a.2) j) in omega (arith, b, a.3))
     ]

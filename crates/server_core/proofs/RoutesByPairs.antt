@@ -12,7 +12,7 @@ use Rattle.net_model.specs.Parts.{NetParts}
 use Rattle.net_model.proofs.Meaning.{matches_plain}
 use Rattle.filter_text.specs.Messages.{Lists}
 use Rattle.net_tables.specs.Known.{PublicationParts, known_filters}
-use Rattle.net_tables.specs.Found.{FoundParts, IsFound}
+use Rattle.net_tables.specs.Found.{IsFound}
 use Rattle.match_filters.specs.Matching.{matched}
 use Rattle.match_filters.proofs.Members.{matched-iff}
 use Rattle.match_routes.specs.Installed.{Pair}
@@ -78,10 +78,10 @@ module _ (net : NetParts) (installed : ℕ → Lists) (pairs : List Pair) (stand
 
 -- of a publication that is found
 module _ (core : CoreParts) (pairs : List Pair) (stands : RepresentPairs (known_filters core.net.clients) (installed_from core) pairs)
-    (known : (i : ℕ) (f : List ConstraintParts) → Has f (installed_from core i) → Has f (known_filters core.net.clients)) (p : PublicationParts) (found : FoundParts) (is : IsFound core.net p found) where
-  pub route-of-found : (r : List ℕ) → IsRouteBy found.matched.members pairs r → IsRoute p.notice (installed_from core) r
+    (known : (i : ℕ) (f : List ConstraintParts) → Has f (installed_from core i) → Has f (known_filters core.net.clients)) (p : PublicationParts) (found : Numbers) (is : IsFound core.net p found) where
+  pub route-of-found : (r : List ℕ) → IsRouteBy found.members pairs r → IsRoute p.notice (installed_from core) r
   route-of-found r by = route-is core.net (installed_from core) pairs stands known p.notice r is.values (subst (λ (m : Numbers). IsRouteBy m.members pairs r) is.matched by)
 
-  pub route-answered : {E : Type 0} (answer : Result (List ℕ) E) → IfOk answer (λ r. IsRouteBy found.matched.members pairs r) → IfOk answer (λ r. IsRoute p.notice (installed_from core) r)
+  pub route-answered : {E : Type 0} (answer : Result (List ℕ) E) → IfOk answer (λ r. IsRouteBy found.members pairs r) → IfOk answer (λ r. IsRoute p.notice (installed_from core) r)
   route-answered (Ok r) by = route-of-found r by
   route-answered (Err e) by = tt

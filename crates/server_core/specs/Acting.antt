@@ -20,7 +20,6 @@ use Rattle.server_session.specs.declared.planned.Planned.TheVariants as plans_by
 use Rattle.server_session.specs.declared.planned.Moved.{Moved}
 use Rattle.server_session.specs.Moved.{gone, come}
 use Rattle.server_session.specs.Own.{IsWithin}
-use Rattle.server_core.specs.declared.spreading.Ready.{Ready}
 use Rattle.server_core.specs.Clients.{bare, handed}
 use Rattle.server_core.specs.Ledger.{LedgerParts, FiltersSet, AdvertsSet}
 
@@ -54,10 +53,6 @@ delivery_under publisher ordinal notice = record { id = record { publisher = pub
 -- a message for each of these links
 abbrev pub sent_on : NetParts → Message real → List ℕ → List SendingParts
 sent_on net message links = map (λ link. onto net link message) links
-
--- a delivery for each of these clients
-abbrev pub ready_for : Delivery → List ℕ → List Ready
-ready_for delivery clients = map (λ client. record { client = client; delivery = delivery }) clients
 
 -- each of these clients has one more delivery
 abbrev pub delivered : List ℕ → Delivery → List SessionParts → List SessionParts

@@ -37,6 +37,7 @@ pub(crate) fn act<'a>(
     requires from { Has from ledger.old.interfaces }
     requires semantics { ledger.old.control.semantics ≡ ledger.old.net.semantics }
     requires load { IsLoad ledger.old.net load.now }
+    requires net { clients.old.net ≡ ledger.old.net }
     requires routed { IsRouted (represented ledger.old.net load.now) route.now }
     ensures acted { IfOk result (λ sent. HasActed from (represented ledger.old.net load.now) route.now ledger.old ledger.new
         clients.old.sessions clients.new.sessions sent.items) }
@@ -89,6 +90,7 @@ pub(crate) fn act_next<'a>(
     plan: &Planned,
 ) -> Result<Vec<Sending<'a>>, NoMemory>
     requires from { Has from ledger.old.interfaces }
+    requires net { clients.old.net ≡ ledger.old.net }
     requires can { CanGo ledger.old.net plan.now outgoing }
     ensures gone { IfOk result (λ sent. HasGone from plan.now outgoing.entry ledger.old ledger.new clients.old.sessions clients.new.sessions sent.items) }
     ensures interfaces { ledger.new.interfaces ≡ ledger.old.interfaces }

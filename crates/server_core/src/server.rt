@@ -11,7 +11,8 @@ ghost use Rattle.server_spec.specs.Control.{subs};
 ghost use Rattle.server_spec.specs.declared.planned.Planned.TheVariants as plans;
 ghost use Rattle.server_spec.specs.Plan.{next_plan};
 ghost use Rattle.server_spec.specs.Session.{SessionParts};
-ghost use Rattle.net_tables.specs.Found.{publication_at};
+ghost use Rattle.net_inbox.specs.Inbox.{at_numbers};
+ghost use Rattle.net_tables.specs.Found.{known_deliveries, publication_at};
 ghost use Rattle.server_message.specs.Message.{IsLoad, represented};
 ghost use Rattle.server_core.specs.Clients.{bare, client_numbers};
 ghost use Rattle.server_core.specs.Core.{core_parts, installed_from, without_inbox};
@@ -26,7 +27,6 @@ use crate::acting::{Outgoing, act, act_next};
 use crate::clients::Clients;
 use crate::ledger::Ledger;
 use crate::stepped::{LAST_STAMP, Step, StepFault};
-use filter_text::Delivery;
 use law_routing::interface_of;
 use match_routes::TableChange;
 use net_tables::Tables;
@@ -310,10 +310,11 @@ impl<'a> Core<'a> {
         session
     }
 
-    /// Hands on what was delivered to a client that lives here, whose inbox is empty then. It takes no memory.
-    pub fn take_inbox(&mut self, client: u32) -> Vec<Delivery>
+    /// Hands on the numbers of what was delivered to a client that lives here, whose inbox is empty then. It takes no memory.
+    pub fn take_inbox(&mut self, client: u32) -> Vec<u32>
         requires { Has client (client_numbers self.old.clients) }
-        ensures inbox { (s : SessionParts) → Has s self.old.clients → s.client ≡ client → result.items ≡ s.inbox }
+        ensures inbox { (s : SessionParts) → Has s self.old.clients → s.client ≡ client
+            → at_numbers (known_deliveries self.old.net.clients) result.items ≡ s.inbox }
         ensures emptied { self.new ≡ without_inbox client self.old }
     {
         self.clients.take_inbox(client)

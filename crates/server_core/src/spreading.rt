@@ -1,31 +1,21 @@
 //! A publication that goes on by its route, and is delivered.
-ghost use Rattle.std.specs.Prelude.{◌≡◌, ◌≤◌, ◌<◌, ℕ, ◌==◌, ◌&&◌, not, [], ◌∷◌, ◌++◌, map, length, List, IfOk, OnOk, OnErr};
+ghost use Rattle.std.specs.Prelude.{◌≡◌, ◌≤◌, ◌<◌, ℕ, ◌==◌, ◌&&◌, not, map, length, IfOk, OnOk, OnErr};
 ghost use Rattle.std.specs.List.Sorted.{IsStrictlyIncreasing};
 ghost use Rattle.law_routing.specs.Server.{is_among, is_link};
-ghost use Rattle.base.specs.Sets.{Has};
-ghost use Rattle.server_spec.specs.Inbox.{IsDelivery};
-ghost use Rattle.filter_text.specs.Deliveries.{Delivery as DeliveryParts};
+ghost use Rattle.net_inbox.specs.Inbox.{delivery_at};
 ghost use Rattle.net_tables.specs.Known.{known_publications};
-ghost use Rattle.net_tables.specs.Found.{publication_at};
+ghost use Rattle.net_tables.specs.Found.{known_deliveries, publication_at};
+ghost use Rattle.server_spec.specs.Inbox.{IsDelivery};
 ghost use Rattle.server_message.specs.Message.{represented};
-ghost use Rattle.server_core.specs.declared.spreading.Ready.{Ready as ReadyParts};
 ghost use Rattle.server_core.specs.Clients.{bare, clients_parts, HaveRoom, StayPlanned};
-ghost use Rattle.server_core.specs.Acting.{IsSpread, sent_on, links_on, clients_on, delivered, ready_for};
+ghost use Rattle.server_core.specs.Acting.{IsSpread, sent_on, links_on, clients_on, delivered};
 
 use crate::clients::Clients;
 use base::NoMemory;
-use filter_text::{Delivery, Id, SharedText};
 use law_routing::{client_of, is_link};
 use net_tables::Tables;
 use server_message::{Load, Message, Sending};
 use std::alloc::Global;
-
-/// A delivery with its client.
-#[derive(Drop)]
-struct Ready {
-    client: u32,
-    delivery: Delivery,
-}
 
 /// Sends the publication with a number on and delivers it, by its route.
 pub fn spread<'a>(
@@ -38,6 +28,7 @@ pub fn spread<'a>(
     route: &[u32],
 ) -> Result<Vec<Sending<'a>>, NoMemory>
     requires rising { IsStrictlyIncreasing route.now }
+    requires net { clients.old.net ≡ tables.now }
     requires known { number < length (known_publications 1 tables.now.clients) }
     ensures spread { IfOk result (λ sent. IsSpread tables.now from (publication_at tables.now number).id.publisher
         (publication_at tables.now number).id.ordinal (publication_at tables.now number).notice route.now links.now
@@ -47,9 +38,9 @@ pub fn spread<'a>(
     ensures err { OnErr result (map bare clients.new.sessions ≡ map bare clients.old.sessions) }
 {
     let sent = sendings(alloc, tables, links, from, number, route)?;
-    let found = tables.found(number);
-    let ready = make_ready(alloc, clients, found.id(), found.text(), route)?;
-    deliver(clients, ready);
+    make_room(clients, route)?;
+    tables.lemma_delivered(number);
+    deliver(clients, number, route);
     Ok(sent)
 }
 
@@ -82,43 +73,34 @@ fn goes_on(links: &[u32], from: u32, interface: u32) -> bool
     is_link(interface) && interface != from && links.contains(&interface)
 }
 
-/// A delivery for each client of a route, each of which has room for it then.
-fn make_ready<'a>(
-    alloc: Global,
-    clients: &mut Clients<'a>,
-    id: Id,
-    text: &SharedText,
-    route: &[u32],
-) -> Result<Vec<Ready>, NoMemory>
-    ensures ready { IfOk result (λ ready. ready.items ≡ ready_for (record { id = id; bytes = text.now }) (clients_on route.now)) }
+/// Makes room for one more delivery to each client of a route.
+fn make_room<'a>(clients: &mut Clients<'a>, route: &[u32]) -> Result<(), NoMemory>
     ensures room { OnOk result (HaveRoom (clients_on route.now) clients.new.sessions) }
     ensures net { clients.new.net ≡ clients.old.net }
     ensures planned { StayPlanned clients.old.sessions clients.new.sessions }
     ensures bare { map bare clients.new.sessions ≡ map bare clients.old.sessions }
 {
-    let mut ready = Vec::with_capacity(alloc, route.len())?;
     for interface in route {
         if is_link(*interface) {
             continue;
         }
-        let client = client_of(*interface);
-        clients.make_room(client)?;
-        let bytes = text.share()?;
-        let delivery = Delivery { id, bytes };
-        ready.push(Ready { client, delivery })?;
+        clients.make_room(client_of(*interface))?;
     }
-    Ok(ready)
+    Ok(())
 }
 
-/// Delivers what was made ready. It takes no memory.
-fn deliver<'a>(clients: &mut Clients<'a>, ready: Vec<Ready>)
-    requires rising { IsStrictlyIncreasing (map (λ one. one.client) ready.items) }
-    requires room { HaveRoom (map (λ one. one.client) ready.items) clients.old.sessions }
-    requires texts { (one : ReadyParts) → Has one ready.items → IsDelivery one.delivery }
-    ensures { (delivery : DeliveryParts) (to : List ℕ) → ready.items ≡ ready_for delivery to
-        → clients.new ≡ clients_parts clients.old.net (delivered to delivery clients.old.sessions) }
+/// Delivers the publication with a number to each client of a route, all of which have room for it. It takes no memory.
+fn deliver<'a>(clients: &mut Clients<'a>, number: u32, route: &[u32])
+    requires rising { IsStrictlyIncreasing route.now }
+    requires room { HaveRoom (clients_on route.now) clients.old.sessions }
+    requires text { IsDelivery (delivery_at (known_deliveries clients.old.net.clients) number) }
+    ensures { clients.new ≡ clients_parts clients.old.net (delivered (clients_on route.now)
+        (delivery_at (known_deliveries clients.old.net.clients) number) clients.old.sessions) }
 {
-    for one in ready {
-        clients.deliver(one.client, one.delivery);
+    for interface in route {
+        if is_link(*interface) {
+            continue;
+        }
+        clients.deliver(client_of(*interface), number);
     }
 }

@@ -11,7 +11,7 @@ ghost use Rattle.server_core.specs.Core.{RepresentsServer};
 ghost use Rattle.server_core.specs.Clients.{client_numbers, clients_parts};
 ghost use Rattle.server_core.specs.Start.{sessions_of};
 
-use crate::clients::Clients;
+use crate::clients::{Clients, guesses_for};
 use crate::ledger::Ledger;
 use crate::server::Core;
 use base::NoMemory;
@@ -72,5 +72,6 @@ pub fn at_home<'a>(
         numbers.push(number)?;
         sessions.push(Session::start(alloc, tables, number)?)?;
     }
-    Ok(Clients::of(tables, numbers, sessions))
+    let guesses = guesses_for(alloc, &numbers)?;
+    Ok(Clients::of(tables, numbers, guesses, sessions))
 }

@@ -1,5 +1,5 @@
 -- A change of a row of numbers is the change of the items that these represent.
-use Rattle.std.proofs.Common.{◌≡◌, ◌⊎◌, ◌↔◌, inl, inr, ℕ, suc, ◌+◌, ◌<◌, nat_lt, Bool, true, false, not, cond, ◌||◌, List, [], ◌∷◌, ◌++◌, length, filter, filter_map, take, get_or, slice_get, Some, refl, sym, ap, ap₂, subst, ◌∙◌, arith}
+use Rattle.std.proofs.Common.{◌≡◌, ◌↔◌, inl, inr, ℕ, ◌<◌, nat_lt, Bool, true, false, not, ◌||◌, List, [], ◌∷◌, length, filter, slice_get, Some, refl, sym, ap, ap₂, subst, ◌∙◌}
 use Rattle.base.specs.Laws.{CoverLaws}
 use Rattle.base.specs.Sets.{Has, IsRising, member, put_in, union, minus}
 use Rattle.base.proofs.Sets.{ext, has-union, rising-union, has-put_in, rising-put_in, minus-iff, rising-minus, member-iff}

@@ -1,5 +1,5 @@
 -- Proves that a new session is one before its first command.
-use Rattle.std.proofs.Common.{◌≡◌, inl, inr, ℕ, suc, ◌+◌, ◌-◌, ◌≤◌, Bool, true, false, cond, List, [], ◌∷◌, length, map, Some, slice_get, refl, sym, ap, subst, ◌∙◌, arith}
+use Rattle.std.proofs.Common.{◌≡◌, inl, inr, ℕ, suc, ◌+◌, ◌-◌, ◌≤◌, Bool, true, false, cond, List, [], ◌∷◌, length, map, Some, slice_get, refl, ap, subst, arith}
 use Rattle.base.specs.Sets.{Has}
 use Rattle.base.specs.Numbers.{sum_over, count}
 use Rattle.base_bits.specs.Rows.{Numbers}

@@ -4,6 +4,8 @@ ghost use Rattle.filter_types.specs.Notice.{Attribute};
 ghost use Rattle.filter_text.specs.declared.id.Id.{Id as IdParts};
 ghost use Rattle.base_order.specs.Order.{picked};
 ghost use Rattle.net_model.specs.Parts.{ClientParts};
+ghost use Rattle.net_inbox.specs.Inbox.{at_numbers, delivery_at, in_order};
+ghost use Rattle.net_tables.specs.Found.{known_deliveries};
 ghost use Rattle.server_spec.specs.Inbox.{IsDelivery, AreDeliveries};
 ghost use Rattle.law_routing.specs.Clients.{accepts};
 ghost use Rattle.net_model.specs.Real.{real};
@@ -21,14 +23,15 @@ use crate::publishing::is_accepted;
 use crate::script::{script_at, steps_at};
 use base::NoMemory;
 use base_bits::Row;
-use filter_text::{Delivery, Id};
+use filter_text::Id;
+use net_inbox::Received;
 use net_model::Command;
 use net_tables::{NumberedCommand, Tables};
 use std::alloc::Global;
 use std::marker::Model;
 use std::mem::replace;
 
-/// A client's session: its script with the commands that were executed, and its inbox.
+/// A client's session: its script with the commands that were executed, and its inbox, whose deliveries are kept by number.
 ///
 /// Contracts see these, the client, the semantics and the net, for how many more deliveries there is room, and whether the
 /// next command is planned. The client's filters, advertisements and refused publishes are what the commands executed make of
@@ -42,7 +45,7 @@ pub struct Session<'a> {
     steps: &'a [(u32, NumberedCommand)],
     taken: usize,
     own: Own,
-    inbox: Vec<Delivery>,
+    inbox: Vec<u32>,
     room: usize,
     planned: bool,
 }
@@ -50,14 +53,18 @@ pub struct Session<'a> {
 impl<'a> Model for Session<'a> {
     ghost use Rattle.std.specs.Prelude.{◌≡◌, ◌+◌, ◌<◌, ◌≤◌, true, vec_len, vec_capacity};
     ghost use Rattle.server_spec.specs.Session.{session_parts};
+    ghost use Rattle.net_inbox.specs.Inbox.{at_numbers};
+    ghost use Rattle.net_tables.specs.Found.{known_deliveries};
     ghost use Rattle.server_session.specs.Session.{NetSession, net_session, IsNumbered};
 
     ghost Value = { NetSession };
 
-    ghost view = { λ s. net_session s.tables.now (session_parts s.client s.tables.now.semantics s.script.now s.taken s.inbox.items s.room s.planned) };
+    ghost view = { λ s. net_session s.tables.now (session_parts s.client s.tables.now.semantics s.script.now s.taken
+        (at_numbers (known_deliveries s.tables.now.clients) s.inbox.items) s.room s.planned) };
 
     ghost invariant = { λ s.
-        IsNumbered s.tables.now (session_parts s.client s.tables.now.semantics s.script.now s.taken s.inbox.items s.room s.planned)
+        IsNumbered s.tables.now (session_parts s.client s.tables.now.semantics s.script.now s.taken
+        (at_numbers (known_deliveries s.tables.now.clients) s.inbox.items) s.room s.planned)
         s.steps.now s.own.filters s.own.adverts s.own.refused.items s.own.publishes
         × (vec_len s.inbox + s.room ≤ vec_capacity s.inbox)
         × (s.planned ≡ true → vec_len s.own.refused < vec_capacity s.own.refused) };
@@ -231,7 +238,7 @@ impl<'a> Session<'a> {
         }
     }
 
-    /// Makes room for at least so many more deliveries.
+    /// Makes room for at least so many more deliveries. An inbox grows by half of what is in it.
     pub fn room(&mut self, n: usize) -> Result<(), NoMemory>
         ensures ok { OnOk result (n ≤ self.new.session.room) }
         ensures more { self.old.session.room ≤ self.new.session.room }
@@ -239,35 +246,41 @@ impl<'a> Session<'a> {
         ensures same { record self.new.session { room = self.old.session.room } ≡ self.old.session }
         ensures err { OnErr result (self.new ≡ self.old) }
     {
-        self.inbox.reserve(n)?;
+        let len = self.inbox.len();
+        if self.inbox.capacity() - len < n {
+            self.inbox.reserve_exact(n.max(len / 2))?;
+        }
         self.room = self.room.max(n);
         Ok(())
     }
 
-    /// Puts a delivery at the end of the inbox, where there is room for it. It takes no memory.
-    pub fn deliver(&mut self, d: Delivery)
+    /// Puts the publication with a number at the end of the inbox, where there is room for it. It takes no memory.
+    pub fn deliver(&mut self, number: u32)
         requires room { 0 < self.old.session.room }
-        requires text { IsDelivery d }
+        requires text { IsDelivery (delivery_at (known_deliveries self.old.net.clients) number) }
         ensures net { self.new.net ≡ self.old.net }
-        ensures inbox { self.new.session.inbox ≡ self.old.session.inbox ++ d ∷ [] }
+        ensures inbox { self.new.session.inbox ≡ self.old.session.inbox ++ delivery_at (known_deliveries self.old.net.clients) number ∷ [] }
         ensures room { self.new.session.room + 1 ≡ self.old.session.room }
         ensures same { record self.new.session { inbox = self.old.session.inbox; room = self.old.session.room } ≡ self.old.session }
     {
-        self.inbox.push(d).unwrap();
+        self.inbox.push(number).unwrap();
         self.room -= 1;
     }
 
     /// What was delivered, in order.
-    pub fn received(&self) -> &[Delivery]
-        ensures inbox { result.now ≡ self.now.session.inbox }
-        ensures texts { AreDeliveries result.now }
+    pub fn received(&self) -> Received<'_>
+        ensures inbox { in_order result ≡ self.now.session.inbox }
+        ensures texts { AreDeliveries (in_order result) }
     {
-        &self.inbox
+        Received {
+            deliveries: self.tables.deliveries(),
+            numbers: &self.inbox,
+        }
     }
 
-    /// Hands on what was delivered, in order; the inbox is empty then. It takes no memory.
-    pub fn take_inbox(&mut self) -> Vec<Delivery>
-        ensures inbox { result.items ≡ self.old.session.inbox }
+    /// Hands on the numbers of what was delivered, in order; the inbox is empty then. It takes no memory.
+    pub fn take_inbox(&mut self) -> Vec<u32>
+        ensures inbox { at_numbers (known_deliveries self.old.net.clients) result.items ≡ self.old.session.inbox }
         ensures emptied { self.new ≡ net_session self.old.net (record self.old.session { inbox = []; room = 0 }) }
     {
         self.room = 0;

@@ -10,7 +10,7 @@ use Rattle.net_model.specs.Parts.{NetParts, EntryParts}
 use Rattle.match_filters.specs.Matching.{matched}
 use Rattle.base_bits.specs.Rows.{Numbers}
 use Rattle.net_tables.specs.Known.{PublicationParts, known_filters}
-use Rattle.net_tables.specs.Found.{FoundParts, IsFound, publication_at}
+use Rattle.net_tables.specs.Found.{IsFound, publication_at}
 use Rattle.server_message.specs.declared.load.Load.{Load}
 use Rattle.server_message.specs.declared.load.Load.TheVariants as loads
 use Rattle.server_message.specs.Message.{represented}
@@ -74,29 +74,29 @@ module _ (core : CoreParts) (publisher : Publisher) (ahead : Ahead) (agrees : Ar
   right : (numbers r : List ℕ) → matched_in ahead ≡ numbers → IsUpToDate publisher ahead → IsRouteBy numbers (pairs_after (installed publisher)) r → r ≡ route_in ahead → IsRight core publisher ahead
   right numbers r same up by is = (up, λ n values e. subst (λ z. IsRoute n (installed_from core) z) is (route-is core.net (installed_from core) (pairs_after (installed publisher)) agrees.pairs_are agrees.known n r values (subst (λ z. IsRouteBy z (pairs_after (installed publisher)) r) (sym same ∙ sym e) by)))
 
-  module _ (p : PublicationParts) (found : FoundParts) (is : IsFound core.net p found) where
-    members : found.matched.members ≡ matched p.notice filters
+  module _ (p : PublicationParts) (found : Numbers) (is : IsFound core.net p found) where
+    members : found.members ≡ matched p.notice filters
     members = ap (λ (z : Numbers). z.members) is.matched
 
-    routed : (r : List ℕ) → IsRouteBy found.matched.members (pairs_after (installed publisher)) r → IsRoute p.notice (installed_from core) r
+    routed : (r : List ℕ) → IsRouteBy found.members (pairs_after (installed publisher)) r → IsRoute p.notice (installed_from core) r
     routed r by = route-is core.net (installed_from core) (pairs_after (installed publisher)) agrees.pairs_are agrees.known p.notice r is.values (subst (λ z. IsRouteBy z (pairs_after (installed publisher)) r) members by)
 
     pub choice-next : (client : ℕ) → Has client (client_numbers core.clients) → ((s : SessionParts) → Has s core.clients → s.client ≡ client → next_plan s ≡ Some (Publish p.id p.notice))
-        → (ch : Choice) → IsChoice publisher ahead found.matched.members ch → IsChoiceNext core publisher ahead client ch
+        → (ch : Choice) → IsChoice publisher ahead found.members ch → IsChoiceNext core publisher ahead client ch
     choice-next client lives publish Other f = λ x. f (sym x.3.3 ∙ ap (λ z. matched z filters) (same-notice x.3.0 p.id x.3.1 p.notice (sym x.3.2 ∙ publish x.0 x.1 x.2)) ∙ sym members)
     choice-next client lives publish Outdated f =
         let m = has-map (λ (s : SessionParts). s.client) core.clients client lives in
         ((m.0, m.1, sym m.2, (p.id, p.notice, publish m.0 m.1 (sym m.2), sym members ∙ sym f.0)), f.1)
     choice-next client lives publish (Agreed r) f = (
-      right found.matched.members r.now f.0 f.1 f.2 f.3,
+      right found.members r.now f.0 f.1 f.2 f.3,
       λ s id n h e plan. subst (λ z. IsRoute z (installed_from core) r.now) (sym (same-notice id p.id n p.notice (sym plan ∙ publish s h e))) (routed r.now f.2),
     )
 
-    pub choice-of : (load : Load) → represented core.net load ≡ Noticed p.id.publisher p.id.ordinal p.notice → (ch : Choice) → IsChoice publisher ahead found.matched.members ch → IsChoiceOf core publisher ahead load ch
+    pub choice-of : (load : Load) → represented core.net load ≡ Noticed p.id.publisher p.id.ordinal p.notice → (ch : Choice) → IsChoice publisher ahead found.members ch → IsChoiceOf core publisher ahead load ch
     choice-of load represents Other f = λ of x. f (sym x.4 ∙ ap (λ z. matched z filters) (one-notice x.0 x.1 x.2 p.id.publisher p.id.ordinal p.notice (sym x.3 ∙ represents)) ∙ sym members)
     choice-of load represents Outdated f = ((p.id.publisher, p.id.ordinal, p.notice, represents, sym members ∙ sym f.0), f.1)
     choice-of load represents (Agreed r) f = (
-      right found.matched.members r.now f.0 f.1 f.2 f.3,
+      right found.members r.now f.0 f.1 f.2 f.3,
       subst (λ z. RoutesMessage core z r.now) (sym represents) (routed r.now f.2),
     )
 

@@ -8,9 +8,10 @@ use Rattle.law_routing.specs.Step.{NextCommand, TableUpdate}
 use Rattle.net_model.specs.Real.{real}
 use Rattle.filter_text.specs.declared.id.Id.{Id}
 use Rattle.net_model.specs.Parts.{NetParts, EntryParts}
+use Rattle.base_bits.specs.Rows.{Numbers}
 use Rattle.match_filters.specs.Matching.{matched}
 use Rattle.net_tables.specs.Known.{known_filters}
-use Rattle.net_tables.specs.Found.{FoundParts, IsFound, publication_at}
+use Rattle.net_tables.specs.Found.{IsFound, publication_at}
 use Rattle.server_spec.specs.declared.planned.Planned.TheVariants.{Publish}
 use Rattle.server_spec.specs.Session.{SessionParts}
 use Rattle.server_spec.specs.Plan.{next_plan}
@@ -95,7 +96,7 @@ IsChoice publisher ahead numbers (Agreed route) =
 -- for the publication of a net with a number
 abbrev pub IsChoiceIn : NetParts → Publisher → Ahead → ℕ → Choice → Type 0
 IsChoiceIn net publisher ahead number choice =
-    (found : FoundParts) × IsFound net (publication_at net number) found × IsChoice publisher ahead found.matched.members choice
+    (found : Numbers) × IsFound net (publication_at net number) found × IsChoice publisher ahead found.members choice
 
 -- for the next command of a client
 abbrev pub IsChoiceNext : CoreParts → Publisher → Ahead → ℕ → Choice → Type 0

@@ -46,8 +46,7 @@ fn routed(
     requires installed { IsInstalledBy publisher.now core.now }
     ensures { IfOk result (IsRoute (publication_at core.now.net number).notice (installed_from core.now)) }
 {
-    let found = core.tables().found(number);
-    publisher.route(alloc, found.matched())
+    publisher.route(alloc, core.tables().matched(number))
 }
 
 /// Where a step routes what a message carries; nowhere where that is a change.

@@ -31,6 +31,7 @@ module _ (net : NetParts) (cores : List CoreParts) (journal : List EntryParts) (
   pub have-all : HaveInboxes peers net (received_by net journal) 0 cores
   have-all = record {
     all = end.cores_are.all;
+    nets = λ client core l m at. end.cores_are.nets (home_of net client - 1) core at;
     lives = λ client core l m at. lives_there net end.sound end.phase (moment_by net journal).state cores end.cores_are client (omega (arith, l), m) core at;
     inbox = λ client core s l m at h e.
         (end.cores_are.states (home_of net client - 1) core at).inboxes s h

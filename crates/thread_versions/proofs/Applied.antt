@@ -1,5 +1,5 @@
 -- Proves that changes whose numbers and interfaces are known can be made.
-use Rattle.std.proofs.Common.{◌≡◌, ◌∙◌, ◌&&◌, cond, Result, Ok, Err, append_assoc, refl, sym, ap, ap₂, subst, arith, ℕ, ◌<◌, nat_lt, true, Bool, false, List, [], ◌∷◌, ◌++◌, fold}
+use Rattle.std.proofs.Common.{◌≡◌, ◌∙◌, ◌&&◌, cond, Result, Ok, Err, append_assoc, refl, sym, ap, ap₂, subst, ℕ, nat_lt, true, Bool, false, List, [], ◌∷◌, ◌++◌, fold}
 use Rattle.base.specs.Sets.{member}
 use Rattle.base.proofs.Sets.{has-member, member-has}
 use Rattle.base_bits.proofs.Passing.{nat_laws}

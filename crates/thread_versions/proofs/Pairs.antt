@@ -1,5 +1,5 @@
 -- The set of pairs after changes, and routes by it.
-use Rattle.std.proofs.Common.{◌≡◌, ◌↔◌, refl, sym, subst, ℕ, nat_lt, List, [], ◌∷◌, ◌++◌, map, filter}
+use Rattle.std.proofs.Common.{◌≡◌, ◌↔◌, refl, sym, subst, ℕ, nat_lt, List, [], ◌++◌, map, filter}
 use Rattle.base.specs.Sets.{Has, set_of}
 use Rattle.base.proofs.Roots.{Has-filter, filter-Has}
 use Rattle.base.proofs.Sets.{ext, rising-set_of, has-set_of, has-member, member-has, has-contains, contains-has, has-map, map-has, increasing-rising}

@@ -15,7 +15,7 @@ use std::alloc::Global;
 use std::sync::Wait;
 
 /// A publisher that has installed nothing from these interfaces, which rise, and 1 to 3 viewers of it that have seen nothing.
-/// Numbers will be below the width.
+/// Numbers will be below the width. It may wait for the viewers' places.
 pub fn versions<R: Wait>(
     alloc: Global,
     rt: &R,
@@ -36,7 +36,7 @@ pub fn versions<R: Wait>(
     let second = Version::empty(alloc, width, interfaces, &front)?;
     let writer = VersionWriter::new(alloc, first, second, viewers)?;
     let mut writer = publish_now(rt, writer);
-    match seats(alloc, &mut writer, &front, viewers) {
+    match seats(alloc, rt, &mut writer, &front, viewers) {
         Ok(viewers) => {
             let publisher = Publisher {
                 alloc,

@@ -1,34 +1,51 @@
 //! Makes the viewers beside a publisher.
 ghost use Rattle.std.specs.Prelude.{◌≡◌, List, length, All, IfOk};
 ghost use Rattle.left_right.specs.Sides.{view};
-ghost use Rattle.thread_versions.specs.Chain.{IsNamedBy};
+ghost use Rattle.thread_versions.specs.Chain.{IsNamedBy, nobody};
 ghost use Rattle.thread_versions.specs.Ends.{width_of};
 
 use crate::history::Front;
-use crate::rule::{Notes, VersionWriter};
+use crate::rule::{Notes, VersionReader, VersionWriter};
 use crate::viewer::Viewer;
 use base::NoMemory;
 use std::alloc::Global;
+use std::sync::Wait;
+
+/// A reader in a place of its own. It takes no memory. The writer has a place for each viewer; where none is found free, it asks
+/// again.
+fn place<R: Wait>(rt: &R, writer: &VersionWriter) -> VersionReader
+    ensures view { view result.place ≡ nobody }
+    ensures table { result.place.table_id ≡ writer.now.desk.place.table_id }
+{
+    for _ in rt.forever() {
+        if let Ok(reader) = writer.factory().reader() {
+            return reader;
+        }
+    }
+    unreachable!()
+}
 
 /// A viewer that has seen this front.
-fn seat(writer: &mut VersionWriter, front: &Front) -> Result<Viewer, NoMemory>
+fn seat<R: Wait>(rt: &R, writer: &mut VersionWriter, front: &Front) -> Viewer
     requires { IsNamedBy front.now.seen.book (view writer.old.desk.place).width (view writer.old.desk.place) }
     ensures shown { writer.new.desk.shown ≡ writer.old.desk.shown }
     ensures log { (writer.new.log ≡ writer.old.log) × (writer.new.behind ≡ writer.old.behind) }
     ensures told { view writer.new.desk.place ≡ view writer.old.desk.place }
-    ensures viewer { IfOk result (λ v. (v.front.seen ≡ front.now.seen) × (width_of v ≡ (view writer.old.desk.place).width)) }
+    ensures seen { result.front.seen ≡ front.now.seen }
+    ensures width { width_of result ≡ (view writer.old.desk.place).width }
 {
-    let mut reader = writer.factory().reader()?;
+    let mut reader = place(rt, writer);
     reader.learn::<Notes>(writer.tell::<Notes>());
-    Ok(Viewer {
+    Viewer {
         reader,
         front: front.again(),
-    })
+    }
 }
 
 /// So many viewers that have seen this front.
-pub fn seats(
+pub fn seats<R: Wait>(
     alloc: Global,
+    rt: &R,
     writer: &mut VersionWriter,
     front: &Front,
     count: usize,
@@ -42,7 +59,7 @@ pub fn seats(
 {
     let mut viewers = Vec::new(alloc);
     for _ in 0..count {
-        viewers.push(seat(writer, front)?)?;
+        viewers.push(seat(rt, writer, front))?;
     }
     Ok(viewers)
 }

@@ -91,7 +91,7 @@ impl<'l, 'a, R: Wait, G: Gate> WorkerContext<'l, 'a, R, G> {
         ensures pass { handles.new.pass ≡ handles.old.pass }
         ensures ahead { IfOk result (λ a. IsAheadBy (lock_root self.now.lock.now).viewer.value a) }
     {
-        let matched = self.tables.found(number).matched();
+        let matched = self.tables.matched(number);
         let ahead = match_ahead(self.alloc, self.rt, &mut handles.viewer, matched)?;
         self.pass_gate(Spot::Matched);
         Ok(ahead)

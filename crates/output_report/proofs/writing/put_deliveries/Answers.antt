@@ -16,7 +16,7 @@ loop-i-preserved g c =
     let also : c.deref.result.now ≡ clients = c.deref.ensures.value ∙ ap (λ n. n.clients) c.net.view_is in
     let item = c.client-item.is ∙ ap (λ z. get_or z i c.client-item.result) shown in
     let within : i < length clients = rw shown at c.loop-i-test.true in
-    let section = rw (also, c.as_slice.ensures, c.as_slice-in-loop-i.ensures) at c.put_section.ensures in
+    let section = rw (also, c.as_slice.ensures, c.received.ensures) at c.put_section.ensures in
     let text = delivery_section clients false c.client-item.result c.index-refused-i.result c.index-received-i.result in
     let next = sections-next clients false clients c.args.refused.now c.args.received.now i c.client-item.result c.index-refused-i.result c.index-received-i.result
     within c.requires.refused c.requires.received item c.index-refused-i.is c.index-received-i.is in (

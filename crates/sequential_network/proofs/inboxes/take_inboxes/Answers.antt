@@ -1,7 +1,9 @@
-use Rattle.std.proofs.Common.{◌≡◌, ◌≤◌, ◌<◌, ◌+◌, length, map, refl, sym, subst, arith, rules}
+use Rattle.std.proofs.Common.{◌≡◌, ◌≤◌, ◌<◌, ◌+◌, length, map, refl, sym, ap, subst, ◌∙◌, arith, rules}
 use Rattle.std.specs.List.{range_with_len}
 use Rattle.std.proofs.lemmas.Grind.{common_steps}
 use Rattle.std.proofs.lemmas.List.FromFn.{map-range_with_len_more}
+use Rattle.net_model.specs.Parts.{NetParts}
+use Rattle.net_tables.specs.Found.{known_deliveries}
 use Rattle.net_model.specs.Nets.{home_of}
 use Rattle.sequential_network.proofs.Commanding.{home_low}
 use Rattle.sequential_network.proofs.TakeInboxes.{next_inbox}
@@ -21,7 +23,10 @@ take_inbox-requires g c =
         (omega arith, omega (arith, within)),
         (
           (low.0, subst (λ z. home_of c.args.net.now (c.loop-place.place + 1) ≤ z) (sym have.all) low.1),
-          (λ core at. have.lives (c.loop-place.place + 1) core (omega arith) (omega (arith, within)) at),
+          (
+            (λ core at. have.lives (c.loop-place.place + 1) core (omega arith) (omega (arith, within)) at),
+            (λ core at. c.in_ok-deliveries.ensures ∙ c.requires.deliveries ∙ ap (λ (n : NetParts). known_deliveries n.clients) (sym (have.nets (c.loop-place.place + 1) core (omega arith) (omega (arith, within)) at))),
+          ),
         ),
       ),
     )

@@ -1,8 +1,6 @@
 use Rattle.std.proofs.Common.{IfOk, sym, subst}
-use Rattle.base_bits.specs.Rows.{Numbers}
 use Rattle.net_model.specs.Parts.{NetParts}
 use Rattle.net_tables.specs.Found.{IsFound, publication_at}
-use Rattle.match_routes.specs.Routes.{IsRouteBy}
 use Rattle.server_core.specs.Core.{installed_from}
 use Rattle.server_core.specs.Routed.{IsRoute}
 use Rattle.server_core.proofs.RoutesByPairs.{route-answered}
@@ -10,8 +8,7 @@ use Rattle.sequential_network.proofs.routing.routed.Goals as goal
 
 pub returns : goal.returns
 returns c = λ core net place.
-    let found = c.found-found.result.now in
-    let is : IsFound core.net (publication_at core.net c.args.number) found = subst (λ (n : NetParts). IsFound n (publication_at n c.args.number) found) (sym net) c.found-found.ensures in
+    let found = c.matched.result.now in
+    let is : IsFound core.net (publication_at core.net c.args.number) found = subst (λ (n : NetParts). IsFound n (publication_at n c.args.number) found) (sym net) c.matched.ensures in
     subst (λ (n : NetParts). IfOk c.route.result (IsRoute (publication_at n c.args.number).notice (installed_from core))) net
-    (route-answered core c.args.forwarding.now.pairs place.pairs place.known (publication_at core.net c.args.number) found is c.route.result
-    (subst (λ (m : Numbers). IfOk c.route.result (λ r. IsRouteBy m.members c.args.forwarding.now.pairs r)) c.matched.ensures c.route.ensures))
+    (route-answered core c.args.forwarding.now.pairs place.pairs place.known (publication_at core.net c.args.number) found is c.route.result c.route.ensures)

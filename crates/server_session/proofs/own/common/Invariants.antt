@@ -1,4 +1,4 @@
-use Rattle.std.proofs.Common.{◌≡◌, ◌<◌, ◌≤◌, ◌-◌, ℕ}
+use Rattle.std.proofs.Common.{◌<◌, ◌≤◌, ◌-◌, ℕ}
 use Rattle.base.specs.Sets.{Has}
 use Rattle.server_session.proofs.own.common.Given as goal
 

@@ -1,4 +1,4 @@
-use Rattle.std.proofs.Common.{◌≡◌, ◌<◌, ℕ, nat_lt, [], ◌∷◌, inl, refl, sym, ap, subst, ◌∙◌}
+use Rattle.std.proofs.Common.{nat_lt, inl, refl, sym, ap, subst, ◌∙◌}
 use Rattle.base.specs.Sets.{Has, union, minus, put_in}
 use Rattle.server_session.specs.Moved.{gone, come}
 use Rattle.server_session.proofs.Moving.{minus-none}

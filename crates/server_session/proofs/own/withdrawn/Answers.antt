@@ -1,4 +1,4 @@
-use Rattle.std.proofs.Common.{◌↔◌, ℕ, sym, ap, subst}
+use Rattle.std.proofs.Common.{◌↔◌, ℕ, sym, subst}
 use Rattle.base.specs.Sets.{Has}
 use Rattle.base_bits.specs.Rows.{Numbers}
 use Rattle.base_order.specs.Order.{covered_row}

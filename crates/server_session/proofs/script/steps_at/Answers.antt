@@ -1,4 +1,4 @@
-use Rattle.std.proofs.Common.{◌≡◌, ◌<◌, ◌≤◌, ◌+◌, ℕ, List, length, Some, slice_get, sym, ap, subst, ◌∙◌, arith}
+use Rattle.std.proofs.Common.{◌≤◌, ◌+◌, ℕ, List, length, sym, subst, arith}
 use Rattle.net_model.specs.Parts.{NetParts}
 use Rattle.net_tables.specs.declared.numbered.NumberedCommand.{NumberedCommand}
 use Rattle.net_tables.specs.Numbered.{catalogued, AreNumbered, AllNumbered}

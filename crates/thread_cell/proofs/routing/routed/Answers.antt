@@ -1,6 +1,4 @@
-use Rattle.std.proofs.Common.{IfOk, subst}
-use Rattle.base_bits.specs.Rows.{Numbers}
-use Rattle.match_routes.specs.Routes.{IsRouteBy}
+use Rattle.std.proofs.Common.{subst}
 use Rattle.net_tables.specs.Found.{IsFound, publication_at}
 use Rattle.thread_versions.specs.Ends.{installed}
 use Rattle.thread_versions.specs.Pairs.{pairs_after}
@@ -9,6 +7,5 @@ use Rattle.thread_cell.proofs.routing.routed.Goals as goal
 
 pub returns : goal.returns
 returns c =
-    let is = subst (λ n. IsFound n (publication_at n c.args.number) c.found-found.result.now) c.tables.ensures c.found-found.ensures in
-    route-answered c.args.core.now (pairs_after (installed c.args.publisher.now)) c.requires.installed.pairs.pairs_are c.requires.installed.pairs.known (publication_at c.args.core.now.net c.args.number) c.found-found.result.now is c.route.result
-    (subst (λ (m : Numbers). IfOk c.route.result (λ r. IsRouteBy m.members (pairs_after (installed c.args.publisher.now)) r)) c.matched.ensures c.route.ensures)
+    let is = subst (λ n. IsFound n (publication_at n c.args.number) c.matched.result.now) c.tables.ensures c.matched.ensures in
+    route-answered c.args.core.now (pairs_after (installed c.args.publisher.now)) c.requires.installed.pairs.pairs_are c.requires.installed.pairs.known (publication_at c.args.core.now.net c.args.number) c.matched.result.now is c.route.result c.route.ensures

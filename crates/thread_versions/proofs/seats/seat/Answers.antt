@@ -1,11 +1,8 @@
-use Rattle.thread_versions.proofs.Chains.{admits, forks, merges}
+use Rattle.thread_versions.proofs.Chains.{forks, merges}
 use Rattle.thread_versions.proofs.seats.seat.Goals as goal
 
-pub reader-requires : goal.reader-requires
-reader-requires c = admits
-
 pub tell-requires : goal.tell-requires
-tell-requires c = forks _ _
+tell-requires g c = forks _ _
 
 pub learn-requires-clause-rule : goal.learn-requires-clause-rule
-learn-requires-clause-rule c = merges _ _ _ _
+learn-requires-clause-rule g c = merges _ _ _ _

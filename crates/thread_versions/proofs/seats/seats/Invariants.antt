@@ -5,7 +5,7 @@ use Rattle.thread_versions.specs.Ends.{width_of}
 use Rattle.thread_versions.proofs.seats.seats.Given as goal
 
 abbrev pub invariant-loop : goal.invariant-loop
-invariant-loop l = record {
+invariant-loop g l = record {
   long : length l.viewers.items ≡ l.counter;
   seen : All (λ v. (v.front.seen ≡ l.front.seen) × (width_of v ≡ (view l.initial.writer.desk.place).width)) l.viewers.items;
   desk : l.writer.desk.shown ≡ l.initial.writer.desk.shown;

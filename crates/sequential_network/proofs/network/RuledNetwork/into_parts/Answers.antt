@@ -1,7 +1,8 @@
-use Rattle.std.proofs.Common.{◌≡◌, refl, sym, subst}
+use Rattle.std.proofs.Common.{◌≡◌, refl, sym, ap, subst, ◌∙◌}
 use Rattle.net_model.specs.Parts.{NetParts}
 use Rattle.net_model.specs.Nets.{of_clients}
 use Rattle.net_model.specs.Sound.{IsSound}
+use Rattle.net_tables.specs.Found.{known_deliveries}
 use Rattle.net_turns.specs.Network.{NetworkParts}
 use Rattle.sequential_network.specs.Inboxes.{HaveInboxes}
 use Rattle.sequential_network.specs.Seen.{seen}
@@ -16,9 +17,12 @@ take_inboxes-requires g c =
       (
         subst IsSound (sym c.net.ensures) (c.lemma_laws.ensures.stands inside.tables.now inside.phase (seen inside.servers) c.self.invariant.0).sound,
         (
+          c.deliveries.ensures ∙ ap (λ (n : NetParts). known_deliveries n.clients) (sym c.net.ensures),
+          (
           given,
           subst (λ (n : NetParts). HaveInboxes g.P.Server.stepping n given 0 inside.servers.places.items) (sym c.net.ensures)
               (c.lemma_laws.ensures.inboxes inside.tables.now inside.phase (seen inside.servers) c.self.invariant.0),
+          ),
         ),
       ),
     )

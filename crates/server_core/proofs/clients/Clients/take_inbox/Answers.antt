@@ -1,8 +1,10 @@
 use Rattle.std.proofs.Common.{◌≡◌, ◌<◌, length, Some, slice_get, IfSome, sym, ap, subst, ◌∙◌}
 use Rattle.server_spec.specs.Session.{SessionParts}
 use Rattle.server_session.specs.Session.{NetSession}
+use Rattle.net_inbox.specs.Inbox.{at_numbers}
+use Rattle.net_tables.specs.Found.{known_deliveries}
 use Rattle.server_core.specs.Clients.{ClientsParts, clients_parts, emptied, at_client}
-use Rattle.server_core.proofs.Sessions.{IsPlace, changed, kept-numbers, kept-net, the-one}
+use Rattle.server_core.proofs.Sessions.{IsPlace, changed, kept-numbers, kept-net, its-net, the-one}
 use Rattle.server_core.proofs.clients.Clients.take_inbox.Goals as goal
 
 here : (c : goal.After-self-1) → IsPlace c.self.inside.tables.now c.self.inside.sessions.items c.args.self.now.sessions c.self.inside.numbers.items c.unwrap-place.result c.args.client c.index_mut.result.now
@@ -19,7 +21,9 @@ invariant_of-self c = (
 )
 
 pub returns-clause-inbox : goal.returns-clause-inbox
-returns-clause-inbox c = λ s m e. c.take_inbox.ensures.inbox ∙ ap (λ (z : SessionParts). z.inbox) (sym (the-one (here c) s m e))
+returns-clause-inbox c = λ s m e.
+    let net = its-net (here c) ∙ ap (λ (z : ClientsParts). z.net) c.self.view_is in
+    ap (λ z. at_numbers (known_deliveries z.clients) c.take_inbox.result.items) (sym net) ∙ c.take_inbox.ensures.inbox ∙ ap (λ (z : SessionParts). z.inbox) (sym (the-one (here c) s m e))
 
 pub returns-clause-emptied : goal.returns-clause-emptied
 returns-clause-emptied c =

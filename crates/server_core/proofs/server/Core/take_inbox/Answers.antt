@@ -1,5 +1,7 @@
 use Rattle.std.proofs.Common.{◌≡◌, map, refl, sym, ap, subst, ◌∙◌}
 use Rattle.base.specs.Sets.{Has}
+use Rattle.net_inbox.specs.Inbox.{at_numbers}
+use Rattle.net_tables.specs.Found.{known_deliveries}
 use Rattle.server_spec.specs.Session.{SessionParts}
 use Rattle.server_core.specs.Clients.{ClientsParts, bare, client_numbers, at_client, emptied}
 use Rattle.server_core.specs.Core.{CoreParts, core_parts, without_inbox}
@@ -28,7 +30,9 @@ invariant_of-self c =
 pub returns-clause-inbox : goal.returns-clause-inbox
 returns-clause-inbox c = λ s m e.
     let r = has-map bare c.self.inside.clients.sessions s (subst (λ (z : CoreParts). Has s z.clients) (sym c.self.view_is) m) in
-    c.take_inbox.ensures.inbox r.0 r.1 (ap (λ (z : SessionParts). z.client) (sym r.2) ∙ e) ∙ ap (λ (z : SessionParts). z.inbox) (sym r.2)
+    let net = c.self.invariant.of_net ∙ ap (λ (z : CoreParts). z.net) c.self.view_is in
+    ap (λ z. at_numbers (known_deliveries z.clients) c.take_inbox.result.items) (sym net)
+    ∙ c.take_inbox.ensures.inbox r.0 r.1 (ap (λ (z : SessionParts). z.client) (sym r.2) ∙ e) ∙ ap (λ (z : SessionParts). z.inbox) (sym r.2)
 
 pub returns-clause-emptied : goal.returns-clause-emptied
 returns-clause-emptied c =

@@ -1,4 +1,4 @@
-use Rattle.std.proofs.Common.{◌≡◌, ◌<◌, length, sym, ap, subst, ◌∙◌}
+use Rattle.std.proofs.Common.{◌≡◌, ap, ◌∙◌}
 use Rattle.base_order.specs.Order.{picked}
 use Rattle.filter_text.specs.Messages.{Lists}
 use Rattle.filter_text.specs.declared.semantics.Semantics.{Semantics}

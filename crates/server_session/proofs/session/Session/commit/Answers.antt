@@ -1,4 +1,4 @@
-use Rattle.std.proofs.Common.{◌≡◌, ◌≤◌, ◌+◌, suc, false, true, sym, ap, subst, ◌∙◌, arith, add-one}
+use Rattle.std.proofs.Common.{◌≡◌, ◌≤◌, false, true, arith, add-one}
 use Rattle.server_spec.proofs.Sessions.{publishes-few}
 use Rattle.server_session.proofs.Keeping.{plan-inside, filters-within, adverts-within, committed-by}
 use Rattle.server_session.proofs.session.Session.commit.Goals as goal

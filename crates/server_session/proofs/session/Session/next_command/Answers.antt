@@ -1,4 +1,4 @@
-use Rattle.std.proofs.Common.{◌≡◌, ◌<◌, length, true, false, sym, ◌∙◌}
+use Rattle.std.proofs.Common.{◌≡◌, length, true, false, sym, ◌∙◌}
 use Rattle.std.proofs.lemmas.Bool.{ltb-true, lt-ltb}
 use Rattle.server_session.proofs.Keeping.{next-is, step-there, next-outside, inside-left}
 use Rattle.server_session.proofs.session.Session.next_command.Goals as goal

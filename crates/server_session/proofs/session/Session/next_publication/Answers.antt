@@ -1,4 +1,4 @@
-use Rattle.std.proofs.Common.{◌≡◌, sym, subst, ◌∙◌}
+use Rattle.std.proofs.Common.{sym, subst}
 use Rattle.net_tables.specs.declared.numbered.NumberedCommand.{NumberedCommand}
 use Rattle.server_session.specs.Session.{IsNextCommand}
 use Rattle.server_session.proofs.Keeping.{known-publication, publishes-plan, refuses-plan, refused-publish}

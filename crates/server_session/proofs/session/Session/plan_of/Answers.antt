@@ -1,4 +1,4 @@
-use Rattle.std.proofs.Common.{◌≡◌, ◌∷◌, [], List, not, filter, slice_get, Some, sym, subst}
+use Rattle.std.proofs.Common.{◌≡◌, ◌∷◌, [], List, not, filter, slice_get, Some, subst}
 use Rattle.filter_constraints.specs.Constraint.{ConstraintParts}
 use Rattle.filter_types.specs.Before.{list_before}
 use Rattle.filter_types.specs.Cover.{filter_covers, advert_covers}

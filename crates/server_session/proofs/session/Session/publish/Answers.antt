@@ -1,9 +1,9 @@
-use Rattle.std.proofs.Common.{◌≡◌, ◌<◌, ◌≤◌, ◌+◌, List, Some, slice_get, length, refl, sym, ap, subst, ◌∙◌, arith}
+use Rattle.std.proofs.Common.{◌≡◌, ◌≤◌, ◌+◌, List, slice_get, refl, sym, ap, subst, ◌∙◌, arith}
 use Rattle.std.specs.Int.{IsInRange}
 use Rattle.filter_text.specs.declared.id.Id.{Id}
 use Rattle.net_model.specs.Parts.{NetParts}
 use Rattle.server_spec.proofs.Sessions.{publishes-few}
-use Rattle.net_tables.specs.Known.{PublicationParts, publication, known_publications}
+use Rattle.net_tables.specs.Known.{PublicationParts, known_publications}
 use Rattle.server_session.specs.Session.{NetSession, PlansNext}
 use Rattle.server_session.specs.declared.planned.Planned.TheVariants.{Publish, Refused}
 use Rattle.server_session.proofs.Keeping.{next-inside, plan-outside, known-publication, counted-publication, accepted-inside, known-read, plans-publish, plans-refused}

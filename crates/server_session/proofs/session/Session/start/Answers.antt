@@ -1,7 +1,8 @@
-use Rattle.std.proofs.Common.{◌≡◌, ◌≤◌, ◌-◌, false, true, ℕ, List, length, sym, ap, subst, ◌∙◌, arith}
+use Rattle.std.proofs.Common.{◌≡◌, ◌-◌, false, true, ℕ, List, length, ap, subst, ◌∙◌, arith}
 use Rattle.filter_text.specs.Messages.{Lists}
 use Rattle.filter_text.specs.declared.command.Command.{Command}
-use Rattle.filter_text.specs.Deliveries.{Delivery}
+use Rattle.net_inbox.specs.Inbox.{at_numbers}
+use Rattle.net_tables.specs.Found.{known_deliveries}
 use Rattle.net_model.specs.Sound.{IsSound}
 use Rattle.server_spec.specs.Session.{session_parts}
 use Rattle.server_stock.proofs.Turns.{get-some}
@@ -26,5 +27,5 @@ invariant_of-result c =
 
 pub returns : goal.returns
 returns c x e =
-    ap (λ (z : List (ℕ × Command)). net_session c.args.tables.now (session_parts c.args.client c.args.tables.now.semantics z 0 c.new-4.result.items 0 false)) (c.script_at-script.ensures x e)
-    ∙ ap (λ (z : List Delivery). net_session c.args.tables.now (session_parts c.args.client c.args.tables.now.semantics x.script 0 z 0 false)) c.new-4.ensures.items
+    ap (λ (z : List (ℕ × Command)). net_session c.args.tables.now (session_parts c.args.client c.args.tables.now.semantics z 0 (at_numbers (known_deliveries c.args.tables.now.clients) c.new-4.result.items) 0 false)) (c.script_at-script.ensures x e)
+    ∙ ap (λ (z : List ℕ). net_session c.args.tables.now (session_parts c.args.client c.args.tables.now.semantics x.script 0 (at_numbers (known_deliveries c.args.tables.now.clients) z) 0 false)) c.new-4.ensures.items

@@ -5,7 +5,7 @@ use Rattle.base.specs.Sets.{Has}
 use Rattle.server_spec.specs.Session.{SessionParts}
 use Rattle.server_core.specs.Clients.{ClientsParts, client_numbers}
 use Rattle.server_core.proofs.Sessions.{found-session}
-use Rattle.server_core.proofs.clients.Clients.place.Goals as goal
+use Rattle.server_core.proofs.clients.Clients.search.Goals as goal
 use Rattle.match_routes.proofs.Searching.{IsFound, found-none}
 use Rattle.base.proofs.Sets.{increasing-get_or}
 

@@ -1,0 +1,11 @@
+pub mod Growing
+pub mod Leading
+pub mod EdgeLines
+pub mod ClientLines
+pub mod Forms
+pub mod Letters
+pub mod Subscribing
+pub mod Publishing
+pub mod CommandLines
+pub mod ScriptLines
+pub mod Accepted
