@@ -7,7 +7,7 @@ use Rattle.base_bits.specs.Grid.{row_of, IsJoinedFrom}
 use Rattle.match_routes.specs.Routes.{IsReached, IsRouteBy}
 use Rattle.match_routes.specs.Rows.{pairs_of}
 use Rattle.match_routes.specs.Columns.{rows_from, AreColumns, ArePresent}
-use Rattle.match_routes.proofs.Lists.{rising-at, rising-increasing}
+use Rattle.base_bits.proofs.Rising.{rising-at, rising-increasing}
 use Rattle.match_routes.proofs.Pairs.{nothing, set-at}
 use Rattle.match_routes.proofs.ByPlace.{has-column, column-has}
 use Rattle.base.proofs.Sets.{has-contains, contains-has, get_or-has, has-get_or, increasing-rising}

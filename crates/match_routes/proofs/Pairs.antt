@@ -7,7 +7,7 @@ use Rattle.base.specs.Sets.{Has, IsRising}
 use Rattle.base_bits.specs.Rows.{Numbers, IsSet}
 use Rattle.match_routes.specs.Installed.{Pair, pair_before, IsInstalled}
 use Rattle.match_routes.specs.Rows.{pairs_from, pairs_of, installed, AreSets, AreRows}
-use Rattle.match_routes.proofs.Lists.{rising-at}
+use Rattle.base_bits.proofs.Rising.{rising-at}
 use Rattle.base.proofs.Sets.{rising-append, has-append, has-append-left, has-append-right, get_or-has}
 
 -- the order of pairs

@@ -3,4 +3,3 @@ pub mod Applied
 pub mod Fronts
 pub mod Adding
 pub mod Chains
-pub mod Alike

@@ -8,7 +8,8 @@ use Rattle.base_bits.proofs.Passing.{nat_laws}
 use Rattle.match_routes.specs.declared.table_change.TableChange.{TableChange}
 use Rattle.match_routes.specs.Installed.{Pair, all_changed}
 use Rattle.match_routes.specs.Routes.{IsReached, IsRouteBy}
-use Rattle.match_routes.proofs.Lists.{rising-increasing, all_changed-append}
+use Rattle.base_bits.proofs.Rising.{rising-increasing}
+use Rattle.match_routes.proofs.Lists.{all_changed-append}
 use Rattle.thread_versions.specs.Pairs.{pairs_after, route_of}
 
 pub none_after : pairs_after [] ≡ []

@@ -2,15 +2,14 @@
 ghost use Rattle.std.specs.Prelude.{◌≡◌};
 ghost use Rattle.thread_versions.specs.Pairs.{pairs_after, route_of};
 
-use crate::comparing::have_same_members;
 use crate::history::Front;
-use base_bits::Row;
+use base_bits::{OwnedSet, Set};
 use match_routes::Route;
 
 /// Matched numbers with their route by the first `seen` installed changes.
 #[derive(Drop)]
 pub struct Ahead {
-    pub(crate) matched: Row,
+    pub(crate) matched: OwnedSet,
     pub(crate) route: Route,
     pub(crate) front: Front,
     ghost routed: { route ≡ route_of matched.members (pairs_after front.seen.log) },
@@ -22,17 +21,17 @@ impl Ahead {
     ghost use Rattle.thread_versions.specs.Ends.{matched_in, route_in, seen_in};
 
     /// The numbers.
-    pub fn matched(&self) -> &Row
-        ensures { result.now.members ≡ matched_in self.now }
+    pub fn matched(&self) -> Set<'_>
+        ensures { result.members ≡ matched_in self.now }
     {
-        &self.matched
+        self.matched.as_set()
     }
 
     /// Whether these are the numbers.
-    pub fn is_of(&self, matched: &Row) -> bool
+    pub fn is_of(&self, matched: &Set<'_>) -> bool
         ensures { IsTrue result ↔ (matched_in self.now ≡ matched.now.members) }
     {
-        have_same_members(&self.matched, matched)
+        self.matched.as_set().is_same(matched)
     }
 
     /// Their route by the changes that were seen.

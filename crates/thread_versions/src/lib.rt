@@ -21,7 +21,6 @@
 mod agreeing;
 mod ahead;
 mod applying;
-mod comparing;
 mod history;
 pub mod law;
 mod making;

@@ -8,24 +8,23 @@ ghost use Rattle.thread_versions.specs.Chain.{view_book, IsFolded};
 ghost use Rattle.thread_versions.specs.Ends.{matched_in, route_in, seen_in, seen_by, width_of, IsSameViewer, IsAheadBy};
 
 use crate::ahead::Ahead;
-use crate::comparing::copied;
 use crate::rule::{Sees, VersionReader};
 use crate::version::Version;
 use crate::viewer::Viewer;
 use base::NoMemory;
-use base_bits::Row;
+use base_bits::Set;
 use core::mem::replace_with;
 use std::alloc::Global;
 use std::sync::Wait;
 
 /// Matched numbers with their route by a version.
-fn routed(alloc: Global, version: &Version, matched: &Row) -> Result<Ahead, NoMemory>
+fn routed(alloc: Global, version: &Version, matched: &Set<'_>) -> Result<Ahead, NoMemory>
     requires folded { IsFolded version.now }
     requires width { matched.now.width ≡ version.now.forwarding.width }
     ensures { IfOk result (λ a. (a.matched ≡ matched.now) × (a.front.seen ≡ version.now.front.seen)) }
 {
     Ok(Ahead {
-        matched: copied(alloc, matched)?,
+        matched: matched.owned(alloc)?,
         route: version.forwarding.route(alloc, matched)?,
         front: version.front.again(),
     })
@@ -35,7 +34,7 @@ fn routed(alloc: Global, version: &Version, matched: &Row) -> Result<Ahead, NoMe
 fn try_match(
     reader: VersionReader,
     alloc: Global,
-    matched: &Row,
+    matched: &Set<'_>,
 ) -> (VersionReader, Option<Result<Ahead, NoMemory>>)
     requires named { (view reader.place).named ≡ true }
     requires width { (view reader.place).width ≡ matched.now.width }
@@ -58,7 +57,7 @@ pub fn match_ahead<R: Wait>(
     alloc: Global,
     rt: &R,
     viewer: &mut Viewer,
-    matched: &Row,
+    matched: &Set<'_>,
 ) -> Result<Ahead, NoMemory>
     requires { matched.now.width ≡ width_of viewer.old }
     ensures same { IsSameViewer viewer.old viewer.new }

@@ -11,7 +11,7 @@ use crate::publisher::Publisher;
 use crate::rule::{Shows, VersionWriter};
 use crate::version::Step;
 use base::NoMemory;
-use base_bits::Row;
+use base_bits::Set;
 use core::mem::{replace, replace_with};
 use match_routes::{Route, TableChange};
 use std::alloc::Global;
@@ -29,7 +29,7 @@ impl Publisher {
     }
 
     /// The route of matched numbers by what is installed.
-    pub fn route(&self, alloc: Global, matched: &Row) -> Result<Route, NoMemory>
+    pub fn route(&self, alloc: Global, matched: &Set<'_>) -> Result<Route, NoMemory>
         requires { matched.now.width ≡ (forwarding_of self.now).width }
         ensures { IfOk result (IsRouteBy matched.now.members (pairs_after (installed self.now))) }
     {

@@ -1,6 +1,6 @@
 use Rattle.std.proofs.Common.{◌∙◌, sym}
 use Rattle.std.proofs.lemmas.List.Sorted.{searched}
-use Rattle.match_routes.proofs.Lists.{climbs}
+use Rattle.base_bits.proofs.Rising.{climbs}
 use Rattle.match_routes.proofs.Searching.{found-there}
 use Rattle.match_routes.proofs.places.is_there.Goals as goal
 

@@ -1,7 +1,7 @@
 use Rattle.std.proofs.Common.{◌≡◌, ◌<◌, ℕ, length, get_or, IfSome, sym, subst}
 use Rattle.std.specs.Option.{IsSome}
 use Rattle.std.proofs.lemmas.List.Sorted.{searched}
-use Rattle.match_routes.proofs.Lists.{climbs}
+use Rattle.base_bits.proofs.Rising.{climbs}
 use Rattle.match_routes.proofs.Searching.{IsFound, found-some, there-some}
 use Rattle.match_routes.proofs.places.place.Goals as goal
 

@@ -1,6 +1,6 @@
 use Rattle.std.proofs.Common.{◌∙◌}
 use Rattle.std.proofs.lemmas.List.Sorted.{searched}
-use Rattle.match_routes.proofs.Lists.{climbs}
+use Rattle.base_bits.proofs.Rising.{climbs}
 use Rattle.thread_versions.proofs.Applied.{found-member}
 use Rattle.thread_versions.proofs.applying.is_there.Goals as goal
 

@@ -8,6 +8,6 @@ invariant_of-result c =
     let version = c.args.version.now in
     let by = route-is c.args.matched.now.members version.forwarding.pairs version.front.seen.log c.in_ok-route.field-0 c.requires.folded c.in_ok-route.ensures in record {
       routed = by
-          ∙ ap (λ n. route_of n.members (pairs_after version.front.seen.log)) (sym c.in_ok-copied.ensures)
-          ∙ ap (λ s. route_of c.in_ok-copied.field-0.members (pairs_after s.log)) (sym c.again.ensures.1);
+          ∙ ap (λ n. route_of n.members (pairs_after version.front.seen.log)) (sym c.in_ok-owned.ensures)
+          ∙ ap (λ s. route_of c.in_ok-owned.field-0.members (pairs_after s.log)) (sym c.again.ensures.1);
     }
