@@ -1,9 +1,9 @@
 -- A sound net names few filters and advertisements, and publishes no more than it may.
-use Rattle.std.proofs.Common.{◌≡◌, ℕ, suc, ◌+◌, ◌≤◌, inl, Bool, true, false, cond, not, List, [], ◌∷◌, length, refl, ◌∙◌, length-append, arith}
+use Rattle.std.proofs.Common.{◌≡◌, ℕ, suc, ◌+◌, ◌≤◌, Bool, true, false, cond, not, List, [], ◌∷◌, length, refl, ◌∙◌, length-append, arith}
 use Rattle.std.specs.List.{flat_map}
 use Rattle.base.specs.Sets.{IsRising, put_in, set_of}
 use Rattle.base.specs.Numbers.{sum_over, count}
-use Rattle.base.proofs.Sets.{rising-union, has-union}
+use Rattle.base.proofs.Sets.{rising-union}
 use Rattle.filter_types.specs.Before.{list_before}
 use Rattle.filter_covering.specs.Laws.{sub_laws}
 use Rattle.law_routing.specs.Clients.{is_publish}

@@ -4,7 +4,7 @@ ghost use Rattle.net_tables.specs.Found.{delivery_of, matched_row};
 
 use crate::publication::Publication;
 use base::NoMemory;
-use base_bits::Row;
+use base_bits::{Row, Sets};
 use filter_text::write_notice;
 use match_filters::{Matcher, Scratch};
 use net_inbox::{Deliveries, DeliveriesBuilder};
@@ -24,32 +24,20 @@ pub(crate) fn deliveries(
     builder.build(alloc)
 }
 
-// The filters that a publication matches.
-fn find(
-    alloc: Global,
-    matcher: &Matcher,
-    known: &Publication,
-    scratch: &mut Scratch,
-) -> Result<Row, NoMemory>
-    ensures { IfOk result (λ row. row ≡ matched_row matcher.now known.now) }
-{
-    let mut row = Row::new(alloc, matcher.len() as u32)?;
-    matcher.matched(&known.notice, scratch, &mut row)?;
-    Ok(row)
-}
-
 /// The filters that each of these publications matches.
 pub(crate) fn find_all(
     alloc: Global,
     matcher: &Matcher,
     publications: &[Publication],
-) -> Result<Vec<Row>, NoMemory>
-    ensures { IfOk result (λ rows. rows.items ≡ map (matched_row matcher.now) publications.now) }
+) -> Result<Sets, NoMemory>
+    ensures { IfOk result (λ sets. sets.rows ≡ map (matched_row matcher.now) publications.now) }
 {
     let mut scratch = Scratch::new(alloc);
-    let mut rows = Vec::with_capacity(alloc, publications.len())?;
+    let mut row = Row::new(alloc, matcher.len() as u32)?;
+    let mut sets = Sets::new(alloc, matcher.len() as u32);
     for known in publications {
-        rows.push(find(alloc, matcher, known, &mut scratch)?)?;
+        matcher.matched(&known.notice, &mut scratch, &mut row)?;
+        sets.push(alloc, &row.as_set())?;
     }
-    Ok(rows)
+    Ok(sets)
 }

@@ -12,7 +12,7 @@ ghost use Rattle.filter_text.specs.NoticeText.{IsNoticeText};
 use crate::Catalogue;
 use crate::found::{deliveries, find_all};
 use base::NoMemory;
-use base_bits::Row;
+use base_bits::{Row, Set, Sets};
 use base_order::Order;
 use base_pool::Items;
 use filter_covering::{Ad, Sub};
@@ -31,7 +31,7 @@ pub struct Tables<'a> {
     adverts: Order<Ad>,
     overlaps: Vec<Row>,
     deliveries: Deliveries,
-    matched: Vec<Row>,
+    matched: Sets,
 }
 
 impl<'a> Model for Tables<'a> {
@@ -43,7 +43,7 @@ impl<'a> Model for Tables<'a> {
 
     ghost view = { λ t. t.catalogue };
 
-    ghost invariant = { λ t. AreTables t.catalogue t.filters t.adverts t.overlaps.items × AreFound t.catalogue t.deliveries t.matched.items };
+    ghost invariant = { λ t. AreTables t.catalogue t.filters t.adverts t.overlaps.items × AreFound t.catalogue t.deliveries t.matched.rows };
 }
 
 impl<'a> Tables<'a> {
@@ -132,12 +132,12 @@ impl<'a> Tables<'a> {
     }
 
     /// The numbers of the filters that the publication with a number matches.
-    pub fn matched(&self, number: u32) -> &Row
+    pub fn matched(&self, number: u32) -> Set<'_>
         requires { number < length (known_publications 1 self.now.clients) }
-        ensures { IsFound self.now (publication_at self.now number) result.now }
+        ensures { IsFound self.now (publication_at self.now number) result }
     {
         self.lemma_delivered(number);
-        &self.matched[number as usize]
+        self.matched.at(number as usize)
     }
 
     /// Does nothing; its contract says what is delivered of the publication with a number: its id, which is in range, and the
