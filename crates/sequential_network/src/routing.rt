@@ -25,7 +25,7 @@ pub fn routed(
     ensures { (core : CoreParts) → core.net ≡ tables.now → IsPlace core forwarding.now
         → IfOk result (IsRoute (publication_at tables.now number).notice (installed_from core)) }
 {
-    forwarding.route(alloc, tables.matched(number))
+    forwarding.route(alloc, &tables.matched(number))
 }
 
 /// Where a step routes what a message carries; nowhere where that is a change.

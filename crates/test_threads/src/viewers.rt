@@ -62,12 +62,12 @@ fn one_change<R: Wait>(
     let row = matched(alloc)?;
     let other = Row::new(alloc, 9)?;
     publisher.stage(PUT)?;
-    let early = match_ahead(alloc, rt, viewer, &row)?;
+    let early = match_ahead(alloc, rt, viewer, &row.as_set())?;
     let shown = publisher.publish(rt)?;
     let told = !agree(publisher, viewer, &early);
-    let late = match_ahead(alloc, rt, viewer, &row)?;
+    let late = match_ahead(alloc, rt, viewer, &row.as_set())?;
     let agrees = agree(publisher, viewer, &late);
-    let route = publisher.route(alloc, &row)?;
+    let route = publisher.route(alloc, &row.as_set())?;
     let nothing = !publisher.publish(rt)?;
     Ok(
         early.seen() == 0
@@ -77,8 +77,8 @@ fn one_change<R: Wait>(
             && late.seen() == 1
             && late.route().interfaces() == [65].as_slice()
             && agrees
-            && late.is_of(&row)
-            && !late.is_of(&other)
+            && late.is_of(&row.as_set())
+            && !late.is_of(&other.as_set())
             && route.interfaces() == [65].as_slice()
             && nothing,
     )
@@ -121,7 +121,7 @@ fn match_often<R: Wait>(
     requires { row.now.width ≡ width_of viewer.old }
 {
     for _ in 0..times {
-        let ahead = match_ahead(alloc, rt, viewer, row)?;
+        let ahead = match_ahead(alloc, rt, viewer, &row.as_set())?;
         let is_odd = ahead.seen() % 2 == 1;
         let interfaces = ahead.route().interfaces();
         if is_odd != (interfaces == [65].as_slice()) || is_odd == interfaces.is_empty() {

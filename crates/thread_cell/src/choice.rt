@@ -68,7 +68,7 @@ impl<'a> Matched<'a> {
         requires { number < length (known_publications 1 core.now.net.clients) }
         ensures { (publisher : PublisherParts) → IsJudged publisher self.now → IsChoiceIn core.now.net publisher self.now.ahead.now number result }
     {
-        if !self.ahead.is_of(core.tables().matched(number)) {
+        if !self.ahead.is_of(&core.tables().matched(number)) {
             return Choice::Other;
         }
         if self.agreed {

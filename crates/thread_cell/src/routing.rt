@@ -46,7 +46,7 @@ fn routed(
     requires installed { IsInstalledBy publisher.now core.now }
     ensures { IfOk result (IsRoute (publication_at core.now.net number).notice (installed_from core.now)) }
 {
-    publisher.route(alloc, core.tables().matched(number))
+    publisher.route(alloc, &core.tables().matched(number))
 }
 
 /// Where a step routes what a message carries; nowhere where that is a change.

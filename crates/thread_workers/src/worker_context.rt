@@ -92,7 +92,7 @@ impl<'l, 'a, R: Wait, G: Gate> WorkerContext<'l, 'a, R, G> {
         ensures ahead { IfOk result (λ a. IsAheadBy (lock_root self.now.lock.now).viewer.value a) }
     {
         let matched = self.tables.matched(number);
-        let ahead = match_ahead(self.alloc, self.rt, &mut handles.viewer, matched)?;
+        let ahead = match_ahead(self.alloc, self.rt, &mut handles.viewer, &matched)?;
         self.pass_gate(Spot::Matched);
         Ok(ahead)
     }
