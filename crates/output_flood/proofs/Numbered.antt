@@ -1,5 +1,5 @@
 -- A client's filters by their numbers are those of its script.
-use Rattle.std.proofs.Common.{◌≡◌, ℕ, zero, suc, ◌+◌, ◌-◌, ◌<◌, Bool, true, false, cond, not, ◌||◌, nat_lt, inl, inr, List, [], ◌∷◌, ◌++◌, filter, length, take, drop, slice_get, Some, refl, sym, ap, subst, ◌∙◌, arith}
+use Rattle.std.proofs.Common.{◌≡◌, ℕ, zero, suc, ◌+◌, ◌-◌, Bool, true, false, cond, not, ◌||◌, nat_lt, inl, inr, List, [], ◌∷◌, ◌++◌, filter, length, take, drop, slice_get, Some, refl, sym, ap, subst, ◌∙◌, arith}
 use Rattle.std.proofs.lemmas.Option.{same_Some, slice_get_within}
 use Rattle.base.specs.Sets.{Has, put_in}
 use Rattle.base.proofs.Roots.{Has-filter, filter-Has}

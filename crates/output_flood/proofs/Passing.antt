@@ -1,5 +1,5 @@
 -- Tests over lists with the same members, and joined lists that rise.
-use Rattle.std.proofs.Common.{◌≡◌, ℕ, zero, suc, Bool, true, false, not, ◌&&◌, ◌||◌, inl, inr, List, [], ◌∷◌, ◌++◌, map, slice_get, Some, refl, sym}
+use Rattle.std.proofs.Common.{◌≡◌, Bool, true, false, not, ◌||◌, List, refl}
 use Rattle.base.specs.Sets.{Has}
 use Rattle.law_routing.specs.Clients.{some_pass}
 use Rattle.law_routing.proofs.Listing.{pass-by, by-pass}

@@ -1,5 +1,5 @@
 -- A client's advertisements at each moment of a phase.
-use Rattle.std.proofs.Common.{◌≡◌, ℕ, ◌+◌, ◌-◌, ◌≤◌, Bool, true, false, not, List, [], take, drop, length, refl, sym, ap, subst, ◌∙◌, arith}
+use Rattle.std.proofs.Common.{◌≡◌, ℕ, ◌+◌, ◌-◌, ◌≤◌, not, List, [], take, drop, length, sym, ap, subst, ◌∙◌, arith}
 use Rattle.base.specs.Sets.{Has}
 use Rattle.base.proofs.Roots.{Has-filter, filter-Has}
 use Rattle.filter_constraints.specs.Constraint.{ConstraintParts}

@@ -1,5 +1,5 @@
 -- A client's filters within a phase: at some moment of it, and at each.
-use Rattle.std.proofs.Common.{◌≡◌, ℕ, ◌+◌, ◌-◌, ◌≤◌, Bool, true, false, not, ◌⊎◌, inl, inr, List, [], take, drop, length, refl, sym, ap, subst, ◌∙◌, arith}
+use Rattle.std.proofs.Common.{◌≡◌, ℕ, ◌+◌, ◌-◌, ◌≤◌, not, ◌⊎◌, inl, inr, List, [], take, drop, length, sym, ap, subst, ◌∙◌, arith}
 use Rattle.base.specs.Sets.{Has}
 use Rattle.base.proofs.Roots.{Has-filter, filter-Has}
 use Rattle.filter_constraints.specs.Constraint.{ConstraintParts}

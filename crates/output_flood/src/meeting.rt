@@ -10,7 +10,7 @@ ghost use Rattle.output_flood.specs.Tables.{IsRoom, AreTables, is_found, AreOthe
 use crate::publication::Publication;
 use crate::tables::{Room, Tables, enter_phase, first_tables, make_room};
 use base::NoMemory;
-use base_bits::Row;
+use base_bits::Set;
 use match_filters::Matcher;
 use match_routes::Route;
 use net_tables::Catalogue;
@@ -51,7 +51,7 @@ fn without(alloc: Global, places: &[u32], others: &[u32]) -> Result<Vec<u32>, No
 fn others_met(
     alloc: Global,
     tables: &Tables,
-    matched: &Row,
+    matched: &Set<'_>,
     every: &[u32],
 ) -> Result<Vec<u32>, NoMemory>
     requires rising { IsStrictlyIncreasing every.now }
@@ -84,8 +84,9 @@ fn met_by(
     tables.every.lemma_bounded();
     tables.ever.lemma_bounded();
     matcher.matched(&publication.notice, &mut room.counting, &mut room.matched)?;
-    let every = tables.every.route(alloc, &room.matched)?;
-    let others = others_met(alloc, tables, &room.matched, every.interfaces())?;
+    let matched = room.matched.as_set();
+    let every = tables.every.route(alloc, &matched)?;
+    let others = others_met(alloc, tables, &matched, every.interfaces())?;
     Ok(Met { every, others })
 }
 
