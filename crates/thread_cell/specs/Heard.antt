@@ -28,8 +28,8 @@ are_apart xs ys = all_pass (λ i. all_pass (λ j. not (i == j)) ys) xs
 
 -- whether it is a change of numbers below a bound
 abbrev pub is_change : ℕ → ChangeParts → Bool
-is_change bound change =
-    (rises change.withdrawn && rises change.added) && ((are_below bound change.withdrawn && are_below bound change.added) && are_apart change.withdrawn change.added)
+is_change bound change = (rises change.withdrawn && rises change.added)
+    && ((are_below bound change.withdrawn && are_below bound change.added) && are_apart change.withdrawn change.added)
 
 -- whether a load is of the run of a net
 abbrev pub is_of : NetParts → Load → Bool
