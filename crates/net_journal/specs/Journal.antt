@@ -1,5 +1,5 @@
 -- Defines what contracts see of a journal: its entries, and whether they are kept.
-use Rattle.std.specs.Prelude.{◌≡◌, ◌<◌, ◌-◌, ◌^◌, ℕ, Bool, true, false, List, length, vec_len, vec_capacity}
+use Rattle.std.specs.Prelude.{◌≡◌, ◌<◌, ◌-◌, ◌^◌, Bool, true, false, List, length, min, vec_len, vec_capacity}
 use Rattle.net_model.specs.Parts.{EntryParts}
 use Rattle.net_journal.specs.Past.{entries_before}
 use Rattle.net_journal.specs.declared.journal.Entries.{Entries}
@@ -23,7 +23,7 @@ abbrev pub is_kept : Entries → Bool
 is_kept (Kept entries) = true
 is_kept (Passed past count) = false
 
--- those that passed are counted, and where there is room one more can be had
+-- those that passed are counted as far as 64 bits count, and where entries are kept room is place for one more
 abbrev pub IsJournal : Entries → Bool → Type 0
 IsJournal (Kept entries) room = room ≡ true → vec_len entries < vec_capacity entries
-IsJournal (Passed past count) room = (count ≡ length (entries_before past)) × (room ≡ true → count < 2 ^ 64 - 1)
+IsJournal (Passed past count) room = count ≡ min (length (entries_before past)) (2 ^ 64 - 1)

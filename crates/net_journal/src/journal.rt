@@ -33,7 +33,7 @@ impl Model for Journal {
 }
 
 impl Journal {
-    ghost use Rattle.std.specs.Prelude.{◌≡◌, ◌-◌, ◌++◌, ◌∷◌, [], true, false, Some, length, slice_get, IfSome, IfNone, OnOk, OnErr};
+    ghost use Rattle.std.specs.Prelude.{◌≡◌, ◌-◌, ◌^◌, ◌++◌, ◌∷◌, [], true, false, min, Some, length, slice_get, IfSome, IfNone, OnOk, OnErr};
 
     /// A journal of no entries, which keeps those that come or lets them pass.
     pub fn new(alloc: Global, kept: bool) -> Journal
@@ -60,18 +60,14 @@ impl Journal {
         }
     }
 
-    /// Makes room for one more entry. Where entries pass there is always some, until 2^64 - 1 of them have passed.
+    /// Makes room for one more entry. Where entries pass there is always some.
     pub fn make_room(&mut self) -> Result<(), NoMemory>
         ensures ok { OnOk result (self.new ≡ record self.old { room = true }) }
         ensures err { OnErr result (self.new ≡ self.old) }
     {
         match &mut self.entries {
             Entries::Kept(entries) => entries.reserve(1)?,
-            Entries::Passed(_, count) => {
-                if *count == u64::MAX {
-                    return Err(NoMemory);
-                }
-            }
+            Entries::Passed(_, _) => {}
         }
         self.has_room = true;
         Ok(())
@@ -86,15 +82,15 @@ impl Journal {
             Entries::Kept(entries) => entries.push_reserved(entry),
             Entries::Passed(past, count) => {
                 past.push(entry);
-                *count += 1;
+                *count = count.saturating_add(1);
             }
         }
         self.has_room = false;
     }
 
-    /// How many entries it has.
+    /// How many entries it has, or 2^64 - 1 where it has more.
     pub fn len(&self) -> u64
-        ensures { result ≡ length self.now.entries }
+        ensures { result ≡ min (length self.now.entries) (2 ^ 64 - 1) }
     {
         match &self.entries {
             Entries::Kept(entries) => entries.len() as u64,

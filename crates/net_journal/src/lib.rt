@@ -7,12 +7,12 @@
 //! see the same list of entries either way. With several threads each server has its own journal, and their merge is
 //! the journal of the run.
 //!
-//! `make_room` fails only for lack of memory, or where 2^64 - 1 entries were passed. `merge` requires that journal i is
-//! of server i + 1 and that its stamps rise. It moves entries and copies none: it puts the journals one after the other
-//! and sorts them by stamp with the standard library's stable sort. That sort finds the stretches that rise and merges
-//! the long ones two at a time. So the time is in the order of the entries times the logarithm of the number of
-//! journals, which is neither proved nor tested. Where entries pass, contracts see the merge as a list made by
-//! insertion (`merged_of`).
+//! `make_room` fails only for lack of memory. `len` counts as far as 64 bits do, which is farther than any legal run goes.
+//! `merge` requires that journal i is of server i + 1 and that its stamps rise. It moves entries and copies none: it puts
+//! the journals one after the other and sorts them by stamp with the standard library's stable sort. That sort finds the
+//! stretches that rise and merges the long ones two at a time. So the time is in the order of the entries times the
+//! logarithm of the number of journals, which is neither proved nor tested. Where entries pass, contracts see the merge as
+//! a list made by insertion (`merged_of`).
 #![tactic(auto)]
 
 mod journal;

@@ -27,6 +27,11 @@ kept_next {T} {covers} {before} laws old new keys named item key put kept others
   at = keys-next old.slots new.slots item key kept others keys named are.at;
 }
 
+-- room for another one leaves all as it is
+pub kept_roomed : {T : Type 0} (before : T → T → Bool) (old new : Pooled T) (keys : List ℕ) (named : List T) → new.items ≡ old.items → new.slots ≡ old.slots
+    → AreKept before old keys named → AreKept before new keys named
+kept_roomed before old new keys named items slots are = record { items = items ∙ are.items; at = subst (λ s. AreKeysOf s keys named) (sym slots) are.at }
+
 pub none_kept : (pool : Pooled (List ConstraintParts)) (keys : List ℕ) (named : Lists) → AreKept list_before pool keys named → AreKept list_before pool keys (named ++ [])
 none_kept pool keys named are = subst (AreKept list_before pool keys) (sym (append-nil named)) are
 

@@ -4,7 +4,7 @@ ghost use Rattle.std.specs.List.{flat_map};
 ghost use Rattle.filter_text.specs.Messages.{Lists};
 ghost use Rattle.filter_types.specs.Before.{list_before};
 ghost use Rattle.net_tables.specs.Known.{filters_in, adverts_in, script_filters, script_adverts, known_filters, known_adverts};
-ghost use Rattle.net_tables.specs.Numbering.{AreNumbersOf, AreKept};
+ghost use Rattle.net_tables.specs.Numbering.{AreNumbersOf, AreCounted, AreKept};
 
 use base::{Cover, NoMemory};
 use base_pool::{Items, Key, Pool};
@@ -26,17 +26,20 @@ pub(crate) struct Named<T: Cover> {
 struct Kept<T: Cover> {
     pool: Pool<T>,
     keys: Vec<Key>,
+    ghost counted: { AreCounted (length keys.items) pool.slots },
 }
 
-// Keeps an item once more.
+// Keeps an item once more. It has no more holders than there are keys in memory, so nothing but memory is lacking.
 fn keep<T: Cover + Drop>(kept: &mut Kept<T>, item: T) -> Result<(), NoMemory>
     ensures { (named : List T) → AreKept T.order kept.old.pool kept.old.keys.items named
         → OnOk result (AreKept T.order kept.new.pool kept.new.keys.items (named ++ item ∷ [])) }
 {
+    kept.keys.reserve(1)?;
+    kept.pool.reserve(1)?;
     let Ok(key) = kept.pool.keep(item) else {
-        return Err(NoMemory);
+        unreachable!()
     };
-    kept.keys.push(key)?;
+    kept.keys.push_reserved(key);
     Ok(())
 }
 

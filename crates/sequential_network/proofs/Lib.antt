@@ -24,3 +24,4 @@ pub mod Last
 pub mod Told
 pub mod ByLaws
 pub mod PeersLaws
+pub mod Few

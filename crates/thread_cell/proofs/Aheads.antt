@@ -1,19 +1,18 @@
 -- Steps with a match ahead keep what a cell's type says, and their publications.
-use Rattle.std.proofs.Common.{◌≡◌, ℕ, List, Option, Some, None, Result, Ok, Err, IfOk, OnErr, sym, ap, subst, ◌∙◌}
+use Rattle.std.proofs.Common.{◌≡◌, ◌<◌, ◌⊎◌, inl, inr, ℕ, List, [], length, Option, Some, None, Result, Ok, Err, IfOk, OnErr, refl, sym, ap, subst, ◌∙◌}
 use Rattle.filter_constraints.specs.Constraint.{ConstraintParts}
 use Rattle.filter_types.specs.Notice.{Attribute}
 use Rattle.law_machine.specs.Machine.{Act, Does, Receives, Did, Received}
-use Rattle.law_routing.specs.Server.{Message, Noticed}
+use Rattle.law_routing.specs.Server.{Message, Noticed, Subs}
 use Rattle.law_routing.specs.Step.{Task, NextCommand, TableUpdate}
 use Rattle.net_model.specs.Real.{real}
 use Rattle.net_model.specs.Parts.{NetParts, EntryParts}
 use Rattle.match_filters.specs.Matching.{matched}
 use Rattle.base_bits.specs.Rows.{Numbers}
-use Rattle.net_tables.specs.Known.{PublicationParts, known_filters}
+use Rattle.net_tables.specs.Known.{PublicationParts, known_filters, known_publications}
 use Rattle.net_tables.specs.Found.{IsFound, publication_at}
 use Rattle.server_message.specs.declared.load.Load.{Load}
 use Rattle.server_message.specs.declared.load.Load.TheVariants as loads
-use Rattle.server_message.specs.Message.{represented}
 use Rattle.match_routes.specs.Routes.{IsRouteBy}
 use Rattle.server_core.specs.Core.{CoreParts, installed_from}
 use Rattle.server_core.specs.Routed.{IsRoute, RoutesMessage}
@@ -35,11 +34,15 @@ use Rattle.thread_cell.specs.declared.turned.Turned.TheVariants.{Made, Stale, Id
 use Rattle.thread_cell.specs.declared.choice.Choice.{Choice}
 use Rattle.thread_cell.specs.declared.choice.Matched.{Matched}
 use Rattle.thread_cell.specs.declared.choice.Choice.TheVariants.{Other, Outdated, Agreed}
+use Rattle.server_message.specs.Message.{IsLoad, represented}
+use Rattle.thread_cell.specs.Heard.{heard}
+use Rattle.thread_cell.specs.Looking.{IsPublicationIn}
+use Rattle.thread_cell.proofs.Heard.{heard-of, heard-either}
 use Rattle.thread_cell.specs.Acted.{StampedInput, recorded_as}
 use Rattle.thread_cell.specs.Kept.{AreOf}
 use Rattle.thread_cell.specs.Cell.{IsServerInHand, IsKept}
 use Rattle.thread_cell.specs.Turns.{IsStill}
-use Rattle.thread_cell.specs.Ahead.{AnswersBy, IsChoice, IsChoiceNext, IsChoiceOf, IsRight, IsUpToDate, RoutesMatched}
+use Rattle.thread_cell.specs.Ahead.{AnswersBy, IsChoice, IsChoiceNext, IsChoiceOf, IsRight, IsUpToDate, RoutesMatched, CarriesMatched}
 use Rattle.server_core.proofs.RoutesByPairs.{route-is}
 use Rattle.thread_cell.proofs.Routes.{same-notice}
 use Rattle.thread_cell.proofs.Keeping.{kept-turn, kept-still}
@@ -92,8 +95,8 @@ module _ (core : CoreParts) (publisher : Publisher) (ahead : Ahead) (agrees : Ar
       λ s id n h e plan. subst (λ z. IsRoute z (installed_from core) r.now) (sym (same-notice id p.id n p.notice (sym plan ∙ publish s h e))) (routed r.now f.2),
     )
 
-    pub choice-of : (load : Load) → represented core.net load ≡ Noticed p.id.publisher p.id.ordinal p.notice → (ch : Choice) → IsChoice publisher ahead found.members ch → IsChoiceOf core publisher ahead load ch
-    choice-of load represents Other f = λ of x. f (sym x.4 ∙ ap (λ z. matched z filters) (one-notice x.0 x.1 x.2 p.id.publisher p.id.ordinal p.notice (sym x.3 ∙ represents)) ∙ sym members)
+    pub choice-of : (load : Load) → heard core.net load ≡ Noticed p.id.publisher p.id.ordinal p.notice → (ch : Choice) → IsChoice publisher ahead found.members ch → IsChoiceOf core publisher ahead load ch
+    choice-of load represents Other f = λ x. f (sym x.4 ∙ ap (λ z. matched z filters) (one-notice x.0 x.1 x.2 p.id.publisher p.id.ordinal p.notice (sym x.3 ∙ represents)) ∙ sym members)
     choice-of load represents Outdated f = ((p.id.publisher, p.id.ordinal, p.notice, represents, sym members ∙ sym f.0), f.1)
     choice-of load represents (Agreed r) f = (
       right found.members r.now f.0 f.1 f.2 f.3,
@@ -101,6 +104,20 @@ module _ (core : CoreParts) (publisher : Publisher) (ahead : Ahead) (agrees : Ar
     )
 
 -- what a publication of the net says
-pub publication-says : (core : CoreParts) (load : Load) (number : ℕ) → load ≡ loads.Publication number
-    → represented core.net load ≡ Noticed (publication_at core.net number).id.publisher (publication_at core.net number).id.ordinal (publication_at core.net number).notice
-publication-says core load number e = ap (represented core.net) e
+pub publication-says : (core : CoreParts) (load : Load) (number : ℕ) → load ≡ loads.Publication number → number < length (known_publications 1 core.net.clients)
+    → heard core.net load ≡ Noticed (publication_at core.net number).id.publisher (publication_at core.net number).id.ordinal (publication_at core.net number).notice
+publication-says core load number e known = ap (heard core.net) e ∙ heard-of core.net (loads.Publication number) known
+
+-- what is no publication of the net carries none
+pub carries-none : (net : NetParts) (load : Load) (numbers : List ℕ) → IsPublicationIn net load None → CarriesMatched net (heard net load) numbers → ⊥
+carries-none net load numbers none x = go load none (heard-either net load) (x.0, x.1, x.2, x.3)
+  where
+    other : (m : Message real) → m ≡ Subs [] [] → (publisher : ℕ) × (ordinal : ℕ) × (n : List Attribute) × (m ≡ Noticed publisher ordinal n) → ⊥
+    other m is x = let e : Subs [] [] ≡ Noticed x.0 x.1 x.2 = sym is ∙ x.3 in cc
+
+    go : (load : Load) → IsPublicationIn net load None → (IsLoad net load × (heard net load ≡ represented net load)) ⊎ (heard net load ≡ Subs [] [])
+        → (publisher : ℕ) × (ordinal : ℕ) × (n : List Attribute) × (heard net load ≡ Noticed publisher ordinal n) → ⊥
+    go load none (inr is) x = other (heard net load) is x
+    go (loads.Publication number) none (inl h) x = none number refl h.0
+    go (loads.Filters change) none (inl h) x = let e : represented net (loads.Filters change) ≡ Noticed x.0 x.1 x.2 = sym h.1 ∙ x.3 in cc
+    go (loads.Adverts change) none (inl h) x = let e : represented net (loads.Adverts change) ≡ Noticed x.0 x.1 x.2 = sym h.1 ∙ x.3 in cc

@@ -5,7 +5,7 @@ use Rattle.law_routing.specs.Step.{NextCommand}
 use Rattle.net_model.specs.Parts.{EntryParts}
 use Rattle.match_routes.specs.declared.route.Route.{Route}
 use Rattle.server_message.specs.declared.load.Load.{Load}
-use Rattle.server_message.specs.Message.{IsLoad, represented}
+use Rattle.thread_cell.specs.Heard.{heard}
 use Rattle.server_core.specs.Core.{CoreParts}
 use Rattle.server_core.specs.Routed.{RoutesMessage}
 use Rattle.thread_versions.specs.declared.publisher.Publisher.{Publisher}
@@ -31,7 +31,7 @@ not-known choice route is same = let e : Other ≡ Agreed route = sym is ∙ sam
 module _ (publisher : Publisher) (core : CoreParts) where
   -- the route that is known by it is that of the step
   pub known-of : (matched : Option Matched) (load : Load) (choice : Choice) (known : Option (Bor Route)) → IsChoiceOfBy core publisher matched load choice
-      → IfSome known (λ route. choice ≡ Agreed route) → IfSome known (λ route. RoutesMessage core (represented core.net load) route.now)
+      → IfSome known (λ route. choice ≡ Agreed route) → IfSome known (λ route. RoutesMessage core (heard core.net load) route.now)
   known-of matched load choice None is same = tt
   known-of None load choice (Some route) is same = absurd (not-known choice route is same)
   known-of (Some h) load choice (Some route) is same = (subst (IsChoiceOf core publisher h.ahead.now load) same is).1
@@ -50,19 +50,19 @@ module _ (phase : ℕ) (old new : ServerInHand) (before after : List EntryParts)
   command-by None client choice is made same = subst (λ c. Answers phase (Command client) old new before after (turned_by c)) (sym is) made
   command-by (Some h) client choice is made same = chosen-command h.ahead.now client choice is made same
 
-  chosen-reception : (ahead : Ahead) (place : ℕ) (load : Load) (choice : Choice) → IsChoiceOf old.core old.publisher ahead load choice → IsLoad old.core.net load
-      → (m : Represented) → represented old.core.net load ≡ m.message → IsReceptionFrom phase place m old new before after
+  chosen-reception : (ahead : Ahead) (place : ℕ) (load : Load) (choice : Choice) → IsChoiceOf old.core old.publisher ahead load choice
+      → (m : Represented) → heard old.core.net load ≡ m.message → IsReceptionFrom phase place m old new before after
       → IsReceptionAhead phase place ahead old new before after (turned_by choice)
-  chosen-reception ahead place load Other is known m says reception =
-      (m, reception, λ carries. absurd (is known (subst (λ z. CarriesMatched old.core.net z (matched_in ahead)) (sym says) carries)))
-  chosen-reception ahead place load Outdated is known m says reception = (m, reception, subst (λ z. CarriesMatched old.core.net z (matched_in ahead)) says is.0, is.1)
-  chosen-reception ahead place load (Agreed route) is known m says reception = (m, reception, λ carries. is.0)
+  chosen-reception ahead place load Other is m says reception =
+      (m, reception, λ carries. absurd (is (subst (λ z. CarriesMatched old.core.net z (matched_in ahead)) (sym says) carries)))
+  chosen-reception ahead place load Outdated is m says reception = (m, reception, subst (λ z. CarriesMatched old.core.net z (matched_in ahead)) says is.0, is.1)
+  chosen-reception ahead place load (Agreed route) is m says reception = (m, reception, λ carries. is.0)
 
-  pub reception-by : (matched : Option Matched) (place : ℕ) (load : Load) (choice : Choice) → IsChoiceOfBy old.core old.publisher matched load choice → IsLoad old.core.net load
-      → (m : Represented) → represented old.core.net load ≡ m.message → IsReceptionFrom phase place m old new before after
+  pub reception-by : (matched : Option Matched) (place : ℕ) (load : Load) (choice : Choice) → IsChoiceOfBy old.core old.publisher matched load choice
+      → (m : Represented) → heard old.core.net load ≡ m.message → IsReceptionFrom phase place m old new before after
       → IsReceptionBy phase place matched old new before after (turned_by choice)
-  reception-by None place load choice is known m says reception = subst (λ c. IsReception phase place old new before after (turned_by c)) (sym is) (m, reception)
-  reception-by (Some h) place load choice is known m says reception = chosen-reception h.ahead.now place load choice is known m says reception
+  reception-by None place load choice is m says reception = subst (λ c. IsReception phase place old new before after (turned_by c)) (sym is) (m, reception)
+  reception-by (Some h) place load choice is m says reception = chosen-reception h.ahead.now place load choice is m says reception
 
   -- where nothing was done it doesn't matter whether something was matched ahead
   pub idle-by : (matched : Option Matched) (what : Act) → IsStill old new before after × IsIdleStep phase what old new → AnswersBy phase what matched old new before after Idle

@@ -14,7 +14,7 @@ use Rattle.thread_cell.specs.Links.{Both, At, IsOneLane, IsSettledLane, IsNeighb
 use Rattle.thread_cell.specs.LaneReceiving.{HasMissed}
 use Rattle.thread_cell.specs.LaneMessages.{put_for, taken_from, represented_put, represented_received}
 use Rattle.net_model.specs.Parts.{NetParts}
-use Rattle.server_message.specs.Message.{represented_stamped}
+use Rattle.thread_cell.specs.Heard.{heard_stamped}
 use Rattle.thread_cell.specs.Cell.{CellParts}
 use Rattle.thread_cell.specs.Together.{Sight, IsLaneOf, IsTakenUp, IsCellDone, HasNoCommand, IsWornSomewhere, sight, sights, cell_roots, root_links}
 use Rattle.server_core.specs.Step.{last_stamp}
@@ -51,7 +51,7 @@ emptied a b later to from u one ka kb (x, y, ex, ey, s) same missed gives takes 
     let nx : x.neighbour ≡ b.root.server = x0.2.neighbour ∙ ap (λ (w : Link). w.neighbour) (same_Some x0.0 gives.0 (sym x0.1 ∙ gives.1)) ∙ gives.2 in
     let ny : y.neighbour ≡ u = y0.2.neighbour ∙ ap (λ (w : Link). w.neighbour) (same_Some y0.0 takes.0 (sym y0.1 ∙ takes.1)) ∙ takes.2 in
     let net = b.root.net.value in
-    ap (λ n. taken_from net b.held.links.items n) (sym ny) ∙ found-taken net from b.held.links.items y ey (distinct-kept b kb) ∙ ap (map (represented_stamped net)) all ∙ ap (λ n. represented_put n x) (sym one)
+    ap (λ n. taken_from net b.held.links.items n) (sym ny) ∙ found-taken net from b.held.links.items y ey (distinct-kept b kb) ∙ ap (map (heard_stamped net)) all ∙ ap (λ n. represented_put n x) (sym one)
     ∙ sym (found-put a.root.net.value to a.held.links.items x ex (distinct-kept a ka)) ∙ ap (λ n. put_for a.root.net.value a.held.links.items n) nx
 
 pub taken-up : (cells : List CellParts) (a b : CellParts) (later : List Link) (giver to taker from : ℕ) → slice_get cells giver ≡ Some a → slice_get cells taker ≡ Some b → a.root.net.value ≡ b.root.net.value → IsKeptCell a → IsKeptCell b

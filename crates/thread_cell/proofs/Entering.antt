@@ -22,7 +22,7 @@ use Rattle.thread_cell.specs.declared.link.Link.{Link}
 use Rattle.filter_text.specs.MessageText.{Each}
 use Rattle.thread_cell.specs.Links.{Both, IsSameLink}
 use Rattle.thread_cell.specs.LaneMessages.{put_for, taken_from}
-use Rattle.thread_cell.specs.Cell.{RepresentsCell, IsServerInHand, IsKept, IsInstalledBy, HasNoneBelow, IsReplayed, machine_in}
+use Rattle.thread_cell.specs.Cell.{RepresentsCell, IsServerInHand, IsKept, IsInstalledBy, HasNoneBelow, IsReplayed, machine_in, count_before}
 use Rattle.thread_cell.proofs.Unmoved.{same-refl}
 use Rattle.thread_cell.proofs.Shown.{installed-stays}
 use Rattle.std.proofs.Math.Seq.{drop-length}
@@ -46,9 +46,9 @@ raised old new clock held le low core links publisher handed = record {
 }
 
 pub entered : (net : NetParts) (root after : Root) (journal : List EntryParts) (old new : ServerInHand) (clock : ℕ) → IsKept net root journal old → old.core.clock ≤ clock → clock < 2 ^ 62
-    → is_one_tree real (phased_net net) root.phase after.phase ≡ true → root.phase ≤ after.phase → HasNoneBelow after.phase old.core.clients → after.net ≡ root.net → after.server ≡ root.server → after.entries ≡ length journal → after.before.value.entries ≡ journal → after.core.value ≡ new.core → after.links.value ≡ new.links → after.viewer ≡ root.viewer
+    → is_one_tree real (phased_net net) root.phase after.phase ≡ true → root.phase ≤ after.phase → HasNoneBelow after.phase old.core.clients → after.net ≡ root.net → after.server ≡ root.server → after.before.value.entries ≡ journal → after.core.value ≡ new.core → after.links.value ≡ new.links → after.viewer ≡ root.viewer
     → new.core ≡ record old.core { clock = clock } → new.links ≡ old.links → new.publisher ≡ old.publisher → new.handed ≡ old.handed → IsKept net after journal new
-entered net root after journal old new clock kept le low tree later none net_same server entries before core_is links_is viewer core links publisher handed = record {
+entered net root after journal old new clock kept le low tree later none net_same server before core_is links_is viewer core links publisher handed = record {
   net_is = ap (λ z. z.value) net_same ∙ kept.net_is;
   sound = kept.sound;
   run = ap (λ (z : CoreParts). z.net) core ∙ kept.run;
@@ -60,7 +60,7 @@ entered net root after journal old new clock kept le low tree later none net_sam
     stands = subst (λ z. RepresentsCell net after.phase new.core z.items begun) links_is (subst (λ z. RepresentsCell net after.phase z after.links.value.items begun) core_is is);
   };
   entries = let e = entries in omega (arith, e);
-  before = take_all after.entries journal (let e = entries in omega (arith, e)) ∙ sym before;
+  before = take_all (count_before after) journal (let e = entries in omega (arith, e)) ∙ sym before;
   links = subst (λ z. Both IsSameLink z.items new.links.items) (sym links_is) (all-same new.links.items);
   publisher = rw (publisher, viewer) kept.publisher;
   now = raised old new clock kept.now le low core links publisher handed;
@@ -71,6 +71,9 @@ entered net root after journal old new clock kept le low tree later none net_sam
   };
 }
   where
+    entries : count_before after ≡ length journal
+    entries = ap length before
+
     replayed : IsReplayed net root journal kept.begins.0 old
     replayed = kept.replays kept.begins.0 kept.begins.1
 
@@ -89,5 +92,5 @@ entered net root after journal old new clock kept le low tree later none net_sam
       took = λ link. ap (λ l. taken_from net l.items link) links ∙ replayed.stands.took link;
     }
 
-    replay : (begun : Cell (machine_in net after.phase)) → IsReplay (machine_in net after.phase) after.phase after.server begun (entries_on real (net_at real (phased_net net) after.phase) (journal_of (drop after.entries journal))) begun
+    replay : (begun : Cell (machine_in net after.phase)) → IsReplay (machine_in net after.phase) after.phase after.server begun (entries_on real (net_at real (phased_net net) after.phase) (journal_of (drop (count_before after) journal))) begun
     replay begun = subst (λ l. IsReplay (machine_in net after.phase) after.phase after.server begun (entries_on real (net_at real (phased_net net) after.phase) (journal_of l)) begun) (sym (ap (λ n. drop n journal) entries ∙ drop-length journal)) refl

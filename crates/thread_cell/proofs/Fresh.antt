@@ -26,8 +26,8 @@ use Rattle.thread_cell.specs.Links.{Both, IsSameLink}
 use Rattle.thread_cell.specs.LaneMessages.{put_for, taken_from, represented_put, represented_received}
 use Rattle.thread_cell.specs.Lanes.{IsNew}
 use Rattle.thread_cell.specs.Kept.{AreOf, IsWideFor}
-use Rattle.server_message.specs.Message.{represented_stamped}
-use Rattle.thread_cell.specs.Cell.{RepresentsCell, IsKept, IsDue, IsInstalledBy, machine_in}
+use Rattle.thread_cell.specs.Heard.{heard_stamped}
+use Rattle.thread_cell.specs.Cell.{RepresentsCell, IsKept, IsDue, IsInstalledBy, machine_in, count_before}
 use Rattle.thread_cell.proofs.HandAll.{names}
 use Rattle.thread_cell.proofs.Entering.{all-same}
 use Rattle.server_core.proofs.KeepsInstalled.{by-interface-of}
@@ -39,7 +39,7 @@ new-put net [] e n = refl
 new-put net (x ∷ links) e n = go (x.neighbour == n) e.0.put (new-put net links e.1 n)
   where
     go : (b : Bool) → put_list x.enter ≡ [] → put_for net links n ≡ [] → cond b (represented_put net x) (put_for net links n) ≡ []
-    go true p q = ap (map (represented_stamped net)) p
+    go true p q = ap (map (heard_stamped net)) p
     go false p q = q
 
 pub new-taken : (net : NetParts) (links : List Link) → Each IsNew links → (n : ℕ) → taken_from net links n ≡ []
@@ -47,7 +47,7 @@ new-taken net [] e n = refl
 new-taken net (x ∷ links) e n = go (x.neighbour == n) e.0.taken (new-taken net links e.1 n)
   where
     go : (b : Bool) → taken_list x.leave ≡ [] → taken_from net links n ≡ [] → cond b (represented_received net x) (taken_from net links n) ≡ []
-    go true p q = ap (map (represented_stamped net)) p
+    go true p q = ap (map (heard_stamped net)) p
     go false p q = q
 
 pub new-few : (clock : ℕ) (links : List Link) → Each IsNew links → Each (λ link. length (put_list link.enter) ≤ clock) links
@@ -91,9 +91,9 @@ module _ (net : NetParts) (core : CoreParts) (links : List Link) (stands : Repre
     taken = λ client k c h lt e. absurd (omega (arith, lt));
   })
 
-  pub kept-fresh : (root : Root) (held : ServerInHand) (journal : List EntryParts) → IsSound net → root.net.value ≡ net → core.net ≡ net → IsWideFor core (forwarding_of held.publisher) → core.server ≡ root.server → root.phase ≡ 0 → root.entries ≡ 0 → root.before.value.entries ≡ [] → root.core.value ≡ core → root.links.value.items ≡ links
+  pub kept-fresh : (root : Root) (held : ServerInHand) (journal : List EntryParts) → IsSound net → root.net.value ≡ net → core.net ≡ net → IsWideFor core (forwarding_of held.publisher) → core.server ≡ root.server → root.phase ≡ 0 → root.before.value.entries ≡ [] → root.core.value ≡ core → root.links.value.items ≡ links
       → held.core ≡ core → held.links.items ≡ links → pending held.publisher ≡ [] → installed held.publisher ≡ [] → held.handed.items ≡ [] → IsViewerOf held.publisher root.viewer.value → names links ≡ links_of (topology_at net 0) root.server → journal ≡ [] → IsKept net root journal held
-  kept-fresh root held journal sound net_is run wide server phase entries before core_is links_is core_held links_held none-pending none-installed none-handed viewer named none = record {
+  kept-fresh root held journal sound net_is run wide server phase before core_is links_is core_held links_held none-pending none-installed none-handed viewer named none = record {
     net_is = net_is;
     sound = sound;
     run = ap (λ (c : CoreParts). c.net) core_held ∙ run;
@@ -119,5 +119,8 @@ module _ (net : NetParts) (core : CoreParts) (links : List Link) (stands : Repre
     due = subst (λ p. IsDue p held.core.clients) (sym phase) (subst (λ (c : CoreParts). IsDue 0 c.clients) (sym core_held) due);
   }
     where
-      replay : (begun : Cell (machine_in net root.phase)) → IsReplay (machine_in net root.phase) root.phase root.server begun (entries_on real (net_at real (phased_net net) root.phase) (journal_of (drop root.entries journal))) begun
-      replay begun = subst (λ l. IsReplay (machine_in net root.phase) root.phase root.server begun (entries_on real (net_at real (phased_net net) root.phase) (journal_of l)) begun) (sym (ap (drop root.entries) none ∙ drop-none root.entries)) refl
+      entries : count_before root ≡ 0
+      entries = ap length before
+
+      replay : (begun : Cell (machine_in net root.phase)) → IsReplay (machine_in net root.phase) root.phase root.server begun (entries_on real (net_at real (phased_net net) root.phase) (journal_of (drop (count_before root) journal))) begun
+      replay begun = subst (λ l. IsReplay (machine_in net root.phase) root.phase root.server begun (entries_on real (net_at real (phased_net net) root.phase) (journal_of l)) begun) (sym (ap (drop (count_before root)) none ∙ drop-none (count_before root))) refl

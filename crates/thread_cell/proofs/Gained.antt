@@ -7,7 +7,7 @@ use Rattle.law_machine.specs.Machine.{Receives}
 use Rattle.net_model.specs.declared.turn.Act.TheVariants as acts
 use Rattle.net_model.specs.Parts.{EntryParts, entry_parts}
 use Rattle.server_message.specs.Parts.{SendingParts}
-use Rattle.server_message.specs.Message.{represented, represented_stamped}
+use Rattle.thread_cell.specs.Heard.{heard, heard_stamped}
 use Rattle.server_message.specs.declared.load.Load.{Load}
 use Rattle.server_message.specs.declared.stamped.StampedLoad.{StampedLoad}
 use Rattle.filter_text.specs.MessageText.{Each}
@@ -78,28 +78,28 @@ module _ (old : ServerInHand) (held : IsServerInHand old) (place : ℕ) (less : 
             omega (arith, n, k, m)
 
         module _ (new : ServerInHand) (some : IsSomeServer old.core) (load : Load) (stamped : ℕ) (said-load : load ≡ item.load) (said-stamp : stamped ≡ item.stamp) (stamp : ℕ) (sent : List SendingParts)
-            (step : MakesStep (Receives d.neighbour (represented old.core.net load)) stamped old.core new.core stamp sent) where
+            (step : MakesStep (Receives d.neighbour (heard old.core.net load)) stamped old.core new.core stamp sent) where
           of-net : AreOfNet old.core.net sent
-          of-net = sends-of old.core new.core some (Receives d.neighbour (represented old.core.net load)) stamped stamp sent step
+          of-net = sends-of old.core new.core some (Receives d.neighbour (heard old.core.net load)) stamped stamp sent step
 
-          stepped : MakesStep (Receives d.neighbour (represented old.core.net item.load)) item.stamp old.core new.core stamp sent
-          stepped = subst (λ l. MakesStep (Receives d.neighbour (represented old.core.net l)) item.stamp old.core new.core stamp sent) said-load
-              (subst (λ t. MakesStep (Receives d.neighbour (represented old.core.net load)) t old.core new.core stamp sent) said-stamp step)
+          stepped : MakesStep (Receives d.neighbour (heard old.core.net item.load)) item.stamp old.core new.core stamp sent
+          stepped = subst (λ l. MakesStep (Receives d.neighbour (heard old.core.net l)) item.stamp old.core new.core stamp sent) said-load
+              (subst (λ t. MakesStep (Receives d.neighbour (heard old.core.net load)) t old.core new.core stamp sent) said-stamp step)
 
           module _ (gives : AreOfNet old.core.net sent → Both (IsGiven old.core.net stamp sent) later new.links.items) where
             given : Both (IsGiven old.core.net stamp sent) later new.links.items
             given = gives of-net
 
             pub held-gained : stamp < 2 ^ 62 → IsInstalledBy new.publisher new.core → pending new.publisher ≡ installed new.publisher ++ new.handed.items → IsServerInHand new
-            held-gained low shown handed = held-after old new (Receives d.neighbour (represented old.core.net item.load)) item.stamp stamp sent old.core.net _ held stepped low
+            held-gained low shown handed = held-after old new (Receives d.neighbour (heard old.core.net item.load)) item.stamp stamp sent old.core.net _ held stepped low
                 (took-links old.links.items roomed later new.links.items d.neighbour item old.core.net stamp sent left-yet gained given) shown handed
 
             pub reception-gained : (phase : ℕ) (before mid after : List EntryParts) (server : ℕ) (sees : Bool) → IsLookedAt place old.links.items seen sees → sees ≡ true → old.core.server ≡ server → mid ≡ before
                 → after ≡ mid ++ entry_parts stamp server (acts.Receive d.neighbour) (map (λ s. s.to) sent) ∷ [] → IsSamePublisher old.publisher new.publisher
-                → IsReceptionFrom phase place (represented_stamped old.core.net item) old new before after
+                → IsReceptionFrom phase place (heard_stamped old.core.net item) old new before after
             reception-gained phase before mid after server sees looked true-is number journal entry publisher =
                 let first = both-before IsUnmoved place old.links.items roomed d left-yet there in
-                reception-from phase place d.neighbour first.0 (represented_stamped old.core.net item) old new before after first.1 first.2.same.neighbour
+                reception-from phase place d.neighbour first.0 (heard_stamped old.core.net item) old new before after first.1 first.2.same.neighbour
                 (took phase d.neighbour (acts.Receive d.neighbour) old new roomed later item before mid after server stamp sent refl stepped left-yet gained given number journal entry publisher)
                 (seen-then place old.links.items seen new.links.items (looked-seen place old.links.items seen sees looked true-is) look
                 (has-seen place d.neighbour item old.core.net stamp sent seen roomed later new.links.items room gained given))

@@ -9,7 +9,9 @@ use Rattle.net_model.specs.Parts.{NetParts}
 use Rattle.server_message.specs.Parts.{MessageParts, SendingParts, sending_parts}
 use Rattle.server_message.specs.declared.load.Load.{Load}
 use Rattle.server_message.specs.declared.stamped.StampedLoad.{StampedLoad}
-use Rattle.server_message.specs.Message.{represented, represented_stamped}
+use Rattle.server_message.specs.Message.{IsLoad, represented}
+use Rattle.thread_cell.specs.Heard.{heard, heard_stamped}
+use Rattle.thread_cell.proofs.Heard.{heard-of}
 use Rattle.thread_lane.specs.declared.putting.LaneIn.{LaneIn}
 use Rattle.thread_lane.specs.Lane.{SameIn, free_places, mark_of, pushed_list, put_list, waiting_list}
 use Rattle.thread_lane.proofs.Later.{same_in_later}
@@ -144,25 +146,25 @@ first-few n (x ∷ sent) = go (x.to == n)
 
 module _ (net : NetParts) where
   -- what was put first, as a net says it
-  pub put-said : (stamp : ℕ) (x : Link) (enter : LaneIn StampedLoad) (s : SendingParts) (item : StampedLoad) → put_list enter ≡ put_list x.enter ++ item ∷ [] → item.stamp ≡ stamp → s.sent.message ≡ represented net item.load
-      → map (represented_stamped net) (put_list enter) ≡ map (represented_stamped net) (put_list x.enter) ++ all_sent_as stamp (s ∷ [])
+  pub put-said : (stamp : ℕ) (x : Link) (enter : LaneIn StampedLoad) (s : SendingParts) (item : StampedLoad) → put_list enter ≡ put_list x.enter ++ item ∷ [] → item.stamp ≡ stamp → s.sent.message ≡ heard net item.load
+      → map (heard_stamped net) (put_list enter) ≡ map (heard_stamped net) (put_list x.enter) ++ all_sent_as stamp (s ∷ [])
   put-said stamp x enter s item e t m =
-      ap (map (represented_stamped net)) e ∙ map-append (represented_stamped net) (put_list x.enter) (item ∷ [])
-      ∙ ap (λ (w : Represented). map (represented_stamped net) (put_list x.enter) ++ w ∷ []) (λ i. record { stamp = t i; message = sym m i })
+      ap (map (heard_stamped net)) e ∙ map-append (heard_stamped net) (put_list x.enter) (item ∷ [])
+      ∙ ap (λ (w : Represented). map (heard_stamped net) (put_list x.enter) ++ w ∷ []) (λ i. record { stamp = t i; message = sym m i })
 
   -- what was put for a neighbour, where the first that is sent is for it
   pub put-first : (stamp : ℕ) (x : Link) (enter : LaneIn StampedLoad) (sent : List SendingParts) (s h : SendingParts) (to : ℕ) (message : MessageParts) (item : StampedLoad) (load : Load)
       → 0 < length sent → s ≡ get_or sent 0 s → h ≡ get_or sent 0 h → h.to ≡ x.neighbour → sending_parts to message ≡ s → AreOfNet net sent
-      → put_list enter ≡ put_list x.enter ++ item ∷ [] → item.stamp ≡ stamp → item.load ≡ load → message.message ≡ represented message.net load
-      → map (represented_stamped net) (put_list enter) ≡ map (represented_stamped net) (put_list x.enter) ++ all_sent_as stamp (first_for x.neighbour sent)
-  put-first stamp x enter sent s h to message item load lt e f t v of p st il m =
-      put-said stamp x enter s item p st represents ∙ ap (λ (l : List SendingParts). map (represented_stamped net) (put_list x.enter) ++ all_sent_as stamp l) (sym (first-is x.neighbour sent s h lt e f t))
+      → put_list enter ≡ put_list x.enter ++ item ∷ [] → item.stamp ≡ stamp → item.load ≡ load → IsLoad message.net load → message.message ≡ represented message.net load
+      → map (heard_stamped net) (put_list enter) ≡ map (heard_stamped net) (put_list x.enter) ++ all_sent_as stamp (first_for x.neighbour sent)
+  put-first stamp x enter sent s h to message item load lt e f t v of p st il is m =
+      put-said stamp x enter s item p st represents ∙ ap (λ (l : List SendingParts). map (heard_stamped net) (put_list x.enter) ++ all_sent_as stamp l) (sym (first-is x.neighbour sent s h lt e f t))
     where
       same-net : message.net ≡ net
       same-net = ap (λ (z : SendingParts). z.sent.net) v ∙ of s (first-has sent s lt e)
 
-      represents : s.sent.message ≡ represented net item.load
-      represents = ap (λ (z : SendingParts). z.sent.message) (sym v) ∙ m ∙ ap (λ (n : NetParts). represented n load) same-net ∙ ap (represented net) (sym il)
+      represents : s.sent.message ≡ heard net item.load
+      represents = ap (λ (z : SendingParts). z.sent.message) (sym v) ∙ m ∙ sym (heard-of message.net load is) ∙ ap (λ (n : NetParts). heard n load) same-net ∙ ap (heard net) (sym il)
 
 -- a lane on which the first was put, and which was flushed then
 pub handed-by : {net : NetParts} {stamp : ℕ} {sent : List SendingParts} (x z : Link) (w : LaneIn StampedLoad) → IsPut net stamp sent x z → SameIn z.enter w → put_list w ≡ put_list z.enter
@@ -172,7 +174,7 @@ handed-by {net} x z w p same put done mark = record {
     same = record { neighbour = p.same.neighbour; enter = same_in_later x.enter z.enter w p.same.enter same; leave = p.same.leave };
     leave = p.leave;
     one = p.one;
-    put = ap (map (represented_stamped net)) put ∙ p.put;
+    put = ap (map (heard_stamped net)) put ∙ p.put;
   };
   flushed = (done, mark);
 }

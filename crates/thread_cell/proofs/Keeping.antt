@@ -19,7 +19,7 @@ use Rattle.thread_cell.specs.Acted.{StampedInput}
 use Rattle.thread_cell.specs.Kept.{IsSomeServer}
 use Rattle.thread_cell.specs.Links.{IsSameLink, IsUnmoved}
 use Rattle.thread_cell.specs.LaneMessages.{IsMoved}
-use Rattle.thread_cell.specs.Cell.{RepresentsCell, IsServerInHand, IsKept, IsDue, IsReplayed, machine_in}
+use Rattle.thread_cell.specs.Cell.{RepresentsCell, IsServerInHand, IsKept, IsDue, IsReplayed, machine_in, count_before}
 use Rattle.thread_cell.specs.Turns.{IsCellTurn, IsStill, received_by_input}
 use Rattle.thread_cell.specs.Asked.{Suits, SuitsHeld}
 use Rattle.thread_cell.proofs.Walks.{both-comp}
@@ -56,11 +56,11 @@ module _ (net : NetParts) (root : Root) (journal : List EntryParts) (old : Serve
         let r = kept.replays begun is in
         record {
           end = _;
-          replay = replays-then net root.phase (laws_at net kept.sound root.phase) input act old new journal after turn kept.now.neighbours r.end r.stands kept.run root.server kept.number begun root.entries kept.entries r.replay;
+          replay = replays-then net root.phase (laws_at net kept.sound root.phase) input act old new journal after turn kept.now.neighbours r.end r.stands kept.run root.server kept.number begun (count_before root) kept.entries r.replay;
           stands = stands-then net root.phase (laws_at net kept.sound root.phase) input act old new journal after turn kept.now.neighbours r.end r.stands kept.run;
         };
     entries = longer;
-    before = ap (take root.entries) turn.entry ∙ take-append-le root.entries journal (entry_parts turn.stamp old.core.server act (map (λ s. s.to) turn.sent) ∷ []) kept.entries ∙ kept.before;
+    before = ap (take (count_before root)) turn.entry ∙ take-append-le (count_before root) journal (entry_parts turn.stamp old.core.server act (map (λ s. s.to) turn.sent) ∷ []) kept.entries ∙ kept.before;
     links = both-comp IsSameLink (IsMoved old.core.net turn.stamp turn.sent (received_by_input input)) IsSameLink (λ x y z a b. same-link x y z a b.same) root.links.value.items old.links.items new.links.items kept.links turn.links;
     publisher = viewer-later old.publisher new.publisher root.viewer.value turn.publisher kept.publisher;
     now = held;
@@ -68,7 +68,7 @@ module _ (net : NetParts) (root : Root) (journal : List EntryParts) (old : Serve
         (turn.step.step (net_at real (phased_net net) root.phase) replayed.end.state replayed.stands.state) (laws_at net kept.sound root.phase) turn.step.same_server turn.due kept.due;
   }
     where
-      longer : root.entries ≤ length after
+      longer : count_before root ≤ length after
       longer = let e = ap (λ (l : List EntryParts). length l) turn.entry in let n = length-append journal (entry_parts turn.stamp old.core.server act (map (λ s. s.to) turn.sent) ∷ []) in let k = kept.entries in omega (arith, e, n, k)
 
   pub kept-still : (new : ServerInHand) (after : List EntryParts) → IsStill old new journal after → IsServerInHand new → IsKept net root after new
@@ -82,11 +82,11 @@ module _ (net : NetParts) (root : Root) (journal : List EntryParts) (old : Serve
         let r = kept.replays begun is in
         record {
           end = r.end;
-          replay = subst (λ l. IsReplay (machine_in net root.phase) root.phase root.server begun (entries_on real (net_at real (phased_net net) root.phase) (journal_of (drop root.entries l))) r.end) (sym still.journal) r.replay;
+          replay = subst (λ l. IsReplay (machine_in net root.phase) root.phase root.server begun (entries_on real (net_at real (phased_net net) root.phase) (journal_of (drop (count_before root) l))) r.end) (sym still.journal) r.replay;
           stands = stands-still r.end r.stands;
         };
-    entries = subst (λ (l : List EntryParts). root.entries ≤ length l) (sym still.journal) kept.entries;
-    before = ap (take root.entries) still.journal ∙ kept.before;
+    entries = subst (λ (l : List EntryParts). count_before root ≤ length l) (sym still.journal) kept.entries;
+    before = ap (take (count_before root)) still.journal ∙ kept.before;
     links = both-comp IsSameLink IsUnmoved IsSameLink (λ x y z a b. same-link x y z a b.same) root.links.value.items old.links.items new.links.items kept.links still.links;
     publisher = viewer-later old.publisher new.publisher root.viewer.value still.publisher kept.publisher;
     now = held;

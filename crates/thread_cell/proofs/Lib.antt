@@ -47,3 +47,4 @@ pub mod Onward
 pub mod Nexts
 pub mod Settled
 pub mod Growing
+pub mod Heard

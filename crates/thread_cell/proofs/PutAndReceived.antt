@@ -14,7 +14,7 @@ use Rattle.thread_cell.specs.Links.{Both, IsSameLink, IsUnmoved}
 use Rattle.thread_cell.specs.LaneReceiving.{IsItemReceived}
 use Rattle.thread_cell.specs.LaneMessages.{IsGiven, IsMoved, put_for, taken_from, only_for, only_from, sent_as, all_sent_as, represented_put, represented_received}
 use Rattle.net_model.specs.Parts.{NetParts}
-use Rattle.server_message.specs.Message.{represented_stamped}
+use Rattle.thread_cell.specs.Heard.{heard_stamped}
 use Rattle.thread_cell.specs.Acted.{Represented}
 use Rattle.thread_cell.proofs.HandAll.{names}
 use Rattle.thread_cell.proofs.Unmoved.{same-link}
@@ -31,15 +31,15 @@ module _ (net : NetParts) where
   unmoved-put [] [] b n = refl
   unmoved-put [] (y ∷ ys) b n = absurd b
   unmoved-put (x ∷ xs) [] b n = absurd b
-  unmoved-put (x ∷ xs) (y ∷ ys) b n = λ i. cond (b.0.same.neighbour i == n) (map (represented_stamped net) (b.0.put i)) (unmoved-put xs ys b.1 n i)
+  unmoved-put (x ∷ xs) (y ∷ ys) b n = λ i. cond (b.0.same.neighbour i == n) (map (heard_stamped net) (b.0.put i)) (unmoved-put xs ys b.1 n i)
 
   pub unmoved-taken : (xs ys : List Link) → Both IsUnmoved xs ys → (n : ℕ) → taken_from net ys n ≡ taken_from net xs n
   unmoved-taken [] [] b n = refl
   unmoved-taken [] (y ∷ ys) b n = absurd b
   unmoved-taken (x ∷ xs) [] b n = absurd b
-  unmoved-taken (x ∷ xs) (y ∷ ys) b n = λ i. cond (b.0.same.neighbour i == n) (map (represented_stamped net) (b.0.taken i)) (unmoved-taken xs ys b.1 n i)
+  unmoved-taken (x ∷ xs) (y ∷ ys) b n = λ i. cond (b.0.same.neighbour i == n) (map (heard_stamped net) (b.0.taken i)) (unmoved-taken xs ys b.1 n i)
 
-  one-said : (item : StampedLoad) (b : Bool) → map (represented_stamped net) (cond b (item ∷ []) []) ≡ cond b (represented_stamped net item ∷ []) []
+  one-said : (item : StampedLoad) (b : Bool) → map (heard_stamped net) (cond b (item ∷ []) []) ≡ cond b (heard_stamped net item ∷ []) []
   one-said item true = refl
   one-said item false = refl
 
@@ -47,16 +47,16 @@ module _ (net : NetParts) where
   moved-given stamp sent x y z u g = record {
     same = same-link x y z u.same g.put.same;
     one = subst (λ n. length (only_for n sent) ≤ 1) u.same.neighbour g.put.one;
-    put = g.put.put ∙ ap (λ l. map (represented_stamped net) l ++ all_sent_as stamp (only_for y.neighbour sent)) u.put ∙ ap (λ n. represented_put net x ++ all_sent_as stamp (only_for n sent)) u.same.neighbour;
-    took = ap (λ (b : LaneOut StampedLoad). map (represented_stamped net) (taken_list b)) g.put.leave ∙ ap (map (represented_stamped net)) u.taken ∙ sym (append-nothing (represented_received net x));
+    put = g.put.put ∙ ap (λ l. map (heard_stamped net) l ++ all_sent_as stamp (only_for y.neighbour sent)) u.put ∙ ap (λ n. represented_put net x ++ all_sent_as stamp (only_for n sent)) u.same.neighbour;
+    took = ap (λ (b : LaneOut StampedLoad). map (heard_stamped net) (taken_list b)) g.put.leave ∙ ap (map (heard_stamped net)) u.taken ∙ sym (append-nothing (represented_received net x));
   }
 
-  pub moved-taken : (stamp : ℕ) (sent : List SendingParts) (from : ℕ) (item : StampedLoad) (x y z : Link) → IsItemReceived from item x y → IsGiven net stamp sent y z → IsMoved net stamp sent (only_from from (represented_stamped net item)) x z
+  pub moved-taken : (stamp : ℕ) (sent : List SendingParts) (from : ℕ) (item : StampedLoad) (x y z : Link) → IsItemReceived from item x y → IsGiven net stamp sent y z → IsMoved net stamp sent (only_from from (heard_stamped net item)) x z
   moved-taken stamp sent from item x y z t g = record {
     same = same-link x y z t.same g.put.same;
     one = subst (λ n. length (only_for n sent) ≤ 1) t.same.neighbour g.put.one;
-    put = g.put.put ∙ ap (λ (a : LaneIn StampedLoad). map (represented_stamped net) (put_list a) ++ all_sent_as stamp (only_for y.neighbour sent)) t.enter ∙ ap (λ n. represented_put net x ++ all_sent_as stamp (only_for n sent)) t.same.neighbour;
-    took = ap (λ (b : LaneOut StampedLoad). map (represented_stamped net) (taken_list b)) g.put.leave ∙ ap (map (represented_stamped net)) t.took ∙ map-append (represented_stamped net) (taken_list x.leave) (cond (x.neighbour == from) (item ∷ []) [])
+    put = g.put.put ∙ ap (λ (a : LaneIn StampedLoad). map (heard_stamped net) (put_list a) ++ all_sent_as stamp (only_for y.neighbour sent)) t.enter ∙ ap (λ n. represented_put net x ++ all_sent_as stamp (only_for n sent)) t.same.neighbour;
+    took = ap (λ (b : LaneOut StampedLoad). map (heard_stamped net) (taken_list b)) g.put.leave ∙ ap (map (heard_stamped net)) t.took ∙ map-append (heard_stamped net) (taken_list x.leave) (cond (x.neighbour == from) (item ∷ []) [])
         ∙ ap (λ l. represented_received net x ++ l) (one-said item (x.neighbour == from));
   }
 
@@ -64,8 +64,8 @@ module _ (net : NetParts) where
   moved-after stamp sent taken x y z u t = record {
     same = same-link x y z u.same t.same;
     one = subst (λ n. length (only_for n sent) ≤ 1) u.same.neighbour t.one;
-    put = t.put ∙ ap (λ l. map (represented_stamped net) l ++ all_sent_as stamp (only_for y.neighbour sent)) u.put ∙ ap (λ n. represented_put net x ++ all_sent_as stamp (only_for n sent)) u.same.neighbour;
-    took = t.took ∙ ap (λ l. map (represented_stamped net) l ++ taken y.neighbour) u.taken ∙ ap (λ n. represented_received net x ++ taken n) u.same.neighbour;
+    put = t.put ∙ ap (λ l. map (heard_stamped net) l ++ all_sent_as stamp (only_for y.neighbour sent)) u.put ∙ ap (λ n. represented_put net x ++ all_sent_as stamp (only_for n sent)) u.same.neighbour;
+    took = t.took ∙ ap (λ l. map (heard_stamped net) l ++ taken y.neighbour) u.taken ∙ ap (λ n. represented_received net x ++ taken n) u.same.neighbour;
   }
 
   -- no lane has more messages than the clock counts
@@ -73,8 +73,8 @@ module _ (net : NetParts) where
   few-after stamp clock sent taken x y lt m few =
       let e : length (represented_put net y) ≡ length (represented_put net x ++ all_sent_as stamp (only_for x.neighbour sent)) = ap (λ (l : List Represented). length l) m.put in
       let f : length (all_sent_as stamp (only_for x.neighbour sent)) ≡ length (only_for x.neighbour sent) = length-map (only_for x.neighbour sent) (sent_as stamp) in
-      let a : length (represented_put net x) ≡ length (put_list x.enter) = length-map (put_list x.enter) (represented_stamped net) in
-      let b : length (represented_put net y) ≡ length (put_list y.enter) = length-map (put_list y.enter) (represented_stamped net) in
+      let a : length (represented_put net x) ≡ length (put_list x.enter) = length-map (put_list x.enter) (heard_stamped net) in
+      let b : length (represented_put net y) ≡ length (put_list y.enter) = length-map (put_list y.enter) (heard_stamped net) in
       omega (arith, e, f, a, b, few, lt, m.one, length-append (represented_put net x) (all_sent_as stamp (only_for x.neighbour sent)))
 
   -- what was put for each neighbour

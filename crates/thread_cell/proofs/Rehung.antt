@@ -34,7 +34,7 @@ use Rattle.thread_cell.specs.Links.{Both, IsSameLink, IsUnmoved}
 use Rattle.thread_cell.specs.LaneMessages.{put_for, taken_from}
 use Rattle.thread_cell.specs.Lanes.{IsNew, neighbours_in}
 use Rattle.thread_cell.specs.Turns.{IsStill}
-use Rattle.thread_cell.specs.Cell.{RepresentsCell, IsServerInHand, IsKept, IsInstalledBy, HasNoneBelow, cell_parts, machine_in}
+use Rattle.thread_cell.specs.Cell.{RepresentsCell, IsServerInHand, IsKept, IsInstalledBy, HasNoneBelow, cell_parts, machine_in, count_before}
 use Rattle.thread_cell.specs.Relinking.{AreTaken, CanMove, IsPutOn}
 use Rattle.server_core.proofs.AnyClock.{any-clock}
 use Rattle.thread_cell.proofs.Entering.{all-same, raised}
@@ -115,9 +115,9 @@ module _ (net : NetParts) (root after : Root) (journal : List EntryParts) (old m
   clients-same : new.core.clients ≡ old.core.clients
   clients-same = ap (λ (z : CoreParts). z.clients) core ∙ put.core.clients
 
-  pub kept-moved : after.net ≡ root.net → after.server ≡ root.server → after.entries ≡ length journal → after.before.value.entries ≡ journal → after.core.value ≡ new.core → after.links.value ≡ new.links → after.viewer ≡ root.viewer
+  pub kept-moved : after.net ≡ root.net → after.server ≡ root.server → after.before.value.entries ≡ journal → after.core.value ≡ new.core → after.links.value ≡ new.links → after.viewer ≡ root.viewer
       → new.publisher ≡ mid.publisher → new.handed ≡ mid.handed → IsKept net after journal new
-  kept-moved net_same server entries before core_is links_is viewer publisher handed = record {
+  kept-moved net_same server before core_is links_is viewer publisher handed = record {
     net_is = ap (λ z. z.value) net_same ∙ kept.net_is;
     sound = kept.sound;
     run = ap (λ (z : CoreParts). z.net) core ∙ put.core.net ∙ kept.run;
@@ -129,7 +129,7 @@ module _ (net : NetParts) (root after : Root) (journal : List EntryParts) (old m
       stands = subst (λ z. RepresentsCell net after.phase new.core z.items begun) links_is (subst (λ z. RepresentsCell net after.phase z after.links.value.items begun) core_is is);
     };
     entries = (let e = entries in omega (arith, e));
-    before = take_all after.entries journal (let e = entries in omega (arith, e)) ∙ sym before;
+    before = take_all (count_before after) journal (let e = entries in omega (arith, e)) ∙ sym before;
     links = subst (λ z. Both IsSameLink z.items new.links.items) (sym links_is) (all-same new.links.items);
     publisher = rw (publisher, viewer) (viewer-later old.publisher mid.publisher root.viewer.value put.publisher kept.publisher);
     now = raised mid new clock held (let e = put.core.clock in let le = can.not_above in omega (arith, e, le)) low core links publisher handed;
@@ -140,5 +140,8 @@ module _ (net : NetParts) (root after : Root) (journal : List EntryParts) (old m
     };
   }
     where
-      replay : (begun : Cell (machine_in net after.phase)) → IsReplay (machine_in net after.phase) after.phase after.server begun (entries_on real (net_at real (phased_net net) after.phase) (journal_of (drop after.entries journal))) begun
+      entries : count_before after ≡ length journal
+      entries = ap length before
+
+      replay : (begun : Cell (machine_in net after.phase)) → IsReplay (machine_in net after.phase) after.phase after.server begun (entries_on real (net_at real (phased_net net) after.phase) (journal_of (drop (count_before after) journal))) begun
       replay begun = subst (λ l. IsReplay (machine_in net after.phase) after.phase after.server begun (entries_on real (net_at real (phased_net net) after.phase) (journal_of l)) begun) (sym (ap (λ n. drop n journal) entries ∙ drop-length journal)) refl

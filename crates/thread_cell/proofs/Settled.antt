@@ -4,7 +4,7 @@ use Rattle.std.proofs.lemmas.List.{map-append}
 use Rattle.std.proofs.lemmas.Option.{same_Some}
 use Rattle.law_machine.specs.Journals.{IsPrefix}
 use Rattle.thread_lane.specs.Lane.{taken_list, rest_list}
-use Rattle.server_message.specs.Message.{represented_stamped}
+use Rattle.thread_cell.specs.Heard.{heard_stamped}
 use Rattle.thread_cell.specs.declared.held.Root.{Root}
 use Rattle.thread_cell.specs.declared.link.Link.{Link}
 use Rattle.thread_cell.specs.Links.{At, IsSettledLane, IsNeighbour, IsSameLink}
@@ -26,7 +26,7 @@ begins a b to from u one ka kb (x, y, ex, ey, s) gives takes =
     let net = b.root.net.value in
     let took : taken_from net b.held.links.items u ≡ represented_received net y = ap (λ n. taken_from net b.held.links.items n) (sym ny) ∙ found-taken net from b.held.links.items y ey (distinct-kept b kb) in
     let put : represented_put net x ≡ put_for a.root.net.value a.held.links.items b.root.server = ap (λ n. represented_put n x) (sym one) ∙ sym (found-put a.root.net.value to a.held.links.items x ex (distinct-kept a ka)) ∙ ap (λ n. put_for a.root.net.value a.held.links.items n) nx in
-    (map (represented_stamped net) (rest_list y.leave), ap (λ l. l ++ map (represented_stamped net) (rest_list y.leave)) took ∙ sym (map-append (represented_stamped net) (taken_list y.leave) (rest_list y.leave)) ∙ ap (map (represented_stamped net)) s.all ∙ put)
+    (map (heard_stamped net) (rest_list y.leave), ap (λ l. l ++ map (heard_stamped net) (rest_list y.leave)) took ∙ sym (map-append (heard_stamped net) (taken_list y.leave) (rest_list y.leave)) ∙ ap (map (heard_stamped net)) s.all ∙ put)
 
 taken-in-order : (cells : List CellParts) (a b : CellParts) (giver to taker from : ℕ) → slice_get cells giver ≡ Some a → slice_get cells taker ≡ Some b → a.root.net.value ≡ b.root.net.value → IsKeptCell a → IsKeptCell b
     → At IsSettledLane to a.held.links.items from b.held.links.items → IsNeighbour to b.root.server (root_links a.root) → IsNeighbour from (suc giver) (root_links b.root) → IsReceivedInOrder (sights cells) taker from

@@ -1,7 +1,6 @@
 -- What a turn finds on the lanes, and what it leaves.
 use Rattle.std.proofs.Common.{◌≡◌, ℕ, ◌<◌, ◌≤◌, ◌^◌, List, [], ◌∷◌, ◌++◌, length, map, Vec, Global, sym, ap, subst, ◌∙◌, arith}
 use Rattle.std.proofs.lemmas.List.{length-map}
-use Rattle.std.specs.Prelude.{Result, Ok, Err, OnErr}
 use Rattle.base.specs.Sets.{Has}
 use Rattle.base.specs.Numbers.{IsDistinct}
 use Rattle.law_machine.specs.Machine.{Input, Does, Receives, Did, Received}
@@ -9,7 +8,7 @@ use Rattle.law_routing.specs.Server.{Message}
 use Rattle.law_routing.specs.Step.{Task, TableUpdate}
 use Rattle.net_model.specs.Real.{real}
 use Rattle.server_message.specs.Parts.{SendingParts}
-use Rattle.server_message.specs.Message.{represented, represented_stamped}
+use Rattle.thread_cell.specs.Heard.{heard, heard_stamped}
 use Rattle.server_message.specs.declared.stamped.StampedLoad.{StampedLoad}
 use Rattle.filter_text.specs.MessageText.{Each}
 use Rattle.thread_lane.specs.declared.putting.LaneIn.{LaneIn}
@@ -147,15 +146,15 @@ did phase task act old new links before mid after server stamp sent told due ste
 
 -- and where it takes one
 pub took-links : (xs ys ws zs : List Link) (from : ℕ) (item : StampedLoad) (net : NetParts) (stamp : ℕ) (sent : List SendingParts) → Both IsUnmoved xs ys → Both (IsItemReceived from item) ys ws → Both (IsGiven net stamp sent) ws zs
-    → Both (IsMoved net stamp sent (only_from from (represented_stamped net item))) xs zs
+    → Both (IsMoved net stamp sent (only_from from (heard_stamped net item))) xs zs
 took-links xs ys ws zs from item net stamp sent u t g =
-    both-comp IsUnmoved (IsMoved net stamp sent (only_from from (represented_stamped net item))) (IsMoved net stamp sent (only_from from (represented_stamped net item))) (moved-after net stamp sent (only_from from (represented_stamped net item))) xs ys zs u
-    (both-comp (IsItemReceived from item) (IsGiven net stamp sent) (IsMoved net stamp sent (only_from from (represented_stamped net item))) (moved-taken net stamp sent from item) ys ws zs t g)
+    both-comp IsUnmoved (IsMoved net stamp sent (only_from from (heard_stamped net item))) (IsMoved net stamp sent (only_from from (heard_stamped net item))) (moved-after net stamp sent (only_from from (heard_stamped net item))) xs ys zs u
+    (both-comp (IsItemReceived from item) (IsGiven net stamp sent) (IsMoved net stamp sent (only_from from (heard_stamped net item))) (moved-taken net stamp sent from item) ys ws zs t g)
 
 -- a message was received
 pub took : (phase from : ℕ) (act : EntryAct) (old new : ServerInHand) (links middle : List Link) (item : StampedLoad) (before mid after : List EntryParts) (server stamp : ℕ) (sent : List SendingParts) → Received from ≡ act_of act
-    → MakesStep (Receives from (represented old.core.net item.load)) item.stamp old.core new.core stamp sent → Both IsUnmoved old.links.items links → Both (IsItemReceived from item) links middle → Both (IsGiven old.core.net stamp sent) middle new.links.items
-    → old.core.server ≡ server → mid ≡ before → after ≡ mid ++ entry_parts stamp server act (map (λ s. s.to) sent) ∷ [] → IsSamePublisher old.publisher new.publisher → IsCellTurn phase (Receives from (represented_stamped old.core.net item)) act old new before after
+    → MakesStep (Receives from (heard old.core.net item.load)) item.stamp old.core new.core stamp sent → Both IsUnmoved old.links.items links → Both (IsItemReceived from item) links middle → Both (IsGiven old.core.net stamp sent) middle new.links.items
+    → old.core.server ≡ server → mid ≡ before → after ≡ mid ++ entry_parts stamp server act (map (λ s. s.to) sent) ∷ [] → IsSamePublisher old.publisher new.publisher → IsCellTurn phase (Receives from (heard_stamped old.core.net item)) act old new before after
 took phase from act old new links middle item before mid after server stamp sent told step u t g number journal entry publisher = record {
   told = told;
   due = tt;

@@ -5,7 +5,7 @@ use mathlib.Core.List.{IsPrefix}
 use Rattle.base.specs.Sets.{Has}
 use Rattle.thread_lane.specs.Lane.{put_list, taken_list, rest_list, coming_list}
 use Rattle.server_message.specs.declared.stamped.StampedLoad.{StampedLoad}
-use Rattle.server_message.specs.Message.{represented_stamped}
+use Rattle.thread_cell.specs.Heard.{heard_stamped}
 use Rattle.server_core.specs.Step.{last_stamp}
 use Rattle.thread_cell.specs.declared.link.Link.{Link}
 use Rattle.thread_cell.specs.Links.{At, IsSettledLane}
@@ -43,5 +43,5 @@ worn-taken old new giver to taker from stamp z k seen at w (a, b, ea, eb, (x, y,
           let has = put-next x y w.item s (subst (λ (l : Link). IsPrefix (w.item ∷ []) (coming_list l.leave)) link m.2) in
           let is : k ≡ a = same_Some k a (sym ek ∙ ea) in
           let put = found-put a.root.net.value to a.held.links.items x ex (distinct-kept a (subst IsKeptCell is kept)) in
-          (w.told, (giver, sight a, map-found sight giver new a ea, inr (x.neighbour, represented_stamped a.root.net.value w.item, subst (λ l. Has (represented_stamped a.root.net.value w.item) l) (sym put) (map-has (represented_stamped a.root.net.value) (put_list x.enter) w.item has), q)))
+          (w.told, (giver, sight a, map-found sight giver new a ea, inr (x.neighbour, heard_stamped a.root.net.value w.item, subst (λ l. Has (heard_stamped a.root.net.value w.item) l) (sym put) (map-has (heard_stamped a.root.net.value) (put_list x.enter) w.item has), q)))
     ]

@@ -16,7 +16,6 @@ use Rattle.server_spec.specs.declared.planned.Planned.TheVariants.{Publish}
 use Rattle.server_spec.specs.Session.{SessionParts}
 use Rattle.server_spec.specs.Plan.{next_plan}
 use Rattle.server_message.specs.declared.load.Load.{Load}
-use Rattle.server_message.specs.Message.{IsLoad, represented}
 use Rattle.match_routes.specs.Routes.{IsRouteBy}
 use Rattle.server_core.specs.Core.{CoreParts, installed_from}
 use Rattle.server_core.specs.Routed.{IsRoute, RoutesNext, RoutesMessage}
@@ -31,6 +30,7 @@ use Rattle.net_model.specs.declared.turn.Act.{Act}
 use Rattle.thread_cell.specs.declared.turned.Turned.{Turned}
 use Rattle.thread_cell.specs.declared.turned.Turned.TheVariants.{Made, Stale, Idle}
 use Rattle.thread_cell.specs.declared.held.ServerInHand.{ServerInHand}
+use Rattle.thread_cell.specs.Heard.{heard}
 use Rattle.thread_cell.specs.Acted.{Represented, StampedInput}
 use Rattle.thread_cell.specs.LaneReceiving.{HasMissed}
 use Rattle.thread_cell.specs.Turns.{IsStill, IsReception, IsReceptionFrom}
@@ -111,9 +111,9 @@ IsChoiceNextBy core publisher (Some matched) client choice = IsChoiceNext core p
 
 -- for what a message carries
 abbrev pub IsChoiceOf : CoreParts → Publisher → Ahead → Load → Choice → Type 0
-IsChoiceOf core publisher ahead load Other = IsLoad core.net load → CarriesMatched core.net (represented core.net load) (matched_in ahead) → ⊥
-IsChoiceOf core publisher ahead load Outdated = CarriesMatched core.net (represented core.net load) (matched_in ahead) × (IsUpToDate publisher ahead → ⊥)
-IsChoiceOf core publisher ahead load (Agreed route) = IsRight core publisher ahead × RoutesMessage core (represented core.net load) route.now
+IsChoiceOf core publisher ahead load Other = CarriesMatched core.net (heard core.net load) (matched_in ahead) → ⊥
+IsChoiceOf core publisher ahead load Outdated = CarriesMatched core.net (heard core.net load) (matched_in ahead) × (IsUpToDate publisher ahead → ⊥)
+IsChoiceOf core publisher ahead load (Agreed route) = IsRight core publisher ahead × RoutesMessage core (heard core.net load) route.now
 
 -- the same of a match ahead that may not be there
 abbrev pub IsChoiceOfBy : CoreParts → Publisher → Option Matched → Load → Choice → Type 0

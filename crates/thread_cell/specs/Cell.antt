@@ -33,13 +33,16 @@ pub record CellParts : Type 0 where
 abbrev pub cell_parts : Root → List EntryParts → ServerInHand → CellParts
 cell_parts root journal held = record { root = root; journal = journal; held = held }
 
+-- how many entries its journal had when it entered its phase
+abbrev pub count_before : Root → ℕ
+count_before root = length root.before.value.entries
+
 -- a cell has just entered a phase
 pub record HasEntered (old : Root) (phase : ℕ) (cell : CellParts) : Type 0 where
   pub net : cell.root.net ≡ old.net
   pub server : cell.root.server ≡ old.server
   pub phase_is : cell.root.phase ≡ phase
   pub keeps : cell.root.keeps ≡ old.keeps
-  pub entries : cell.root.entries ≡ length cell.journal
   pub before : cell.root.before.value.entries ≡ cell.journal
   pub core : cell.root.core.value ≡ cell.held.core
   pub links : cell.root.links.value ≡ cell.held.links
@@ -87,7 +90,7 @@ pub record IsServerInHand (held : ServerInHand) : Type 0 where
 pub record IsReplayed (net : NetParts) (root : Root) (journal : List EntryParts) (begun : Cell (machine_in net root.phase)) (held : ServerInHand) : Type 0 where
   pub end : Cell (machine_in net root.phase)
   pub replay : IsReplay (machine_in net root.phase) root.phase root.server begun
-      (entries_on real (net_at real (phased_net net) root.phase) (journal_of (drop root.entries journal))) end
+      (entries_on real (net_at real (phased_net net) root.phase) (journal_of (drop (count_before root) journal))) end
   pub stands : RepresentsCell net root.phase held.core held.links.items end
 
 -- WHAT A CELL KEEPS: its journal begins with the entries that it had as it entered its phase, and from each cell that was in hand then the entries since
@@ -100,8 +103,8 @@ pub record IsKept (net : NetParts) (root : Root) (journal : List EntryParts) (he
   pub begins : (begun : Cell (machine_in net root.phase)) × RepresentsCell net root.phase root.core.value root.links.value.items begun
   pub replays : (begun : Cell (machine_in net root.phase)) → RepresentsCell net root.phase root.core.value root.links.value.items begun
       → IsReplayed net root journal begun held
-  pub entries : root.entries ≤ length journal
-  pub before : take root.entries journal ≡ root.before.value.entries
+  pub entries : count_before root ≤ length journal
+  pub before : take (count_before root) journal ≡ root.before.value.entries
   pub links : Both IsSameLink root.links.value.items held.links.items
   pub publisher : IsViewerOf held.publisher root.viewer.value
   pub now : IsServerInHand held

@@ -5,7 +5,7 @@ use Rattle.base.specs.Sets.{Has}
 use Rattle.thread_cell.specs.declared.link.Link.{Link}
 use Rattle.server_message.specs.Parts.{SendingParts}
 use Rattle.net_model.specs.Parts.{NetParts}
-use Rattle.server_message.specs.Message.{represented_stamped}
+use Rattle.thread_cell.specs.Heard.{heard_stamped}
 use Rattle.thread_cell.specs.Acted.{Represented}
 use Rattle.thread_cell.specs.Links.{IsSameLink, IsFlushed}
 
@@ -17,10 +17,10 @@ AreInOrder (x ∷ xs) (y ∷ ys) = ((x ≡ y) × AreInOrder xs ys) ⊎ AreInOrde
 
 -- what was put on a lane, and what was taken from one, as it is said in a net
 abbrev pub represented_put : NetParts → Link → List Represented
-represented_put net link = map (represented_stamped net) (put_list link.enter)
+represented_put net link = map (heard_stamped net) (put_list link.enter)
 
 abbrev pub represented_received : NetParts → Link → List Represented
-represented_received net link = map (represented_stamped net) (taken_list link.leave)
+represented_received net link = map (heard_stamped net) (taken_list link.leave)
 
 -- what was put for a neighbour, and what was taken from it
 abbrev pub put_for : NetParts → List Link → ℕ → List Represented

@@ -16,3 +16,4 @@ pub mod Coming
 pub mod Started
 pub mod Relinking
 pub mod InHand
+pub mod Heard

@@ -17,7 +17,6 @@ pub record IsFreshCell (net : NetParts) (server : ℕ) (links : List Link) (cell
   pub net_is : cell.root.net.value ≡ net
   pub server_is : cell.root.server ≡ server
   pub phase : cell.root.phase ≡ 0
-  pub entries : cell.root.entries ≡ 0
   pub before : cell.root.before.value.entries ≡ []
   pub core : cell.root.core.value ≡ cell.held.core
   pub lanes : cell.root.links.value ≡ cell.held.links

@@ -18,7 +18,7 @@ use Rattle.thread_cell.specs.declared.held.Root.{Root}
 use Rattle.thread_cell.specs.Links.{At, Both, IsOneLane, IsNeighbour}
 use Rattle.thread_cell.specs.LaneMessages.{put_for, taken_from}
 use Rattle.thread_cell.specs.Lanes.{AreEnds}
-use Rattle.thread_cell.specs.Cell.{CellParts, RepresentsCell, machine_in}
+use Rattle.thread_cell.specs.Cell.{CellParts, RepresentsCell, machine_in, count_before}
 use Rattle.thread_cell.specs.Turns.{HasCommand}
 
 -- the lanes with which a cell entered its phase
@@ -104,7 +104,7 @@ of_server none xs (suc k) = slice_index_or xs k none
 
 -- the entries of a cell since it entered its phase
 abbrev pub phase_entries : (net : NetParts) (phase : ℕ) → CellParts → List (NetEntry real (net_at real (phased_net net) phase))
-phase_entries net phase cell = entries_on real (net_at real (phased_net net) phase) (journal_of (drop cell.root.entries cell.journal))
+phase_entries net phase cell = entries_on real (net_at real (phased_net net) phase) (journal_of (drop (count_before cell.root) cell.journal))
 
 abbrev pub journals : (net : NetParts) (phase : ℕ) → List CellParts → ℕ → List (NetEntry real (net_at real (phased_net net) phase))
 journals net phase cells = of_server [] (map (phase_entries net phase) cells)

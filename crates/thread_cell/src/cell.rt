@@ -113,7 +113,6 @@ impl<'a> Cell<'a> {
             server,
             phase: 0,
             keeps,
-            entries: 0,
             before: Snapshot::of(&journal),
             core: Snapshot::of(&core),
             links: Snapshot::of(&links),

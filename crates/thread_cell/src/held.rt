@@ -17,15 +17,14 @@ pub struct ServerInHand<'a> {
 }
 
 /// What stays of a cell while a phase lasts: its net, its server, the phase, whether its journal keeps its entries, those that it
-/// had when it entered the phase, how many these are, and the core and the lanes that it had in hand then. Its publisher is named
-/// by one of its viewers. But for the numbers it has no bytes.
+/// had when it entered the phase, and the core and the lanes that it had in hand then. Its publisher is named by one of its
+/// viewers. But for the numbers it has no bytes.
 #[derive(Drop)]
 pub struct Root<'a> {
     pub(crate) net: Snapshot<Net>,
     pub(crate) server: u32,
     pub(crate) phase: u32,
     pub(crate) keeps: bool,
-    pub(crate) entries: u64,
     pub(crate) before: Snapshot<Journal>,
     pub(crate) core: Snapshot<Core<'a>>,
     pub(crate) links: Snapshot<Vec<Link>>,
@@ -40,7 +39,6 @@ impl<'a> Root<'a> {
         ensures { HasEntered self.old phase (cell_parts self.new journal.now.entries held.now) }
     {
         self.phase = phase;
-        self.entries = journal.len();
         self.before = Snapshot::of(journal);
         self.core = Snapshot::of(&held.core);
         self.links = Snapshot::of(&held.links);

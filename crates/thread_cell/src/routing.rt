@@ -1,10 +1,12 @@
 //! Makes the steps of a core, routed by what its publisher has installed.
-ghost use Rattle.std.specs.Prelude.{◌≡◌, ◌<◌, ◌^◌, ℕ, List, length, max, Some, IfOk, OnErr, IfSome, IsErrOf};
+ghost use Rattle.std.specs.Prelude.{◌≡◌, [], ◌<◌, ◌^◌, ℕ, List, length, max, Some, IfOk, OnErr, IfSome, IsErrOf};
 ghost use Rattle.base.specs.Sets.{Has};
 ghost use Rattle.law_machine.specs.Machine.{Does, Receives};
 ghost use Rattle.law_routing.specs.Step.{NextCommand};
 ghost use Rattle.net_tables.specs.Known.{known_publications};
 ghost use Rattle.net_tables.specs.Found.{publication_at};
+ghost use Rattle.law_routing.specs.Server.{Subs};
+ghost use Rattle.net_model.specs.Parts.{NetParts};
 ghost use Rattle.server_message.specs.Message.{IsLoad, represented};
 ghost use Rattle.server_spec.specs.Session.{SessionParts};
 ghost use Rattle.server_core.specs.Clients.{client_numbers};
@@ -14,12 +16,14 @@ ghost use Rattle.server_core.specs.Step.{MakesStep, last_stamp};
 ghost use Rattle.thread_cell.specs.Kept.{IsSomeServer};
 ghost use Rattle.thread_cell.specs.Cell.{IsInstalledBy};
 ghost use Rattle.thread_cell.specs.Looking.{IsPublicationIn};
+ghost use Rattle.thread_cell.specs.Heard.{heard};
 
 use base::NoMemory;
+use base_bits::Row;
 use match_routes::Route;
 use net_tables::Tables;
 use server_core::{Core, Step, StepFault};
-use server_message::Load;
+use server_message::{Load, SetChange};
 use std::alloc::Global;
 use thread_versions::Publisher;
 
@@ -96,8 +100,8 @@ pub(crate) fn take_command<'a>(
     core.take_publish(client, number, route.interfaces())
 }
 
-/// Receives what a neighbour sent with its stamp, by the route that is known, if one is.
-pub(crate) fn receive_load<'a>(
+/// Receives what a neighbour of the same run sent with its stamp, by the route that is known, if one is.
+fn receive_load<'a>(
     alloc: Global,
     core: &mut Core<'a>,
     publisher: &Publisher,
@@ -124,4 +128,42 @@ pub(crate) fn receive_load<'a>(
     }
     let route = route(alloc, core, publisher, load)?;
     core.receive_load(from, stamp, load, route.interfaces())
+}
+
+/// A change of no filters.
+fn nothing(alloc: Global) -> Result<Load, NoMemory>
+    ensures load { IfOk result (λ load. (net : NetParts) → IsLoad net load) }
+    ensures none { IfOk result (λ load. (net : NetParts) → represented net load ≡ Subs [] []) }
+{
+    let none = Row::new(alloc, 0)?;
+    Ok(Load::Filters(SetChange::of(alloc, &none, &none)?))
+}
+
+/// Receives what came from a neighbour with its stamp, by the route that is known, if one is. A load of another run, which no
+/// cell puts, is received as a change of no filters.
+pub(crate) fn receive_heard<'a>(
+    alloc: Global,
+    core: &mut Core<'a>,
+    publisher: &Publisher,
+    from: u32,
+    stamp: u64,
+    load: &Load,
+    known: Option<&Route>,
+) -> Result<Step<'a>, StepFault>
+    requires from { Has from core.old.control.links }
+    requires stamp { stamp < 2 ^ 62 }
+    requires stands { IsSomeServer core.old }
+    requires installed { IsInstalledBy publisher.now core.old }
+    requires known { IfSome known (λ r. RoutesMessage core.old (heard core.old.net load.now) r.now) }
+    ensures step { IfOk result (λ s. MakesStep (Receives from (heard core.old.net load.now)) stamp core.old core.new s.stamp s.sent.items) }
+    ensures worn { (s : ℕ) → IsErrOf result (StepFault.StampsExhausted s) → (max core.old.clock stamp ≡ last_stamp) × (s ≡ last_stamp) }
+    ensures low { IfOk result (λ s. s.stamp < 2 ^ 62) }
+    ensures installed { IsInstalledBy publisher.now core.new }
+    ensures err { OnErr result (core.new ≡ core.old) }
+{
+    if load.is_of(core.tables()) {
+        return receive_load(alloc, core, publisher, from, stamp, load, known);
+    }
+    let nothing = nothing(alloc)?;
+    receive_load(alloc, core, publisher, from, stamp, &nothing, None)
 }

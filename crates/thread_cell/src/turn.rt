@@ -18,7 +18,7 @@ ghost use Rattle.thread_cell.specs.Ahead.{IsJudged, IsReceptionBy};
 use crate::choice::{Matched, choose_of};
 use crate::held::ServerInHand;
 use crate::reception::{look_at, next_at, receive_at};
-use crate::routing::{receive_load, take_command};
+use crate::routing::{receive_heard, take_command};
 use crate::step::{enter, make_room};
 use crate::table_update::{hand_over, mend};
 use crate::turned::Turned;
@@ -67,8 +67,7 @@ pub(crate) fn turn_command(
 }
 
 /// Receives the next message from the neighbour at a place, where there is one; a publication goes by the route that was matched
-/// ahead for it, if that is the route of what is installed. After a fault all is as before. Where the message isn't of the
-/// server's own run, which no cell puts, the answer is out of memory.
+/// ahead for it, if that is the route of what is installed. After a fault all is as before.
 pub(crate) fn turn_receive<R: Wait>(
     rt: &R,
     alloc: Global,
@@ -96,11 +95,8 @@ pub(crate) fn turn_receive<R: Wait>(
     let from = held.links[place].neighbour;
     let next = next_at(&held.links, place);
     let load = next.load();
-    if !load.is_of(held.core.tables()) {
-        return Err(StepFault::NoMemory);
-    }
     let choice = choose_of(&held.core, matched, load);
-    let step = receive_load(
+    let step = receive_heard(
         alloc,
         &mut held.core,
         &held.publisher,

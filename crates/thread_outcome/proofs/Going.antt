@@ -21,7 +21,7 @@ use Rattle.server_spec.specs.Session.{SessionParts}
 use Rattle.server_core.specs.Core.{CoreParts, RepresentsServer}
 use Rattle.server_core.specs.Clients.{client_numbers}
 use Rattle.thread_cell.specs.declared.held.Root.{Root}
-use Rattle.thread_cell.specs.Cell.{CellParts, RepresentsCell, machine_in}
+use Rattle.thread_cell.specs.Cell.{CellParts, RepresentsCell, machine_in, count_before}
 use Rattle.thread_cell.specs.Entered.{IsEntered, state_of}
 use Rattle.thread_cell.specs.Together.{AreBegun, IsFinished, cell_roots, phase_entries, journals}
 use Rattle.thread_cell.specs.Turns.{HasCommand}
@@ -121,18 +121,18 @@ module _ (net : NetParts) (last phase : ℕ) (old started now : List CellParts) 
   ended = done.finished begun are-begun-now
 
   -- what the journal of a cell was before
-  journal-before : (k : ℕ) (cell : CellParts) → slice_get now k ≡ Some cell → (before : CellParts) × (slice_get old k ≡ Some before) × (take cell.root.entries cell.journal ≡ before.journal)
+  journal-before : (k : ℕ) (cell : CellParts) → slice_get now k ≡ Some cell → (before : CellParts) × (slice_get old k ≡ Some before) × (take (count_before cell.root) cell.journal ≡ before.journal)
   journal-before k cell e =
       let f = then-cell k cell e in
       let b = found-map (λ (c : CellParts). c.journal) k old f.0.journal (ap (λ l. slice_get l k) (sym done.journals) ∙ map-found (λ (c : CellParts). c.journal) k started f.0 f.1) in
       (b.0, b.1, (done.kept k cell e).before ∙ ap (λ (r : Root). r.before.value.entries) (sym f.2) ∙ (done.starts k f.0 f.1).before ∙ sym b.2)
 
-  journal-now : (k : ℕ) (cell before : CellParts) → slice_get now k ≡ Some cell → take cell.root.entries cell.journal ≡ before.journal
+  journal-now : (k : ℕ) (cell before : CellParts) → slice_get now k ≡ Some cell → take (count_before cell.root) cell.journal ≡ before.journal
       → journal_of cell.journal ≡ journal_of before.journal ++ entries_off real (phased_net net) phase (phase_entries net phase cell)
   journal-now k cell before e q =
-      ap journal_of (sym (take-append-drop cell.root.entries cell.journal)) ∙ map-append entry_of (take cell.root.entries cell.journal) (drop cell.root.entries cell.journal)
-      ∙ ap (λ l. journal_of l ++ journal_of (drop cell.root.entries cell.journal)) q
-      ∙ ap (λ l. journal_of before.journal ++ l) (sym (on-off here (journal_of (drop cell.root.entries cell.journal))))
+      ap journal_of (sym (take-append-drop (count_before cell.root) cell.journal)) ∙ map-append entry_of (take (count_before cell.root) cell.journal) (drop (count_before cell.root) cell.journal)
+      ∙ ap (λ l. journal_of l ++ journal_of (drop (count_before cell.root) cell.journal)) q
+      ∙ ap (λ l. journal_of before.journal ++ l) (sym (on-off here (journal_of (drop (count_before cell.root) cell.journal))))
 
   old-many : length now ≡ length old
   old-many = same-many net last phase (state_of net last done.stood.ends) started now done.enters done.roots_stay ∙ sym (len started) ∙ ap (λ (l : List (List EntryParts)). length l) done.journals ∙ len old

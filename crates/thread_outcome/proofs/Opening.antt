@@ -61,7 +61,6 @@ module _ (net : NetParts) (started : List Started) (are : AreStarted net started
         core = fresh.core;
         links = fresh.lanes;
         before = fresh.before ∙ sym fresh.journal;
-        entries = fresh.entries ∙ ap (λ (l : List EntryParts). length l) (sym fresh.journal);
       }
 
   pub first-stands : StandBetween net 0 0 cells

@@ -23,7 +23,7 @@ use Rattle.law_phases.proofs.Onetree.{run-here}
 use Rattle.law_phases.proofs.Newtree.{none-quiet}
 use Rattle.net_model.specs.Real.{real}
 use Rattle.server_message.specs.declared.stamped.StampedLoad.{StampedLoad}
-use Rattle.server_message.specs.Message.{represented_stamped}
+use Rattle.thread_cell.specs.Heard.{heard_stamped}
 use Rattle.net_model.specs.Parts.{NetParts}
 use Rattle.net_model.specs.Nets.{phased_net}
 use Rattle.net_model.specs.Sound.{IsSound}
@@ -43,9 +43,9 @@ use Rattle.thread_outcome.specs.Outcome.{IsPhaseBegun}
 use Rattle.thread_outcome.proofs.Going.{are-begun}
 
 -- what a lane carries has its stamps in each net
-said-stamp : (a b : NetParts) (items : List StampedLoad) (m : Represented) → Has m (map (represented_stamped a) items) → (n : Represented) × Has n (map (represented_stamped b) items) × (n.stamp ≡ m.stamp)
+said-stamp : (a b : NetParts) (items : List StampedLoad) (m : Represented) → Has m (map (heard_stamped a) items) → (n : Represented) × Has n (map (heard_stamped b) items) × (n.stamp ≡ m.stamp)
 said-stamp a b [] m h = absurd h
-said-stamp a b (item ∷ items) m (inl e) = (represented_stamped b item, inl refl, ap (λ (x : Represented). x.stamp) (sym e))
+said-stamp a b (item ∷ items) m (inl e) = (heard_stamped b item, inl refl, ap (λ (x : Represented). x.stamp) (sym e))
 said-stamp a b (item ∷ items) m (inr h) = let n = said-stamp a b items m h in (n.0, inr n.1, n.2)
 
 put-stamp : (a b : NetParts) (links : List Link) (to : ℕ) (m : Represented) → Has m (put_for a links to) → (n : Represented) × Has n (put_for b links to) × (n.stamp ≡ m.stamp)
@@ -53,7 +53,7 @@ put-stamp a b [] to m h = absurd h
 put-stamp a b (link ∷ links) to m h = go (put-stamp a b links to m) (link.neighbour == to) h
   where
     go : (Has m (put_for a links to) → (n : Represented) × Has n (put_for b links to) × (n.stamp ≡ m.stamp)) → (here : Bool)
-        → Has m (cond here (map (represented_stamped a) (put_list link.enter)) (put_for a links to)) → (n : Represented) × Has n (cond here (map (represented_stamped b) (put_list link.enter)) (put_for b links to)) × (n.stamp ≡ m.stamp)
+        → Has m (cond here (map (heard_stamped a) (put_list link.enter)) (put_for a links to)) → (n : Represented) × Has n (cond here (map (heard_stamped b) (put_list link.enter)) (put_for b links to)) × (n.stamp ≡ m.stamp)
     go rest true h = said-stamp a b (put_list link.enter) m h
     go rest false h = rest h
 

@@ -27,7 +27,6 @@ pub record IsAtStart (cell : CellParts) : Type 0 where
   pub core : cell.root.core.value ≡ cell.held.core
   pub links : cell.root.links.value ≡ cell.held.links
   pub before : cell.root.before.value.entries ≡ cell.journal
-  pub entries : cell.root.entries ≡ length cell.journal
 
 abbrev pub AreAtStart : List CellParts → Type 0
 AreAtStart cells = (k : ℕ) (cell : CellParts) → slice_get cells k ≡ Some cell → IsAtStart cell

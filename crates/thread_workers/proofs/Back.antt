@@ -10,7 +10,7 @@ use Rattle.server_core.specs.declared.stepped.StepFault.{StepFault}
 use Rattle.server_core.specs.declared.stepped.StepFault.TheVariants.{NoMemory, StampsExhausted}
 use Rattle.net_model.specs.Parts.{EntryParts}
 use Rattle.thread_cell.specs.declared.held.Root.{Root}
-use Rattle.thread_cell.specs.Cell.{CellParts}
+use Rattle.thread_cell.specs.Cell.{CellParts, count_before}
 use Rattle.thread_cell.specs.Together.{HasGrown, HaveGrown}
 use Rattle.thread_workers.specs.ServerWorkers.{HasSeenFirst}
 use Rattle.thread_workers.specs.WorkerHandles.{CellLock}
@@ -30,7 +30,7 @@ dropped-more (suc n) client (e ∷ es) fs = dropped-more n client es fs
 pub has-more : (phase : ℕ) (root : Root) (seen journal : List EntryParts) → IsPrefix seen journal → HasCommands phase root seen → HasCommands phase root journal
 has-more phase root seen journal p has s h lives =
     let here = has s h lives in
-    let more : commands_of s.client (entries_since root seen) ≤ commands_of s.client (entries_since root journal) = subst (λ l. commands_of s.client (entries_since root seen) ≤ commands_of s.client (drop root.entries l)) p.1 (dropped-more root.entries s.client seen p.0) in
+    let more : commands_of s.client (entries_since root seen) ≤ commands_of s.client (entries_since root journal) = subst (λ l. commands_of s.client (entries_since root seen) ≤ commands_of s.client (drop (count_before root) l)) p.1 (dropped-more (count_before root) s.client seen p.0) in
     omega (arith, here, more)
 
 -- how far the cell is, by how the worker for commands ended

@@ -13,7 +13,7 @@ use Rattle.net_model.specs.Nets.{clients_of}
 use Rattle.server_spec.specs.Session.{SessionParts}
 use Rattle.server_core.specs.Step.{last_stamp}
 use Rattle.thread_cell.specs.declared.held.Root.{Root}
-use Rattle.thread_cell.specs.Cell.{CellParts}
+use Rattle.thread_cell.specs.Cell.{CellParts, count_before}
 
 -- whether an act is a command of this client
 abbrev pub is_command_of : ℕ → Act → Bool
@@ -27,7 +27,7 @@ commands_of client entries = sum_over (λ entry. count (is_command_of client ent
 
 -- the entries since the cell entered its phase
 abbrev pub entries_since : Root → List EntryParts → List EntryParts
-entries_since root journal = drop root.entries journal
+entries_since root journal = drop (count_before root) journal
 
 -- A JOURNAL HAS EVERY COMMAND of the clients of the cell's server in the phases up to this one, with those that were executed before the cell entered
 -- its phase

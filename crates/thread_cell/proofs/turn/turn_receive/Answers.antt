@@ -1,7 +1,6 @@
 use Rattle.std.proofs.Common.{arith, refl, sym, ap, subst, ◌∙◌}
 use Rattle.std.proofs.lemmas.Grind.{common_steps}
-use Rattle.server_message.specs.Message.{IsLoad, represented, represented_stamped}
-use Rattle.net_model.specs.Parts.{NetParts}
+use Rattle.thread_cell.specs.Heard.{heard, heard_stamped}
 use Rattle.thread_cell.specs.Ahead.{IsReceptionBy}
 use Rattle.thread_cell.specs.LaneReceiving.{IsNextAt}
 use Rattle.thread_cell.proofs.Shown.{same-one}
@@ -45,24 +44,12 @@ pub next_at-next-requires-clause-seen : goal.next_at-next-requires-clause-seen
 next_at-next-requires-clause-seen g c =
     rw c.deref.ensures.value (sight-roomed c.args.place c.look_at.new.links.items c.make_room.new.links.items c.make_room.ensures.roomed (looked-some c.args.place _ _ c.look_at.result c.look_at.ensures.looked c.if-not-look_at.false))
 
-pub returns-then-not-is_of-clause-still : goal.returns-then-not-is_of-clause-still
-returns-then-not-is_of-clause-still g c =
-    still c.args.held.now _ _ _ refl (left-yet c.args.held.now c.requires.held c.args.place c.requires.place c.look_at.new.links.items c.make_room.new.links.items c.look_at.ensures.unmoved c.make_room.ensures.roomed) c.make_room.ensures.journal (same-one _) refl
-
-pub returns-then-not-is_of-clause-held : goal.returns-then-not-is_of-clause-held
-returns-then-not-is_of-clause-held g c =
-    held-still c.args.held.now _ c.requires.held refl (left-yet c.args.held.now c.requires.held c.args.place c.requires.place c.look_at.new.links.items c.make_room.new.links.items c.look_at.ensures.unmoved c.make_room.ensures.roomed) c.requires.held.shown c.requires.held.handed
-
-pub receive_load-requires-clause-from : goal.receive_load-requires-clause-from
-receive_load-requires-clause-from g c =
+pub receive_heard-requires-clause-from : goal.receive_heard-requires-clause-from
+receive_heard-requires-clause-from g c =
     from-neighbour c.args.held.now c.requires.held c.args.place c.requires.place c.look_at.new.links.items c.make_room.new.links.items c.look_at.ensures.unmoved c.make_room.ensures.roomed c.index.result.now c.index.ensures
 
-pub receive_load-requires-clause-load : goal.receive_load-requires-clause-load
-receive_load-requires-clause-load g c =
-    (subst (λ (n : NetParts). IsLoad n c.load-load.result.now) c.tables.ensures (c.is_of.ensures.0 c.if-not-is_of.false))
-
-pub receive_load-requires-clause-known : goal.receive_load-requires-clause-known
-receive_load-requires-clause-known g c =
+pub receive_heard-requires-clause-known : goal.receive_heard-requires-clause-known
+receive_heard-requires-clause-known g c =
     known-of c.args.held.now.publisher c.args.held.now.core c.args.matched c.load-load.result.now c.choose_of-choice.result c.route.result
     (c.choose_of-choice.ensures c.args.held.now.publisher c.requires.held.shown c.requires.judged) c.route.ensures
 
@@ -72,7 +59,7 @@ returns-in_err-step-clause-still g c =
 
 pub returns-in_err-step-clause-held : goal.returns-in_err-step-clause-held
 returns-in_err-step-clause-held g c =
-    held-still c.args.held.now _ c.requires.held c.in_err-step.ensures.err (left-yet c.args.held.now c.requires.held c.args.place c.requires.place c.look_at.new.links.items c.make_room.new.links.items c.look_at.ensures.unmoved c.make_room.ensures.roomed) c.receive_load.ensures.installed c.requires.held.handed
+    held-still c.args.held.now _ c.requires.held c.in_err-step.ensures.err (left-yet c.args.held.now c.requires.held c.args.place c.requires.place c.look_at.new.links.items c.make_room.new.links.items c.look_at.ensures.unmoved c.make_room.ensures.roomed) c.receive_heard.ensures.installed c.requires.held.handed
 
 pub returns-in_err-step-clause-worn : goal.returns-in_err-step-clause-worn
 returns-in_err-step-clause-worn g c s e =
@@ -101,7 +88,7 @@ enter-requires-clause-few g c =
 
 pub enter-requires-clause-net : goal.enter-requires-clause-net
 enter-requires-clause-net g c =
-    (c.args.held.now.core.net, sends-of c.args.held.now.core c.receive_load.new.core c.requires.stands _ _ _ c.in_ok-step.step.sent.items c.in_ok-step.ensures.step)
+    (c.args.held.now.core.net, sends-of c.args.held.now.core c.receive_heard.new.core c.requires.stands _ _ _ c.in_ok-step.step.sent.items c.in_ok-step.ensures.step)
 
 pub enter-requires-clause-distinct : goal.enter-requires-clause-distinct
 enter-requires-clause-distinct g c =
@@ -109,7 +96,7 @@ enter-requires-clause-distinct g c =
 
 pub enter-requires-clause-order : goal.enter-requires-clause-order
 enter-requires-clause-order g c =
-    sends-in-order c.args.held.now.core c.receive_load.new.core c.requires.stands _ _ _ c.in_ok-step.step.sent.items c.in_ok-step.ensures.step c.receive_at.new.links.items
+    sends-in-order c.args.held.now.core c.receive_heard.new.core c.requires.stands _ _ _ c.in_ok-step.step.sent.items c.in_ok-step.ensures.step c.receive_at.new.links.items
     (neighbours-gained c.args.held.now c.requires.held c.args.place c.requires.place c.look_at.new.links.items c.make_room.new.links.items c.look_at.ensures.unmoved c.make_room.ensures.roomed c.index.result.now c.index.ensures c.next_at-next.result.now (subst (IsNextAt c.args.place c.next_at-next.result.now) c.deref.ensures.value c.next_at-next.ensures) c.receive_at.new.links.items (c.receive_at.ensures.taken c.next_at-next.result.now))
 
 pub enter-requires-clause-outs : goal.enter-requires-clause-outs
@@ -120,21 +107,18 @@ enter-requires-clause-outs g c =
 
 pub returns-clause-held : goal.returns-clause-held
 returns-clause-held g c =
-    held-gained c.args.held.now c.requires.held c.args.place c.requires.place c.look_at.new.links.items c.make_room.new.links.items c.look_at.ensures.unmoved c.make_room.ensures.roomed c.index.result.now c.index.ensures c.next_at-next.result.now (subst (IsNextAt c.args.place c.next_at-next.result.now) c.deref.ensures.value c.next_at-next.ensures) c.receive_at.new.links.items (c.receive_at.ensures.taken c.next_at-next.result.now) _ c.requires.stands c.load-load.result.now c.stamp.result c.load-load.ensures c.stamp.ensures.stamp c.in_ok-step.step.stamp c.in_ok-step.step.sent.items c.in_ok-step.ensures.step (c.enter.ensures.given c.args.held.now.core.net) c.in_ok-step.ensures.low c.receive_load.ensures.installed c.requires.held.handed
+    held-gained c.args.held.now c.requires.held c.args.place c.requires.place c.look_at.new.links.items c.make_room.new.links.items c.look_at.ensures.unmoved c.make_room.ensures.roomed c.index.result.now c.index.ensures c.next_at-next.result.now (subst (IsNextAt c.args.place c.next_at-next.result.now) c.deref.ensures.value c.next_at-next.ensures) c.receive_at.new.links.items (c.receive_at.ensures.taken c.next_at-next.result.now) _ c.requires.stands c.load-load.result.now c.stamp.result c.load-load.ensures c.stamp.ensures.stamp c.in_ok-step.step.stamp c.in_ok-step.step.sent.items c.in_ok-step.ensures.step (c.enter.ensures.given c.args.held.now.core.net) c.in_ok-step.ensures.low c.receive_heard.ensures.installed c.requires.held.handed
 
 pub returns-clause-taken : goal.returns-clause-taken
 returns-clause-taken g c phase =
     subst (IsReceptionBy phase c.args.place c.args.matched c.args.held.now _ c.args.journal.now.entries c.enter.new.journal.entries) (sym c.turned.ensures)
     (reception-by phase c.args.held.now _ c.args.journal.now.entries c.enter.new.journal.entries c.args.matched c.args.place c.load-load.result.now c.choose_of-choice.result (c.choose_of-choice.ensures c.args.held.now.publisher c.requires.held.shown c.requires.judged)
-    (subst (λ (n : NetParts). IsLoad n c.load-load.result.now) c.tables.ensures (c.is_of.ensures.0 c.if-not-is_of.false)) (represented_stamped c.args.held.now.core.net c.next_at-next.result.now) (ap (represented c.args.held.now.core.net) c.load-load.ensures)
+    (heard_stamped c.args.held.now.core.net c.next_at-next.result.now) (ap (heard c.args.held.now.core.net) c.load-load.ensures)
     (reception-gained c.args.held.now c.requires.held c.args.place c.requires.place c.look_at.new.links.items c.make_room.new.links.items c.look_at.ensures.unmoved c.make_room.ensures.roomed c.index.result.now c.index.ensures c.next_at-next.result.now (subst (IsNextAt c.args.place c.next_at-next.result.now) c.deref.ensures.value c.next_at-next.ensures) c.receive_at.new.links.items (c.receive_at.ensures.taken c.next_at-next.result.now) _ c.requires.stands c.load-load.result.now c.stamp.result c.load-load.ensures c.stamp.ensures.stamp c.in_ok-step.step.stamp c.in_ok-step.step.sent.items c.in_ok-step.ensures.step (c.enter.ensures.given c.args.held.now.core.net)
     phase c.args.journal.now.entries c.make_room.new.journal.entries c.enter.new.journal.entries c.args.server c.look_at.result c.look_at.ensures.looked c.if-not-look_at.false c.requires.server c.make_room.ensures.journal c.enter.ensures.entry (same-one _)))
 
 pub returns-in_err-outs-clause-kept : goal.returns-in_err-outs-clause-kept
 returns-in_err-outs-clause-kept g c = c.make_room.ensures.kept
-
-pub returns-then-not-is_of-clause-kept : goal.returns-then-not-is_of-clause-kept
-returns-then-not-is_of-clause-kept g c = c.make_room.ensures.kept
 
 pub returns-in_err-step-clause-kept : goal.returns-in_err-step-clause-kept
 returns-in_err-step-clause-kept g c = c.make_room.ensures.kept
@@ -142,11 +126,11 @@ returns-in_err-step-clause-kept g c = c.make_room.ensures.kept
 pub returns-clause-kept : goal.returns-clause-kept
 returns-clause-kept g c = c.enter.ensures.kept ∙ c.make_room.ensures.kept
 
-pub receive_load-requires-clause-stamp : goal.receive_load-requires-clause-stamp
-receive_load-requires-clause-stamp g c = c.stamp.ensures.low
+pub receive_heard-requires-clause-stamp : goal.receive_heard-requires-clause-stamp
+receive_heard-requires-clause-stamp g c = c.stamp.ensures.low
 
-pub receive_load-requires-clause-installed : goal.receive_load-requires-clause-installed
-receive_load-requires-clause-installed g c = c.requires.held.shown
+pub receive_heard-requires-clause-installed : goal.receive_heard-requires-clause-installed
+receive_heard-requires-clause-installed g c = c.requires.held.shown
 
 pub enter-requires-clause-low : goal.enter-requires-clause-low
 enter-requires-clause-low g c = c.in_ok-step.ensures.low

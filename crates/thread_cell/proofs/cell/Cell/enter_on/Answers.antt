@@ -20,7 +20,7 @@ invariant_of-self-2 g c =
     let e = c.enter.ensures in (
       kept-moved c.self.inside.tables.now c.self.inside.root c.enter.new.self c.self.inside.journal.entries c.self.inside.held c.put_on.new.held _ c.args.clock (held_in c.args.given.now) c.args.links.items c.self.invariant.0
           (subst (λ p. CanMove p c.args.clock (held_in c.args.given.now) c.args.links.items (cell_parts c.self.inside.root c.self.inside.journal.entries c.self.inside.held)) (sym e.phase_is) (subst (λ (z : CellParts). CanMove c.args.phase c.args.clock (held_in c.args.given.now) c.args.links.items z) (sym c.self.view_is) c.requires.can))
-          c.requires.low c.put_on.ensures.held c.in_ok-put_on.ensures.put c.raise.ensures refl e.net e.server e.entries e.before e.core e.links e.viewer refl refl,
+          c.requires.low c.put_on.ensures.held c.in_ok-put_on.ensures.put c.raise.ensures refl e.net e.server e.before e.core e.links e.viewer refl refl,
       c.self.invariant.1 ∙ sym e.keeps,
     )
 

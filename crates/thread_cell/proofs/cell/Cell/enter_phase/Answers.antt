@@ -14,7 +14,7 @@ invariant_of-self c =
           (subst (λ p. is_one_tree real (phased_net c.self.inside.tables.now) c.self.inside.root.phase p ≡ true) (sym e.phase_is) (subst (λ n. is_one_tree real (phased_net n) c.self.inside.root.phase c.args.phase ≡ true) c.self.invariant.0.net_is (subst (λ (z : CellParts). is_one_tree real (phased_net z.root.net.value) z.root.phase c.args.phase ≡ true) (sym c.self.view_is) c.requires.tree)))
           (subst (λ p. c.self.inside.root.phase ≤ p) (sym e.phase_is) (subst (λ (z : CellParts). z.root.phase ≤ c.args.phase) (sym c.self.view_is) c.requires.phase))
           (subst (λ p. HasNoneBelow p c.self.inside.held.core.clients) (sym e.phase_is) (subst (λ (z : CellParts). HasNoneBelow c.args.phase z.held.core.clients) (sym c.self.view_is) c.requires.through))
-          e.net e.server e.entries e.before e.core e.links e.viewer c.raise.ensures refl refl refl,
+          e.net e.server e.before e.core e.links e.viewer c.raise.ensures refl refl refl,
       c.self.invariant.1 ∙ sym e.keeps,
     )
 

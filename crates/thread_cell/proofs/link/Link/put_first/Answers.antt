@@ -15,5 +15,5 @@ returns-clause-put c net of =
       one = first-few c.args.self.now.neighbour c.args.sent.now.items;
       put = put-first net c.args.stamp c.args.self.now c.put.new.self c.args.sent.now.items c.remove.result c.index.result.now c.message.inside.to c.message.inside.message c.of.result
           c.into_load.result some c.remove.ensures.value c.index.ensures (ap (λ (z : SendingParts). z.to) (sym c.behind-sent.view_is) ∙ c.if-index-self.false) c.message.view_is of
-          c.put.ensures.put c.of.ensures.stamp c.of.ensures.load c.into_load.ensures.represents;
+          c.put.ensures.put c.of.ensures.stamp c.of.ensures.load c.into_load.ensures.load c.into_load.ensures.represents;
     }
