@@ -53,7 +53,12 @@ fn put_place<K: Sink>(out: &mut Pending, sink: &mut K, heard: Heard<'_>, place: 
         return;
     };
     match heard.received.numbers.get(at as usize) {
-        Some(number) => put_id(out, sink, heard.names, heard.received.deliveries.at(*number).id),
+        Some(number) => put_id(
+            out,
+            sink,
+            heard.names,
+            heard.received.deliveries.at(*number).id,
+        ),
         None => {}
     }
 }
@@ -121,13 +126,7 @@ fn put_occurrences<K: Sink>(
 {
     for number in heard.received.numbers {
         let id = heard.received.deliveries.at(*number).id;
-        put_next(
-            out,
-            sink,
-            heard,
-            &mut detector,
-            notice_at(notices, id),
-        );
+        put_next(out, sink, heard, &mut detector, notice_at(notices, id));
     }
 }
 

@@ -16,11 +16,5 @@ pub fn push_delivery(
 ) -> Result<(), NoMemory>
     ensures { OnOk result (out.new.items ≡ out.old.items ++ delivery_line clients.now delivery.now) }
 {
-    push_publication(
-        out,
-        b"deliver ",
-        clients,
-        delivery.id,
-        delivery.bytes,
-    )
+    push_publication(out, b"deliver ", clients, delivery.id, delivery.bytes)
 }

@@ -28,11 +28,7 @@ fn lists_by_id(alloc: Global, received: Vec<Inbox>) -> Result<Vec<Inbox>, NoMemo
 }
 
 /// Each list as it is, or by publisher and ordinal where that is wanted.
-pub fn ordered(
-    alloc: Global,
-    received: Vec<Inbox>,
-    sorted: bool,
-) -> Result<Vec<Inbox>, NoMemory>
+pub fn ordered(alloc: Global, received: Vec<Inbox>, sorted: bool) -> Result<Vec<Inbox>, NoMemory>
     ensures { IfOk result (λ lists. lists.items ≡ map (ordered sorted) received.items) }
 {
     if sorted {

@@ -74,18 +74,16 @@ pub(crate) fn put_publication<K: Sink>(
 
 // The line of a delivery.
 #[tactic(auto, unfolding(crate::specs::Deliveries::delivery_line))]
-fn put_delivery<K: Sink>(out: &mut Pending, sink: &mut K, clients: &[Client], delivery: &Delivery<'_>)
+fn put_delivery<K: Sink>(
+    out: &mut Pending,
+    sink: &mut K,
+    clients: &[Client],
+    delivery: &Delivery<'_>,
+)
     ensures { Went (outlet (K.state sink.old) out.old) (outlet (K.state sink.new) out.new)
         (delivery_line clients.now delivery.now) }
 {
-    put_publication(
-        out,
-        sink,
-        b"deliver ",
-        clients,
-        delivery.id,
-        delivery.bytes,
-    )
+    put_publication(out, sink, b"deliver ", clients, delivery.id, delivery.bytes)
 }
 
 // The lines of deliveries, in their order.

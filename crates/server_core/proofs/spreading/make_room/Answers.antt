@@ -17,8 +17,7 @@ returns-in_err-make_room-clause-planned c = from-more c.args.clients.now.session
 pub loop-interface-preserved : goal.loop-interface-preserved
 loop-interface-preserved c =
     let x = get_or c.args.route.now c.loop-interface.interface-index 0 in
-    let more = clients-more c.args.route.now c.loop-interface.interface-index x (got-number c.args.route.now c.loop-interface.interface-index c.loop-interface-test.true) (high-client c.is_link.result x c.is_link.ensures c.if-is_link.false) in
-    (
+    let more = clients-more c.args.route.now c.loop-interface.interface-index x (got-number c.args.route.now c.loop-interface.interface-index c.loop-interface-test.true) (high-client c.is_link.result x c.is_link.ensures c.if-is_link.false) in (
       c.make_room.ensures.net ∙ c.loop-interface.invariant.0,
       subst (λ z. HaveMade z c.args.clients.now.sessions c.make_room.new.self.sessions) (sym more)
           (made-more (clients_on (take c.loop-interface.interface-index c.args.route.now)) (x - 64) c.args.clients.now.sessions c.loop-interface.clients.sessions c.make_room.new.self.sessions c.loop-interface.invariant.1

@@ -19,9 +19,9 @@ take_inboxes-requires g c =
         (
           c.deliveries.ensures ∙ ap (λ (n : NetParts). known_deliveries n.clients) (sym c.net.ensures),
           (
-          given,
-          subst (λ (n : NetParts). HaveInboxes g.P.Server.stepping n given 0 inside.servers.places.items) (sym c.net.ensures)
-              (c.lemma_laws.ensures.inboxes inside.tables.now inside.phase (seen inside.servers) c.self.invariant.0),
+            given,
+            subst (λ (n : NetParts). HaveInboxes g.P.Server.stepping n given 0 inside.servers.places.items) (sym c.net.ensures)
+                (c.lemma_laws.ensures.inboxes inside.tables.now inside.phase (seen inside.servers) c.self.invariant.0),
           ),
         ),
       ),
