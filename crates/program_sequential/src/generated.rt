@@ -1,5 +1,6 @@
 //! Makes the text that is printed for a seed.
-ghost use Rattle.std.specs.Prelude.{IfOk};
+ghost use Rattle.std.specs.Prelude.{ℕ, IfOk};
+ghost use Rattle.document_reader.specs.Net.{IsBadAt};
 ghost use Rattle.program_sequential.specs.Printed.{IsSummaryOf};
 ghost use Rattle.program_sequential.specs.Answers.{IsGenerated};
 
@@ -10,18 +11,20 @@ use crate::reading::net;
 use crate::summary::run_summary;
 use base::NoMemory;
 use document_generate::generate;
-use document_reader::InputFault;
+use document_generated::law::lemma_has_net;
+use document_reader::{Fault, InputFault};
 use sequential_network::Kept;
 use std::alloc::Global;
 
-// The summary of the walk of a document that has a net. One that has none, as no generated document is, would be answered as
-// out of memory, which is the one answer that needs no cause.
+// The summary of the walk of a document of which no line is at fault.
 fn summary(alloc: Global, bytes: &[u8]) -> Result<Printed, NoMemory>
+    requires { (line : ℕ) (kind : Fault) → IsBadAt bytes.now line kind → ⊥ }
     ensures { IfOk result (λ p. IsSummaryOf bytes.now p.text p.journal) }
 {
     let net = match net(alloc, bytes) {
         Ok(net) => net,
-        Err(InputFault::NoMemory | InputFault::Bad { .. }) => return Err(NoMemory),
+        Err(InputFault::NoMemory) => return Err(NoMemory),
+        Err(InputFault::Bad { .. }) => unreachable!(),
     };
     let ran = walked::<Kept>(alloc, &net)?;
     let text = run_summary(alloc, &net, &ran)?;
@@ -33,6 +36,7 @@ pub fn of_seed(alloc: Global, seed: u64, summarized: bool) -> Result<Printed, No
     ensures { IfOk result (λ p. IsGenerated seed summarized p.text p.journal) }
 {
     let document = generate(alloc, seed)?;
+    lemma_has_net();
     if summarized {
         summary(alloc, &document)
     } else {
