@@ -15,6 +15,8 @@ mod devices;
 #[cfg(test)]
 mod edges;
 #[cfg(test)]
+mod inboxes;
+#[cfg(test)]
 mod laws;
 #[cfg(test)]
 mod merging;

@@ -1,7 +1,7 @@
 //! Reads wire texts and writes them again, or shows their faults.
 use crate::long::{marks, members};
 use filter_text::{
-    Delivery, Id, Sent, SentText, SharedText, WireFault, read_advert, read_filter, read_message,
+    Sent, SentText, WireFault, read_advert, read_filter, read_message,
     read_notice, write_advert, write_filter, write_message, write_notice,
 };
 use std::alloc::Global;
@@ -92,25 +92,6 @@ pub fn many(alloc: Global, rest: &str) -> Result<Vec<u8>, RowFault> {
     }
 }
 
-/// A copy of a delivery of these bytes.
-fn delivered(alloc: Global, bytes: Vec<u8>) -> Result<Delivery, RowFault> {
-    let id = Id {
-        publisher: 7,
-        ordinal: 12,
-    };
-    let bytes = SharedText::of(alloc, bytes)?;
-    Ok(Delivery { id, bytes }.copy(alloc)?)
-}
-
-/// What is sent of a delivery.
-fn sent_of(alloc: Global, delivery: &Delivery) -> Result<Sent, RowFault> {
-    let bytes = delivery.bytes.as_slice().to_vec(alloc)?;
-    Ok(Sent {
-        to: delivery.id.publisher,
-        bytes: SentText::written(bytes),
-    })
-}
-
 /// The bytes of what is sent.
 fn pushed(alloc: Global, sent: &Sent) -> Result<Vec<u8>, RowFault> {
     let mut bytes = Vec::new(alloc);
@@ -118,13 +99,13 @@ fn pushed(alloc: Global, sent: &Sent) -> Result<Vec<u8>, RowFault> {
     Ok(bytes)
 }
 
-/// The bytes of a copy of a delivery, as what is sent of it.
+/// The bytes of what is sent that was written already.
 fn carried(alloc: Global, bytes: Vec<u8>) -> Result<Vec<u8>, RowFault> {
-    let delivery = delivered(alloc, bytes)?;
-    pushed(alloc, &sent_of(alloc, &delivery)?)
+    let bytes = SentText::written(bytes);
+    pushed(alloc, &Sent { to: 7, bytes })
 }
 
-/// The text of a notice that was carried as a copy of a delivery, and as what is sent of it.
+/// The text of a notice that was carried as what is sent of it.
 pub fn copied(alloc: Global, rest: &str) -> Result<Vec<u8>, RowFault> {
     let bytes = carried(alloc, Vec::from_slice(alloc, rest.as_bytes())?)?;
     match read_notice(alloc, bytes.as_slice()) {
