@@ -2,27 +2,27 @@
 ghost use Rattle.std.specs.Prelude.{◌≡◌, map, IfOk};
 ghost use Rattle.output_report.specs.Deliveries.{by_id, ordered};
 
-use crate::sorted::sort_by_id;
+use crate::sorted::by_id;
 use base::NoMemory;
 use net_inbox::Inbox;
 use std::alloc::Global;
 
 // What a client received by its ids.
-fn list_by_id(inbox: Inbox) -> Result<Inbox, NoMemory>
-    ensures { IfOk result (λ list. list ≡ by_id inbox) }
+fn list_by_id(alloc: Global, inbox: &Inbox) -> Result<Inbox, NoMemory>
+    ensures { IfOk result (λ list. list ≡ by_id inbox.now) }
 {
-    let (deliveries, mut numbers) = inbox.into_parts();
-    sort_by_id(&deliveries, &mut numbers)?;
-    Ok(Inbox::of(deliveries, numbers))
+    let received = inbox.received();
+    let numbers = by_id(alloc, received.deliveries, received.numbers)?;
+    Ok(Inbox::of(received.deliveries.share()?, numbers))
 }
 
 // Each list by its ids.
-fn lists_by_id(alloc: Global, received: Vec<Inbox>) -> Result<Vec<Inbox>, NoMemory>
-    ensures { IfOk result (λ lists. lists.items ≡ map by_id received.items) }
+fn lists_by_id(alloc: Global, received: &[Inbox]) -> Result<Vec<Inbox>, NoMemory>
+    ensures { IfOk result (λ lists. lists.items ≡ map by_id received.now) }
 {
     let mut lists = Vec::with_capacity(alloc, received.len())?;
     for inbox in received {
-        lists.push(list_by_id(inbox)?)?;
+        lists.push(list_by_id(alloc, inbox)?)?;
     }
     Ok(lists)
 }
@@ -32,7 +32,7 @@ pub fn ordered(alloc: Global, received: Vec<Inbox>, sorted: bool) -> Result<Vec<
     ensures { IfOk result (λ lists. lists.items ≡ map (ordered sorted) received.items) }
 {
     if sorted {
-        lists_by_id(alloc, received)
+        lists_by_id(alloc, &received)
     } else {
         Ok(received)
     }
