@@ -16,7 +16,7 @@ struct Keyed {
 }
 
 // These numbers with their ids.
-fn keyed(alloc: Global, deliveries: &Deliveries, numbers: &[u32]) -> Result<Vec<Keyed>, NoMemory>
+fn with_ids(alloc: Global, deliveries: &Deliveries, numbers: &[u32]) -> Result<Vec<Keyed>, NoMemory>
     ensures { IfOk result (λ keyed. keyed.items ≡ map (λ n. record { id = (delivery_at deliveries.now n).id; number = n }) numbers.now) }
 {
     let mut keyed = Vec::with_capacity(alloc, numbers.len())?;
@@ -49,7 +49,7 @@ pub(crate) fn by_id(
 ) -> Result<Vec<u32>, NoMemory>
     ensures { IfOk result (λ sorted. at_numbers deliveries.now sorted.items ≡ by_id (at_numbers deliveries.now numbers.now)) }
 {
-    let mut keyed = keyed(alloc, deliveries, numbers)?;
+    let mut keyed = with_ids(alloc, deliveries, numbers)?;
     keyed.sort_by_key(|one| one.id)?;
     numbers_of(alloc, &keyed)
 }
