@@ -1,5 +1,7 @@
 -- Messages put on the links of a server one after the other, and what a step of it comes to then.
-use Rattle.std.proofs.Common.{◌≡◌, ℕ, zero, suc, ◌==◌, ◌&&◌, cond, true, List, [], ◌∷◌, ◌++◌, length, map, filter, drop, inr, slice_get, slice_set, Option, Some, None, refl, sym, ap, subst, ◌∙◌, arith, eq-eqb, ne_eqb}
+use Rattle.std.proofs.Common.{◌≡◌, ◌<◌, add-one, take, get_or, ℕ, zero, suc, ◌==◌, ◌&&◌, cond, true, List, [], ◌∷◌, ◌++◌, length, map, filter, drop, inr, slice_get, slice_set, Option, Some, None, refl, sym, ap, subst, ◌∙◌, arith, eq-eqb, ne_eqb}
+use Rattle.std.proofs.lemmas.List.{length_push}
+use Rattle.base.proofs.Lists.{take-suc-some, get-get_or}
 use Rattle.base.specs.Sets.{Has}
 use Rattle.base.specs.Numbers.{IsDistinct}
 use Rattle.base.proofs.Numbers.{Same, Is, Not, compare}
@@ -129,3 +131,7 @@ nothing_put messages = sym (append-nothing messages)
 pub nothing_first : (messages : List StampedMessageParts) (first : StampedMessageParts) → messages ≡ [] → slice_get messages 0 ≡ Some first → ⊥
 nothing_first [] first none is = cc
 nothing_first (x ∷ messages) first none is = cc
+
+-- what was seen of a list, and the next member, are its first members
+pub prefix-more : {X : Type 0} (all seen : List X) (x : X) → seen ≡ take (length seen) all → length seen < length all → x ≡ get_or all (length seen) x → seen ++ x ∷ [] ≡ take (length (seen ++ x ∷ [])) all
+prefix-more all seen x e l q = rw (length_push seen x, add-one, take-suc-some all (length seen) x (get-get_or all (length seen) x l q)) (ap (λ z. z ++ x ∷ []) e)

@@ -1,10 +1,9 @@
 use Rattle.std.proofs.Common.{◌≡◌, ◌≤◌, ℕ, true, length, [], ◌∷◌, ◌++◌, refl, sym, ap, subst, ◌∙◌, rules}
 use Rattle.std.proofs.lemmas.Iterator.Adapters.{YieldsList-from_vec}
 use Rattle.std.proofs.lemmas.Iterator.Consumers.{YieldsList-turn}
-use Rattle.server_core.proofs.Going.{prefix-more}
 use Rattle.server_message.specs.Parts.{SendingParts}
 use Rattle.sequential_network.specs.Links.{stamped_message_parts, waiting_as, messages_at, has_room}
-use Rattle.sequential_network.proofs.Putting.{put_none, put_more}
+use Rattle.sequential_network.proofs.Putting.{put_none, put_more, prefix-more}
 use Rattle.sequential_network.proofs.servers.put_all.Goals as goal
 use Rattle.base.proofs.Lists.{get-get_or}
 use Rattle.base.proofs.Sets.{get-has}
