@@ -1,11 +1,13 @@
 -- Lemmas on members of lists that are found by number.
-use Rattle.std.proofs.Common.{◌≡◌, ◌≤◌, ◌-◌, ℕ, zero, suc, true, false, ◌&&◌, All, List, [], ◌∷◌, length, get_or, subst, refl, arith}
-use Rattle.std.specs.Prelude.{None, nat_le, nat_lt, slice_get}
+use Rattle.std.proofs.Common.{◌≡◌, ◌≤◌, ◌-◌, ℕ, zero, suc, true, false, ◌&&◌, All, List, [], ◌∷◌, length, get_or, subst, sym, ap, refl, arith}
+use Rattle.std.specs.Prelude.{None, Some, nat_le, nat_lt, slice_get}
 use Rattle.std.proofs.lemmas.Grind.{common_steps}
 use Rattle.std.proofs.lemmas.List.{get_or_default}
 use Rattle.filter_text.specs.Deliveries.{Delivery}
+use Rattle.net_inbox.specs.Inbox.{at_numbers, delivery_at}
+use Rattle.base.proofs.Lists.{get-map}
 use Rattle.output_report.specs.Published.{by_number}
-use Rattle.output_patterns.specs.Found.{delivery_text, heard_in, place_text}
+use Rattle.output_patterns.specs.Found.{delivery_text, heard_in, id_text, place_text}
 use Rattle.output_patterns.specs.Published.{at_number}
 
 -- what holds of each list holds of the one with a number, where there is none too
@@ -53,6 +55,13 @@ no-place names deliveries (suc i) at h e f = go deliveries i (behind at i (lengt
     go [] k l = refl
     go (d ∷ ds) zero l = absurd (omega (arith, l))
     go (d ∷ ds) (suc k) l = go ds k (omega (arith, l))
+
+-- what is told of a place with a delivery
+pub place-at : (names : List (List ℕ)) (all : List Delivery) (numbers : List ℕ) (place at n : ℕ) → 1 ≤ place → at ≡ place - 1 → slice_get numbers at ≡ Some n
+    → id_text names (delivery_at all n).id ≡ place_text names (at_numbers all numbers) place
+place-at names all numbers zero at n h e g = absurd (omega (arith, h))
+place-at names all numbers (suc i) at n h e g =
+    ap (delivery_text names) (sym (get-map (delivery_at all) numbers i n (subst (λ k. slice_get numbers k ≡ Some n) {x = at} {y = i} (omega (arith, e)) g)))
 
 -- what a client with a number received
 pub heard-by : (lists : List (List Delivery)) (n : ℕ) → heard_in (at_number lists n) ≡ by_number lists n

@@ -52,15 +52,12 @@ fn put_place<K: Sink>(out: &mut Pending, sink: &mut K, heard: Heard<'_>, place: 
     let Some(at) = place.checked_sub(1) else {
         return;
     };
-    match heard.received.numbers.get(at as usize) {
-        Some(number) => put_id(
-            out,
-            sink,
-            heard.names,
-            heard.received.deliveries.at(*number).id,
-        ),
-        None => {}
+    let numbers = heard.received.numbers;
+    if at as usize >= numbers.len() {
+        return;
     }
+    let delivery = heard.received.deliveries.at(numbers[at as usize]);
+    put_id(out, sink, heard.names, delivery.id)
 }
 
 // The line of a pattern.

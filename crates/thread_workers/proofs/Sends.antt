@@ -26,17 +26,18 @@ use Rattle.filter_constraints.specs.contracts.constraint.Constraint as Constrain
 use Rattle.filter_types.specs.contracts.filter.Constraints as Constraints
 use Rattle.filter_types.specs.contracts.notice.Notice as Notice
 use Rattle.base_bits.specs.contracts.row.Row as Row
+use Rattle.base_bits.specs.contracts.place.Place as Place
+use Rattle.base_bits.specs.contracts.sets.Sets as Sets
 use Rattle.filter_text.specs.contracts.command.Command as Command
-use Rattle.filter_text.specs.contracts.delivery.Delivery as Delivery
 use Rattle.filter_text.specs.contracts.lists.Lists as Lists
-use Rattle.filter_text.specs.contracts.shared_text.SharedText as SharedText
+use Rattle.net_inbox.specs.contracts.deliveries.Kept as KeptDelivery
+use Rattle.net_inbox.specs.contracts.deliveries.Deliveries as Deliveries
 use Rattle.net_tables.specs.contracts.numbered.NumberedCommand as NumberedCommand
 use Rattle.net_tables.specs.contracts.publication.Publication as Publication
 use Rattle.net_tables.specs.contracts.catalogue.Catalogue as Catalogue
 use Rattle.base_order.specs.contracts.order.Order as Order
 use Rattle.base_pool.proofs.Crossing.{items_sync}
 use Rattle.match_filters.proofs.Crossing.{matcher_sync}
-use Rattle.net_tables.specs.contracts.found.Found as Found
 use Rattle.net_tables.specs.contracts.tables.Tables as Tables
 use Rattle.server_stock.specs.contracts.holders.Holders as Holders
 use Rattle.server_stock.specs.contracts.sides.Side as Side
@@ -188,14 +189,20 @@ publisher_send = let a = front_send in let b = version_send in let c = version_s
 pub command_sync : IsSync Command.the_field.row
 command_sync = let c = notice_sync in search (sendable, crosses, constraints_sync) depth 20
 
-pub text_send : IsSend SharedText.the_field.row
-text_send = search (sendable, crosses) depth 20
+pub kept_send : IsSend KeptDelivery.the_field.row
+kept_send = search (sendable, crosses) depth 20
 
-pub text_sync : IsSync SharedText.the_field.row
-text_sync = search (sendable, crosses) depth 20
+pub kept_sync : IsSync KeptDelivery.the_field.row
+kept_sync = search (sendable, crosses) depth 20
 
-pub delivery_send : IsSend Delivery.the_field.row
-delivery_send = let a = text_send in search (sendable, crosses) depth 20
+pub deliveries_sync : IsSync Deliveries.the_field.row
+deliveries_sync = let a = kept_send in let b = kept_sync in search (sendable, crosses) depth 20
+
+pub place_sync : IsSync Place.the_row
+place_sync = search (sendable, crosses) depth 20
+
+pub sets_sync : IsSync Sets.the_field.row
+sets_sync = let a = place_sync in search (sendable, crosses) depth 20
 
 pub numbered_sync : IsSync NumberedCommand.the_field.row
 numbered_sync = search (sendable, crosses) depth 20
@@ -235,12 +242,9 @@ catalogue_sync κ =
 pub order_sync : (T : RattleType) (g : _) → IsSync T → IsSync (Order.the_field T g).row
 order_sync T g a = let b = row_sync in search (sendable, crosses) depth 20
 
-pub found_sync : IsSync Found.the_field.row
-found_sync = let a = text_sync in let b = row_sync in search (sendable, crosses) depth 20
-
 pub tables_sync : (κ : NamedLft) → IsSync (Tables.the_field κ).row
 tables_sync κ =
-    let a = catalogue_sync κ in let b = sub_sync in let c = ad_sync in let d = row_sync in let e = found_sync in
+    let a = catalogue_sync κ in let b = sub_sync in let c = ad_sync in let d = row_sync in let e = deliveries_sync in let f = sets_sync in
     search (sendable, crosses, order_sync) depth 20
 
 pub tables_row_sync : (κ : NamedLft) → IsSync (Tables.the_row κ)
@@ -265,7 +269,7 @@ pub own_send : IsSend Own.the_row
 own_send = let a = row_send in search (sendable, crosses) depth 20
 
 pub session_send : (κ : NamedLft) → IsSend (Session.the_field κ).row
-session_send κ = let a = command_sync in let b = own_send in let c = delivery_send in let d = tables_row_sync κ in let e = numbered_sync in search ours depth 20
+session_send κ = let a = command_sync in let b = own_send in let d = tables_row_sync κ in let e = numbered_sync in search ours depth 20
 
 pub clients_send : (κ : NamedLft) → IsSend (Clients.the_field κ).row
 clients_send κ = let a = session_send κ in let b = tables_row_sync κ in search (sendable, crosses) depth 20

@@ -25,7 +25,7 @@ loop-number-preserved g c =
     let numbers = c.args.heard.received.numbers.now in
     let long : i < length (in_order c.args.heard.received) = subst (λ n. i < n) (sym (length-map numbers (delivery_at all))) c.loop-number-test.true in
     let next = map-next (λ d. notice_at notices d.id) (in_order c.args.heard.received) i (delivery_at all 0) long in
-    let said = c.notice_at.ensures ∙ ap (λ d. notice_at notices d.id) (c.at.ensures ∙ sym (get_or-map (delivery_at all) numbers i 0)) in
+    let said = c.notice_at.ensures ∙ ap (λ d. notice_at notices d.id) (c.at-in-loop-number.view_is ∙ c.at.ensures ∙ sym (get_or-map (delivery_at all) numbers i 0)) in
     let heard = ap (λ z. z ++ c.notice_at.result.now ∷ []) fed ∙ ap (λ n. notices_of notices (take i (in_order c.args.heard.received)) ++ n ∷ []) said ∙ sym next in (
       c.put_next.ensures.steps ∙ steps,
       c.put_next.ensures.fed ∙ heard,
