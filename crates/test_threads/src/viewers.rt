@@ -162,10 +162,10 @@ fn early_and_late<R: Wait>(
 {
     let row = matched(alloc)?;
     publisher.stage(PUT)?;
-    let early = match_ahead(alloc, rt, first, &row)?;
+    let early = match_ahead(alloc, rt, first, &row.as_set())?;
     publisher.publish(rt)?;
     let told = !agree(publisher, second, &early);
-    let late = match_ahead(alloc, rt, second, &row)?;
+    let late = match_ahead(alloc, rt, second, &row.as_set())?;
     Ok(told && early.seen() == 0 && late.seen() == 1 && agree(publisher, first, &late))
 }
 

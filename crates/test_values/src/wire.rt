@@ -1,8 +1,8 @@
 //! Reads wire texts and writes them again, or shows their faults.
 use crate::long::{marks, members};
 use filter_text::{
-    Sent, SentText, WireFault, read_advert, read_filter, read_message,
-    read_notice, write_advert, write_filter, write_message, write_notice,
+    Sent, SentText, WireFault, read_advert, read_filter, read_message, read_notice, write_advert,
+    write_filter, write_message, write_notice,
 };
 use std::alloc::Global;
 use test_support::{RowFault, first_word, number, spelled, truth};

@@ -17,6 +17,12 @@ take_inbox-requires-clause-home c =
     let have = (c.loop-place.invariant c.requires.inboxes.0 c.requires.inboxes.1).1 in
     (low.0, subst (λ z. home_of c.args.net.now (c.loop-place.place + 1) ≤ z) (sym have.all) low.1)
 
+pub shared-requires-clause-home : goal.shared-requires-clause-home
+shared-requires-clause-home c =
+    let low = home_low c.args.net.now c.requires.sound (c.loop-place.place + 1) in
+    let have = (c.loop-place.invariant c.requires.inboxes.0 c.requires.inboxes.1).1 in
+    (low.0, subst (λ z. home_of c.args.net.now (c.loop-place.place + 1) ≤ z) (sym have.all) low.1)
+
 pub take_inbox-requires-clause-lives : goal.take_inbox-requires-clause-lives
 take_inbox-requires-clause-lives c core at =
     let have = (c.loop-place.invariant c.requires.inboxes.0 c.requires.inboxes.1).1 in
