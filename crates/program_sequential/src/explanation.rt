@@ -5,6 +5,7 @@ ghost use Rattle.net_inbox.specs.Inbox.{in_order};
 ghost use Rattle.net_model.specs.Sound.{IsSound};
 ghost use Rattle.output_explain.specs.Text.{explanation_text};
 ghost use Rattle.program_sequential.specs.Explanations.{deliveries_in, is_received, received_at, walk_line};
+ghost use Rattle.program_sequential.specs.Promise.{is_id};
 ghost use Rattle.program_sequential.specs.Explaining.{ExplainsInput, ExplainsNet, IsTold};
 ghost use Rattle.program_sequential.specs.declared.subject.Subject.TheVariants.{Publication};
 
@@ -16,7 +17,7 @@ use crate::ran::walked;
 use crate::reading::net;
 use crate::unanswered::Unanswered;
 use base::NoMemory;
-use filter_text::Id;
+use filter_text::{Delivery, Id};
 use net_inbox::{Inbox, Received};
 use net_journal::Ran;
 use net_model::Net;
@@ -24,13 +25,20 @@ use output_explain::{Explanation, explain, explanation_text};
 use sequential_network::Passed;
 use std::alloc::Global;
 
+// Whether a delivery is of a publication.
+fn is_of(id: Id, delivery: &Delivery<'_>) -> bool
+    ensures { result ≡ is_id id delivery.now.id }
+{
+    id.publisher == delivery.id.publisher && id.ordinal == delivery.id.ordinal
+}
+
 // Whether a publication is among what was received.
 fn is_received(id: Id, received: Received<'_>) -> bool
     ensures { result ≡ is_received id (in_order received.entry) }
 {
     for number in received.numbers {
-        let delivered = received.deliveries.at(*number).id;
-        if id.publisher == delivered.publisher && id.ordinal == delivered.ordinal {
+        let delivery = received.deliveries.at(*number);
+        if is_of(id, &delivery) {
             return true;
         }
     }
