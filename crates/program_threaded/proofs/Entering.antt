@@ -82,7 +82,7 @@ on-entering net last phase old new stood same entered = record {
   starts = λ k cell e.
       let a = there old new same.long k cell e in
       let h = entered.each k a.0 cell a.1 e in
-      record { core = h.core; links = h.links; before = h.before; entries = h.entries };
+      record { core = h.core; links = h.links; before = h.before };
   together = entered.together;
   viewers = map-same (λ (c : CellParts). c.root.viewer.value) old new same.long (λ k a b p q. ap (λ v. v.value) (same.each k a b p q).viewer);
   keeps = keeps-same old new same.long (λ k a b p q. (same.each k a b p q).keeps);
