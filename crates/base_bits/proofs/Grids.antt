@@ -1,14 +1,15 @@
 -- The rows of a grid by the bits of its words.
-use Rattle.std.proofs.Common.{◌≡◌, ◌≢◌, ◌↔◌, inl, inr, ℕ, zero, suc, ◌+◌, ◌*◌, ◌/◌, ◌%◌, ◌^◌, ◌<◌, ◌==◌, List, [], ◌∷◌, length, replicate, get_or, set, refl, sym, ap, subst, ◌∙◌, arith, eqb-true, eq-eqb}
+use Rattle.std.proofs.Common.{◌≡◌, ◌≢◌, ◌↔◌, ◌⊎◌, inl, inr, nat_lt, ℕ, zero, suc, ◌+◌, ◌*◌, ◌/◌, ◌%◌, ◌^◌, ◌<◌, ◌==◌, List, [], ◌∷◌, length, replicate, get_or, set, refl, sym, ap, subst, ◌∙◌, arith, eqb-true, eq-eqb}
 use Rattle.std.specs.Int.{bit_at}
 use Rattle.std.proofs.lemmas.Bool.{cases_lt, cases_eq}
 use Rattle.std.proofs.lemmas.Nat.{mul-add-lt, same_from_place}
 use Rattle.std.proofs.lemmas.List.{same_lists, length-append, length-set, length-replicate, get_or-replicate, get_or_append_left, get_or_push, get_or-set_same, get_or-set_other}
-use Rattle.base.specs.Sets.{Has}
-use Rattle.base_bits.specs.Words.{bit, members_of, IsPickedOf}
-use Rattle.base_bits.specs.Rows.{Numbers, is_in, IsSet, IsKept}
-use Rattle.base_bits.specs.Grid.{row_of, with_number, without_number, Table, IsJoinedFrom, AreJoined, spot, each_below, row_at, table_of, IsGrid}
-use Rattle.base_bits.proofs.Bits.{bit-at, bit-past, zero-bits}
+use Rattle.std.proofs.lemmas.Nat.Bits.{bit_at_above}
+use Rattle.base.specs.Sets.{Has, IsRising}
+use Rattle.base_bits.specs.Words.{bit, IsInWord, IsPickedOf}
+use Rattle.base_bits.specs.Rows.{Numbers, is_in, IsSet}
+use Rattle.base_bits.specs.Grid.{row_of, with_number, without_number, Table, IsJoinedFrom, spot, each_below, row_at, table_of, IsGrid}
+use Rattle.base_bits.proofs.Bits.{bit-at, zero-bits}
 use Rattle.base_bits.proofs.Passing.{has-passing, passing-has, is_in-passing, passing-same, passing-with, passing-without, passing-none}
 
 -- lists of what a function gives
@@ -159,69 +160,76 @@ zeros-rows n count width = each-same (row_at (replicate n 0) count width) count 
 abbrev pub IsJoinedBit : List ℕ → ℕ → List ℕ → List ℕ → ℕ → Type 0
 IsJoinedBit words count xs ys i = (row : ℕ) × Has row xs × Has row ys × (bit words (spot count row i) ≡ 1)
 
-module _ (words : List ℕ) (count : ℕ) (xs ys : List ℕ) (span : ℕ) where
-  module _ (joined : List ℕ) (is : AreJoined words count xs ys span span joined) where
-    at-spot : (i : ℕ) → bit joined i ≡ bit_at (get_or joined (i / 64) 0) (i % 64)
-    at-spot i =
-        let e : i ≡ i / 64 * 64 + i % 64 = omega arith in
-        ap (bit joined) e ∙ bit-at joined (i / 64) (i % 64) (omega arith)
+-- the same, by the bit of the word that is picked
+abbrev pub IsPickedBit : List ℕ → ℕ → List ℕ → List ℕ → ℕ → Type 0
+IsPickedBit words count xs ys i = IsPickedOf words (i / 64 * count) xs ys (i % 64)
 
-    in-row : (row i : ℕ) → bit words (spot count row i) ≡ bit_at (get_or words (i / 64 * count + row) 0) (i % 64)
-    in-row row i = bit-at words (i / 64 * count + row) (i % 64) (omega arith)
+module _ (words : List ℕ) (count : ℕ) (xs ys : List ℕ) (i : ℕ) where
+  in-row : (row : ℕ) → bit words (spot count row i) ≡ bit_at (get_or words (i / 64 * count + row) 0) (i % 64)
+  in-row row = bit-at words (i / 64 * count + row) (i % 64) (omega arith)
 
-    pub joined-bit : (i : ℕ) → bit joined i ≡ 1 → (i < 64 * span) × IsJoinedBit words count xs ys i
-    joined-bit i e = elim (cases_lt i (64 * span)) [
-      | inl l ↦
-          let m = (is.done (i / 64) (i % 64) (omega (arith, l))).0 (sym (at-spot i) ∙ e) in
-          (l, (m.0, m.1, m.2, in-row m.0 i ∙ m.3))
-      | inr l ↦ absurd (omega (arith, e, bit-past joined i (omega (arith, l, is.long))))
-    ]
+  pub picked-joined : IsPickedBit words count xs ys i → IsJoinedBit words count xs ys i
+  picked-joined m = (m.0, m.1, m.2, in-row m.0 ∙ m.3)
 
-    pub bit-joined : (i : ℕ) → i < 64 * span → IsJoinedBit words count xs ys i → bit joined i ≡ 1
-    bit-joined i l h = at-spot i ∙ (is.done (i / 64) (i % 64) (omega (arith, l))).1 (h.0, h.1, h.2, sym (in-row h.0 i) ∙ h.3)
+  pub joined-picked : IsJoinedBit words count xs ys i → IsPickedBit words count xs ys i
+  joined-picked m = (m.0, m.1, m.2, sym (in-row m.0) ∙ m.3)
 
 module _ {words : List ℕ} {span count width : ℕ} {t : Table} (is : ShowsTable words span count width t) {x : Numbers} (set : IsSet x) (wide : x.width ≡ length t.rows) where
   pub in-rows : (row : ℕ) → Has row x.members → row < count
   in-rows row h = let l = set.within row h in omega (arith, l, wide, count-eq is)
 
 module _ {words : List ℕ} {span count width : ℕ} {t : Table} (is : ShowsTable words span count width t) {x : Numbers} (ys : List ℕ) (set : IsSet x)
-    (wide : x.width ≡ length t.rows) (joined : List ℕ) (done : AreJoined words count x.members ys span span joined) where
-  pub joined-kept : IsKept joined width
-  joined-kept = record {
-    long = done.long ∙ is.kept.spanned;
-    fits = is.kept.fits;
-    within = λ i e. let h = joined-bit words count x.members ys span joined done i e in is.kept.within h.1.0 i (in-rows is set wide h.1.0 h.1.1) h.0 h.1.3;
-  }
+    (wide : x.width ≡ length t.rows) (list : List ℕ) (exact : (i : ℕ) → Has i list ↔ ((i < 64 * span) × IsPickedBit words count x.members ys i)) where
+  pub joined-within : (i : ℕ) → Has i list → i < width
+  joined-within i m =
+      let h = picked-joined words count x.members ys i ((exact i).0 m).1 in
+      is.kept.within h.0 i (in-rows is set wide h.0 h.1) ((exact i).0 m).0 h.3
 
-  pub joined-members : (i : ℕ) → Has i (members_of joined width) ↔ IsJoinedFrom t.rows x.members ys i
+  pub joined-members : (i : ℕ) → Has i list ↔ IsJoinedFrom t.rows x.members ys i
   joined-members i = (to, from)
     where
       row-at : (row : ℕ) → row < count → row_of t.rows row ≡ row_at words count width row
       row-at row l = ap (λ (z : List Numbers). row_of z row) (sym (rows-eq is)) ∙ row-is is.kept row l
 
-      to : Has i (members_of joined width) → IsJoinedFrom t.rows x.members ys i
+      to : Has i list → IsJoinedFrom t.rows x.members ys i
       to m =
-          let p = has-passing (λ j. bit joined j == 1) width i m in
-          let h = (joined-bit words count x.members ys span joined done i (eqb-true (bit joined i) 1 p.1)).1 in
+          let h = picked-joined words count x.members ys i ((exact i).0 m).1 in
           let l = in-rows is set wide h.0 h.1 in
-          (h.0, h.1, h.2, subst (λ (z : Numbers). Has i z.members) (sym (row-at h.0 l)) (bit-has is.kept h.0 i p.0 h.3))
+          (h.0, h.1, h.2, subst (λ (z : Numbers). Has i z.members) (sym (row-at h.0 l)) (bit-has is.kept h.0 i (joined-within i m) h.3))
 
-      from : IsJoinedFrom t.rows x.members ys i → Has i (members_of joined width)
+      from : IsJoinedFrom t.rows x.members ys i → Has i list
       from h =
           let l = in-rows is set wide h.0 h.1 in
           let m = subst (λ (z : Numbers). Has i z.members) (row-at h.0 l) h.3 in
           let s = (has-passing (λ j. bit words (spot count h.0 j) == 1) width i m).0 in
-          passing-has (λ j. bit joined j == 1) width i s (eq-eqb (bit joined i) 1 (bit-joined words count x.members ys span joined done i (in-span is.kept i s) (h.0, h.1, h.2, has-bit is.kept h.0 i m)))
+          (exact i).1 (in-span is.kept i s, joined-picked words count x.members ys i (h.0, h.1, h.2, has-bit is.kept h.0 i m))
 
--- one word more is joined
-pub joined-more : (words : List ℕ) (count : ℕ) (xs ys : List ℕ) (span k : ℕ) (joined : List ℕ) (w : ℕ) → AreJoined words count xs ys span k joined → k < span
-    → ((q : ℕ) → (bit_at w q ≡ 1) ↔ IsPickedOf words (k * count) xs ys q) → AreJoined words count xs ys span (k + 1) (set joined k w)
-joined-more words count xs ys span k joined w is l picked = record {
-  long = length-set joined k w ∙ is.long;
-  done = λ j q m. elim (cases_eq j k) [
-    | inl e ↦
-        let same : get_or (set joined k w) j 0 ≡ w = ap (λ z. get_or (set joined k w) z 0) e ∙ get_or-set_same joined k w 0 (omega (arith, l, is.long)) in
-        subst (λ z. (bit_at z q ≡ 1) ↔ IsPickedOf words (j * count) xs ys q) (sym same) (subst (λ z. (bit_at w q ≡ 1) ↔ IsPickedOf words (z * count) xs ys q) (sym e) (picked q))
-    | inr n ↦ subst (λ z. (bit_at z q ≡ 1) ↔ IsPickedOf words (j * count) xs ys q) (sym (get_or-set_other joined k j w 0 n)) (is.done j q (omega (arith, m, n)))
-  ];
-}
+-- the members of the first k words of the union are listed
+pub record IsJoinedUpTo (words : List ℕ) (count : ℕ) (xs ys : List ℕ) (k : ℕ) (list : List ℕ) : Type 0 where
+  pub rising : IsRising nat_lt list
+  pub exact : (i : ℕ) → Has i list ↔ ((i < 64 * k) × IsPickedBit words count xs ys i)
+
+-- those of one word more
+pub joined-more : (words : List ℕ) (count : ℕ) (xs ys : List ℕ) (k : ℕ) (list : List ℕ) (w : ℕ) → IsJoinedUpTo words count xs ys k list → w < 2 ^ 64
+    → ((q : ℕ) → (bit_at w q ≡ 1) ↔ IsPickedOf words (k * count) xs ys q) → (new : List ℕ) → IsRising nat_lt new → ((i : ℕ) → Has i new ↔ (Has i list ⊎ IsInWord k w i))
+    → IsJoinedUpTo words count xs ys (k + 1) new
+joined-more words count xs ys k list w is fits picked new rising exact = record { rising = rising; exact = λ i. (λ h. to i ((exact i).0 h), from i) }
+  where
+    to : (i : ℕ) → Has i list ⊎ IsInWord k w i → (i < 64 * (k + 1)) × IsPickedBit words count xs ys i
+    to i (inl m) = let s = (is.exact i).0 m in (omega (arith, s.0), s.1)
+    to i (inr (p, b, q)) = elim (cases_lt p 64) [
+      | inl s ↦
+          let place : k ≡ i / 64 = omega (arith, s, q) in
+          let bits : p ≡ i % 64 = omega (arith, s, q) in
+          (omega (arith, s, q), subst (λ z. IsPickedOf words (z * count) xs ys (i % 64)) place (subst (IsPickedOf words (k * count) xs ys) bits ((picked p).0 b)))
+      | inr s ↦ absurd (omega (arith, b, bit_at_above w 64 p fits s))
+    ]
+
+    from : (i : ℕ) → (i < 64 * (k + 1)) × IsPickedBit words count xs ys i → Has i new
+    from i (l, m) = elim (cases_lt i (64 * k)) [
+      | inl s ↦ (exact i).1 (inl ((is.exact i).1 (s, m)))
+      | inr s ↦
+          let place : i / 64 ≡ k = omega (arith, l, s) in
+          let b = (picked (i % 64)).1 (subst (λ z. IsPickedOf words (z * count) xs ys (i % 64)) place m) in
+          (exact i).1 (inr (i % 64, b, omega (arith, place)))
+    ]

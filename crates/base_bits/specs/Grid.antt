@@ -1,9 +1,8 @@
 -- What contracts see of a grid: its width, and the list of its rows.
-use Rattle.std.specs.Prelude.{◌≡◌, ◌↔◌, ℕ, zero, suc, ◌+◌, ◌*◌, ◌/◌, ◌%◌, ◌^◌, ◌<◌, ◌==◌, nat_lt, List, [], ◌∷◌, ◌++◌, length, slice_index, slice_index_or, refl}
-use Rattle.std.specs.Int.{bit_at}
+use Rattle.std.specs.Prelude.{◌≡◌, ℕ, zero, suc, ◌+◌, ◌*◌, ◌/◌, ◌%◌, ◌^◌, ◌<◌, ◌==◌, nat_lt, List, [], ◌∷◌, ◌++◌, length, slice_index_or, refl}
 use Rattle.std.specs.Coded.{Coded, code_by, coded×, coded_ℕ, coded_list}
 use Rattle.base.specs.Sets.{Has, put_in, minus}
-use Rattle.base_bits.specs.Words.{bit, passing, IsPickedOf}
+use Rattle.base_bits.specs.Words.{bit, passing}
 use Rattle.base_bits.specs.Rows.{Numbers, numbers_code}
 
 -- rows of this width
@@ -54,8 +53,3 @@ pub record IsGrid (words : List ℕ) (span count width : ℕ) : Type 0 where
   pub fits : width < 2 ^ 32
   pub few : count < 2 ^ 32
   pub within : (row i : ℕ) → row < count → i < 64 * span → bit words (spot count row i) ≡ 1 → i < width
-
--- the first k words of a union of rows are there: each picks from the words of all rows at its place
-pub record AreJoined (words : List ℕ) (count : ℕ) (xs ys : List ℕ) (span k : ℕ) (joined : List ℕ) : Type 0 where
-  pub long : length joined ≡ span
-  pub done : (j q : ℕ) → j < k → (bit_at (slice_index joined j) q ≡ 1) ↔ IsPickedOf words (j * count) xs ys q

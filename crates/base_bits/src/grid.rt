@@ -1,9 +1,11 @@
 //! The type of rows of one width in one vector of words.
-ghost use Rattle.std.specs.Prelude.{◌≡◌, ◌↔◌, ℕ, ◌*◌, ◌<◌, not, nat_lt, length, replicate, slice_set, [], IfOk};
-ghost use Rattle.base.specs.Sets.{Has};
+ghost use Rattle.std.specs.Prelude.{◌≡◌, ◌↔◌, ℕ, ◌*◌, ◌/◌, ◌%◌, ◌^◌, ◌<◌, ◌≤◌, not, nat_lt, length, replicate, slice_set, [], IfOk};
+ghost use Rattle.base.specs.Sets.{Has, IsRising};
+ghost use Rattle.base_bits.specs.Words.{IsPickedOf};
 ghost use Rattle.base_bits.specs.Rows.{is_in};
-ghost use Rattle.base_bits.specs.Grid.{row_of, with_number, without_number, IsJoinedFrom, AreJoined, spot};
+ghost use Rattle.base_bits.specs.Grid.{row_of, with_number, without_number, IsJoinedFrom, spot};
 
+use crate::listing::list_word;
 use crate::row::Row;
 use crate::set::Set;
 use crate::words;
@@ -42,25 +44,30 @@ fn place(count: u32, row: u32, i: u32) -> usize
     word * 64 + (i % 64) as usize
 }
 
-/// The words of the union of the rows whose numbers two sets have in common.
-fn joined_words(
+/// The members of the union of the rows whose numbers two sets have in common, rising, by the bits of their words.
+fn joined_bits(
     alloc: Global,
     words: &[u64],
     count: u32,
     numbers: &Set<'_>,
     others: &Row,
     span: usize,
-) -> Result<Vec<u64>, NoMemory>
+) -> Result<Vec<u32>, NoMemory>
     requires long { length words.now ≡ span * count }
+    requires short { span ≤ 2 ^ 26 }
     requires numbers { numbers.now.width ≡ count }
     requires others { others.now.width ≡ numbers.now.width }
-    ensures { IfOk result (λ joined. AreJoined words.now count numbers.now.members others.now.members span span joined.items) }
+    ensures rising { IfOk result (λ list. IsRising nat_lt list.items) }
+    ensures exact { IfOk result (λ list. (i : ℕ) → Has i list.items
+        ↔ ((i < 64 * span) × IsPickedOf words.now (i / 64 * count) numbers.now.members others.now.members (i % 64))) }
 {
-    let mut joined = vec![in alloc; 0; span]?;
+    let mut list = Vec::new(alloc);
     for k in 0..span {
-        joined[k] = numbers.picked(words, k * count as usize, others);
+        let word = numbers.picked(words, k * count as usize, others);
+        list.reserve(word.count_ones() as usize)?;
+        list_word(&mut list, k as u32, word)?;
     }
-    Ok(joined)
+    Ok(list)
 }
 
 impl Grid {
@@ -107,15 +114,21 @@ impl Grid {
         had
     }
 
-    /// The union of the rows whose numbers two sets have in common.
-    pub fn joined(&self, alloc: Global, numbers: &Set<'_>, others: &Row) -> Result<Row, NoMemory>
+    /// The members of the union of the rows whose numbers two sets have in common, rising.
+    pub fn joined(
+        &self,
+        alloc: Global,
+        numbers: &Set<'_>,
+        others: &Row,
+    ) -> Result<Vec<u32>, NoMemory>
         requires numbers { numbers.now.width ≡ length self.now.rows }
         requires others { others.now.width ≡ numbers.now.width }
-        ensures width { IfOk result (λ row. row.width ≡ self.now.width) }
-        ensures members { IfOk result (λ row. (i : ℕ) → Has i row.members ↔ IsJoinedFrom self.now.rows numbers.now.members others.now.members i) }
+        ensures rising { IfOk result (λ list. IsRising nat_lt list.items) }
+        ensures within { IfOk result (λ list. (i : ℕ) → Has i list.items → i < self.now.width) }
+        ensures members { IfOk result (λ list. (i : ℕ) → Has i list.items ↔ IsJoinedFrom self.now.rows numbers.now.members others.now.members i) }
     {
         numbers.lemma_sorted();
-        let words = joined_words(alloc, &self.words, self.count, numbers, others, self.span)?;
-        Ok(Row::of_words(words, self.width))
+        let list = joined_bits(alloc, &self.words, self.count, numbers, others, self.span)?;
+        Ok(list)
     }
 }

@@ -16,7 +16,7 @@ pub(crate) fn count(words: &[u64]) -> usize {
 }
 
 /// Adds the numbers of the word at a place to those of the words before it.
-fn list_word(list: &mut Vec<u32>, place: u32, word: u64) -> Result<(), NoMemory>
+pub(crate) fn list_word(list: &mut Vec<u32>, place: u32, word: u64) -> Result<(), NoMemory>
     requires place { place < 2 ^ 26 }
     requires rising { IsRising nat_lt list.old.items }
     requires before { (i : ℕ) → Has i list.old.items → i < place * 64 }

@@ -43,8 +43,10 @@ pub(crate) fn picked_by_list(words: &[u64], from: usize, list: &[u16], set: &[u6
     let mut all = 0;
     for k in 0..list.len() {
         let i = list[k] as usize;
+        // The word is read before the test, so that no branch is guessed.
+        let word = words[from + i];
         if words::has(set, i) {
-            all |= words[from + i];
+            all |= word;
         }
     }
     all

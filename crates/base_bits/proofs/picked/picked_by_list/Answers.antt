@@ -12,8 +12,8 @@ loop-k-init c = list-first c.args.words.now c.args.from c.args.list.now c.args.s
 pub has-requires : goal.has-requires
 has-requires c = c.requires.known (get_or c.args.list.now c.loop-k.k 0) (get_or-has c.args.list.now c.loop-k.k 0 (omega arith))
 
-pub overflow_add-all : goal.overflow_add-all
-overflow_add-all c =
+pub overflow_add-word : goal.overflow_add-word
+overflow_add-word c =
     let l : c.args.from + get_or c.args.list.now c.loop-k.k 0 < length c.args.words.now = c.requires.within (get_or c.args.list.now c.loop-k.k 0) (get_or-has c.args.list.now c.loop-k.k 0 (omega arith)) in
     omega (arith, l)
 
