@@ -1,28 +1,13 @@
 //! The type of the deliveries of a run by number, which are in memory once for all their owners.
-ghost use Rattle.std.specs.Prelude.{◌≡◌, ◌++◌, ◌∷◌, [], IfOk, OnOk, OnErr};
-ghost use Rattle.net_inbox.specs.Inbox.{delivery, delivery_at};
+ghost use Rattle.std.specs.Prelude.{◌≡◌, ◌++◌, ◌∷◌, [], IfOk, IfSome, OnOk, OnErr};
+ghost use Rattle.net_inbox.specs.Inbox.{delivery, delivery_at, named_line};
 
+use crate::kept::Kept;
 use base::NoMemory;
 use filter_text::{Delivery, Id};
 use std::alloc::Global;
 use std::marker::Model;
 use std::sync::Arc;
-
-/// The id of a publication and the text of its notice.
-#[derive(Drop)]
-struct Kept {
-    id: Id,
-    bytes: Vec<u8>,
-}
-
-impl Model for Kept {
-    ghost use Rattle.filter_text.specs.Deliveries.{Delivery as DeliveryParts};
-    ghost use Rattle.net_inbox.specs.Inbox.{delivery};
-
-    ghost Value = { DeliveryParts };
-
-    ghost view = { λ k. delivery k.id k.bytes.items };
-}
 
 /// Deliveries that are put together one by one.
 #[derive(Drop)]
@@ -48,12 +33,13 @@ impl DeliveriesBuilder {
         Ok(DeliveriesBuilder { kept })
     }
 
-    /// One more, with the next number.
-    pub fn push(&mut self, id: Id, bytes: Vec<u8>) -> Result<(), NoMemory>
-        ensures ok { OnOk result (self.new ≡ self.old ++ delivery id bytes.items ∷ []) }
+    /// One more, with the next number: the id of a publication, the name of its publisher, and the text of its notice.
+    pub fn push(&mut self, alloc: Global, id: Id, name: &[u8], bytes: &[u8]) -> Result<(), NoMemory>
+        ensures ok { OnOk result (self.new ≡ self.old ++ delivery id bytes.now ∷ []) }
         ensures err { OnErr result (self.new ≡ self.old) }
     {
-        self.kept.push(Kept { id, bytes })?;
+        let kept = Kept::of(alloc, id, name, bytes)?;
+        self.kept.push(kept)?;
         Ok(())
     }
 
@@ -98,8 +84,8 @@ impl Deliveries {
     {
         match self.kept.get(number as usize) {
             Some(kept) => Delivery {
-                id: kept.id,
-                bytes: &kept.bytes,
+                id: kept.id(),
+                bytes: kept.bytes(),
             },
             None => Delivery {
                 id: Id {
@@ -109,5 +95,12 @@ impl Deliveries {
                 bytes: &[],
             },
         }
+    }
+
+    /// The line of the delivery with a number, if there is one and its publisher was put in with this name.
+    pub fn line(&self, number: u32, name: &[u8]) -> Option<&[u8]>
+        ensures { IfSome result (λ line. line.now ≡ named_line name.now (delivery_at self.now number)) }
+    {
+        self.kept.get(number as usize)?.line(name)
     }
 }
