@@ -10,6 +10,7 @@
 
 pub mod law;
 mod name;
+mod short_bytes;
 mod text;
 mod value;
 

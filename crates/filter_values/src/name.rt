@@ -3,6 +3,7 @@ ghost use Rattle.std.specs.Prelude.{◌≡◌, ◌<◌, ◌↔◌, ℕ, List, le
 ghost use Rattle.std.specs.Str.{bytes_eq};
 ghost use Rattle.filter_values.specs.Name.{FitsNameAt, IsFirstBad, IsName, is_name};
 
+use crate::short_bytes::ShortBytes;
 use base::NoMemory;
 use std::alloc::{AllocError, Global};
 use std::cmp::Ordering;
@@ -36,7 +37,7 @@ impl From<AllocError> for NameFault {
 /// as its bytes.
 #[derive(Drop)]
 pub struct Name {
-    bytes: Vec<u8>,
+    bytes: ShortBytes,
 }
 
 impl Model for Name {
@@ -45,9 +46,9 @@ impl Model for Name {
 
     ghost Value = { List ℕ };
 
-    ghost view = { λ name. name.bytes.items };
+    ghost view = { λ name. name.bytes };
 
-    ghost invariant = { λ name. IsName name.bytes.items };
+    ghost invariant = { λ name. IsName name.bytes };
 }
 
 const MAX_LEN: usize = 64;
@@ -105,7 +106,7 @@ impl Name {
         if let Some(i) = first_misfit(bytes) {
             return Err(NameFault::BadByte(i));
         }
-        let bytes = bytes.to_vec(alloc)?;
+        let bytes = ShortBytes::of_slice(alloc, bytes)?;
         Ok(Name { bytes })
     }
 
@@ -114,14 +115,14 @@ impl Name {
         ensures bytes { result.now ≡ self.now }
         ensures name { IsName self.now }
     {
-        &self.bytes
+        self.bytes.as_slice()
     }
 
     /// An equal name.
     pub fn copy(&self, alloc: Global) -> Result<Name, NoMemory>
         ensures { IfOk result (λ name. name ≡ self.now) }
     {
-        let bytes = self.bytes.to_vec(alloc)?;
+        let bytes = ShortBytes::of_slice(alloc, self.bytes.as_slice())?;
         Ok(Name { bytes })
     }
 }

@@ -6,6 +6,7 @@ ghost use Rattle.std.specs.Str.{bytes_eq, is_utf8};
 ghost use Rattle.std.specs.List.{list_all};
 ghost use Rattle.filter_values.specs.Text.{IsText, IsBadUtf8, IsFirstControl, is_open_byte, is_text};
 
+use crate::short_bytes::ShortBytes;
 use base::NoMemory;
 use std::alloc::Global;
 use std::cmp::Ordering;
@@ -80,7 +81,7 @@ pub fn is_text(bytes: &[u8]) -> bool
 /// that of RFC 3629). Contracts see it as its bytes.
 #[derive(Drop)]
 pub struct Text {
-    bytes: Vec<u8>,
+    bytes: ShortBytes,
 }
 
 impl Model for Text {
@@ -89,9 +90,9 @@ impl Model for Text {
 
     ghost Value = { List ℕ };
 
-    ghost view = { λ text. text.bytes.items };
+    ghost view = { λ text. text.bytes };
 
-    ghost invariant = { λ text. IsText text.bytes.items };
+    ghost invariant = { λ text. IsText text.bytes };
 }
 
 impl Text {
@@ -100,7 +101,7 @@ impl Text {
         ensures bytes { result.now ≡ self.now }
         ensures text { IsText self.now }
     {
-        &self.bytes
+        self.bytes.as_slice()
     }
 
     /// The text of owned bytes, exactly where they are one. It takes no memory.
@@ -110,7 +111,9 @@ impl Text {
         ensures test { is_some result ≡ is_text bytes.items }
     {
         if is_text(&bytes) {
-            Some(Text { bytes })
+            Some(Text {
+                bytes: ShortBytes::of_vec(bytes),
+            })
         } else {
             None
         }
@@ -135,7 +138,7 @@ impl Text {
         if let Some(i) = control(bytes) {
             return Err(TextFault::Control(i));
         }
-        match bytes.to_vec(alloc) {
+        match ShortBytes::of_slice(alloc, bytes) {
             Ok(bytes) => Ok(Text { bytes }),
             Err(_) => Err(TextFault::NoMemory),
         }
@@ -145,7 +148,7 @@ impl Text {
     pub fn copy(&self, alloc: Global) -> Result<Text, NoMemory>
         ensures { IfOk result (λ text. text ≡ self.now) }
     {
-        let bytes = self.bytes.to_vec(alloc)?;
+        let bytes = ShortBytes::of_slice(alloc, self.bytes.as_slice())?;
         Ok(Text { bytes })
     }
 }
