@@ -17,12 +17,11 @@ use Rattle.net_model.specs.declared.turn.Act.TheVariants as acts
 use Rattle.net_model.specs.declared.turn.Turn.TheVariants as turns
 use Rattle.net_model.specs.Parts.{ClientParts, NetParts, EntryParts}
 use Rattle.net_model.specs.Meaning.{act_of, entry_of, journal_of}
-use Rattle.net_model.specs.Nets.{clients_of, first_tree, home_in, home_of, later_trees, phased_net, phased_tree, tree_of}
+use Rattle.net_model.specs.Nets.{client_name, clients_of, first_tree, home_in, home_of, later_trees, name_in, phased_net, phased_tree, tree_of}
 use Rattle.net_model.specs.Sound.{HasTrees, IsSound}
 use Rattle.net_model.specs.Limits.{StaysLow}
 use Rattle.net_model.proofs.Counted.{stays-low}
 use Rattle.net_model.proofs.SoundNets.{net-laws}
-use Rattle.output_report.specs.Lines.{client_name, name_in}
 use Rattle.output_report.specs.Trace.{act_text}
 use Rattle.audit_claim.specs.Trace.{act_turn, are_joined, is_server, joins}
 use Rattle.audit_claim.proofs.Spelled.{AreApart, command-read, take-read, version-read}

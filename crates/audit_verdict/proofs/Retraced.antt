@@ -10,7 +10,8 @@ use Rattle.net_model.specs.declared.turn.Act.{Act}
 use Rattle.net_model.specs.declared.turn.Act.TheVariants as acts
 use Rattle.net_model.specs.declared.turn.Turn.{Turn}
 use Rattle.net_model.specs.Parts.{ClientParts, NetParts, EntryParts}
-use Rattle.output_report.specs.Lines.{client_line, client_name, name_in, publication_line, refused_line}
+use Rattle.net_model.specs.Nets.{client_name, name_in}
+use Rattle.output_report.specs.Lines.{client_line, publication_line, refused_line}
 use Rattle.output_report.specs.Deliveries.{deliveries_text, delivery_line, delivery_section, delivery_sections}
 use Rattle.output_report.specs.Trace.{act_text, entries_text, entry_line, entry_text, sent_line, trace_head, trace_text}
 use Rattle.audit_claim.specs.Output.{output_lines}

@@ -12,7 +12,7 @@ use Rattle.filter_text.specs.declared.semantics.Semantics.{Semantics}
 use Rattle.filter_text.specs.declared.semantics.Semantics.TheVariants.{Subscription, Advertisement}
 use Rattle.document_format.specs.CommandText.{command_text, IsCommandIn}
 use Rattle.net_model.specs.Parts.{ClientParts, NetParts, net_parts}
-use Rattle.net_model.specs.Nets.{client_at as client_of_number}
+use Rattle.net_model.specs.Nets.{client_at as client_of_number, name_in}
 use Rattle.net_model.specs.declared.turn.Turn.{Turn}
 use Rattle.net_model.specs.declared.turn.Turn.TheVariants as turns
 use Rattle.document_reader.specs.Drawn.{Drawn, is_apart, blocks}
@@ -30,7 +30,7 @@ use Rattle.document_reader.specs.declared.state.Place.TheVariants as at
 use Rattle.document_reader.proofs.Meaning.{net_means}
 use Rattle.filter_text.specs.MessageText.{Each}
 use Rattle.document_format.specs.Edges.{edges_of}
-use Rattle.document_format.specs.DocumentText.{first_lines, semantics_word, edge_line, tree_lines, phase_lines, client_line, barrier_lines, step_lines, script_lines, is_idle, turn_line, name_in, schedule_lines, lines_before, trees_lines, document_text, on_lines, as_written}
+use Rattle.document_format.specs.DocumentText.{first_lines, semantics_word, edge_line, tree_lines, phase_lines, client_line, barrier_lines, step_lines, script_lines, is_idle, turn_line, schedule_lines, lines_before, trees_lines, document_text, on_lines, as_written}
 use Rattle.document_format.specs.Limits.{counts_after, counts_of, FitsDocument}
 use Rattle.document_format.proofs.EdgeLaws.{edges-within}
 use Rattle.document_format.proofs.LineLaws.{are_shown, lines_cut}

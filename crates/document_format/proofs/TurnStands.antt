@@ -26,7 +26,8 @@ use Rattle.document_reader.specs.declared.state.Place.{Place}
 use Rattle.document_reader.specs.declared.state.Place.TheVariants as at
 use Rattle.filter_text.specs.MessageText.{Each}
 use Rattle.document_format.specs.Edges.{edges_of}
-use Rattle.document_format.specs.DocumentText.{turn_line, name_in, on_lines, schedule_lines}
+use Rattle.net_model.specs.Nets.{name_in}
+use Rattle.document_format.specs.DocumentText.{turn_line, on_lines, schedule_lines}
 use Rattle.document_format.proofs.EdgeLaws.{near-edge}
 use Rattle.document_format.proofs.TreeStands.{written_block}
 use Rattle.document_format.proofs.Stands.{state, stands_next, IsOpen}

@@ -10,7 +10,7 @@ use Rattle.document_format.specs.CommandText.{command_text}
 use Rattle.net_model.specs.declared.turn.Turn.{Turn}
 use Rattle.net_model.specs.declared.turn.Turn.TheVariants as turns
 use Rattle.net_model.specs.Parts.{ClientParts, NetParts}
-use Rattle.net_model.specs.Nets.{client_at, first_tree, later_trees}
+use Rattle.net_model.specs.Nets.{client_name, first_tree, later_trees}
 use Rattle.document_format.specs.Edges.{edges_of}
 
 abbrev pub semantics_word : Semantics → List ℕ
@@ -61,14 +61,9 @@ is_idle client = nat_eq (length client.script) 0 && nat_eq client.barriers 0
 abbrev pub script_lines : ClientParts → List (List ℕ)
 script_lines client = if is_idle client then [] else (codes "script " ++ client.name) ∷ step_lines 0 client.script client.barriers
 
--- the name of a client, where there is one
-abbrev pub name_in : Option ClientParts → List ℕ
-name_in None = []
-name_in (Some client) = client.name
-
 -- `command NAME`, `take A B`, `version A`
 abbrev pub turn_line : List ClientParts → Turn → List ℕ
-turn_line clients (turns.Command client) = codes "command " ++ name_in (client_at clients client)
+turn_line clients (turns.Command client) = codes "command " ++ client_name clients client
 turn_line clients (turns.Receive server from) = codes "take " ++ decimal server ++ 32 ∷ decimal from
 turn_line clients (turns.TableUpdate server) = codes "version " ++ decimal server
 

@@ -2,15 +2,15 @@
 ghost use Rattle.std.specs.Prelude.{◌≡◌};
 ghost use Rattle.std.specs.List.{flat_map};
 ghost use Rattle.base_devices.specs.Pending.{outlet, Went};
-ghost use Rattle.net_model.specs.Nets.{client_at, first_tree};
-ghost use Rattle.document_format.specs.DocumentText.{document_text, ended, first_lines, name_in, schedule_lines, script_lines, semantics_word, turn_line};
+ghost use Rattle.net_model.specs.Nets.{first_tree};
+ghost use Rattle.document_format.specs.DocumentText.{document_text, ended, first_lines, schedule_lines, script_lines, semantics_word, turn_line};
 
 use crate::line::{put_line, put_numbered, put_pair};
 use crate::network::{put_clients, put_trees};
 use crate::script::put_script;
 use base_devices::{Pending, Sink};
 use base_tree::Tree;
-use net_model::{Client, Net, Semantics, Turn};
+use net_model::{Client, Net, Semantics, Turn, client_name};
 
 // The word of a semantics.
 fn semantics_word(semantics: Semantics) -> &'static [u8]
@@ -52,26 +52,13 @@ fn put_scripts<K: Sink>(out: &mut Pending, sink: &mut K, clients: &[Client])
     }
 }
 
-// The name of a client, by its number from 1.
-fn name_of(clients: &[Client], number: u32) -> &[u8]
-    ensures { result.now ≡ name_in (client_at clients.now number) }
-{
-    let Some(place) = number.checked_sub(1) else {
-        return &[];
-    };
-    match clients.get(place as usize) {
-        Some(client) => client.name.bytes(),
-        None => &[],
-    }
-}
-
 // A turn.
 fn put_turn<K: Sink>(out: &mut Pending, sink: &mut K, clients: &[Client], turn: Turn)
     ensures { Went (outlet (K.state sink.old) out.old) (outlet (K.state sink.new) out.new)
         (ended (turn_line clients.now turn)) }
 {
     match turn {
-        Turn::Command(client) => put_line(out, sink, b"command ", name_of(clients, client)),
+        Turn::Command(client) => put_line(out, sink, b"command ", client_name(clients, client)),
         Turn::Receive { server, from } => put_pair(out, sink, b"take ", server, from),
         Turn::TableUpdate(server) => put_numbered(out, sink, b"version ", server),
     }

@@ -1,6 +1,6 @@
 //! What a server has installed from which interface, with a row of the interfaces' places for each number: a route joins the
 //! rows of the matched numbers. Numbers that were ever installed are marked, so that a route looks at no other one.
-use crate::places::{is_there, listed, place};
+use crate::places::{at_places, is_there, place};
 use crate::route::Route;
 use crate::table_change::TableChange;
 use base::NoMemory;
@@ -132,15 +132,13 @@ impl Forwarding {
         }
     }
 
-    /// The interfaces from which some of these numbers is installed. It takes memory for its answer, and for a row of
-    /// places.
+    /// The interfaces from which some of these numbers is installed. It takes memory for its answer.
     pub fn route(&self, alloc: Global, matched: &Set<'_>) -> Result<Route, NoMemory>
         requires { matched.now.width ≡ self.now.width }
         ensures { IfOk result (IsRouteBy matched.now.members self.now.pairs) }
     {
         matched.lemma_sorted();
         let places = self.columns.joined(alloc, matched, &self.present)?;
-        let interfaces = listed(alloc, &self.interfaces, &places)?;
-        Ok(Route::to(interfaces))
+        Ok(Route::to(at_places(&self.interfaces, places)))
     }
 }

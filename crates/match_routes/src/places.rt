@@ -1,10 +1,6 @@
 //! Finds the place of an interface in the list of a server's interfaces.
-ghost use Rattle.std.specs.Prelude.{◌≡◌, ◌<◌, ◌↔◌, ℕ, nat_lt, true, IfOk, length, slice_index_or};
+ghost use Rattle.std.specs.Prelude.{◌≡◌, ◌<◌, ◌↔◌, ℕ, nat_lt, true, length, slice_index_or};
 ghost use Rattle.base.specs.Sets.{Has, IsRising};
-
-use base::NoMemory;
-use base_bits::Row;
-use std::alloc::Global;
 
 /// The place of an interface among rising ones.
 pub(crate) fn place(interfaces: &[u32], interface: u32) -> usize
@@ -36,18 +32,18 @@ pub(crate) fn is_there(interfaces: &[u32], interface: u32) -> bool
     interfaces.binary_search(&interface).is_ok()
 }
 
-/// The interfaces at these places.
-pub(crate) fn listed(alloc: Global, interfaces: &[u32], places: &Row) -> Result<Vec<u32>, NoMemory>
-    requires rising { IsRising nat_lt interfaces.now }
-    requires width { places.now.width ≡ length interfaces.now }
-    ensures rising { IfOk result (λ route. IsRising nat_lt route.items) }
-    ensures exact { IfOk result (λ route. (k : ℕ) → Has k route.items
-        ↔ ((place : ℕ) × Has place places.now.members × (slice_index_or interfaces.now place 0 ≡ k))) }
+/// The interfaces at these places, which rise.
+pub(crate) fn at_places(interfaces: &[u32], places: Vec<u32>) -> Vec<u32>
+    requires interfaces { IsRising nat_lt interfaces.now }
+    requires places { IsRising nat_lt places.items }
+    requires within { (place : ℕ) → Has place places.items → place < length interfaces.now }
+    ensures rising { IsRising nat_lt result.items }
+    ensures exact { (k : ℕ) → Has k result.items
+        ↔ ((place : ℕ) × Has place places.items × (slice_index_or interfaces.now place 0 ≡ k)) }
 {
-    places.lemma_sorted();
-    let mut route = places.members(alloc)?;
+    let mut route = places;
     for k in 0..route.len() {
         route[k] = interfaces[route[k] as usize];
     }
-    Ok(route)
+    route
 }

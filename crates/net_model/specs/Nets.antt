@@ -42,6 +42,15 @@ abbrev pub client_at : List ClientParts → ℕ → Option ClientParts
 client_at clients zero = None
 client_at clients (suc place) = slice_get clients place
 
+-- the name of a client, where there is one
+abbrev pub name_in : Option ClientParts → List ℕ
+name_in None = []
+name_in (Some client) = client.name
+
+-- the name of a client by its number, from 1
+abbrev pub client_name : List ClientParts → ℕ → List ℕ
+client_name clients number = name_in (client_at clients number)
+
 -- the clients of a net, by their numbers
 abbrev pub clients_in : NetParts → List ℕ
 clients_in net = range_with_len 1 (length net.clients)

@@ -1,4 +1,7 @@
 //! The type of a client, with its script.
+ghost use Rattle.std.specs.Prelude.{◌≡◌};
+ghost use Rattle.net_model.specs.Nets.{client_name};
+
 use filter_text::Command;
 use filter_values::Name;
 use std::marker::Model;
@@ -22,4 +25,17 @@ impl Model for Client {
     ghost Value = { ClientParts };
 
     ghost view = { λ c. client_parts c.name c.home c.barriers c.script.items };
+}
+
+/// The name of a client by its number, from 1; no byte where there is no such client.
+pub fn client_name(clients: &[Client], number: u32) -> &[u8]
+    ensures { result.now ≡ client_name clients.now number }
+{
+    let Some(place) = number.checked_sub(1) else {
+        return &[];
+    };
+    match clients.get(place as usize) {
+        Some(client) => client.name.bytes(),
+        None => &[],
+    }
 }

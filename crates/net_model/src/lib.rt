@@ -19,7 +19,7 @@ mod net;
 mod real;
 mod turn;
 
-pub use client::Client;
+pub use client::{Client, client_name};
 pub use entry::Entry;
 pub use filter_text::{Command, Delivery, Id, MessageText, Semantics, Sent};
 pub use net::Net;

@@ -8,18 +8,21 @@ use base_bits::{Row, Sets};
 use filter_text::write_notice;
 use match_filters::{Matcher, Scratch};
 use net_inbox::{Deliveries, DeliveriesBuilder};
+use net_model::{Client, client_name};
 use std::alloc::Global;
 
-/// Publications as they are delivered.
+/// Publications of these clients as they are delivered.
 pub(crate) fn deliveries(
     alloc: Global,
+    clients: &[Client],
     publications: &[Publication],
 ) -> Result<Deliveries, NoMemory>
     ensures { IfOk result (λ deliveries. deliveries ≡ map delivery_of publications.now) }
 {
     let mut builder = DeliveriesBuilder::new(alloc, publications.len())?;
     for known in publications {
-        builder.push(known.id, write_notice(alloc, &known.notice)?)?;
+        let name = client_name(clients, known.id.publisher);
+        builder.push(alloc, known.id, name, &write_notice(alloc, &known.notice)?)?;
     }
     builder.build(alloc)
 }

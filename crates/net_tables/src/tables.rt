@@ -56,7 +56,7 @@ impl<'a> Tables<'a> {
         let filters = catalogue.filter_order(alloc)?;
         let adverts = catalogue.advert_order(alloc)?;
         let overlaps = catalogue.overlaps(alloc)?;
-        let deliveries = deliveries(alloc, catalogue.publications())?;
+        let deliveries = deliveries(alloc, &net.clients, catalogue.publications())?;
         let matched = find_all(alloc, catalogue.matcher(), catalogue.publications())?;
         Ok(Tables {
             catalogue,

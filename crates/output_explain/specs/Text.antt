@@ -9,7 +9,7 @@ use Rattle.filter_text.specs.FilterText.{constraints_text}
 use Rattle.filter_text.specs.declared.id.Id.{Id}
 use Rattle.filter_text.specs.NoticeText.{notice_text}
 use Rattle.net_model.specs.Parts.{ClientParts}
-use Rattle.net_model.specs.Nets.{client_at}
+use Rattle.net_model.specs.Nets.{client_name}
 use Rattle.output_explain.specs.declared.answer.Explanation.{Explanation}
 use Rattle.output_explain.specs.declared.facts.Miss.{Miss}
 use Rattle.output_explain.specs.declared.facts.FilterFact.{FilterFact}
@@ -19,14 +19,6 @@ use Rattle.output_explain.specs.declared.verdict.Verdict.{Verdict}
 use Rattle.output_explain.specs.declared.verdict.Verdict.TheVariants as verdicts
 use Rattle.output_explain.specs.declared.verdict.Missing.TheVariants as missings
 use Rattle.output_explain.specs.declared.verdict.Reason.TheVariants as reasons
-
--- the name of a client, by its number from 1
-abbrev pub name_in : Option ClientParts → List ℕ
-name_in None = []
-name_in (Some client) = client.name
-
-abbrev pub name_of : List ClientParts → ℕ → List ℕ
-name_of clients number = name_in (client_at clients number)
 
 -- a word, and the number of a command, where there is one
 abbrev pub moment_text : List ℕ → Option ℕ → List ℕ
@@ -97,7 +89,7 @@ server_text server = codes " " ++ decimal server
 
 -- `PUBLISHER ORDINAL`
 unfoldable pub id_text : List ClientParts → Id → List ℕ
-id_text clients id = name_of clients id.publisher ++ codes " " ++ decimal id.ordinal
+id_text clients id = client_name clients id.publisher ++ codes " " ++ decimal id.ordinal
 
 -- `publication PUBLISHER ORDINAL NOTICE`
 unfoldable pub publication_line : List ClientParts → Explanation → List ℕ
@@ -105,7 +97,7 @@ publication_line clients e = codes "publication " ++ id_text clients e.id ++ cod
 
 -- `client NAME`
 unfoldable pub client_line : List ClientParts → Explanation → List ℕ
-client_line clients e = codes "client " ++ name_of clients e.client ++ codes "\n"
+client_line clients e = codes "client " ++ client_name clients e.client ++ codes "\n"
 
 -- `phase N`
 unfoldable pub phase_line : Explanation → List ℕ

@@ -3,7 +3,7 @@ ghost use Rattle.std.specs.Prelude.{◌≡◌, ◌++◌, ◌∷◌, [], IfOk, On
 ghost use Rattle.std.specs.List.{flat_map};
 ghost use Rattle.filter_text.specs.FilterText.{constraints_text};
 ghost use Rattle.filter_text.specs.NoticeText.{notice_text};
-ghost use Rattle.output_explain.specs.Text.{name_of, moment_text, since_until, stay_line, against, unsatisfied_line, miss_line, filter_lines};
+ghost use Rattle.output_explain.specs.Text.{moment_text, since_until, stay_line, against, unsatisfied_line, miss_line, filter_lines};
 ghost use Rattle.output_explain.specs.Text.{denial_line, denied_line, here_line, advert_line, advert_lines, verdict_line, id_text};
 ghost use Rattle.output_explain.specs.Text.{publication_line, client_line, phase_line, server_text, path_line, head_lines, explanation_text};
 
@@ -16,21 +16,8 @@ use filter_constraints::Constraint;
 use filter_text::{Id, write_advert, write_filter, write_notice};
 use filter_types::{Advert, Filter, Notice};
 use filter_values::{Name, Value};
-use net_model::Client;
+use net_model::{Client, client_name};
 use std::alloc::Global;
-
-// The name of a client, by its number from 1.
-fn name_of(clients: &[Client], number: u32) -> &[u8]
-    ensures { result.now ≡ name_of clients.now number }
-{
-    let Some(place) = number.checked_sub(1) else {
-        return &[];
-    };
-    match clients.get(place as usize) {
-        Some(client) => client.name.bytes(),
-        None => &[],
-    }
-}
 
 // A word and the number of a command, where there is one.
 fn push_moment(out: &mut Vec<u8>, word: &[u8], moment: Option<usize>) -> Result<(), NoMemory>
@@ -286,7 +273,7 @@ fn verdict_line(verdict: Verdict) -> &'static [u8]
 pub(crate) fn push_id(out: &mut Vec<u8>, clients: &[Client], id: Id) -> Result<(), NoMemory>
     ensures { OnOk result (out.new.items ≡ out.old.items ++ id_text clients.now id) }
 {
-    out.extend_from_slice(name_of(clients, id.publisher))?;
+    out.extend_from_slice(client_name(clients, id.publisher))?;
     out.extend_from_slice(b" ")?;
     push_number(out, u64::from(id.ordinal))
 }
@@ -315,7 +302,7 @@ fn push_client(out: &mut Vec<u8>, clients: &[Client], e: &Explanation) -> Result
     ensures { OnOk result (out.new.items ≡ out.old.items ++ client_line clients.now e.now) }
 {
     out.extend_from_slice(b"client ")?;
-    out.extend_from_slice(name_of(clients, e.client))?;
+    out.extend_from_slice(client_name(clients, e.client))?;
     out.extend_from_slice(b"\n")?;
     Ok(())
 }

@@ -12,7 +12,8 @@ use Rattle.filter_text.specs.Deliveries.{Delivery}
 use Rattle.filter_text.specs.declared.sent.Sent.{Sent}
 use Rattle.net_model.specs.Parts.{ClientParts, NetParts, EntryParts}
 use Rattle.net_model.specs.Sound.{IsAmong}
-use Rattle.output_report.specs.Lines.{client_line, client_name, publication_line, refused_line}
+use Rattle.net_model.specs.Nets.{client_name}
+use Rattle.output_report.specs.Lines.{client_line, publication_line, refused_line}
 use Rattle.output_report.specs.Deliveries.{delivery_line, deliveries_text, delivery_section, delivery_sections, ordered}
 use Rattle.output_report.specs.Trace.{trace_head, trace_text}
 use Rattle.output_report.specs.Plain.{ArePlainLists, ArePlainNames, IsPlainDelivery, Lacks, MayFollow}

@@ -1,18 +1,9 @@
 -- Defines lines of clients, refused publishes and publications, each ended by a newline (10).
-use Rattle.std.specs.Prelude.{ℕ, List, [], ◌++◌, codes, Option, Some, None}
+use Rattle.std.specs.Prelude.{ℕ, List, ◌++◌, codes}
 use Rattle.std.specs.Fmt.{decimal}
 use Rattle.filter_text.specs.declared.id.Id.{Id}
 use Rattle.net_model.specs.Parts.{ClientParts}
-use Rattle.net_model.specs.Nets.{client_at}
-
--- the name of a client, where there is one
-abbrev pub name_in : Option ClientParts → List ℕ
-name_in None = []
-name_in (Some client) = client.name
-
--- the name of a client by its number, from 1
-abbrev pub client_name : List ClientParts → ℕ → List ℕ
-client_name clients number = name_in (client_at clients number)
+use Rattle.net_model.specs.Nets.{client_name}
 
 -- `client NAME`
 unfoldable pub client_line : List ℕ → List ℕ

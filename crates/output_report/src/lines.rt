@@ -1,25 +1,12 @@
 //! Writes parts of lines.
 ghost use Rattle.std.specs.Prelude.{◌≡◌, ◌++◌, OnOk};
 ghost use Rattle.std.specs.List.{flat_map};
-ghost use Rattle.output_report.specs.Lines.{client_name, client_line, refused_line, publication_line};
+ghost use Rattle.output_report.specs.Lines.{client_line, refused_line, publication_line};
 
 use base::{NoMemory, push_number};
 use filter_text::Id;
 use filter_values::Name;
-use net_model::Client;
-
-/// The name of a client, by its number from 1.
-pub(crate) fn name_of(clients: &[Client], number: u32) -> &[u8]
-    ensures { result.now ≡ client_name clients.now number }
-{
-    let Some(place) = number.checked_sub(1) else {
-        return &[];
-    };
-    match clients.get(place as usize) {
-        Some(client) => client.name.bytes(),
-        None => &[],
-    }
-}
+use net_model::{Client, client_name};
 
 /// The line before what a client receives.
 #[tactic(auto, unfolding(crate::specs::Lines::client_line))]
@@ -64,7 +51,7 @@ pub(crate) fn push_publication(
     ensures { OnOk result (out.new.items ≡ out.old.items ++ publication_line word.now clients.now id text.now) }
 {
     out.extend_from_slice(word)?;
-    out.extend_from_slice(name_of(clients, id.publisher))?;
+    out.extend_from_slice(client_name(clients, id.publisher))?;
     out.extend_from_slice(b" ")?;
     push_number(out, u64::from(id.ordinal))?;
     out.extend_from_slice(b" ")?;

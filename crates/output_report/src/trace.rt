@@ -3,10 +3,9 @@ ghost use Rattle.std.specs.Prelude.{◌≡◌, ◌++◌, length, IfOk, OnOk};
 ghost use Rattle.std.specs.List.{flat_map};
 ghost use Rattle.output_report.specs.Trace.{act_text, entry_line, sent_line, entry_text, trace_text, trace_head};
 
-use crate::lines::name_of;
 use base::{NoMemory, push_number};
 use filter_text::Lists;
-use net_model::{Act, Client, Entry, Net, Sent};
+use net_model::{Act, Client, Entry, Net, Sent, client_name};
 use std::alloc::Global;
 
 #[tactic(auto, unfolding(crate::specs::Trace::act_text))]
@@ -16,7 +15,7 @@ fn push_act(out: &mut Vec<u8>, clients: &[Client], act: Act) -> Result<(), NoMem
     match act {
         Act::Command(client) => {
             out.extend_from_slice(b"command ")?;
-            out.extend_from_slice(name_of(clients, client))?;
+            out.extend_from_slice(client_name(clients, client))?;
             Ok(())
         }
         Act::Receive(from) => {

@@ -3,17 +3,16 @@ ghost use Rattle.std.specs.Prelude.{◌≡◌, false, length};
 ghost use Rattle.std.specs.List.{flat_map};
 ghost use Rattle.std.specs.Fmt.{decimal};
 ghost use Rattle.base_devices.specs.Pending.{outlet, Went};
-ghost use Rattle.net_inbox.specs.Inbox.{in_order};
+ghost use Rattle.net_inbox.specs.Inbox.{delivery_at, in_order};
 ghost use Rattle.output_report.specs.Lines.{client_line, refused_line, publication_line};
 ghost use Rattle.output_report.specs.Deliveries.{delivery_line, delivery_section, deliveries_text};
 
-use crate::lines::name_of;
 use base_devices::{Pending, Sink};
-use filter_text::{Delivery, Id, Lists};
+use filter_text::{Id, Lists};
 use filter_values::Name;
 use itoa::Buffer;
-use net_inbox::{Inbox, Received};
-use net_model::{Client, Net};
+use net_inbox::{Deliveries, Inbox, Received};
+use net_model::{Client, Net, client_name};
 
 // A number in decimal.
 fn put_number<K: Sink>(out: &mut Pending, sink: &mut K, number: u64)
@@ -64,7 +63,7 @@ pub(crate) fn put_publication<K: Sink>(
         (publication_line word.now clients.now id text.now) }
 {
     out.put(sink, word);
-    out.put(sink, name_of(clients, id.publisher));
+    out.put(sink, client_name(clients, id.publisher));
     out.put(sink, b" ");
     put_number(out, sink, u64::from(id.ordinal));
     out.put(sink, b" ");
@@ -72,18 +71,24 @@ pub(crate) fn put_publication<K: Sink>(
     out.put(sink, b"\n")
 }
 
-// The line of a delivery.
+// The line of a delivery by its number: the one that stands in memory, which has the name of its publisher.
 #[tactic(auto, unfolding(crate::specs::Deliveries::delivery_line))]
 fn put_delivery<K: Sink>(
     out: &mut Pending,
     sink: &mut K,
     clients: &[Client],
-    delivery: &Delivery<'_>,
+    deliveries: &Deliveries,
+    number: u32,
 )
     ensures { Went (outlet (K.state sink.old) out.old) (outlet (K.state sink.new) out.new)
-        (delivery_line clients.now delivery.now) }
+        (delivery_line clients.now (delivery_at deliveries.now number)) }
 {
-    put_publication(out, sink, b"deliver ", clients, delivery.id, delivery.bytes)
+    let delivery = deliveries.at(number);
+    let name = client_name(clients, delivery.id.publisher);
+    match deliveries.line(number, name) {
+        Some(line) => out.put(sink, line),
+        None => put_publication(out, sink, b"deliver ", clients, delivery.id, delivery.bytes),
+    }
 }
 
 // The lines of deliveries, in their order.
@@ -97,7 +102,7 @@ fn put_received<K: Sink>(
         (flat_map (delivery_line clients.now) (in_order received.entry)) }
 {
     for number in received.numbers {
-        put_delivery(out, sink, clients, &received.deliveries.at(*number));
+        put_delivery(out, sink, clients, received.deliveries, *number);
     }
 }
 

@@ -19,7 +19,7 @@ fn deliveries(alloc: Global) -> Result<Deliveries, Fail> {
         } else {
             b"y int 22"
         };
-        builder.push(id, text.to_vec(alloc)?)?;
+        builder.push(alloc, id, b"lamp", text)?;
     }
     Ok(builder.build(alloc)?)
 }
@@ -49,5 +49,14 @@ fn in_order(rt: HostRuntime) -> Result<(), Fail> {
     let (shared, numbers) = inbox.into_parts();
     assert!(rt; are_three(Inbox::of(shared.share()?, numbers).received()));
     assert!(rt; shared.at(2).bytes.is_empty());
+    Ok(())
+}
+
+#[test]
+fn lines(rt: HostRuntime) -> Result<(), Fail> {
+    let all = deliveries(rt.alloc())?;
+    assert!(rt; all.line(0, b"lamp") == Some(b"deliver lamp 1 x int 1\n".as_slice()));
+    assert!(rt; all.line(1, b"lam").is_none());
+    assert!(rt; all.line(2, b"lamp").is_none());
     Ok(())
 }
