@@ -1,5 +1,5 @@
 -- Proves that changes whose numbers and interfaces are known can be made.
-use Rattle.std.proofs.Common.{◌≡◌, ◌∙◌, ◌&&◌, cond, Result, Ok, Err, append_assoc, refl, sym, ap, ap₂, subst, ℕ, nat_lt, true, Bool, false, List, [], ◌∷◌, ◌++◌, fold}
+use Rattle.std.proofs.Common.{◌≡◌, ◌∙◌, ◌&&◌, cond, Result, Ok, Err, refl, sym, ap, ap₂, ℕ, nat_lt, true, Bool, false, List, [], ◌∷◌, ◌++◌, fold}
 use Rattle.base.specs.Sets.{member}
 use Rattle.base.proofs.Sets.{has-member, member-has}
 use Rattle.base_bits.proofs.Passing.{nat_laws}
@@ -82,6 +82,3 @@ found-member xs x (Err i) f = go (member nat_lt x xs) refl
     go : (b : Bool) → member nat_lt x xs ≡ b → false ≡ b
     go true e = absurd (found-none xs x (Err i) f (member-has nat_laws x xs e))
     go false e = refl
-
-pub known_more : (p : Installed) (xs ys : List TableChange) (c : TableChange) → all_known p (xs ++ ys) ≡ true → IsKnown p (pair_in c) → all_known p (xs ++ (ys ++ c ∷ [])) ≡ true
-known_more p xs ys c k one = subst (λ (l : List TableChange). all_known p l ≡ true) (append_assoc xs ys (c ∷ [])) (known-append p (xs ++ ys) (c ∷ []) k (known-one p c one))

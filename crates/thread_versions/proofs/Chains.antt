@@ -1,19 +1,18 @@
 -- What is installed stays the fold of a beginning of the history.
-use Rattle.std.proofs.Common.{fold, ◌≡◌, ◌≢◌, ℕ, ◌+◌, List, [], ◌∷◌, ◌++◌, true, set, refl, sym, ap, ◌∙◌, subst, ⊎_elim, append_assoc}
-use Rattle.std.proofs.lemmas.List.{append-nil}
+use Rattle.std.proofs.Common.{fold, ◌≡◌, ◌≢◌, ℕ, ◌+◌, List, [], ◌∷◌, ◌++◌, true, set, refl, sym, ap, ◌∙◌, subst, ⊎_elim}
 use Rattle.std.proofs.lemmas.List.Sums.{fold-append}
 use mathlib.Core.Option.{some}
 use lib.ListN.{get_elem?}
 use Rattle.logbook.specs.Pages.{Book}
 use Rattle.crossbeam_utils.specs.Register.{Admits, TurnsAt, Turns, Forks, Merges}
 use Rattle.atomic_table.proofs.Lists.{at_set, at_snoc, set_again}
-use Rattle.match_routes.specs.declared.table_change.TableChange.{TableChange}
 use Rattle.match_routes.specs.Installed.{Pair, Installed, all_changed}
 use Rattle.thread_versions.specs.declared.rule.View.{View}
 use Rattle.thread_versions.specs.declared.version.Version.{Version}
 use Rattle.thread_versions.specs.declared.version.Step.{Step}
 use Rattle.thread_versions.specs.Pairs.{pairs_after, all_known, with_pairs, made}
-use Rattle.thread_versions.specs.Chain.{nobody, named_by, IsNamedBy, IsFolded, Knows, KeepsViews, Sighted, ShownView, MayShow, IsShownAfter, Known, changes_of, last_seen}
+use Rattle.thread_versions.specs.Chain.{nobody, named_by, IsNamedBy, IsFolded, Knows, KeepsViews, Sighted, ShownView, MayShow, IsShownAfter, changes_of, last_seen}
+use Rattle.thread_versions.specs.History.{HistoryParts}
 use Rattle.thread_versions.proofs.Pairs.{more_after}
 use Rattle.thread_versions.proofs.Applied.{all-made}
 use Rattle.base.proofs.Bools.{absurd-false}
@@ -43,7 +42,7 @@ pub starts : (x : Version) → IsFolded x → KeepsViews x (nobody ∷ [])
 starts x folded = admits x [] (folded, λ j u e. absurd (cc e))
 
 abbrev pub Told : Type 0
-Told = Installed × Known
+Told = Installed × HistoryParts
 
 abbrev pub told : Version → Told
 told x = (x.forwarding, x.front.seen)
@@ -51,18 +50,10 @@ told x = (x.forwarding, x.front.seen)
 abbrev pub applied : Told → Step → Told
 applied s op = (fold made s.0 op.changes.items, op.front.seen)
 
-pub fold_is : (p : Installed) (s : Known) (ops : List Step) → fold applied (p, s) ops ≡ (fold made p (changes_of ops), last_seen s ops)
+pub fold_is : (p : Installed) (s : HistoryParts) (ops : List Step) → fold applied (p, s) ops ≡ (fold made p (changes_of ops), last_seen s ops)
 fold_is p s [] = refl
 fold_is p s (x ∷ ops) = fold_is (fold made p x.changes.items) x.front.seen ops
     ∙ ap (λ (l : Installed). (l, last_seen x.front.seen ops)) (sym (fold-append made p x.changes.items (changes_of ops)))
-
-pub changes_snoc : (ops : List Step) (x : Step) → changes_of (ops ++ x ∷ []) ≡ changes_of ops ++ x.changes.items
-changes_snoc [] x = append-nil x.changes.items
-changes_snoc (y ∷ ops) x = ap (λ (l : List TableChange). y.changes.items ++ l) (changes_snoc ops x) ∙ sym (append_assoc y.changes.items (changes_of ops) x.changes.items)
-
-pub last_snoc : (s : Known) (ops : List Step) (x : Step) → last_seen s (ops ++ x ∷ []) ≡ x.front.seen
-last_snoc s [] x = refl
-last_snoc s (y ∷ ops) x = last_snoc y.front.seen ops x
 
 -- what steps make of a version, of whose changes each is known
 pub after : (now next : Version) (ops : List Step) → all_known now.forwarding (changes_of ops) ≡ true → told next ≡ fold applied (told now) ops
@@ -83,7 +74,7 @@ pub shows_fold : (seat : ℕ) (v : View) (now next : Version) (ops : List Step) 
     → TurnsAt KeepsViews seat v now next (λ v x y w. ShownView v y w)
 shows_fold seat v now next ops folded may e =
     let f = shown_after now next ops folded may e in
-    shows seat v now next f.folded (ap (λ (s : Known). s.book) f.seen ∙ may.book) f.server.width
+    shows seat v now next f.folded (ap (λ (s : HistoryParts). s.book) f.seen ∙ may.book) f.server.width
 
 pub forks : (seat : ℕ) (v : View) → Forks KeepsViews seat v v v
 forks seat v x views k at = (k.0, (λ j u e. ⊎_elim (λ here. k.1 j u (subst (λ l. get_elem? l j ≡ some u) (set_again views seat v at) here)) (λ (t : v ≡ u). subst (λ z. Knows x z) t (k.1 seat v at)) (at_snoc (set views seat v) v u j e)))

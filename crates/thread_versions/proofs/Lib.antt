@@ -1,5 +1,5 @@
 pub mod Pairs
 pub mod Applied
 pub mod Fronts
-pub mod Adding
 pub mod Chains
+pub mod Pens

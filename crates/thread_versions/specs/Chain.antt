@@ -3,13 +3,12 @@ use Rattle.std.specs.Prelude.{◌≡◌, ℕ, ◌+◌, List, [], ◌∷◌, ◌+
 use mathlib.Core.Option.{some}
 use lib.ListN.{get_elem?}
 use Rattle.logbook.specs.Pages.{Book}
-use Rattle.logbook.specs.declared.tokens.Seen.{Seen}
 use Rattle.match_routes.specs.declared.table_change.TableChange.{TableChange}
 use Rattle.match_routes.specs.Installed.{IsOfSame}
 use Rattle.thread_versions.specs.declared.rule.View.{View}
 use Rattle.thread_versions.specs.declared.version.Version.{Version}
 use Rattle.thread_versions.specs.declared.version.Step.{Step}
-use Rattle.thread_versions.specs.declared.history.Law.{Law}
+use Rattle.thread_versions.specs.History.{HistoryParts}
 use Rattle.thread_versions.specs.Pairs.{pairs_after, all_known}
 
 -- the book that a view names
@@ -55,14 +54,14 @@ abbrev pub changes_of : List Step → List TableChange
 changes_of [] = []
 changes_of (x ∷ xs) = x.changes.items ++ changes_of xs
 
--- a beginning of the history that was seen
-abbrev pub Known : Type 0
-Known = Seen TableChange ℕ Law
-
 -- the history up to the last step
-abbrev pub last_seen : Known → List Step → Known
+abbrev pub last_seen : HistoryParts → List Step → HistoryParts
 last_seen s [] = s
 last_seen s (x ∷ xs) = last_seen x.front.seen xs
+
+-- these are the only changes that were handed over, with the history up to the last of them
+abbrev pub IsHanded : List TableChange → HistoryParts → List Step → Type 0
+IsHanded changes history steps = (changes_of steps ≡ changes) × ((s : HistoryParts) → last_seen s steps ≡ history)
 
 -- after these steps what is installed goes on in the same history, and each of their changes is known
 pub record MayShow (x : Version) (steps : List Step) : Type 0 where

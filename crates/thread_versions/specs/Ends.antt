@@ -1,5 +1,5 @@
 -- What contracts see of publishers, viewers and matches ahead.
-use Rattle.std.specs.Prelude.{◌≡◌, ℕ, List}
+use Rattle.std.specs.Prelude.{◌≡◌, ◌<◌, ℕ, List, vec_len, vec_capacity}
 use Rattle.left_right.specs.Sides.{view}
 use Rattle.match_routes.specs.declared.table_change.TableChange.{TableChange}
 use Rattle.match_routes.specs.Installed.{Installed, IsOfSame}
@@ -9,7 +9,11 @@ use Rattle.thread_versions.specs.declared.ahead.Ahead.{Ahead}
 
 -- all changes that were pending, in their order; those that are installed come first
 abbrev pub pending : Publisher → List TableChange
-pending p = p.top.seen.log
+pending p = p.history.log
+
+-- it has the memory for one pending change more
+abbrev pub HasRoom : Publisher → Type 0
+HasRoom p = vec_len p.waiting < vec_capacity p.waiting
 
 -- the changes that are installed
 abbrev pub installed : Publisher → List TableChange
@@ -44,7 +48,7 @@ route_in a = a.route
 
 -- it is the same publisher, later
 pub record IsSamePublisher (p q : Publisher) : Type 0 where
-  pub book : q.top.seen.book ≡ p.top.seen.book
+  pub book : q.history.book ≡ p.history.book
   pub server : IsOfSame (forwarding_of q) (forwarding_of p)
 
 -- it is the same viewer, later
@@ -54,12 +58,12 @@ pub record IsSameViewer (v w : Viewer) : Type 0 where
 
 -- the viewer is one of this publisher's
 pub record IsViewerOf (p : Publisher) (v : Viewer) : Type 0 where
-  pub book : v.front.seen.book ≡ p.top.seen.book
+  pub book : v.front.seen.book ≡ p.history.book
   pub width : width_of v ≡ (forwarding_of p).width
 
 -- a viewer of this publisher made the match ahead
 abbrev pub IsAheadOf : Publisher → Ahead → Type 0
-IsAheadOf p a = a.front.seen.book ≡ p.top.seen.book
+IsAheadOf p a = a.front.seen.book ≡ p.history.book
 
 -- the viewer made the match ahead, or another one of the same publisher
 abbrev pub IsAheadBy : Viewer → Ahead → Type 0

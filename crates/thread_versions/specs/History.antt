@@ -1,16 +1,28 @@
--- Defines the history of all pending changes, which exists in proofs alone: its one word is its length.
-use Rattle.std.specs.Prelude.{ℕ, ◌≡◌, ◌==◌, true, List, [], ◌∷◌, ◌++◌, length, MatchBool}
-use Rattle.logbook.specs.Pages.{Cell, Step, View, Book, Named}
+-- Defines the history of all pending changes, which exists in proofs alone, by its book.
+use Rattle.std.specs.Prelude.{ℕ, ◌≡◌, List, map}
+use Rattle.logbook.specs.Pages.{Book, Named, may_write}
+use Rattle.logbook.specs.declared.tokens.Seen.{Seen}
+use Rattle.logbook.specs.declared.tokens.Pen.{Pen}
 use Rattle.match_routes.specs.declared.table_change.TableChange.{TableChange}
+use Rattle.thread_versions.specs.declared.history.Entry.{Entry}
+use Rattle.thread_versions.specs.declared.history.Law.{Law}
+use Rattle.thread_versions.specs.Book.{word_of, first_pen, pen_after}
 
--- the first word is the history's length; a book has two words, and the second stays 0
-abbrev pub IsBookKept : List Cell → List TableChange → Type 0
-IsBookKept cells log = cells ≡ (length log, true) ∷ (0, true) ∷ []
+-- what contracts see of a history, or of a beginning of it: its book and its changes
+pub record HistoryParts : Type 0 where
+  pub book : Book
+  pub log : List TableChange
 
--- the word of the history's length
-abbrev pub length_word : Book → Named
-length_word b = record { tracked = true; key = 0; book = b }
+-- what of a book was seen
+abbrev pub SeenEntries : Type 0
+SeenEntries = Seen Entry ℕ Law
 
--- the change was added to all that had been seen, where the word was what the caller had seen
-abbrev pub AddsToSeen : Step TableChange → View TableChange ℕ → ℕ → View TableChange ℕ → Type 0
-AddsToSeen s v found w = MatchBool (found == s.old) (w.0 ≡ v.0 ++ s.ask ∷ []) (Unit {0})
+abbrev pub history_parts : SeenEntries → HistoryParts
+history_parts s = record { book = s.book; log = map (λ e. e.change) s.log }
+
+-- the pen is the one for the next entry of the book, whose first word this is
+pub record HasPen (first : Named) (pen : Pen) (seen : SeenEntries) : Type 0 where
+  pub word : first ≡ word_of seen.book
+  pub book : pen.book ≡ seen.book
+  pub right : pen.nib.right ≡ may_write
+  pub turn : pen.nib.key ≡ pen_after first_pen seen.log

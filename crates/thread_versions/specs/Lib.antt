@@ -1,4 +1,5 @@
 pub mod Pairs
+pub mod Book
 pub mod History
 pub mod Chain
 pub mod Ends

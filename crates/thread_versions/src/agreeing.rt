@@ -22,6 +22,6 @@ pub fn agree(publisher: &Publisher, viewer: &mut Viewer, ahead: &Ahead) -> bool
     ensures seen { seen_by viewer.new ≡ installed publisher.now }
 {
     viewer.front = publisher.shown.again();
-    ahead.front.lemma_prefix(&publisher.shown);
+    ahead.front.seen.lemma_prefix(&publisher.shown.seen);
     ahead.front.count == publisher.shown.count
 }

@@ -2,7 +2,7 @@
 ghost use Rattle.std.specs.Prelude.{◌≡◌};
 ghost use Rattle.thread_versions.specs.Pairs.{pairs_after, route_of};
 
-use crate::history::Front;
+use crate::front::Front;
 use base_bits::{OwnedSet, Set};
 use match_routes::Route;
 
@@ -46,6 +46,6 @@ impl Ahead {
     pub fn seen(&self) -> u128
         ensures { result ≡ length (seen_in self.now) }
     {
-        u128::from(self.front.count)
+        self.front.count
     }
 }

@@ -21,6 +21,7 @@
 mod agreeing;
 mod ahead;
 mod applying;
+mod front;
 mod history;
 pub mod law;
 mod making;

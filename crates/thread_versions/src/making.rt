@@ -3,7 +3,8 @@ ghost use Rattle.std.specs.Prelude.{◌≡◌, ◌≤◌, ◌<◌, ◌^◌, [], 
 ghost use Rattle.base.specs.Sets.{IsRising};
 ghost use Rattle.thread_versions.specs.Ends.{pending, installed, forwarding_of, seen_by, IsViewerOf};
 
-use crate::history::Front;
+use crate::front::Front;
+use crate::history::History;
 use crate::publisher::Publisher;
 use crate::publishing::publish_now;
 use crate::rule::VersionWriter;
@@ -31,7 +32,11 @@ pub fn versions<R: Wait>(
     ensures count { IfOk result (λ r. length r.1.items ≡ viewers) }
     ensures viewers { IfOk result (λ r. All (λ v. IsViewerOf r.0 v × (seen_by v ≡ [])) r.1.items) }
 {
-    let (front, head) = Front::open();
+    let history = History::new(rt);
+    let front = Front {
+        count: 0,
+        seen: history.past(),
+    };
     let first = Version::empty(alloc, width, interfaces, &front)?;
     let second = Version::empty(alloc, width, interfaces, &front)?;
     let writer = VersionWriter::new(alloc, first, second, viewers)?;
@@ -41,9 +46,8 @@ pub fn versions<R: Wait>(
             let publisher = Publisher {
                 alloc,
                 writer,
-                head,
+                history,
                 waiting: Vec::new(alloc),
-                top: front.again(),
                 shown: front,
             };
             Ok((publisher, viewers))

@@ -78,7 +78,7 @@ pub fn match_ahead<R: Wait>(
         if let Some(tried) = tried {
             let ahead = tried?;
             if front.count <= ahead.front.count {
-                front.lemma_prefix(&ahead.front);
+                front.seen.lemma_prefix(&ahead.front.seen);
                 *front = ahead.front.again();
                 return Ok(ahead);
             }

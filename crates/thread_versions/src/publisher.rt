@@ -1,10 +1,10 @@
 //! The type of the publisher, which alone changes the forwarding table.
 ghost use Rattle.std.specs.Prelude.{◌≡◌, ◌++◌, [], true, drop};
 ghost use Rattle.thread_versions.specs.Pairs.{all_known};
-ghost use Rattle.thread_versions.specs.Chain.{IsFolded, changes_of, last_seen};
-ghost use Rattle.thread_versions.specs.History.{length_word};
+ghost use Rattle.thread_versions.specs.Chain.{IsFolded};
 
-use crate::history::{Front, Head};
+use crate::front::Front;
+use crate::history::History;
 use crate::rule::VersionWriter;
 use match_routes::TableChange;
 use std::alloc::Global;
@@ -15,13 +15,12 @@ use std::alloc::Global;
 pub struct Publisher {
     pub(crate) alloc: Global,
     pub(crate) writer: VersionWriter,
-    pub(crate) head: Head,
+    pub(crate) history: History,
     pub(crate) waiting: Vec<TableChange>,
-    pub(crate) top: Front,
     pub(crate) shown: Front,
-    ghost word: { (head ≡ length_word top.seen.book) × (shown.seen.book ≡ top.seen.book) },
+    ghost book: { shown.seen.book ≡ history.book },
     ghost installed: { (writer.desk.shown.value.front.seen ≡ shown.seen) × IsFolded writer.desk.shown.value },
-    ghost pending: { top.seen.log ≡ shown.seen.log ++ (changes_of (drop writer.behind writer.log.items) ++ waiting.items) },
-    ghost known: { all_known writer.desk.shown.value.forwarding (changes_of (drop writer.behind writer.log.items) ++ waiting.items) ≡ true },
-    ghost last: { waiting.items ≡ [] → last_seen shown.seen (drop writer.behind writer.log.items) ≡ top.seen },
+    ghost handed: { drop writer.behind writer.log.items ≡ [] },
+    ghost pending: { history.log ≡ shown.seen.log ++ waiting.items },
+    ghost known: { all_known writer.desk.shown.value.forwarding waiting.items ≡ true },
 }

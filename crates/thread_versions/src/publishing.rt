@@ -1,12 +1,13 @@
 //! Adds pending changes, and installs them in one table update.
-ghost use Rattle.std.specs.Prelude.{◌≡◌, ◌↔◌, ◌+◌, ◌++◌, ◌∷◌, [], cond, false, drop, length, IfOk, OnOk, MatchResult};
+ghost use Rattle.std.specs.Prelude.{◌≡◌, ◌↔◌, ◌+◌, ◌++◌, ◌∷◌, [], cond, false, drop, length, IfOk, OnOk, OnErr, MatchResult};
 ghost use Rattle.left_right.specs.Sides.{view};
 ghost use Rattle.match_routes.specs.Installed.{pair_in, IsKnown, IsOfSame};
 ghost use Rattle.match_routes.specs.Routes.{IsRouteBy};
 ghost use Rattle.thread_versions.specs.Pairs.{pairs_after};
-ghost use Rattle.thread_versions.specs.Chain.{IsFolded, IsNamedBy, IsShownAfter, MayShow};
-ghost use Rattle.thread_versions.specs.Ends.{pending, installed, forwarding_of, shows, IsSamePublisher};
+ghost use Rattle.thread_versions.specs.Chain.{IsFolded, IsHanded, IsNamedBy, IsShownAfter, MayShow};
+ghost use Rattle.thread_versions.specs.Ends.{HasRoom, pending, installed, forwarding_of, shows, IsSamePublisher};
 
+use crate::front::Front;
 use crate::publisher::Publisher;
 use crate::rule::{Shows, VersionWriter};
 use crate::version::Step;
@@ -17,15 +18,12 @@ use match_routes::{Route, TableChange};
 use std::alloc::Global;
 use std::sync::Wait;
 
-/// No more changes are pending than this.
-const MOST: u64 = 1 << 62;
-
 impl Publisher {
     /// How many changes are installed.
     pub fn count(&self) -> u128
         ensures { result ≡ length (installed self.now) }
     {
-        u128::from(self.shown.count)
+        self.shown.count
     }
 
     /// The route of matched numbers by what is installed.
@@ -36,29 +34,24 @@ impl Publisher {
         self.writer.published().forwarding.route(alloc, matched)
     }
 
-    /// Makes a change pending, whose number is below the width and whose interface is one of the server's. It wants memory where there
-    /// is none, and where 2^62 changes were pending.
+    /// Makes a change pending, whose number is below the width and whose interface is one of the server's. It fails only where it
+    /// needs more memory.
     pub fn stage(&mut self, change: TableChange) -> Result<(), NoMemory>
         requires { IsKnown (forwarding_of self.old) (pair_in change) }
         ensures same { IsSamePublisher self.old self.new }
         ensures installed { installed self.new ≡ installed self.old }
         ensures none { shows self.new ≡ shows self.old }
         ensures pending { MatchResult result (λ _. pending self.new ≡ pending self.old ++ change ∷ []) (λ _. pending self.new ≡ pending self.old) }
+        ensures memory { OnErr result (HasRoom self.old → ⊥) }
     {
-        if self.top.count >= MOST {
-            return Err(NoMemory);
-        }
         self.waiting.reserve(1)?;
-        let Some(front) = self.top.grown(&self.head, &change) else {
-            return Err(NoMemory);
-        };
         self.waiting.push_reserved(change);
-        self.top = front;
+        self.history.push(&change);
         Ok(())
     }
 
     /// Publishes all pending changes at once, by just one show, or none where it finds no memory. `false` exactly where nothing is pending.
-    /// It may wait for a viewer that is inside a match.
+    /// It may wait for a viewer that is inside a match, and waits for ever where all changes that were ever pending are 2^128 or more.
     pub fn publish<R: Wait>(&mut self, rt: &R) -> Result<bool, NoMemory>
         ensures same { IsSamePublisher self.old self.new }
         ensures pending { pending self.new ≡ pending self.old }
@@ -66,49 +59,30 @@ impl Publisher {
         ensures installed { MatchResult result (λ _. installed self.new ≡ pending self.old) (λ _. installed self.new ≡ installed self.old) }
         ensures once { MatchResult result (λ some. shows self.new ≡ shows self.old + cond some 1 0) (λ _. shows self.new ≡ shows self.old) }
     {
-        if self.top.count == self.shown.count {
+        if self.waiting.is_empty() {
             return Ok(false);
         }
-        self.hand_over()?;
-        self.show(rt);
+        let front = self.pending_front(rt);
+        hand_over(self.alloc, &mut self.writer, &mut self.waiting, &front)?;
+        show(rt, &mut self.writer);
+        self.shown = front;
         Ok(true)
     }
 
-    /// Hands the waiting changes over to the writer.
-    fn hand_over(&mut self) -> Result<(), NoMemory>
-        ensures fronts { (self.new.top ≡ self.old.top) × (self.new.shown ≡ self.old.shown) }
-        ensures forwarding { forwarding_of self.new ≡ forwarding_of self.old }
-        ensures handed { OnOk result (self.new.waiting.items ≡ []) }
-        ensures none { shows self.new ≡ shows self.old }
+    /// All changes that were ever pending, with their number. It waits for ever where that is 2^128 or more.
+    fn pending_front<R: Wait>(&self, rt: &R) -> Front
+        ensures { result.seen ≡ self.now.history }
     {
-        if self.waiting.is_empty() {
-            return Ok(());
+        let waiting = self.waiting.len() as u128;
+        for _ in rt.forever() {
+            if let Some(count) = self.shown.count.checked_add(waiting) {
+                return Front {
+                    count,
+                    seen: self.history.past(),
+                };
+            }
         }
-        let step = Step {
-            changes: replace(&mut self.waiting, Vec::new(self.alloc)),
-            front: self.top.again(),
-        };
-        if let Err(step) = self.writer.append(step) {
-            self.waiting = step.changes;
-            return Err(NoMemory);
-        }
-        Ok(())
-    }
-
-    /// Publishes what the writer was handed, which is all that is pending. It takes no memory.
-    fn show<R: Wait>(&mut self, rt: &R)
-        requires { self.old.waiting.items ≡ [] }
-        ensures top { self.new.top ≡ self.old.top }
-        ensures server { IsOfSame (forwarding_of self.new) (forwarding_of self.old) }
-        ensures shown { self.new.shown.seen ≡ self.old.top.seen }
-        ensures once { shows self.new ≡ shows self.old + 1 }
-    {
-        replace_with(
-            &mut self.writer,
-            rt,
-            |writer, rt| (publish_now(rt, writer), ()),
-        );
-        self.shown = self.top.again();
+        unreachable!()
     }
 
     /// Ends the publisher. It may wait for a viewer that is inside a match.
@@ -116,16 +90,50 @@ impl Publisher {
         let Publisher {
             alloc: _,
             writer,
-            head: _head,
+            history: _history,
             waiting: _waiting,
-            top: _top,
             shown: _shown,
         } = self;
         drop(writer.take(rt));
     }
 }
 
+/// Hands the waiting changes over to the writer, with the history up to the last of them.
+fn hand_over(
+    alloc: Global,
+    writer: &mut VersionWriter,
+    waiting: &mut Vec<TableChange>,
+    front: &Front,
+) -> Result<(), NoMemory>
+    requires none { drop writer.old.behind writer.old.log.items ≡ [] }
+    ensures desk { writer.new.desk ≡ writer.old.desk }
+    ensures handed { OnOk result (IsHanded waiting.old.items front.now.seen (drop writer.new.behind writer.new.log.items)) }
+    ensures none { OnOk result (waiting.new.items ≡ []) }
+    ensures same { OnErr result ((drop writer.new.behind writer.new.log.items ≡ []) × (waiting.new.items ≡ waiting.old.items)) }
+{
+    let step = Step {
+        changes: replace(waiting, Vec::new(alloc)),
+        front: front.again(),
+    };
+    if let Err(step) = writer.append(step) {
+        *waiting = step.changes;
+        return Err(NoMemory);
+    }
+    Ok(())
+}
+
 /// Publishes what the writer was handed. It takes no memory.
+fn show<R: Wait>(rt: &R, writer: &mut VersionWriter)
+    requires folded { IsFolded writer.old.desk.shown.value }
+    requires may { MayShow writer.old.desk.shown.value (drop writer.old.behind writer.old.log.items) }
+    ensures shown { IsShownAfter writer.old.desk.shown.value (drop writer.old.behind writer.old.log.items) writer.new.desk.shown.value }
+    ensures once { (view writer.new.desk.place).shows ≡ (view writer.old.desk.place).shows + 1 }
+    ensures left { drop writer.new.behind writer.new.log.items ≡ [] }
+{
+    replace_with(writer, rt, |writer, rt| (publish_now(rt, writer), ()));
+}
+
+/// The writer, which has published what it was handed. It takes no memory.
 pub(crate) fn publish_now<R: Wait>(rt: &R, writer: VersionWriter) -> VersionWriter
     requires folded { IsFolded writer.desk.shown.value }
     requires may { MayShow writer.desk.shown.value (drop writer.behind writer.log.items) }

@@ -4,7 +4,7 @@ ghost use Rattle.left_right.specs.Sides.{view};
 ghost use Rattle.thread_versions.specs.Chain.{IsNamedBy, nobody};
 ghost use Rattle.thread_versions.specs.Ends.{width_of};
 
-use crate::history::Front;
+use crate::front::Front;
 use crate::rule::{Notes, VersionReader, VersionWriter};
 use crate::viewer::Viewer;
 use base::NoMemory;

@@ -5,10 +5,10 @@ ghost use Rattle.match_routes.specs.Installed.{Installed};
 ghost use Rattle.thread_versions.specs.Pairs.{made};
 
 use crate::applying::make_all;
-use crate::history::{Front, Law};
+use crate::front::Front;
+use crate::history::Past;
 use base::NoMemory;
 use left_right::Absorb;
-use logbook::Seen;
 use match_routes::{Forwarding, TableChange};
 use std::alloc::{AllocError, Global};
 
@@ -34,7 +34,7 @@ pub struct Version {
 }
 
 impl Absorb<Step> for Version {
-    type State = (Forwarding, Seen<TableChange, u64, Law>);
+    type State = (Forwarding, Past);
 
     ghost state = { λ v. (v.forwarding, v.front.seen) };
 

@@ -2,7 +2,7 @@
 ghost use Rattle.left_right.specs.Sides.{view};
 ghost use Rattle.thread_versions.specs.Chain.{IsNamedBy};
 
-use crate::history::Front;
+use crate::front::Front;
 use crate::rule::VersionReader;
 
 /// Who finds routes beside a publisher, maybe in another thread. It keeps how many installed changes it has seen.
