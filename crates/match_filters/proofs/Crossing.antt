@@ -3,8 +3,6 @@ use denote.Param.Send.{IsSync, sendable}
 use Rattle.std.proofs.Crossing.{crosses}
 use Rattle.std.proofs.MapsCrossing as maps
 use Rattle.match_texts.specs.contracts.key.TextKey as TextKey
-use Rattle.match_texts.specs.contracts.order.Order as TextOrder
-use Rattle.match_texts.specs.contracts.orders.Orders as TextOrders
 use Rattle.match_texts.specs.contracts.marked.Marked as Marked
 use Rattle.match_texts.specs.contracts.patterns.Patterns as Patterns
 use Rattle.match_texts.specs.contracts.texts.Texts as Texts
@@ -20,12 +18,6 @@ use Rattle.match_filters.specs.contracts.matcher.Matcher as Matcher
 key_sync : IsSync TextKey.the_field.row
 key_sync = search (sendable, crosses) depth 20
 
-text_order_sync : IsSync TextOrder.the_row
-text_order_sync = let a = key_sync in search (sendable, crosses) depth 20
-
-text_orders_sync : IsSync TextOrders.the_field.row
-text_orders_sync = let a = text_order_sync in search (sendable, crosses) depth 20
-
 marked_sync : IsSync Marked.the_field.row
 marked_sync = search (sendable, crosses, maps.BTreeMap-sync) depth 20
 
@@ -33,7 +25,7 @@ patterns_sync : IsSync Patterns.the_field.row
 patterns_sync = let a = marked_sync in search (sendable, crosses) depth 20
 
 texts_sync : IsSync Texts.the_field.row
-texts_sync = let a = text_orders_sync in let b = patterns_sync in search (sendable, crosses) depth 20
+texts_sync = let a = patterns_sync in search (sendable, crosses) depth 20
 
 counts_sync : IsSync Counts.the_field.row
 counts_sync = search (sendable, crosses) depth 20
@@ -45,7 +37,7 @@ cells_sync : IsSync Cells.the_field.row
 cells_sync = let a = history_sync in search (sendable, crosses) depth 20
 
 part_sync : IsSync Part.the_field.row
-part_sync = let a = cells_sync in search (sendable, crosses) depth 20
+part_sync = let a = cells_sync in let b = key_sync in search (sendable, crosses) depth 20
 
 parts_sync : IsSync Parts.the_field.row
 parts_sync = let a = part_sync in search (sendable, crosses, maps.BTreeMap-sync) depth 20

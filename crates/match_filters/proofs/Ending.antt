@@ -3,12 +3,10 @@ use Rattle.std.proofs.Common.{◌≡◌, ◌↔◌, ◌==◌, ◌&&◌, ◌∙�
 use Rattle.std.specs.Prelude.{Vec}
 use Rattle.std.specs.declared.alloc.Global.{Global}
 use Rattle.std.specs.Int.{bit_at}
-use Rattle.std.proofs.lemmas.Bool.{cases_lt}
+use Rattle.std.proofs.lemmas.Bool.{and_parts, cases_lt}
 use Rattle.std.proofs.lemmas.Bool.Decides.{nat_tests}
 use Rattle.std.proofs.lemmas.List.{get_or_past}
 use Rattle.std.proofs.lemmas.Nat.Bits.{bit_at-zero}
-use Rattle.filter_values.specs.Value.{same_kind}
-use Rattle.filter_values.specs.declared.value.Kind.{Kind}
 use Rattle.filter_values.specs.declared.value.Kind.TheVariants as kinds
 use Rattle.filter_constraints.specs.Constraint.{ConstraintParts}
 use Rattle.filter_types.specs.Notice.{Attribute, AreRising}
@@ -28,9 +26,9 @@ use Rattle.match_filters.specs.Kinds.{ByKind, all_uses}
 use Rattle.match_filters.specs.Matching.{matched}
 use Rattle.match_filters.specs.Parts.{is_alone, is_on, is_missed, parts_of, is_part_met}
 use Rattle.match_filters.specs.Rows.{is_met}
-use Rattle.match_filters.specs.Uses.{is_other, AreAll}
+use Rattle.match_filters.specs.Uses.{AreJoined}
 use Rattle.match_filters.proofs.Filling.{of_filter, of-filter, tally-within}
-use Rattle.match_filters.proofs.KindLaws.{tally-kinds}
+use Rattle.match_filters.proofs.KindLaws.{tally-kinds, none-alone}
 use Rattle.match_filters.proofs.Members.{matched-iff, rising-matched}
 use Rattle.match_filters.proofs.PartLaws.{parts-tell, parts-few}
 use Rattle.match_filters.proofs.RowLaws.{tally-agree-but}
@@ -46,26 +44,19 @@ shows-matched n filters words within h = passing-is (λ k. bit words k == 1) (le
     from : (k : ℕ) → Has k (matched n filters) → (k < length filters) × ((bit words k == 1) ≡ true)
     from k m = let p = (matched-iff n filters k).0 m in (p.0, eq-eqb (bit words k) 1 ((h k p.0).1 p.1))
 
--- constraints that are parts by themselves stand among those on strs
-alone-other : (p : ConstraintParts → Bool) (k : ℕ) (kind : Kind) → not (same_kind kinds.Str kind) ≡ true → (uses : List Use) → AreAll kind uses → tally (of_filter (λ c. is_alone c && p c) k) uses ≡ 0
-alone-other p k kind h uses all = omega (arith, all, tally-within (of_filter (λ c. is_alone c && p c) k) (is_other kind) (λ u e. each (same_kind u.0.kind kinds.Str) (p u.0) (u.1 == k) u.0.kind refl e) uses)
-  where
-    kind-tells : (a b : Kind) → same_kind a b ≡ true → a ≡ b
-    kind-tells a b e = grind arith
-
-    each : (x y z : Bool) (kind2 : Kind) → same_kind kind2 kinds.Str ≡ x → (x && y) && z ≡ true → not (same_kind kind2 kind) ≡ true
-    each true y z kind2 q e = ap (λ (m : Kind). not (same_kind m kind)) (kind-tells kind2 kinds.Str q) ∙ h
-    each false y z kind2 q e = cc
+-- constraints that are parts by themselves stand among the patterns
+alone-none : (p : ConstraintParts → Bool) (k : ℕ) (uses : List Use) → AreJoined uses → tally (of_filter (λ c. is_alone c && p c) k) uses ≡ 0
+alone-none p k uses joined = omega (arith, joined, tally-within (of_filter (λ c. is_alone c && p c) k) (λ u. is_alone u.0) (λ u e. (and_parts (is_alone u.0) (p u.0) (and_parts (is_alone u.0 && p u.0) (u.1 == k) e).0).0) uses)
 
 module _ (n : List Attribute) (rising : AreRising n) (filters : List (List ConstraintParts)) (few : length filters ≤ 4096) (index : ByKind) (goals : List Counts) (is : IsFilled index goals filters) (found : List ℕ) (hits : Same found (ids_satisfied n index.texts)) where
-  -- how many of its constraints on strs are satisfied
+  -- how many of its patterns are satisfied
   hits-tell : (k : ℕ) → hits_of k found ≡ tally (λ c. is_alone c && is_satisfied n c) (get_or filters k [])
   hits-tell k =
       let p = λ (c : ConstraintParts). is_alone c && is_satisfied n c in
       let a = hits (λ x. x == k) in
       let b = tally-satisfied (λ x. x == k) n index.texts in
-      let c = tally-agree-but (is_other kinds.Str) (of_filter (is_satisfied n) k) (of_filter p k) index.texts is.sorted.texts (λ u h. ap (λ (b : Bool). (b && is_satisfied n u.0) && u.1 == k) (sym (positive (same_kind u.0.kind kinds.Str) h))) in
-      omega (arith, a, b, c, tally-kinds (of_filter p k) index, alone-other (is_satisfied n) k kinds.Int refl index.ints is.sorted.ints, alone-other (is_satisfied n) k kinds.Bool refl index.bools is.sorted.bools, alone-other (is_satisfied n) k kinds.Time refl index.times is.sorted.times, of-filter p (all_uses index) filters is.indexed k)
+      let c = tally-agree-but (λ u. not (is_alone u.0)) (of_filter (is_satisfied n) k) (of_filter p k) index.texts is.sorted.alone (λ u h. ap (λ (b : Bool). (b && is_satisfied n u.0) && u.1 == k) (sym (positive (is_alone u.0) h))) in
+      omega (arith, a, b, c, tally-kinds (of_filter p k) index, alone-none (is_satisfied n) k index.ints (none-alone kinds.Int refl index.ints is.sorted.ints), alone-none (is_satisfied n) k index.bools (none-alone kinds.Bool refl index.bools is.sorted.bools), alone-none (is_satisfied n) k index.times (none-alone kinds.Time refl index.times is.sorted.times), alone-none (is_satisfied n) k index.strs is.sorted.joined, of-filter p (all_uses index) filters is.indexed k)
     where
       positive : (b : Bool) → not b ≡ false → b ≡ true
       positive true e = refl

@@ -13,14 +13,15 @@ use Rattle.filter_constraints.proofs.ConstraintLaws.{sat-kind}
 use Rattle.filter_types.specs.Notice.{Attribute}
 use Rattle.filter_types.specs.Cover.{attribute_satisfies}
 use Rattle.match_index.specs.Pairs.{tally, Same, Appends}
-use Rattle.match_index.proofs.Tallies.{tally-append, tally-none}
+use Rattle.match_index.specs.Heads.{is_pattern_op}
+use Rattle.match_index.proofs.Tallies.{tally-append}
 use Rattle.match_cells.specs.Counts.{rows_with}
 use Rattle.match_filters.specs.Index.{Use, is_satisfied, ids_satisfied}
 use Rattle.match_filters.specs.Kinds.{ByKind, all_uses, AreByKind, IsAdded}
 use Rattle.std.proofs.lemmas.Bool.{and_parts}
 use Rattle.match_filters.specs.Parts.{is_alone, is_on, is_missed}
 use Rattle.match_filters.specs.Rows.{is_met, HaveMore}
-use Rattle.match_filters.specs.Uses.{is_other, AreAll, AreKnown}
+use Rattle.match_filters.specs.Uses.{is_other, AreAll, AreAlone, AreJoined, AreKnown}
 use Rattle.match_filters.proofs.Filling.{of_filter, tally-within}
 use Rattle.match_filters.proofs.Satisfied.{tally-satisfied}
 
@@ -42,33 +43,39 @@ all-more kind c id old new e s h = omega (arith, s (is_other kind), h, ap {B = �
     self kinds.Str = refl
     self kinds.Time = refl
 
-module _ (c : ConstraintParts) (id : ℕ) (ints bools times texts : List Use) (new : List Use) where
-  pub added-int : c.kind ≡ kinds.Int → Same new ((c, id) ∷ ints) → IsAdded c id (record { ints = ints; bools = bools; times = times; texts = texts }) (record { ints = new; bools = bools; times = times; texts = texts })
+module _ (c : ConstraintParts) (id : ℕ) (x : ByKind) (new : List Use) where
+  pub added-int : c.kind ≡ kinds.Int → Same new ((c, id) ∷ x.ints) → IsAdded c id x (record { ints = new; bools = x.bools; times = x.times; strs = x.strs; texts = x.texts })
   added-int e s = record {
-    same = front ints new (bools ++ (times ++ texts)) (c, id) s;
-    kept = λ k. record { ints = all-more kinds.Int c id ints new e s k.ints; bools = k.bools; times = k.times; texts = k.texts };
+    same = front x.ints new (x.bools ++ (x.times ++ (x.strs ++ x.texts))) (c, id) s;
+    kept = λ k. record { ints = all-more kinds.Int c id x.ints new e s k.ints; bools = k.bools; times = k.times; strs = k.strs; joined = k.joined; texts = k.texts; alone = k.alone };
   }
 
-  pub added-bool : c.kind ≡ kinds.Bool → Same new ((c, id) ∷ bools) → IsAdded c id (record { ints = ints; bools = bools; times = times; texts = texts }) (record { ints = ints; bools = new; times = times; texts = texts })
+  pub added-bool : c.kind ≡ kinds.Bool → Same new ((c, id) ∷ x.bools) → IsAdded c id x (record { ints = x.ints; bools = new; times = x.times; strs = x.strs; texts = x.texts })
   added-bool e s = record {
-    same = behind ints (bools ++ (times ++ texts)) (new ++ (times ++ texts)) (c, id) (front bools new (times ++ texts) (c, id) s);
-    kept = λ k. record { ints = k.ints; bools = all-more kinds.Bool c id bools new e s k.bools; times = k.times; texts = k.texts };
+    same = behind x.ints (x.bools ++ (x.times ++ (x.strs ++ x.texts))) (new ++ (x.times ++ (x.strs ++ x.texts))) (c, id) (front x.bools new (x.times ++ (x.strs ++ x.texts)) (c, id) s);
+    kept = λ k. record { ints = k.ints; bools = all-more kinds.Bool c id x.bools new e s k.bools; times = k.times; strs = k.strs; joined = k.joined; texts = k.texts; alone = k.alone };
   }
 
-  pub added-time : c.kind ≡ kinds.Time → Same new ((c, id) ∷ times) → IsAdded c id (record { ints = ints; bools = bools; times = times; texts = texts }) (record { ints = ints; bools = bools; times = new; texts = texts })
+  pub added-time : c.kind ≡ kinds.Time → Same new ((c, id) ∷ x.times) → IsAdded c id x (record { ints = x.ints; bools = x.bools; times = new; strs = x.strs; texts = x.texts })
   added-time e s = record {
-    same = behind ints (bools ++ (times ++ texts)) (bools ++ (new ++ texts)) (c, id) (behind bools (times ++ texts) (new ++ texts) (c, id) (front times new texts (c, id) s));
-    kept = λ k. record { ints = k.ints; bools = k.bools; times = all-more kinds.Time c id times new e s k.times; texts = k.texts };
+    same = behind x.ints (x.bools ++ (x.times ++ (x.strs ++ x.texts))) (x.bools ++ (new ++ (x.strs ++ x.texts))) (c, id) (behind x.bools (x.times ++ (x.strs ++ x.texts)) (new ++ (x.strs ++ x.texts)) (c, id) (front x.times new (x.strs ++ x.texts) (c, id) s));
+    kept = λ k. record { ints = k.ints; bools = k.bools; times = all-more kinds.Time c id x.times new e s k.times; strs = k.strs; joined = k.joined; texts = k.texts; alone = k.alone };
   }
 
-  pub added-text : c.kind ≡ kinds.Str → Same new ((c, id) ∷ texts) → IsAdded c id (record { ints = ints; bools = bools; times = times; texts = texts }) (record { ints = ints; bools = bools; times = times; texts = new })
-  added-text e s = record {
-    same = behind ints (bools ++ (times ++ texts)) (bools ++ (times ++ new)) (c, id) (behind bools (times ++ texts) (times ++ new) (c, id) (behind times texts new (c, id) s));
-    kept = λ k. record { ints = k.ints; bools = k.bools; times = k.times; texts = all-more kinds.Str c id texts new e s k.texts };
+  pub added-str : c.kind ≡ kinds.Str → is_alone c ≡ false → Same new ((c, id) ∷ x.strs) → IsAdded c id x (record { ints = x.ints; bools = x.bools; times = x.times; strs = new; texts = x.texts })
+  added-str e l s = record {
+    same = behind x.ints (x.bools ++ (x.times ++ (x.strs ++ x.texts))) (x.bools ++ (x.times ++ (new ++ x.texts))) (c, id) (behind x.bools (x.times ++ (x.strs ++ x.texts)) (x.times ++ (new ++ x.texts)) (c, id) (behind x.times (x.strs ++ x.texts) (new ++ x.texts) (c, id) (front x.strs new x.texts (c, id) s)));
+    kept = λ k. record { ints = k.ints; bools = k.bools; times = k.times; strs = all-more kinds.Str c id x.strs new e s k.strs; joined = omega (arith, s (λ u. is_alone u.0), k.joined, ap {B = ℕ} (λ (b : Bool). cond b 1 0) l); texts = k.texts; alone = k.alone };
   }
 
-pub tally-kinds : (p : Use → Bool) (x : ByKind) → tally p (all_uses x) ≡ tally p x.ints + (tally p x.bools + (tally p x.times + tally p x.texts))
-tally-kinds p x = omega (arith, tally-append p x.ints (x.bools ++ (x.times ++ x.texts)), tally-append p x.bools (x.times ++ x.texts), tally-append p x.times x.texts)
+  pub added-text : c.kind ≡ kinds.Str → is_alone c ≡ true → Same new ((c, id) ∷ x.texts) → IsAdded c id x (record { ints = x.ints; bools = x.bools; times = x.times; strs = x.strs; texts = new })
+  added-text e l s = record {
+    same = behind x.ints (x.bools ++ (x.times ++ (x.strs ++ x.texts))) (x.bools ++ (x.times ++ (x.strs ++ new))) (c, id) (behind x.bools (x.times ++ (x.strs ++ x.texts)) (x.times ++ (x.strs ++ new)) (c, id) (behind x.times (x.strs ++ x.texts) (x.strs ++ new) (c, id) (behind x.strs x.texts new (c, id) s)));
+    kept = λ k. record { ints = k.ints; bools = k.bools; times = k.times; strs = k.strs; joined = k.joined; texts = all-more kinds.Str c id x.texts new e s k.texts; alone = omega (arith, s (λ u. not (is_alone u.0)), k.alone, ap {B = ℕ} (λ (b : Bool). cond (not b) 1 0) l) };
+  }
+
+pub tally-kinds : (p : Use → Bool) (x : ByKind) → tally p (all_uses x) ≡ tally p x.ints + (tally p x.bools + (tally p x.times + (tally p x.strs + tally p x.texts)))
+tally-kinds p x = omega (arith, tally-append p x.ints (x.bools ++ (x.times ++ (x.strs ++ x.texts))), tally-append p x.bools (x.times ++ (x.strs ++ x.texts)), tally-append p x.times (x.strs ++ x.texts), tally-append p x.strs x.texts)
 
 -- no constraint of another kind belongs to the part on an attribute
 off : (a : Attribute) (kind : Kind) → same_kind (kind_of a.1) kind ≡ false → (c : ConstraintParts) → is_on a c ≡ true → not (same_kind c.kind kind) ≡ true
@@ -78,6 +85,14 @@ off a kind h c e =
 
 none-on : (a : Attribute) (kind : Kind) → same_kind (kind_of a.1) kind ≡ false → (uses : List Use) → AreAll kind uses → (k : ℕ) → tally (of_filter (is_on a) k) uses ≡ 0
 none-on a kind h uses all k = omega (arith, all, tally-within (of_filter (is_on a) k) (is_other kind) (λ u e. off a kind h u.0 ((and_parts (is_on a u.0) (u.1 == k) e).0)) uses)
+
+-- a constraint that is a part by itself belongs to no part on an attribute
+apart-on : (a : Attribute) (uses : List Use) → AreAlone uses → (k : ℕ) → tally (of_filter (is_on a) k) uses ≡ 0
+apart-on a uses alone k = omega (arith, alone, tally-within (of_filter (is_on a) k) (λ u. not (is_alone u.0)) (λ u e. (and_parts (not (is_alone u.0)) (bytes_eq a.0 u.0.name && same_kind (kind_of a.1) u.0.kind) (and_parts (is_on a u.0) (u.1 == k) e).0).0) uses)
+
+-- of a kind but str no constraint is a part by itself
+pub none-alone : (kind : Kind) → same_kind kinds.Str kind ≡ false → (uses : List Use) → AreAll kind uses → AreJoined uses
+none-alone kind h uses all = omega (arith, all, tally-within (λ u. is_alone u.0) (is_other kind) (λ u e. ap not (ap (λ (z : Kind). same_kind z kind) (kind-tells u.0.kind kinds.Str (and_parts (same_kind u.0.kind kinds.Str) (is_pattern_op u.0.op) e).0) ∙ h)) uses)
 
 missed-few : (a : Attribute) (k : ℕ) (uses : List Use) → tally (of_filter (is_missed a) k) uses ≤ tally (of_filter (is_on a) k) uses
 missed-few a k uses = tally-within (of_filter (is_missed a) k) (of_filter (is_on a) k) (λ u e. each (is_on a u.0) (not (satisfies u.0 a.1)) (u.1 == k) e) uses
@@ -99,48 +114,37 @@ more-by span a xs ys old new e h = record { long = h.long; more = λ k l. h.more
 module _ (x : ByKind) (are : AreByKind x) (span : ℕ) (a : Attribute) (old new : List (Vec ℕ Global)) where
   pub read-int : kind_of a.1 ≡ kinds.Int → HaveMore span a x.ints old new → HaveMore span a (all_uses x) old new
   read-int e = more-by span a x.ints (all_uses x) old new (λ k. same-met a x.ints (all_uses x) k
-      (omega (arith, tally-kinds (of_filter (is_on a) k) x, none-on a kinds.Bool (other kinds.Bool refl) x.bools are.bools k, none-on a kinds.Time (other kinds.Time refl) x.times are.times k, none-on a kinds.Str (other kinds.Str refl) x.texts are.texts k))
-      (omega (arith, tally-kinds (of_filter (is_missed a) k) x, none-missed a kinds.Bool (other kinds.Bool refl) x.bools are.bools k, none-missed a kinds.Time (other kinds.Time refl) x.times are.times k, none-missed a kinds.Str (other kinds.Str refl) x.texts are.texts k)))
+      (omega (arith, tally-kinds (of_filter (is_on a) k) x, none-on a kinds.Bool (other kinds.Bool refl) x.bools are.bools k, none-on a kinds.Time (other kinds.Time refl) x.times are.times k, none-on a kinds.Str (other kinds.Str refl) x.strs are.strs k, none-on a kinds.Str (other kinds.Str refl) x.texts are.texts k))
+      (omega (arith, tally-kinds (of_filter (is_missed a) k) x, none-missed a kinds.Bool (other kinds.Bool refl) x.bools are.bools k, none-missed a kinds.Time (other kinds.Time refl) x.times are.times k, none-missed a kinds.Str (other kinds.Str refl) x.strs are.strs k, none-missed a kinds.Str (other kinds.Str refl) x.texts are.texts k)))
     where
       other : (kind : Kind) → same_kind kinds.Int kind ≡ false → same_kind (kind_of a.1) kind ≡ false
       other kind h = ap (λ (z : Kind). same_kind z kind) e ∙ h
 
   pub read-bool : kind_of a.1 ≡ kinds.Bool → HaveMore span a x.bools old new → HaveMore span a (all_uses x) old new
   read-bool e = more-by span a x.bools (all_uses x) old new (λ k. same-met a x.bools (all_uses x) k
-      (omega (arith, tally-kinds (of_filter (is_on a) k) x, none-on a kinds.Int (other kinds.Int refl) x.ints are.ints k, none-on a kinds.Time (other kinds.Time refl) x.times are.times k, none-on a kinds.Str (other kinds.Str refl) x.texts are.texts k))
-      (omega (arith, tally-kinds (of_filter (is_missed a) k) x, none-missed a kinds.Int (other kinds.Int refl) x.ints are.ints k, none-missed a kinds.Time (other kinds.Time refl) x.times are.times k, none-missed a kinds.Str (other kinds.Str refl) x.texts are.texts k)))
+      (omega (arith, tally-kinds (of_filter (is_on a) k) x, none-on a kinds.Int (other kinds.Int refl) x.ints are.ints k, none-on a kinds.Time (other kinds.Time refl) x.times are.times k, none-on a kinds.Str (other kinds.Str refl) x.strs are.strs k, none-on a kinds.Str (other kinds.Str refl) x.texts are.texts k))
+      (omega (arith, tally-kinds (of_filter (is_missed a) k) x, none-missed a kinds.Int (other kinds.Int refl) x.ints are.ints k, none-missed a kinds.Time (other kinds.Time refl) x.times are.times k, none-missed a kinds.Str (other kinds.Str refl) x.strs are.strs k, none-missed a kinds.Str (other kinds.Str refl) x.texts are.texts k)))
     where
       other : (kind : Kind) → same_kind kinds.Bool kind ≡ false → same_kind (kind_of a.1) kind ≡ false
       other kind h = ap (λ (z : Kind). same_kind z kind) e ∙ h
 
   pub read-time : kind_of a.1 ≡ kinds.Time → HaveMore span a x.times old new → HaveMore span a (all_uses x) old new
   read-time e = more-by span a x.times (all_uses x) old new (λ k. same-met a x.times (all_uses x) k
-      (omega (arith, tally-kinds (of_filter (is_on a) k) x, none-on a kinds.Int (other kinds.Int refl) x.ints are.ints k, none-on a kinds.Bool (other kinds.Bool refl) x.bools are.bools k, none-on a kinds.Str (other kinds.Str refl) x.texts are.texts k))
-      (omega (arith, tally-kinds (of_filter (is_missed a) k) x, none-missed a kinds.Int (other kinds.Int refl) x.ints are.ints k, none-missed a kinds.Bool (other kinds.Bool refl) x.bools are.bools k, none-missed a kinds.Str (other kinds.Str refl) x.texts are.texts k)))
+      (omega (arith, tally-kinds (of_filter (is_on a) k) x, none-on a kinds.Int (other kinds.Int refl) x.ints are.ints k, none-on a kinds.Bool (other kinds.Bool refl) x.bools are.bools k, none-on a kinds.Str (other kinds.Str refl) x.strs are.strs k, none-on a kinds.Str (other kinds.Str refl) x.texts are.texts k))
+      (omega (arith, tally-kinds (of_filter (is_missed a) k) x, none-missed a kinds.Int (other kinds.Int refl) x.ints are.ints k, none-missed a kinds.Bool (other kinds.Bool refl) x.bools are.bools k, none-missed a kinds.Str (other kinds.Str refl) x.strs are.strs k, none-missed a kinds.Str (other kinds.Str refl) x.texts are.texts k)))
     where
       other : (kind : Kind) → same_kind kinds.Time kind ≡ false → same_kind (kind_of a.1) kind ≡ false
       other kind h = ap (λ (z : Kind). same_kind z kind) e ∙ h
 
--- a str has no part
-pub read-text : (span : ℕ) (a : Attribute) (uses : List Use) (rows : List (Vec ℕ Global)) → kind_of a.1 ≡ kinds.Str → HaveMore span a uses rows rows
-read-text span a uses rows e = record {
-  long = λ l. l;
-  more = λ k l. omega (arith, ap {B = ℕ} (λ (x : ℕ). cond (nat_lt 0 x && nat_eq (tally (of_filter (is_missed a) k) uses) 0) 1 0) (tally-none (of_filter (is_on a) k) uses (λ u. ap (λ (b : Bool). b && u.1 == k) (never u.0))));
-}
-  where
-    strs : (z : Kind) (b : Bool) → (not (same_kind z kinds.Str) && (b && same_kind kinds.Str z)) ≡ false
-    strs kinds.Str b = refl
-    strs kinds.Int true = refl
-    strs kinds.Int false = refl
-    strs kinds.Bool true = refl
-    strs kinds.Bool false = refl
-    strs kinds.Time true = refl
-    strs kinds.Time false = refl
+  pub read-str : kind_of a.1 ≡ kinds.Str → HaveMore span a x.strs old new → HaveMore span a (all_uses x) old new
+  read-str e = more-by span a x.strs (all_uses x) old new (λ k. same-met a x.strs (all_uses x) k
+      (omega (arith, tally-kinds (of_filter (is_on a) k) x, none-on a kinds.Int (other kinds.Int refl) x.ints are.ints k, none-on a kinds.Bool (other kinds.Bool refl) x.bools are.bools k, none-on a kinds.Time (other kinds.Time refl) x.times are.times k, apart-on a x.texts are.alone k))
+      (omega (arith, tally-kinds (of_filter (is_missed a) k) x, none-missed a kinds.Int (other kinds.Int refl) x.ints are.ints k, none-missed a kinds.Bool (other kinds.Bool refl) x.bools are.bools k, none-missed a kinds.Time (other kinds.Time refl) x.times are.times k, apart-on a x.texts are.alone k, missed-few a k x.texts)))
+    where
+      other : (kind : Kind) → same_kind kinds.Str kind ≡ false → same_kind (kind_of a.1) kind ≡ false
+      other kind h = ap (λ (z : Kind). same_kind z kind) e ∙ h
 
-    never : (c : ConstraintParts) → is_on a c ≡ false
-    never c = ap (λ (z : Kind). not (is_alone c) && (bytes_eq a.0 c.name && same_kind z c.kind)) e ∙ strs c.kind (bytes_eq a.0 c.name)
-
--- no constraint on a str is satisfied by another value
+-- no constraint on a str is satisfied by a value of another kind
 pub no-text : (a : Attribute) (found : List ℕ) (uses : List Use) → same_kind (kind_of a.1) kinds.Str ≡ false → AreAll kinds.Str uses → Appends found found (ids_satisfied (a ∷ []) uses)
 no-text a found uses e all = record {
   tail = [];
@@ -170,3 +174,6 @@ module _ (bound : ℕ) (x : ByKind) (known : AreKnown bound (all_uses x)) where
 
   pub known-times : AreKnown bound x.times
   known-times = omega (arith, known, tally-kinds (λ u. nat_le bound u.1) x)
+
+  pub known-strs : AreKnown bound x.strs
+  known-strs = omega (arith, known, tally-kinds (λ u. nat_le bound u.1) x)

@@ -1,5 +1,5 @@
 -- What one attribute adds to the rows.
-use Rattle.std.proofs.Common.{◌≡◌, ◌↔◌, ◌+◌, ◌≤◌, ◌<◌, ◌==◌, ◌&&◌, ◌∙◌, inl, inr, refl, sym, ap, ap₂, subst, arith, ℕ, Bool, true, false, not, cond, nat_lt, nat_eq, List, [], ◌∷◌, ◌++◌, length, take, set, add-one, zero, suc, get_or, Some, None}
+use Rattle.std.proofs.Common.{◌≡◌, ◌↔◌, ◌+◌, ◌≤◌, ◌<◌, ◌==◌, ◌&&◌, ◌||◌, ◌∙◌, refl, sym, ap, ap₂, subst, arith, ℕ, Bool, true, false, not, cond, nat_lt, nat_eq, List, [], ◌∷◌, ◌++◌, length, take, set, add-one, zero, suc, get_or, Some, None}
 use Rattle.std.specs.Prelude.{Vec}
 use Rattle.std.specs.declared.alloc.Global.{Global}
 use Rattle.std.specs.List.{IsDistinct}
@@ -20,16 +20,15 @@ use Rattle.base_bits.specs.Words.{bit}
 use Rattle.match_index.specs.Pairs.{tally, Pair, Test, passes}
 use Rattle.match_index.specs.Keys.{same_bytes, at_key, key_cmp}
 use Rattle.match_cells.specs.Counts.{rows_with}
-use Rattle.match_numbers.specs.Operands.{IsNumeric, AreOf, is_other as is_other_pair, is_of, is_missed as is_missed_of}
+use Rattle.match_numbers.specs.Operands.{is_apart, AreOf, is_other as is_other_pair, is_of, is_missed as is_missed_of}
 use Rattle.match_filters.specs.Index.{Use}
-use Rattle.std.proofs.lemmas.Bool.{and_parts}
 use Rattle.base_bits.proofs.Bits.{bit-small}
-use Rattle.match_filters.proofs.KindLaws.{kind-tells}
+use Rattle.match_numbers.proofs.Putting.{of-value}
 use Rattle.match_filters.specs.Parts.{is_alone, is_on, is_missed}
 use Rattle.match_filters.specs.Rows.{AreLong, IsRead, HaveMore}
 use Rattle.match_filters.specs.Shelves.{constraint_of, uses_of}
 use Rattle.match_filters.specs.Uses.{is_other, AreOfKind}
-use Rattle.match_filters.proofs.Filling.{of_filter, tally-within}
+use Rattle.match_filters.proofs.Filling.{of_filter}
 use Rattle.match_filters.proofs.ShelfLaws.{AreNamed, shelf-only, shelf-none}
 
 -- tests that agree on all members but some, of which there are none
@@ -51,24 +50,15 @@ kind-self kinds.Int = refl
 kind-self kinds.Str = refl
 kind-self kinds.Time = refl
 
-numeric-alone : (kind : Kind) → IsNumeric kind → same_kind kind kinds.Str ≡ false
-numeric-alone kind (inl e) = ap (λ k. same_kind k kinds.Str) e
-numeric-alone kind (inr (inl e)) = ap (λ k. same_kind k kinds.Str) e
-numeric-alone kind (inr (inr e)) = ap (λ k. same_kind k kinds.Str) e
+-- a constraint on the name and the kind of an attribute that is no part by itself
+on-one : (name : List ℕ) (v : Value) (t : Test) → not (same_kind t.kind (kind_of v)) || is_apart t ≡ false → is_on (name, v) (constraint_of name t) ≡ true
+on-one name v t h =
+    let b = of-value t.kind (kind_of v) (is_apart t) h in
+    rw (b.1, bytes_eq-self name) (ap (λ (z : Kind). same_kind (kind_of v) z) b.0 ∙ kind-self (kind_of v))
 
--- a constraint on the name and the kind of an attribute
-on-one : (name : List ℕ) (v : Value) (t : Test) → IsNumeric (kind_of v) → not (same_kind t.kind (kind_of v)) ≡ false → is_on (name, v) (constraint_of name t) ≡ true
-on-one name v t n h =
-    let k : t.kind ≡ kind_of v = kind-tells t.kind (kind_of v) (positive (same_kind t.kind (kind_of v)) h) in
-    ap (λ (z : Kind). not (same_kind z kinds.Str) && (bytes_eq name name && same_kind (kind_of v) z)) k ∙ rw (numeric-alone (kind_of v) n, bytes_eq-self name, kind-self (kind_of v)) refl
-  where
-    positive : (b : Bool) → not b ≡ false → b ≡ true
-    positive true e = refl
-    positive false e = cc
-
-missed-one : (name : List ℕ) (v : Value) (t : Test) (k : Bool) → IsNumeric (kind_of v) → not (same_kind t.kind (kind_of v)) ≡ false → is_missed (name, v) (constraint_of name t) && k ≡ k && not (passes v t)
+missed-one : (name : List ℕ) (v : Value) (t : Test) (k : Bool) → not (same_kind t.kind (kind_of v)) || is_apart t ≡ false → is_missed (name, v) (constraint_of name t) && k ≡ k && not (passes v t)
 unfolding satisfies
-missed-one name v t k n h = ap (λ (b : Bool). (b && not (passes v t)) && k) (on-one name v t n h) ∙ swap (passes v t) k
+missed-one name v t k h = ap (λ (b : Bool). (b && not (passes v t)) && k) (on-one name v t h) ∙ swap (passes v t) k
   where
     swap : (a b : Bool) → (not a && b) ≡ (b && not a)
     swap true true = refl
@@ -94,35 +84,49 @@ missed-named a k u h = ap (λ (b : Bool). ((not (is_alone u.0) && (b && same_kin
     never false y z = refl
 
 module _ (name : List ℕ) (v : Value) (pairs : List Pair) (es : List (Vec ℕ Global × List Pair)) (of : AreOfKind v (uses_of es)) (distinct : IsDistinct (λ j k. is_eq (key_cmp j k)) (keys_of es)) (here : lookup (at_key name) es ≡ Some pairs) where
-  -- all pairs of the shelf are of the value's kind
+  -- all of the shelf is of the value's kind, and no part by itself
   pub of-kind : AreOf v pairs
-  of-kind = (of.0, omega (arith, all, few, of.1))
+  of-kind = omega (arith, all, few, of.0, of.1)
     where
       p : Use → Bool
-      p u = same_bytes name u.0.name && is_other (kind_of v) u
+      p u = same_bytes name u.0.name && (is_other (kind_of v) u || is_alone u.0)
 
-      few : tally p (uses_of es) ≤ tally (is_other (kind_of v)) (uses_of es)
-      few = tally-within p (is_other (kind_of v)) (λ u e. (and_parts (same_bytes name u.0.name) (is_other (kind_of v) u) e).1) (uses_of es)
+      few : tally p (uses_of es) ≤ tally (is_other (kind_of v)) (uses_of es) + tally (λ u. is_alone u.0) (uses_of es)
+      few = few-of (uses_of es)
+        where
+          few-of : (us : List Use) → tally p us ≤ tally (is_other (kind_of v)) us + tally (λ u. is_alone u.0) us
+          few-of [] = omega arith
+          few-of (u ∷ us) = omega (arith, few-of us, each (same_bytes name u.0.name) (is_other (kind_of v) u) (is_alone u.0))
+            where
+              each : (x y z : Bool) → cond {A = ℕ} (x && (y || z)) 1 0 ≤ cond y 1 0 + cond z 1 0
+              each true true true = omega arith
+              each true true false = omega arith
+              each true false true = omega arith
+              each true false false = omega arith
+              each false true true = omega arith
+              each false true false = omega arith
+              each false false true = omega arith
+              each false false false = omega arith
 
       here-same : (x : Pair) → p (constraint_of name x.0, x.1) ≡ is_other_pair v x
-      here-same x = ap (λ (b : Bool). b && not (same_kind x.0.kind (kind_of v))) (is_eq-slice_cmp name name ∙ bytes_eq-self name)
+      here-same x = ap (λ (b : Bool). b && (not (same_kind x.0.kind (kind_of v)) || is_apart x.0)) (is_eq-slice_cmp name name ∙ bytes_eq-self name)
 
       agree : (xs : List Pair) → tally (λ (x : Pair). p (constraint_of name x.0, x.1)) xs ≡ tally (is_other_pair v) xs
       agree [] = refl
       agree (x ∷ xs) = omega (arith, agree xs, ap {B = ℕ} (λ (b : Bool). cond b 1 0) (here-same x))
 
       all : tally p (uses_of es) ≡ tally (is_other_pair v) pairs
-      all = shelf-only name p pairs es (λ u h. ap (λ (b : Bool). b && is_other (kind_of v) u) h) distinct here ∙ agree pairs
+      all = shelf-only name p pairs es (λ u h. ap (λ (b : Bool). b && (is_other (kind_of v) u || is_alone u.0)) h) distinct here ∙ agree pairs
 
   pub on-shelf : (k : ℕ) → tally (of_filter (is_on (name, v)) k) (uses_of es) ≡ tally (is_of k) pairs
   on-shelf k =
       shelf-only name (of_filter (is_on (name, v)) k) pairs es (on-named (name, v) k) distinct here
-      ∙ tally-agree-but (is_other_pair v) (λ x. is_on (name, v) (constraint_of name x.0) && x.1 == k) (is_of k) pairs of-kind.1 (λ x h. ap (λ (b : Bool). b && x.1 == k) (on-one name v x.0 of.0 h))
+      ∙ tally-agree-but (is_other_pair v) (λ x. is_on (name, v) (constraint_of name x.0) && x.1 == k) (is_of k) pairs of-kind (λ x h. ap (λ (b : Bool). b && x.1 == k) (on-one name v x.0 h))
 
   pub missed-shelf : (k : ℕ) → tally (of_filter (is_missed (name, v)) k) (uses_of es) ≡ tally (is_missed_of v k) pairs
   missed-shelf k =
       shelf-only name (of_filter (is_missed (name, v)) k) pairs es (missed-named (name, v) k) distinct here
-      ∙ tally-agree-but (is_other_pair v) (λ x. is_missed (name, v) (constraint_of name x.0) && x.1 == k) (is_missed_of v k) pairs of-kind.1 (λ x h. missed-one name v x.0 (x.1 == k) of.0 h)
+      ∙ tally-agree-but (is_other_pair v) (λ x. is_missed (name, v) (constraint_of name x.0) && x.1 == k) (is_missed_of v k) pairs of-kind (λ x h. missed-one name v x.0 (x.1 == k) h)
 
 long-more : (span : ℕ) (rows new : List (Vec ℕ Global)) (row : Vec ℕ Global) → new ≡ rows ++ row ∷ [] → length row.items ≡ span → AreLong span rows → AreLong span new
 long-more span rows new row e l h = subst (AreLong span) (sym e) (λ d r m. go rows h d r m)

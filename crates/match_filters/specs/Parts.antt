@@ -1,4 +1,4 @@
--- Defines the parts of a filter: its constraints on one name and kind are one part, and a constraint on a str is one by itself.
+-- Defines the parts of a filter: its constraints on one name and kind are one part, and a pattern of strs is one by itself.
 use Rattle.std.specs.Prelude.{ℕ, ◌+◌, ◌&&◌, ◌||◌, Bool, not, cond, nat_lt, nat_eq, List, [], ◌∷◌}
 use Rattle.std.specs.List.{list_any}
 use Rattle.std.specs.Str.{bytes_eq}
@@ -7,10 +7,11 @@ use Rattle.filter_values.specs.declared.value.Kind.TheVariants as kinds
 use Rattle.filter_constraints.specs.Constraint.{ConstraintParts, same_subject, satisfies}
 use Rattle.filter_types.specs.Notice.{Attribute}
 use Rattle.match_index.specs.Pairs.{tally}
+use Rattle.match_index.specs.Heads.{is_pattern_op}
 
 -- the constraint is a part by itself
 abbrev pub is_alone : ConstraintParts → Bool
-is_alone c = same_kind c.kind kinds.Str
+is_alone c = same_kind c.kind kinds.Str && is_pattern_op c.op
 
 -- the constraint belongs to the part on the name and the kind of the attribute
 abbrev pub is_on : Attribute → ConstraintParts → Bool

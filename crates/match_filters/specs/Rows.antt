@@ -1,12 +1,11 @@
 -- Defines rows of words, and what one attribute adds to them.
-use Rattle.std.specs.Prelude.{◌≡◌, ◌↔◌, ◌++◌, ◌∷◌, [], ◌+◌, ◌*◌, ◌<◌, ◌&&◌, ◌==◌, ℕ, Bool, cond, nat_lt, nat_eq, List, Vec, length, slice_index_or}
+use Rattle.std.specs.Prelude.{◌≡◌, ◌++◌, ◌∷◌, [], ◌+◌, ◌*◌, ◌<◌, ◌&&◌, ◌==◌, ℕ, Bool, cond, nat_lt, nat_eq, List, Vec, length, slice_index_or}
 use Rattle.std.specs.declared.alloc.Global.{Global}
 use Rattle.filter_values.specs.declared.value.Value.{Value}
 use Rattle.filter_types.specs.Notice.{Attribute}
-use Rattle.base_bits.specs.Words.{bit}
 use Rattle.match_index.specs.Pairs.{tally, Pair}
 use Rattle.match_cells.specs.Counts.{rows_with}
-use Rattle.match_numbers.specs.Operands.{AreOf, is_of, is_missed as is_missed_of}
+use Rattle.match_numbers.specs.Operands.{AreOf, IsRowOf}
 use Rattle.match_filters.specs.Index.{Use}
 use Rattle.match_filters.specs.Parts.{is_on, is_missed}
 
@@ -19,8 +18,7 @@ pub record IsRead (span : ℕ) (v : Value) (pairs : List Pair) (old new : List (
   pub row : Vec ℕ Global
   pub more : new ≡ old ++ row ∷ []
   pub long : length row.items ≡ span
-  pub bits : AreOf v pairs → (k : ℕ) → k < 64 * span
-      → (bit row.items k ≡ 1) ↔ ((0 < tally (is_of k) pairs) × (tally (is_missed_of v k) pairs ≡ 0))
+  pub bits : AreOf v pairs → (k : ℕ) → k < 64 * span → IsRowOf v k pairs row.items
 
 -- the filter of this number has constraints in the part on the attribute, and the attribute satisfies them all
 abbrev pub is_met : Attribute → List Use → ℕ → Bool

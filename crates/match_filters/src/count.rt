@@ -13,7 +13,7 @@ use base::NoMemory;
 use filter_types::Notice;
 use match_cells::{Counts, count_one};
 
-/// The numbers of the filters whose constraints on strs the notice satisfies, once a constraint.
+/// The numbers of the filters whose patterns of strs the notice satisfies, once a pattern.
 pub(crate) fn find(index: &Index, notice: &Notice, found: &mut Vec<u32>) -> Result<(), NoMemory>
     ensures { OnOk result (Same found.new.items (ids_satisfied notice.now index.now.texts)) }
 {

@@ -4,18 +4,26 @@ ghost use Rattle.std.specs.List.{list_any};
 ghost use Rattle.filter_constraints.specs.Constraint.{ConstraintParts};
 ghost use Rattle.match_filters.specs.Parts.{is_alone, is_beside, ends_part, parts_of};
 ghost use Rattle.match_filters.specs.Goals.{AreGoals, IsOpen};
+ghost use Rattle.match_index.specs.Heads.{is_pattern_op};
 ghost use Rattle.match_cells.specs.Counts.{goal_at};
 
 use base::NoMemory;
-use filter_constraints::Constraint;
+use filter_constraints::{Constraint, Op};
 use filter_values::Kind;
 use match_cells::{Counts, count_one};
 
+/// Whether an operator is one of the patterns.
+fn is_pattern(op: Op) -> bool
+    ensures { result ≡ is_pattern_op op }
+{
+    matches!(op, Op::Prefix | Op::Suffix | Op::Contains)
+}
+
 /// Whether a constraint is a part by itself.
-fn is_alone(constraint: &Constraint) -> bool
+pub(crate) fn is_alone(constraint: &Constraint) -> bool
     ensures { result ≡ is_alone constraint.now }
 {
-    constraint.kind().is(Kind::Str)
+    constraint.kind().is(Kind::Str) && is_pattern(constraint.op())
 }
 
 /// Whether two constraints belong to one part.

@@ -6,6 +6,7 @@ ghost use Rattle.match_filters.specs.Kinds.{all_uses, AreByKind, IsAdded};
 ghost use Rattle.match_filters.specs.Uses.{AreKnown};
 ghost use Rattle.match_filters.specs.Rows.{HaveMore};
 
+use crate::goals::is_alone;
 use crate::parts::Parts;
 use crate::rows::Rows;
 use crate::shelves::Shelves;
@@ -22,6 +23,7 @@ pub(crate) struct IndexBuilder {
     ints: Shelves,
     bools: Shelves,
     times: Shelves,
+    strs: Shelves,
     texts: TextShelves,
 }
 
@@ -30,7 +32,7 @@ impl Model for IndexBuilder {
 
     ghost Value = { ByKind };
 
-    ghost view = { λ b. record { ints = b.ints; bools = b.bools; times = b.times; texts = b.texts } };
+    ghost view = { λ b. record { ints = b.ints; bools = b.bools; times = b.times; strs = b.strs; texts = b.texts } };
 }
 
 /// The constraints of all filters, by kind and name.
@@ -39,6 +41,7 @@ pub(crate) struct Index {
     ints: Parts,
     bools: Parts,
     times: Parts,
+    strs: Parts,
     texts: TextShelves,
 }
 
@@ -47,20 +50,21 @@ impl Model for Index {
 
     ghost Value = { ByKind };
 
-    ghost view = { λ i. record { ints = i.ints; bools = i.bools; times = i.times; texts = i.texts } };
+    ghost view = { λ i. record { ints = i.ints; bools = i.bools; times = i.times; strs = i.strs; texts = i.texts } };
 
-    ghost invariant = { λ i. AreByKind (record { ints = i.ints; bools = i.bools; times = i.times; texts = i.texts }) };
+    ghost invariant = { λ i. AreByKind (record { ints = i.ints; bools = i.bools; times = i.times; strs = i.strs; texts = i.texts }) };
 }
 
 impl IndexBuilder {
     /// An index of nothing. It takes no memory.
     pub(crate) fn new(alloc: Global) -> IndexBuilder
-        ensures { result ≡ record { ints = []; bools = []; times = []; texts = [] } }
+        ensures { result ≡ record { ints = []; bools = []; times = []; strs = []; texts = [] } }
     {
         IndexBuilder {
             ints: Shelves::new(alloc),
             bools: Shelves::new(alloc),
             times: Shelves::new(alloc),
+            strs: Shelves::new(alloc),
             texts: TextShelves::new(alloc),
         }
     }
@@ -73,7 +77,8 @@ impl IndexBuilder {
             Kind::Int => self.ints.add(constraint, id)?,
             Kind::Bool => self.bools.add(constraint, id)?,
             Kind::Time => self.times.add(constraint, id)?,
-            Kind::Str => self.texts.add(constraint, u32::from(id))?,
+            Kind::Str if is_alone(constraint) => self.texts.add(constraint, u32::from(id))?,
+            Kind::Str => self.strs.add(constraint, id)?,
         }
         Ok(())
     }
@@ -85,22 +90,25 @@ impl Index {
         requires narrow { span < 2 ^ 32 }
         requires sorted { AreByKind builder }
         requires known { AreKnown (64 * span) (all_uses builder) }
-        requires few { length (all_uses builder) < 2 ^ 31 }
+        requires few { length (all_uses builder) < 2 ^ 30 }
         ensures { IfOk result (λ index. index ≡ builder) }
     {
         let IndexBuilder {
             ints,
             bools,
             times,
+            strs,
             texts,
         } = builder;
         let ints = Parts::of(ints, span)?;
         let bools = Parts::of(bools, span)?;
         let times = Parts::of(times, span)?;
+        let strs = Parts::of(strs, span)?;
         Ok(Index {
             ints,
             bools,
             times,
+            strs,
             texts,
         })
     }
@@ -119,11 +127,11 @@ impl Index {
             Value::Int(_) => self.ints.read(name, value, span, rows),
             Value::Bool(_) => self.bools.read(name, value, span, rows),
             Value::Time(_) => self.times.read(name, value, span, rows),
-            Value::Str(_) => Ok(()),
+            Value::Str(_) => self.strs.read(name, value, span, rows),
         }
     }
 
-    /// Appends, for each constraint on a str that the attribute satisfies, the number of its filter.
+    /// Appends, for each pattern that the attribute satisfies, the number of its filter.
     pub(crate) fn hits(
         &self,
         name: &Name,

@@ -3,7 +3,7 @@
 //! Users: match_routes, and the layers net, sequential, thread, output and test.
 //!
 //! The filters of a run are known before it begins, so none is ever withdrawn. The constraints of a filter on one name and
-//! kind are one part of it; a constraint on a str is one by itself. A filter matches where as many of its parts are
+//! kind are one part of it; a pattern of strs is one by itself. A filter matches where as many of its parts are
 //! satisfied as it has. The filters whose part an attribute satisfies are a row of bits, and the rows of a notification's
 //! attributes are counted for sixty-four filters at a time. The counts are in a `Scratch` of the caller, so that threads
 //! share one matcher. Counting as a way to match comes from Carzaniga and Wolf, 'Forwarding in a content-based network',

@@ -17,7 +17,7 @@ use std::marker::Model;
 /// The bytes of a name.
 type Key = Vec<u8>;
 
-/// Parts of int, bool or time constraints by name, each constraint with the number of its filter.
+/// Parts of constraints of one kind by name, each constraint with the number of its filter.
 #[derive(Drop)]
 pub(crate) struct Parts {
     parts: BTreeMap<Key, Part>,
@@ -60,7 +60,7 @@ fn close(
 ) -> Result<BTreeMap<Key, Part>, NoMemory>
     requires narrow { span < 2 ^ 32 }
     requires known { AreKnown (64 * span) (uses_of shelves.entries) }
-    requires few { length (uses_of shelves.entries) < 2 ^ 31 }
+    requires few { length (uses_of shelves.entries) < 2 ^ 30 }
     ensures { IfOk result (λ parts. parts.entries ≡ shelves.entries) }
 {
     let mut shelves = shelves;
@@ -78,7 +78,7 @@ impl Parts {
     pub(crate) fn of(shelves: Shelves, span: usize) -> Result<Parts, NoMemory>
         requires narrow { span < 2 ^ 32 }
         requires known { AreKnown (64 * span) shelves }
-        requires few { length shelves < 2 ^ 31 }
+        requires few { length shelves < 2 ^ 30 }
         ensures { IfOk result (λ parts. parts ≡ shelves) }
     {
         let Shelves { alloc, shelves } = shelves;

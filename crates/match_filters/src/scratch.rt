@@ -8,7 +8,7 @@ use std::alloc::Global;
 pub struct Scratch {
     /// For each part that an attribute meets, the filters for which it does.
     pub(crate) rows: Rows,
-    /// A number of a filter for each of its constraints on strs that the notice satisfies.
+    /// A number of a filter for each of its patterns of strs that the notice satisfies.
     pub(crate) found: Vec<u32>,
     /// How often each number was found.
     pub(crate) counts: Vec<Counts>,

@@ -13,7 +13,7 @@ use std::marker::Model;
 /// The bytes of a name.
 type Key = Vec<u8>;
 
-/// Int, bool or time constraints by name, each with the number of its filter.
+/// Constraints of one kind by name, each with the number of its filter.
 #[derive(Drop)]
 pub(crate) struct Shelves {
     pub(crate) alloc: Global,

@@ -1,6 +1,7 @@
-//! The type of the constraints on strs, by the name of the attribute.
-ghost use Rattle.std.specs.Prelude.{◌≡◌, ◌∷◌, [], OnOk};
+//! The type of the patterns of strs, by the name of the attribute.
+ghost use Rattle.std.specs.Prelude.{◌≡◌, ◌∷◌, [], true, OnOk};
 ghost use Rattle.filter_values.specs.declared.value.Kind.{Kind};
+ghost use Rattle.match_index.specs.Heads.{is_pattern_op};
 ghost use Rattle.match_index.specs.Pairs.{Same, Appends};
 ghost use Rattle.match_filters.specs.Index.{ids_satisfied};
 ghost use Rattle.match_filters.specs.Shelves.{uses_of};
@@ -16,7 +17,7 @@ use std::marker::Model;
 /// The bytes of a name.
 type Key = Vec<u8>;
 
-/// Constraints on strs by name, each with the number of its filter.
+/// Patterns of strs by name, each with the number of its filter.
 #[derive(Drop)]
 pub(crate) struct TextShelves {
     alloc: Global,
@@ -40,7 +41,8 @@ fn put(
     constraint: &Constraint,
     id: u32,
 ) -> Result<(), NoMemory>
-    requires { constraint.now.kind ≡ Kind.Str }
+    requires kind { constraint.now.kind ≡ Kind.Str }
+    requires pattern { is_pattern_op constraint.now.op ≡ true }
     ensures { OnOk result (Same (uses_of shelves.new.entries) ((constraint.now, id) ∷ uses_of shelves.old.entries)) }
 {
     let name = constraint.name().bytes();
@@ -84,7 +86,8 @@ impl TextShelves {
 
     /// Adds a constraint of the filter with this number.
     pub(crate) fn add(&mut self, constraint: &Constraint, id: u32) -> Result<(), NoMemory>
-        requires { constraint.now.kind ≡ Kind.Str }
+        requires kind { constraint.now.kind ≡ Kind.Str }
+        requires pattern { is_pattern_op constraint.now.op ≡ true }
         ensures { OnOk result (Same self.new ((constraint.now, id) ∷ self.old)) }
     {
         put(self.alloc, &mut self.shelves, constraint, id)

@@ -20,12 +20,12 @@ use Rattle.match_numbers.specs.Operands.{IsNumeric}
 use Rattle.match_numbers.proofs.Codes.{encode}
 use Rattle.match_numbers.proofs.Meets.{side-meets, number-meets, time-meets}
 
-all-sides : (o : Ordering) → on_side (asked true true true) o ≡ true
+pub all-sides : (o : Ordering) → on_side (asked true true true) o ≡ true
 all-sides Less = refl
 all-sides Equal = refl
 all-sides Greater = refl
 
-usual : (op : Op) → (op ≡ ops.Any → ⊥) → sides_for op ≡ sides_of op
+pub usual : (op : Op) → (op ≡ ops.Any → ⊥) → sides_for op ≡ sides_of op
 usual ops.Any h = absurd (h refl)
 usual ops.Eq h = refl
 usual ops.Ne h = refl
@@ -40,7 +40,7 @@ usual ops.Suffix h = refl
 not-any : (op : Op) → IsNumberOp op → op ≡ ops.Any → ⊥
 not-any op n e = subst IsNumberOp e n
 
-no-operand : (op : Op) (o : Ordering) → op ≡ ops.Any → on_side (sides_for op) o ≡ true
+pub no-operand : (op : Op) (o : Ordering) → op ≡ ops.Any → on_side (sides_for op) o ≡ true
 no-operand op o e = ap (λ (p : Op). on_side (sides_for p) o) e ∙ all-sides o
 
 int-met : (op : Op) → (op ≡ ops.Any → ⊥) → (x k : ℤ) → on_side (sides_for op) (int_cmp k x) ≡ passes (values.Int x) (test_at kinds.Int op k)

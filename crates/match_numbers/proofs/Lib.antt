@@ -3,3 +3,4 @@ pub mod Meets
 pub mod KindsMet
 pub mod Putting
 pub mod Resized
+pub mod TextPutting

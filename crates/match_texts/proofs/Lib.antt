@@ -1,4 +1,3 @@
 pub mod Grouping
 pub mod Marking
-pub mod Ordering
 pub mod Packed

@@ -1,4 +1,3 @@
 pub mod Groups
 pub mod Keys
 pub mod Marks
-pub mod Orders

@@ -81,7 +81,7 @@ impl TextKey {
     ghost use Rattle.std.specs.Prelude.{◌≡◌, IfOk};
 
     /// A copy of bytes.
-    pub(crate) fn with(alloc: Global, bytes: &[u8]) -> Result<TextKey, NoMemory>
+    pub fn with(alloc: Global, bytes: &[u8]) -> Result<TextKey, NoMemory>
         ensures { IfOk result (λ key. key ≡ bytes.now) }
     {
         let head = head_of(bytes);
@@ -120,7 +120,7 @@ impl<'a> SoughtText<'a> {
     ghost use Rattle.std.specs.Prelude.{◌≡◌};
 
     /// These bytes.
-    pub(crate) fn of(bytes: &'a [u8]) -> SoughtText<'a>
+    pub fn of(bytes: &'a [u8]) -> SoughtText<'a>
         ensures { result.bytes.now ≡ bytes.now }
     {
         let head = head_of(bytes);

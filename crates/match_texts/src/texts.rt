@@ -1,37 +1,33 @@
 //! The type of the index of str constraints, and its search.
 ghost use Rattle.std.specs.Prelude.{◌≡◌};
 ghost use Rattle.std.specs.Option.{option_copied};
-ghost use Rattle.filter_constraints.specs.declared.op.Op.{Op};
-ghost use Rattle.match_index.specs.Heads.{is_pattern_op};
 ghost use Rattle.match_index.specs.Keys.{key_of};
 
-use crate::orders::Orders;
 use crate::patterns::Patterns;
 use base::NoMemory;
-use filter_constraints::{Constraint, Op};
+use filter_constraints::Constraint;
 use filter_values::Value;
 use std::alloc::Global;
 use std::marker::Model;
 
-/// An index of str constraints: pairs of a constraint without its name and an id.
+/// An index of patterns of strs: pairs of a constraint without its name and an id.
 #[derive(Drop)]
 pub struct Texts {
     alloc: Global,
-    orders: Orders,
     patterns: Patterns,
 }
 
 impl Model for Texts {
-    ghost use Rattle.std.specs.Prelude.{List, ◌++◌};
+    ghost use Rattle.std.specs.Prelude.{List};
     ghost use Rattle.match_index.specs.Pairs.{Pair};
 
     ghost Value = { List Pair };
 
-    ghost view = { λ texts. texts.orders ++ texts.patterns };
+    ghost view = { λ texts. texts.patterns };
 }
 
 /// The bytes of an operand.
-fn key_of<'a>(operand: Option<&'a Value>) -> &'a [u8]
+pub fn key_of<'a>(operand: Option<&'a Value>) -> &'a [u8]
     ensures { result.now ≡ key_of (option_copied operand.entry) }
 {
     match operand {
@@ -40,18 +36,9 @@ fn key_of<'a>(operand: Option<&'a Value>) -> &'a [u8]
     }
 }
 
-/// Whether an operator is one of the patterns.
-fn is_pattern(op: Op) -> bool
-    ensures { result ≡ is_pattern_op op }
-{
-    match op {
-        Op::Prefix | Op::Suffix | Op::Contains => true,
-        _ => false,
-    }
-}
-
 impl Texts {
-    ghost use Rattle.std.specs.Prelude.{◌≡◌, ◌∷◌, [], OnOk};
+    ghost use Rattle.std.specs.Prelude.{◌≡◌, ◌∷◌, [], true, OnOk};
+    ghost use Rattle.match_index.specs.Heads.{is_pattern_op};
     ghost use Rattle.filter_values.specs.declared.value.Kind.{Kind};
     ghost use Rattle.filter_values.specs.declared.value.Value.{Value};
     ghost use Rattle.match_index.specs.Pairs.{Same, Appends, test_of, ids_met};
@@ -62,36 +49,27 @@ impl Texts {
     {
         Texts {
             alloc,
-            orders: Orders::new(alloc),
             patterns: Patterns::new(alloc),
         }
     }
 
     /// Adds a pair.
     pub fn add(&mut self, constraint: &Constraint, id: u32) -> Result<(), NoMemory>
-        requires { constraint.now.kind ≡ Kind.Str }
+        requires kind { constraint.now.kind ≡ Kind.Str }
+        requires pattern { is_pattern_op constraint.now.op ≡ true }
         ensures { OnOk result (Same self.new ((test_of constraint.now, id) ∷ self.old)) }
     {
-        let op = constraint.op();
         let key = key_of(constraint.operand());
-        if is_pattern(op) {
-            self.patterns.put(self.alloc, op, key, id)
-        } else {
-            self.orders.put(self.alloc, op, key, id)
-        }
+        self.patterns.put(self.alloc, constraint.op(), key, id)
     }
 
     /// Appends the ids of the pairs whose constraint the value satisfies.
     pub fn hits(&self, value: &Value, found: &mut Vec<u32>) -> Result<(), NoMemory>
         ensures { OnOk result (Appends found.old.items found.new.items (ids_met value.now self.now)) }
     {
-        self.orders.lemma_only_texts();
         self.patterns.lemma_only_texts();
         match value {
-            Value::Str(text) => {
-                self.orders.meet(text.bytes(), found)?;
-                self.patterns.meet(text.bytes(), found)
-            }
+            Value::Str(text) => self.patterns.meet(text.bytes(), found),
             _ => Ok(()),
         }
     }

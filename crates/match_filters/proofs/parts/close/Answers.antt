@@ -9,7 +9,7 @@ pub of-requires-clause-below : goal.of-requires-clause-below
 of-requires-clause-below c = shelf-below (64 * c.args.span) c.args.shelves.entries c.loop-name.parts.entries c.loop-name.shelves.entries c.pop_first.new.self.entries (c.in-Some.name, c.in-Some.operands) c.loop-name.invariant c.in-Some.ensures.removal c.requires.known
 
 pub of-requires-clause-few : goal.of-requires-clause-few
-of-requires-clause-few c = shelf-small 2147483648 c.args.shelves.entries c.loop-name.parts.entries c.loop-name.shelves.entries c.pop_first.new.self.entries (c.in-Some.name, c.in-Some.operands) c.loop-name.invariant c.in-Some.ensures.removal c.requires.few
+of-requires-clause-few c = shelf-small 1073741824 c.args.shelves.entries c.loop-name.parts.entries c.loop-name.shelves.entries c.pop_first.new.self.entries (c.in-Some.name, c.in-Some.operands) c.loop-name.invariant c.in-Some.ensures.removal c.requires.few
 
 pub loop-name-preserved-in_ok-insert : goal.loop-name-preserved-in_ok-insert
 loop-name-preserved-in_ok-insert c =

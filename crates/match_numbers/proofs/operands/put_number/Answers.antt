@@ -5,7 +5,7 @@ use Rattle.match_index.specs.Lines.{on_side}
 use Rattle.match_numbers.specs.Keys.{key_of}
 use Rattle.match_numbers.specs.Kinds.{sides_for}
 use Rattle.match_numbers.proofs.Putting.{told-more}
-use Rattle.match_numbers.proofs.operands.put.Goals as goal
+use Rattle.match_numbers.proofs.operands.put_number.Goals as goal
 
 pub returns : goal.returns
 returns c pairs is =
