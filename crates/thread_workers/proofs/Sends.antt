@@ -12,6 +12,7 @@ use Rattle.atomic_table.proofs.shared.Seat.TheSendSync as seat
 use Rattle.atomic_table.proofs.shared.Shared.TheSendSync as shared
 use Rattle.atomic_table.proofs.send_lease.SendLease.TheSendSync as lease
 use Rattle.logbook.proofs.tokens.Seen.TheSendSync as seen
+use Rattle.logbook.proofs.tokens.Pen.TheSendSync as pen
 use Rattle.logbook.proofs.word.Word.TheSendSync as word
 use Rattle.left_right.proofs.part.Part.TheSendSync as part
 use Rattle.left_right.proofs.part.Deed.TheSendSync as deed
@@ -20,6 +21,7 @@ use Rattle.left_right.specs.contracts.reader.Factory as Factory
 use Rattle.left_right.specs.contracts.reader.Reader as Reader
 use Rattle.left_right.specs.contracts.desk.Desk as Desk
 use Rattle.left_right.specs.contracts.writer.Writer as Writer
+use Rattle.filter_values.specs.contracts.short_bytes.Store as Store
 use Rattle.filter_values.specs.contracts.name.Name as Name
 use Rattle.filter_values.specs.contracts.value.Value as Value
 use Rattle.filter_constraints.specs.contracts.constraint.Constraint as Constraint
@@ -30,7 +32,7 @@ use Rattle.base_bits.specs.contracts.place.Place as Place
 use Rattle.base_bits.specs.contracts.sets.Sets as Sets
 use Rattle.filter_text.specs.contracts.command.Command as Command
 use Rattle.filter_text.specs.contracts.lists.Lists as Lists
-use Rattle.net_inbox.specs.contracts.deliveries.Kept as KeptDelivery
+use Rattle.net_inbox.specs.contracts.kept.Kept as KeptDelivery
 use Rattle.net_inbox.specs.contracts.deliveries.Deliveries as Deliveries
 use Rattle.net_tables.specs.contracts.numbered.NumberedCommand as NumberedCommand
 use Rattle.net_tables.specs.contracts.publication.Publication as Publication
@@ -62,7 +64,9 @@ use Rattle.net_model.specs.contracts.entry.Entry as Entry
 use Rattle.net_journal.specs.contracts.journal.Journal as Journal
 use Rattle.thread_lane.specs.contracts.putting.LaneIn as LaneIn
 use Rattle.thread_lane.specs.contracts.taking.LaneOut as LaneOut
-use Rattle.thread_versions.specs.contracts.history.Front as Front
+use Rattle.thread_versions.specs.contracts.history.History as History
+use Rattle.thread_versions.specs.contracts.history.Past as Past
+use Rattle.thread_versions.specs.contracts.front.Front as Front
 use Rattle.thread_versions.specs.contracts.version.Step as Step
 use Rattle.thread_versions.specs.contracts.version.Version as Version
 use Rattle.thread_versions.specs.contracts.publisher.Publisher as Publisher
@@ -84,19 +88,25 @@ use Rattle.thread_workers.specs.contracts.phase_context.PhaseContext as PhaseCon
 use Rattle.thread_workers.specs.contracts.workers_of_thread.Back as Back
 use Rattle.thread_workers.specs.contracts.pace.Pace as Pace
 
-ruleset ours = (sendable, crosses, end.the_send, seat.the_send, shared.the_send, shared.the_sync, lease.the_send, lease.the_sync, heap.the_field_send, seen.the_send, seen.the_sync, word.the_send, part.the_send, part.the_sync, deed.the_send)
+ruleset ours = (sendable, crosses, end.the_send, seat.the_send, shared.the_send, shared.the_sync, lease.the_send, lease.the_sync, heap.the_field_send, seen.the_send, seen.the_sync, pen.the_send, word.the_send, part.the_send, part.the_sync, deed.the_send)
+
+pub store_send : IsSend Store.the_field.row
+store_send = search (sendable, crosses) depth 20
+
+pub store_sync : IsSync Store.the_field.row
+store_sync = search (sendable, crosses) depth 20
 
 pub name_send : IsSend Name.the_field.row
-name_send = search (sendable, crosses) depth 20
+name_send = let a = store_send in search (sendable, crosses) depth 20
 
 pub name_sync : IsSync Name.the_field.row
-name_sync = search (sendable, crosses) depth 20
+name_sync = let a = store_sync in search (sendable, crosses) depth 20
 
 pub value_send : IsSend Value.the_field.row
-value_send = search (sendable, crosses) depth 20
+value_send = let a = store_send in search (sendable, crosses) depth 20
 
 pub value_sync : IsSync Value.the_field.row
-value_sync = search (sendable, crosses) depth 20
+value_sync = let a = store_sync in search (sendable, crosses) depth 20
 
 pub constraint_send : IsSend Constraint.the_field.row
 constraint_send = let a = name_send in let b = value_send in search (sendable, crosses) depth 20
@@ -120,11 +130,20 @@ row_send = search (sendable, crosses) depth 20
 pub row_sync : IsSync Row.the_field.row
 row_sync = search (sendable, crosses) depth 20
 
+pub past_send : IsSend Past.the_field.row
+past_send = search ours depth 20
+
+pub past_sync : IsSync Past.the_field.row
+past_sync = search ours depth 20
+
+pub history_send : IsSend History.the_field.row
+history_send = search ours depth 20
+
 pub front_send : IsSend Front.the_field.row
-front_send = search ours depth 20
+front_send = let a = past_send in search ours depth 20
 
 pub front_sync : IsSync Front.the_field.row
-front_sync = search ours depth 20
+front_sync = let a = past_sync in search ours depth 20
 
 pub forwarding_send : IsSend Forwarding.the_field.row
 forwarding_send = let a = row_send in search (sendable, crosses) depth 20
@@ -184,7 +203,9 @@ pub viewer_send : IsSend Viewer.the_field.row
 viewer_send = let c = version_sync in let a = front_send in search (ours, reader_send) depth 20
 
 pub publisher_send : IsSend Publisher.the_field.row
-publisher_send = let a = front_send in let b = version_send in let c = version_sync in let d = step_send in let e = change_send in search (ours, writer_send) depth 20
+publisher_send =
+    let a = front_send in let b = version_send in let c = version_sync in let d = step_send in let e = change_send in let f = history_send in
+    search (ours, writer_send) depth 20
 
 pub command_sync : IsSync Command.the_field.row
 command_sync = let c = notice_sync in search (sendable, crosses, constraints_sync) depth 20
