@@ -21,7 +21,6 @@ use Rattle.left_right.specs.contracts.reader.Factory as Factory
 use Rattle.left_right.specs.contracts.reader.Reader as Reader
 use Rattle.left_right.specs.contracts.desk.Desk as Desk
 use Rattle.left_right.specs.contracts.writer.Writer as Writer
-use Rattle.filter_values.specs.contracts.short_bytes.Store as Store
 use Rattle.filter_values.specs.contracts.name.Name as Name
 use Rattle.filter_values.specs.contracts.value.Value as Value
 use Rattle.filter_constraints.specs.contracts.constraint.Constraint as Constraint
@@ -90,23 +89,17 @@ use Rattle.thread_workers.specs.contracts.pace.Pace as Pace
 
 ruleset ours = (sendable, crosses, end.the_send, seat.the_send, shared.the_send, shared.the_sync, lease.the_send, lease.the_sync, heap.the_field_send, seen.the_send, seen.the_sync, pen.the_send, word.the_send, part.the_send, part.the_sync, deed.the_send)
 
-pub store_send : IsSend Store.the_field.row
-store_send = search (sendable, crosses) depth 20
-
-pub store_sync : IsSync Store.the_field.row
-store_sync = search (sendable, crosses) depth 20
-
 pub name_send : IsSend Name.the_field.row
-name_send = let a = store_send in search (sendable, crosses) depth 20
+name_send = search (sendable, crosses) depth 20
 
 pub name_sync : IsSync Name.the_field.row
-name_sync = let a = store_sync in search (sendable, crosses) depth 20
+name_sync = search (sendable, crosses) depth 20
 
 pub value_send : IsSend Value.the_field.row
-value_send = let a = store_send in search (sendable, crosses) depth 20
+value_send = search (sendable, crosses) depth 20
 
 pub value_sync : IsSync Value.the_field.row
-value_sync = let a = store_sync in search (sendable, crosses) depth 20
+value_sync = search (sendable, crosses) depth 20
 
 pub constraint_send : IsSend Constraint.the_field.row
 constraint_send = let a = name_send in let b = value_send in search (sendable, crosses) depth 20
