@@ -1,4 +1,4 @@
-use Rattle.std.proofs.Common.{◌≡◌, ◌<◌, length, ap, arith}
+use Rattle.std.proofs.Common.{◌<◌, length, arith}
 use Rattle.std.proofs.lemmas.Grind.{get_or_default_zero}
 use Rattle.match_routes.proofs.Joined.{place-within, listed-rising, listed-all}
 use Rattle.match_routes.proofs.places.at_places.Goals as goal

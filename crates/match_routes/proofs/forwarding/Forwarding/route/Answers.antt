@@ -1,4 +1,4 @@
-use Rattle.std.proofs.Common.{◌<◌, ◌↔◌, ℕ, sym, ap, subst, arith}
+use Rattle.std.proofs.Common.{◌<◌, ◌↔◌, ℕ, length, sym, ap, subst, arith}
 use Rattle.base.specs.Sets.{Has}
 use Rattle.match_routes.specs.Installed.{Installed}
 use Rattle.match_routes.specs.Routes.{IsRouteBy}
@@ -10,6 +10,11 @@ joined-requires-clause-numbers c = omega (arith, c.requires, ap (λ (p : Install
 
 pub joined-requires-clause-others : goal.joined-requires-clause-others
 joined-requires-clause-others c = omega (arith, c.requires, ap (λ (p : Installed). p.width) c.self.view_is, c.self.invariant.2.wide)
+
+pub at_places-requires-clause-within : goal.at_places-requires-clause-within
+at_places-requires-clause-within c place h =
+    let l = c.in_ok-places.ensures.within place h in
+    omega (arith, l, c.self.invariant.1, ap length c.deref.ensures.value)
 
 pub returns : goal.returns
 returns c =
