@@ -6,7 +6,7 @@ use Rattle.filter_text.specs.declared.sent.Sent.{Sent}
 use Rattle.net_model.specs.declared.turn.Act.{Act}
 use Rattle.net_model.specs.declared.turn.Act.TheVariants as acts
 use Rattle.net_model.specs.Parts.{ClientParts, NetParts, EntryParts}
-use Rattle.output_report.specs.Lines.{client_name}
+use Rattle.net_model.specs.Nets.{client_name}
 
 -- `command NAME`, `take NEIGHBOUR` or `version`
 unfoldable pub act_text : List ClientParts → Act → List ℕ

@@ -1,8 +1,6 @@
-use Rattle.std.proofs.Common.{◌++◌, ◌∙◌, take, ap, subst}
-use Rattle.std.specs.List.{flat_map}
+use Rattle.std.proofs.Common.{subst}
 use Rattle.base_devices.specs.Pending.{outlet, Went}
 use Rattle.base_devices.proofs.Outlets.{went-then}
-use Rattle.net_inbox.specs.Inbox.{at_numbers}
 use Rattle.net_inbox.proofs.InOrder.{texts-next}
 use Rattle.output_report.specs.Deliveries.{delivery_line}
 use Rattle.output_report.proofs.writing.put_received.Goals as goal
@@ -14,6 +12,5 @@ loop-number-preserved g c =
     let numbers = c.args.received.numbers.now in
     subst (Went (outlet (g.K.Sink.state c.args.sink.now) c.args.out.now)
     (outlet (g.K.Sink.state c.put_delivery.new.sink) c.put_delivery.new.out))
-    (ap (λ z. flat_map line (take c.loop-number.number-index (at_numbers all numbers)) ++ line z) c.at.ensures
-    ∙ texts-next line all numbers c.loop-number.number-index c.loop-number-test.true)
+    (texts-next line all numbers c.loop-number.number-index c.loop-number-test.true)
     (went-then _ _ _ _ _ c.loop-number.invariant c.put_delivery.ensures)
