@@ -25,7 +25,6 @@ use Rattle.base.proofs.Sets.{has-append, has-append-left, has-append-right}
 use Rattle.std.proofs.lemmas.Bool.{and_parts}
 use Rattle.std.proofs.lemmas.List.{append_cancel_left}
 use Rattle.thread_versions.specs.Pairs.{is_known, all_known}
-use Rattle.thread_versions.specs.Chain.{changes_of}
 use Rattle.thread_versions.proofs.Applied.{true-known}
 use Rattle.base_order.specs.Order.{picked}
 use Rattle.base_order.proofs.SettledRoots.{in-has, has-in}
@@ -147,7 +146,7 @@ each-known p (x ∷ cs) e c (inr m) = each-known p cs (and_parts (is_known p (pa
 -- what is pending at a publisher is known to it
 pub handed-known : (p : Publisher) (handed : List TableChange) → pending p ≡ installed p ++ handed → (c : TableChange) → Has c handed → IsKnown (forwarding_of p) (pair_in c)
 handed-known p handed e =
-    let same : handed ≡ changes_of (drop p.writer.behind p.writer.log.items) ++ p.waiting.items = append_cancel_left (installed p) handed (changes_of (drop p.writer.behind p.writer.log.items) ++ p.waiting.items) (sym e ∙ p.pending) in
+    let same : handed ≡ p.waiting.items = append_cancel_left (installed p) handed p.waiting.items (sym e ∙ p.pending) in
     each-known (forwarding_of p) handed (subst (λ (l : List TableChange). all_known (forwarding_of p) l ≡ true) (sym same) p.known)
 
 -- and has a number of the core's filters
